@@ -1,0 +1,4 @@
+pub mod Fault
+pub mod Sound
+pub mod State
+pub mod Table

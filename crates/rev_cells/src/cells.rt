@@ -1,0 +1,159 @@
+//! The cells and what they hold.
+ghost use Rattle.std.specs.Prelude.{◌≡◌, ◌↔◌, ◌++◌, ◌∷◌, [], IsTrue, IsSome, IfOk, OnOk, OnErr, slice_get, Contains, ◌⊎◌};
+ghost use Rattle.std.specs.Option.{option_copied};
+ghost use Rattle.std.specs.List.{IsDistinct};
+ghost use Rattle.std.specs.Ordering.{eq_by_cmp};
+ghost use Rattle.std.specs.FinMap as map;
+ghost use Rattle.rev_cells.specs.declared.cell.Cell.{Cell};
+ghost use Rattle.rev_cells.specs.State.{Fits, cell_cmp, default_or, set, value_at};
+ghost use Rattle.rev_cells.specs.Table.{Table};
+
+use crate::cell::{Cell, Value};
+use crate::opening::Opening;
+use indexmap::IndexMap;
+use std::alloc::{AllocError, Global};
+use std::marker::Model;
+use std::mem;
+
+/// What each cell holds. Some cells have a place: all that hold no default, and those for which one was made.
+/// A cell that has a place can be written with no more memory.
+#[derive(Drop)]
+pub struct Cells {
+    jobs: u32,
+    entries: IndexMap<Cell, Value>,
+}
+
+impl Model for Cells {
+    ghost use Rattle.rev_cells.specs.Table.{Table, table_code};
+
+    ghost Value = { Table };
+
+    ghost coded = { table_code };
+
+    ghost use Rattle.rev_cells.specs.Sound.{table_of, IsSound};
+
+    ghost view = { table_of };
+
+    ghost invariant = { IsSound };
+}
+
+impl Cells {
+    // Every cell at its default, and no places.
+    pub(crate) fn with_jobs(alloc: Global, jobs: u32) -> Cells
+        ensures { result ≡ record { jobs = jobs; state = map.empty; places = [] } }
+    {
+        Cells {
+            jobs,
+            entries: IndexMap::new(alloc),
+        }
+    }
+
+    /// The cells with what an opening gives them. The places are those of its records, in the order in which they were given.
+    pub fn new(_alloc: Global, opening: &Opening) -> Result<Cells, AllocError>
+        ensures { IfOk result (λ cells. cells ≡ opening.now) }
+    {
+        opening.cells().copy()
+    }
+
+    // Equal cells.
+    pub(crate) fn copy(&self) -> Result<Cells, AllocError>
+        ensures { IfOk result (λ copy. copy ≡ self.now) }
+    {
+        Ok(Cells {
+            jobs: self.jobs,
+            entries: self.entries.clone()?,
+        })
+    }
+
+    /// How many jobs there are.
+    pub fn jobs(&self) -> u32
+        ensures { result ≡ self.now.jobs }
+    {
+        self.jobs
+    }
+
+    /// The place at an index, which counts from 0, and none past the last. No cell has two places.
+    pub fn place(&self, index: u64) -> Option<&Cell>
+        ensures place { option_copied result ≡ slice_get self.now.places index }
+        ensures distinct { IsDistinct (eq_by_cmp cell_cmp) self.now.places }
+        ensures all { (c : Cell) → IsSome (map.get self.now.state c) → Contains self.now.places c }
+    {
+        let (cell, _) = self.entries.get_index(index as usize)?;
+        Some(cell)
+    }
+
+    /// What a cell holds, where none means its default.
+    pub fn get(&self, cell: &Cell) -> Option<&Value>
+        ensures value { default_or cell.now (option_copied result) ≡ value_at self.now.state cell.now }
+    {
+        self.entries.get(cell)
+    }
+
+    /// Whether a cell has a place.
+    pub fn has(&self, cell: &Cell) -> bool
+        ensures { IsTrue result ↔ Contains self.now.places cell.now }
+    {
+        self.entries.contains_key(cell)
+    }
+
+    /// Makes a place for a cell, after all others, unless it has one.
+    pub fn reserve(&mut self, cell: &Cell) -> Result<(), AllocError>
+        ensures state { self.new.state ≡ self.old.state }
+        ensures jobs { self.new.jobs ≡ self.old.jobs }
+        ensures present { Contains self.old.places cell.now → self.new ≡ self.old }
+        ensures added { OnOk result (Contains self.old.places cell.now ⊎ (self.new.places ≡ self.old.places ++ cell.now ∷ [])) }
+        ensures has { OnOk result (Contains self.new.places cell.now) }
+        ensures err { OnErr result (self.new ≡ self.old) }
+    {
+        if self.has(cell) {
+            return Ok(());
+        }
+        let cell = cell.copy()?;
+        let value = cell.default_value();
+        self.entries.insert(cell, value)?;
+        Ok(())
+    }
+
+    /// Writes a value of its kind to a cell that has a place, and gives what the cell held.
+    pub fn swap(&mut self, cell: &Cell, value: Value) -> Value
+        requires has { Contains self.old.places cell.now }
+        requires fits { Fits cell.now value }
+        ensures former { result ≡ value_at self.old.state cell.now }
+        ensures after { self.new ≡ record self.old { state = set self.old.state cell.now value } }
+    {
+        let Some(slot) = self.entries.get_mut(cell) else {
+            unreachable!()
+        };
+        mem::replace(slot, value)
+    }
+}
+
+#[cfg(test)]
+mod tests {
+    use super::*;
+    use rev_paths::Name;
+    use std::test::Fail;
+
+    #[test]
+    fn a_place_is_made(rt: HostRuntime) -> Result<(), Fail> {
+        let alloc = rt.alloc();
+        let mut cells = Cells::new(alloc, &Opening::new(alloc, 1)?)?;
+        let cell = Cell::Stamp(Name::new(alloc, b"a.c")?);
+        assert!(rt; !cells.has(&cell));
+        cells.reserve(&cell)?;
+        assert_eq!(rt; cells.place(0), Some(&cell));
+        assert_eq!(rt; cells.place(1), None);
+        Ok(())
+    }
+
+    #[test]
+    fn a_place_is_written(rt: HostRuntime) -> Result<(), Fail> {
+        let alloc = rt.alloc();
+        let mut cells = Cells::new(alloc, &Opening::new(alloc, 1)?)?;
+        let cell = Cell::Stamp(Name::new(alloc, b"a.c")?);
+        cells.reserve(&cell)?;
+        assert_eq!(rt; cells.swap(&cell, Value::Stamp(7)), cell.default_value());
+        assert_eq!(rt; cells.get(&cell.copy()?), Some(&Value::Stamp(7)));
+        Ok(())
+    }
+}
