@@ -1,0 +1,84 @@
+//! How a path stands in a command.
+ghost use Rattle.std.specs.Prelude.{◌≡◌, ◌++◌, IfOk, OnOk};
+ghost use Rattle.std.specs.List.{list_all, flat_map};
+ghost use Rattle.rev_paths.specs.Quoting.{escaped, is_safe, quote};
+
+use crate::name::Name;
+use std::alloc::{AllocError, Global};
+
+// Whether the shell reads a byte as itself wherever it stands in a word.
+fn is_safe_byte(b: u8) -> bool
+    ensures { result ≡ is_safe b }
+{
+    b.is_ascii_alphanumeric() || matches!(b, b'_' | b'+' | b'-' | b'.' | b'/')
+}
+
+// Whether the shell reads each byte as itself.
+fn is_safe_text(bytes: &[u8]) -> bool
+    ensures { result ≡ list_all is_safe bytes.now }
+{
+    bytes.iter().all(|b| is_safe_byte(*b))
+}
+
+// Adds bytes that stand between single quotes.
+fn push_escaped(text: &mut Vec<u8>, bytes: &[u8]) -> Result<(), AllocError>
+    ensures ok { OnOk result (text.new.items ≡ text.old.items ++ flat_map escaped bytes.now) }
+{
+    for b in bytes {
+        if *b == b'\'' {
+            text.extend_from_slice(b"'\\''")?;
+        } else {
+            text.push(*b)?;
+        }
+    }
+    Ok(())
+}
+
+/// The path as it stands in a command that a shell reads: as it is where it
+/// has only ASCII letters, digits and `_ + - . /`, and otherwise between single
+/// quotes, with each single quote of it written `'\''`.
+///
+/// # Errors
+/// [`AllocError`] where an allocation failed.
+pub fn quoted(alloc: Global, path: &Name) -> Result<Vec<u8>, AllocError>
+    ensures quote { IfOk result (λ text. text.items ≡ quote path.now) }
+{
+    let bytes = path.as_bytes();
+    let mut text = Vec::new(alloc);
+    if is_safe_text(bytes) {
+        text.extend_from_slice(bytes)?;
+        return Ok(text);
+    }
+    text.push(b'\'')?;
+    push_escaped(&mut text, bytes)?;
+    text.push(b'\'')?;
+    Ok(text)
+}
+
+#[cfg(test)]
+mod tests {
+    use super::*;
+    use std::test::Fail;
+
+    #[test]
+    fn safe_paths_stand_as_they_are(rt: HostRuntime) -> Result<(), Fail> {
+        let alloc = rt.alloc();
+        let path = Name::new(alloc, b"../Src_1/a+b-c.o")?;
+        assert_eq!(rt;
+            quoted(alloc, &path)?.as_slice(),
+            b"../Src_1/a+b-c.o".as_slice()
+        );
+        Ok(())
+    }
+
+    #[test]
+    fn other_paths_stand_between_quotes(rt: HostRuntime) -> Result<(), Fail> {
+        let alloc = rt.alloc();
+        let path = Name::new(alloc, b"it's a $x.o")?;
+        assert_eq!(rt;
+            quoted(alloc, &path)?.as_slice(),
+            b"'it'\\''s a $x.o'".as_slice()
+        );
+        Ok(())
+    }
+}
