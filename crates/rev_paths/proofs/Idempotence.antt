@@ -1,5 +1,5 @@
 -- The canonical form of a canonical form is itself, and no longer than the path.
-use Rattle.std.proofs.Common.{◌≡◌, ℕ, ◌+◌, ◌-◌, ◌<◌, ◌≤◌, ◌==◌, Bool, true, false, not, ◌&&◌, cond, List, [], ◌∷◌, ◌++◌, length, filter, bytes_eq, refl, sym, ap, ◌∙◌, arith, if◌then◌else◌, suc, length-append}
+use Rattle.std.proofs.Common.{◌≡◌, ℕ, ◌+◌, ◌-◌, ◌<◌, ◌≤◌, ◌==◌, Bool, true, false, not, ◌&&◌, cond, List, [], ◌∷◌, ◌++◌, length, filter, refl, sym, ap, ◌∙◌, arith, if◌then◌else◌, suc, length-append}
 use Rattle.rev_paths.specs.Canonical.{parts, prefixed, is_named, is_up, before, resolved, below_root, joined, or_dot, is_rooted, components, canonical, IsCanonical}
 use Rattle.rev_paths.proofs.PathLemmas.{no_ups, settled, and_left, and_right, and_both, not_true, resolved-settled, finish-settled}
 
