@@ -26,7 +26,7 @@ mapped conflict f (behind x e) = behind (f x) (mapped conflict f e)
 mapped conflict f (back e) = back (mapped conflict f e)
 mapped conflict f (follow e g) = follow (mapped conflict f e) (mapped conflict f g)
 
-has_map : {A B : Type 0} (f : A → B) (xs : List A) (x : A) → Has xs x → Has (map f xs) (f x)
+pub has_map : {A B : Type 0} (f : A → B) (xs : List A) (x : A) → Has xs x → Has (map f xs) (f x)
 has_map f [] x h = h
 has_map f (y ∷ xs) x h = elim h [ inl p ↦ inl (ap f p) | inr r ↦ inr (has_map f xs x r) ]
 
@@ -43,7 +43,7 @@ only_end (x ∷ xs) a d h = elim h [
     at_end (y ∷ ys) = inr (at_end ys)
 
 module _ (m : Machine) where
-  abbrev number : Entry m → ℕ
+  abbrev pub number : Entry m → ℕ
   number z = z.number
 
   numbers_rise : (s : m.State) (es : List (ℕ × m.Event)) (k : ℕ) → AllByRecursion (λ (x : ℕ × m.Event). k < x.0) es → Has (map number (entries m s es)) k → ⊥
@@ -53,11 +53,11 @@ module _ (m : Machine) where
     | inr r ↦ numbers_rise (m.after s e.1) es k all.1 r
   ]
 
-  rising_distinct : (s : m.State) (es : List (ℕ × m.Event)) → IsRising es → Distinct (map number (entries m s es))
+  pub rising_distinct : (s : m.State) (es : List (ℕ × m.Event)) → IsRising es → Distinct (map number (entries m s es))
   rising_distinct s [] h = tt
   rising_distinct s (e ∷ es) h = (numbers_rise (m.after s e.1) es e.0 h.0, rising_distinct (m.after s e.1) es h.1)
 
-  entries-append : (s : m.State) (xs ys : List (ℕ × m.Event)) → entries m s (xs ++ ys) ≡ entries m s xs ++ entries m (run m s xs) ys
+  pub entries-append : (s : m.State) (xs ys : List (ℕ × m.Event)) → entries m s (xs ++ ys) ≡ entries m s xs ++ entries m (run m s xs) ys
   entries-append s [] ys = refl
   entries-append s (x ∷ xs) ys = ap (λ zs. record { number = x.0; event = x.1; footprint = m.footprint s x.1 } ∷ zs) (entries-append (m.after s x.1) xs ys)
 
@@ -69,20 +69,15 @@ module _ (m : Machine) where
   map-end [] z = refl
   map-end (x ∷ xs) z = ap (λ ns. number x ∷ ns) (map-end xs z)
 
-module _ (m : Machine) (l : IsLocal m) where
-  pub same_result : SameResult m
-  same_result s xs ys e =
-      let r = (Entries.reached m l s e.2).0 (Entries.run_of_legal m s xs e.0) in
-      sym (Entries.last_state-entries m s ys) ∙ r.result ∙ Entries.last_state-entries m s xs
-
-  free_of : (z : Entry m) (zs : List (Entry m)) → number_of m (nearest (clash m) z zs) ≡ None → Free (clash m) z zs
+module _ (m : Machine) where
+  pub free_of : (z : Entry m) (zs : List (Entry m)) → number_of m (nearest (clash m) z zs) ≡ None → Free (clash m) z zs
   free_of z [] h = tt
   free_of z (y ∷ zs) h = elim (either (clash m z y)) [
     | inl c ↦ let w : Some y.number ≡ None = subst (λ b. number_of m (cond b (Some y) (nearest (clash m) z zs)) ≡ None) c h in cc
     | inr c ↦ (c, free_of z zs (subst (λ b. number_of m (cond b (Some y) (nearest (clash m) z zs)) ≡ None) c h))
   ]
 
-  of_free : (z : Entry m) (zs : List (Entry m)) → Free (clash m) z zs → number_of m (nearest (clash m) z zs) ≡ None
+  pub of_free : (z : Entry m) (zs : List (Entry m)) → Free (clash m) z zs → number_of m (nearest (clash m) z zs) ≡ None
   of_free z [] h = refl
   of_free z (y ∷ zs) h = ap (λ b. number_of m (cond b (Some y) (nearest (clash m) z zs))) h.0 ∙ of_free z zs h.1
 
@@ -93,6 +88,12 @@ module _ (m : Machine) (l : IsLocal m) where
     | inr t ↦ ap (λ b. cond b (number_of m (nearest (clash m) z zs)) (nearest_to m n zs)) t ∙ loose_at n zs h.1
   ]
 
+module _ (m : Machine) (l : IsLocal m) where
+  pub same_result : SameResult m
+  same_result s xs ys e =
+      let r = (Entries.reached m l s e.2).0 (Entries.run_of_legal m s xs e.0) in
+      sym (Entries.last_state-entries m s ys) ∙ r.result ∙ Entries.last_state-entries m s xs
+
   last_from_free : (s : m.State) (n : ℕ) (e : m.Event) (before later : List (ℕ × m.Event)) → AllByRecursion (λ (x : ℕ × m.Event). x.0 < n) before → Legal m s (before ++ (n, e) ∷ later) → nearest_to m n (entries m s (before ++ (n, e) ∷ later)) ≡ None →
       (ys : List (ℕ × m.Event)) × SwapEquivalent m s (before ++ (n, e) ∷ later) (ys ++ (n, e) ∷ [])
   last_from_free s n e before later below legal none =
@@ -100,7 +101,7 @@ module _ (m : Machine) (l : IsLocal m) where
       let z : Entry m = record { number = n; event = e; footprint = m.footprint u e } in
       let front : List (Entry m) = entries m s before in
       let rest : List (Entry m) = entries m (m.after u e) later in
-      let free : Free (clash m) z rest = free_of z rest (sym (numbers.nearest_to_cut m s n e before later below) ∙ none) in
+      let free : Free (clash m) z rest = free_of m z rest (sym (numbers.nearest_to_cut m s n e before later below) ∙ none) in
       let whole : entries m s (before ++ (n, e) ∷ later) ≡ front ++ z ∷ rest = entries-append m s before ((n, e) ∷ later) in
       let steps : Equivalent (clash m) (entries m s (before ++ (n, e) ∷ later)) (front ++ (rest ++ z ∷ [])) =
       subst (λ zs. Equivalent (clash m) zs (front ++ (rest ++ z ∷ []))) (sym whole) (Order.under (clash m) front (Order.to_end (clash m) z rest free)) in
@@ -125,7 +126,7 @@ module _ (m : Machine) (l : IsLocal m) where
       let loose : Loose (clash m) (λ (y : Entry m). nat_eq y.number n) (zs ++ z ∷ []) =
       Order.loose_end (clash m) (λ a b. l.both_ways a.footprint b.footprint) (λ (y : Entry m). nat_eq y.number n) zs z
       (λ y h. ne_eqb y.number n (λ p. once (subst (Has (map (number m) zs)) p (has_map (number m) zs y h)))) in
-      loose_at n (entries m s kept) ((Order.loose_kept (clash m) (λ a b. l.both_ways a.footprint b.footprint) (λ (y : Entry m). nat_eq y.number n) steps).1 loose)
+      loose_at m n (entries m s kept) ((Order.loose_kept (clash m) (λ a b. l.both_ways a.footprint b.footprint) (λ (y : Entry m). nat_eq y.number n) steps).1 loose)
 
   pub free_exactly_where_last : FreeExactlyWhereLast m
   free_exactly_where_last s n e kept rising legal found =
@@ -135,19 +136,19 @@ module _ (m : Machine) (l : IsLocal m) where
         λ w. free_from_last s n e kept w.0 rising w.1,
       )
 
-map_has : {A B : Type 0} (f : A → B) (xs : List A) (y : B) → Has (map f xs) y → (x : A) × Has xs x × (f x ≡ y)
+pub map_has : {A B : Type 0} (f : A → B) (xs : List A) (y : B) → Has (map f xs) y → (x : A) × Has xs x × (f x ≡ y)
 map_has f [] y h = absurd h
 map_has f (x ∷ xs) y h = elim h [
   | inl p ↦ (x, inl refl, p)
   | inr r ↦ let k : (z : _) × Has xs z × (f z ≡ y) = map_has f xs y r in (k.0, inr k.1, k.2)
 ]
 
-distinct_of_map : {A B : Type 0} (f : A → B) (xs : List A) → Distinct (map f xs) → Distinct xs
+pub distinct_of_map : {A B : Type 0} (f : A → B) (xs : List A) → Distinct (map f xs) → Distinct xs
 distinct_of_map f [] d = tt
 distinct_of_map f (x ∷ xs) d = (λ h. d.0 (has_map f xs x h), distinct_of_map f xs d.1)
 
 -- two of a list whose images are distinct
-one_image : {A B : Type 0} (f : A → B) (xs : List A) → Distinct (map f xs) → (a b : A) → Has xs a → Has xs b → f a ≡ f b → a ≡ b
+pub one_image : {A B : Type 0} (f : A → B) (xs : List A) → Distinct (map f xs) → (a b : A) → Has xs a → Has xs b → f a ≡ f b → a ≡ b
 one_image f [] d a b h k e = absurd h
 one_image f (x ∷ xs) d a b h k e = elim h [
   | inl p ↦ elim k [
@@ -160,11 +161,11 @@ one_image f (x ∷ xs) d a b h k e = elim h [
   ]
 ]
 
-stands_map : {A B : Type 0} (f : A → B) (xs : List A) (a b : A) → Stands a b xs → Stands (f a) (f b) (map f xs)
+pub stands_map : {A B : Type 0} (f : A → B) (xs : List A) (a b : A) → Stands a b xs → Stands (f a) (f b) (map f xs)
 stands_map f [] a b h = h
 stands_map f (x ∷ xs) a b h = elim h [ inl w ↦ inl (ap f w.0, has_map f xs b w.1) | inr r ↦ inr (stands_map f xs a b r) ]
 
-stands_unmap : {A B : Type 0} (f : A → B) (xs : List A) (a b : A) → ((x : A) → Has xs x → f x ≡ f a → x ≡ a) → ((x : A) → Has xs x → f x ≡ f b → x ≡ b) → Stands (f a) (f b) (map f xs) → Stands a b xs
+pub stands_unmap : {A B : Type 0} (f : A → B) (xs : List A) (a b : A) → ((x : A) → Has xs x → f x ≡ f a → x ≡ a) → ((x : A) → Has xs x → f x ≡ f b → x ≡ b) → Stands (f a) (f b) (map f xs) → Stands a b xs
 stands_unmap f [] a b ia ib h = h
 stands_unmap f (x ∷ xs) a b ia ib h = elim h [
   | inl w ↦
@@ -259,7 +260,7 @@ module _ (m : Machine) where
     | inr r ↦ above_all (m.after s e.1) es k all.1 y r
   ]
 
-  rises : (s : m.State) (es : List (ℕ × m.Event)) → IsRising es → Rises (entries m s es)
+  pub rises : (s : m.State) (es : List (ℕ × m.Event)) → IsRising es → Rises (entries m s es)
   rises s [] h = tt
   rises s (e ∷ es) h = (above_all (m.after s e.1) es e.0 h.0, rises (m.after s e.1) es h.1)
 
@@ -304,15 +305,15 @@ module _ (m : Machine) where
         }
   ]
 
-  stands_from : (front : List (Entry m)) (z : Entry m) (rest : List (Entry m)) (y : Entry m) → Has rest y → Stands z y (front ++ z ∷ rest)
+  pub stands_from : (front : List (Entry m)) (z : Entry m) (rest : List (Entry m)) (y : Entry m) → Has rest y → Stands z y (front ++ z ∷ rest)
   stands_from [] z rest y h = inl (refl, h)
   stands_from (x ∷ front) z rest y h = inr (stands_from front z rest y h)
 
-  in_middle : (front : List (Entry m)) (z : Entry m) (rest : List (Entry m)) → Has (front ++ z ∷ rest) z
+  pub in_middle : (front : List (Entry m)) (z : Entry m) (rest : List (Entry m)) → Has (front ++ z ∷ rest) z
   in_middle [] z rest = inl refl
   in_middle (x ∷ front) z rest = inr (in_middle front z rest)
 
-  stands_later : (front : List (Entry m)) (z : Entry m) (rest : List (Entry m)) (y : Entry m) → Distinct (front ++ z ∷ rest) → Stands z y (front ++ z ∷ rest) → Has rest y
+  pub stands_later : (front : List (Entry m)) (z : Entry m) (rest : List (Entry m)) (y : Entry m) → Distinct (front ++ z ∷ rest) → Stands z y (front ++ z ∷ rest) → Has rest y
   stands_later [] z rest y d h = elim h [ inl w ↦ w.1 | inr r ↦ (Order.stands_has z y rest r).1 ]
   stands_later (x ∷ front) z rest y d h = elim h [
     | inl w ↦ absurd (d.0 (subst (Has (front ++ z ∷ rest)) (sym w.0) (in_middle front z rest)))

@@ -22,7 +22,7 @@ module _ {E : Type 0} where
     pub below : AllByRecursion (λ (x : ℕ × E). x.0 < n) before
     pub above : AllByRecursion (λ (x : ℕ × E). n < x.0) later
 
-  all_middle : (P : ℕ × E → Type 0) (before later : List (ℕ × E)) (x : ℕ × E) → AllByRecursion P (before ++ x ∷ later) → P x
+  pub all_middle : (P : ℕ × E → Type 0) (before later : List (ℕ × E)) (x : ℕ × E) → AllByRecursion P (before ++ x ∷ later) → P x
   all_middle P [] later x h = h.0
   all_middle P (y ∷ before) later x h = all_middle P before later x h.1
 
@@ -66,7 +66,7 @@ module _ (m : Machine) where
       ∙ nearest_to_cut (m.after s x.1) n e before later h.1
 
   -- nothing conflicts, as a test and as a fact
-  none_conflicts : (z : Entry m) (s : m.State) (es : List (ℕ × m.Event)) → number_of m (nearest (clash m) z (entries m s es)) ≡ None → NoneConflicts m z.footprint (footprints m s es)
+  pub none_conflicts : (z : Entry m) (s : m.State) (es : List (ℕ × m.Event)) → number_of m (nearest (clash m) z (entries m s es)) ≡ None → NoneConflicts m z.footprint (footprints m s es)
   none_conflicts z s [] h = tt
   none_conflicts z s (e ∷ es) h = elim (either (m.conflict z.footprint (m.footprint s e.1))) [
     | inl c ↦
@@ -84,7 +84,7 @@ module _ (m : Machine) where
         ∙ none_above n f (m.after s x.1) later h.1
   ]
 
-  nearest_above_cut : (n : ℕ) (f : m.Footprint) (s : m.State) (before later : List (ℕ × m.Event)) → AllByRecursion (λ (x : ℕ × m.Event). x.0 < n) before → nearest_above m n f (entries m s (before ++ later)) ≡ nearest_above m n f (entries m (run m s before) later)
+  pub nearest_above_cut : (n : ℕ) (f : m.Footprint) (s : m.State) (before later : List (ℕ × m.Event)) → AllByRecursion (λ (x : ℕ × m.Event). x.0 < n) before → nearest_above m n f (entries m s (before ++ later)) ≡ nearest_above m n f (entries m (run m s before) later)
   nearest_above_cut n f s [] later h = refl
   nearest_above_cut n f s (x ∷ before) later h =
       let zs : List (Entry m) = entries m (m.after s x.1) (before ++ later) in
@@ -164,7 +164,7 @@ pub record Gap {E : Type 0} (n : ℕ) (xs : List (ℕ × E)) : Type 0 where
   pub above : AllByRecursion (λ (x : ℕ × E). n < x.0) later
 
 module _ {E : Type 0} where
-  all_further : (n k : ℕ) (xs : List (ℕ × E)) → n < k → AllByRecursion (λ (x : ℕ × E). k < x.0) xs → AllByRecursion (λ (x : ℕ × E). n < x.0) xs
+  pub all_further : (n k : ℕ) (xs : List (ℕ × E)) → n < k → AllByRecursion (λ (x : ℕ × E). k < x.0) xs → AllByRecursion (λ (x : ℕ × E). n < x.0) xs
   all_further n k [] h all = tt
   all_further n k (x ∷ xs) h all = (omega (arith, all.0), all_further n k xs h all.1)
 

@@ -160,7 +160,7 @@ module _ {A : Type 0} where
   has_front (x ∷ front) rest a h = elim h [ inl p ↦ inl p | inr r ↦ inr (has_front front rest a r) ]
 
 module _ {A : Type 0} (conflict : A → A → Bool) where
-  free_by : (a : A) (xs : List A) → ((x : A) → Has xs x → conflict a x ≡ false) → Free conflict a xs
+  pub free_by : (a : A) (xs : List A) → ((x : A) → Has xs x → conflict a x ≡ false) → Free conflict a xs
   free_by a [] h = tt
   free_by a (x ∷ xs) h = (h x (inl refl), free_by a xs (λ y k. h y (inr k)))
 

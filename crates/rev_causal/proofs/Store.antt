@@ -180,11 +180,11 @@ module _ {K : Type 0} {R : K → K → Ordering} (o : IsTotalOrder R) (exact : I
     undone_state s n es acc legal none = undone_by_cases (t.footprint s n) s n es refl acc legal none
 
     -- events that avoid what two states differ in replace the same
-    same_values : (s u : FinMap R V) (ws : List (K × Option V)) → ((q : K) → among R (keys_of ws) q ≡ true → get u q ≡ get s q) → replaced u ws ≡ replaced s ws
+    pub same_values : (s u : FinMap R V) (ws : List (K × Option V)) → ((q : K) → among R (keys_of ws) q ≡ true → get u q ≡ get s q) → replaced u ws ≡ replaced s ws
     same_values s u [] on = refl
     same_values s u (w ∷ ws) on = λ i. (w.0, on w.0 (among_has (keys_of (w ∷ ws)) w.0 (inl refl)) i) ∷ same_values s u ws (λ q h. on q (or_right (eq_by_cmp R q w.0) (among R (keys_of ws) q) h)) i
 
-    keys_touched : (f : Footprint K) (ks : List K) (k : K) → WritesAre f ks → among R ks k ≡ true → is_touched R f k ≡ true
+    pub keys_touched : (f : Footprint K) (ks : List K) (k : K) → WritesAre f ks → among R ks k ≡ true → is_touched R f k ≡ true
     keys_touched Whole ks k w h = refl
     keys_touched (Cells reads writes) ks k w h = ap (λ b. b || among R reads k) (ap (λ zs. among R zs k) (sym w) ∙ h)
 

@@ -3,7 +3,7 @@ use Rattle.std.specs.Prelude.{◌≡◌, ℕ, ◌<◌, cond, List, [], ◌∷◌
 use Rattle.std.specs.List.{AllByRecursion}
 use Rattle.std.specs.declared.option.Option.{Option}
 use Rattle.std.specs.declared.option.Option.TheVariants.{None, Some}
-use Rattle.rev_causal.specs.Machine.{Machine, Accepts, AgreeOn, AgreeOff, Legal, run}
+use Rattle.rev_causal.specs.Machine.{Machine, Accepts, AgreeOn, AgreeOff, Legal, run, footprints}
 use Rattle.rev_causal.specs.Order.{nearest, cone, outside}
 use Rattle.rev_causal.specs.Entries.{Entry, entries, clash}
 
@@ -25,7 +25,17 @@ module _ {E : Type 0} where
   put n e [] = (n, e) ∷ []
   put n e (x ∷ xs) = cond (nat_lt n x.0) ((n, e) ∷ x ∷ xs) (x ∷ put n e xs)
 
+  -- what belongs to each event, under its number
+  abbrev pub numbered_by : {A : Type 0} → List (ℕ × E) → List A → List (ℕ × A)
+  numbered_by [] xs = []
+  numbered_by (e ∷ es) [] = []
+  numbered_by (e ∷ es) (x ∷ xs) = (e.0, x) ∷ numbered_by es xs
+
 module _ (m : Machine) where
+  -- each event's footprint at its place, under its number
+  abbrev pub footprints_by_number : m.State → List (ℕ × m.Event) → List (ℕ × m.Footprint)
+  footprints_by_number s es = numbered_by es (footprints m s es)
+
   abbrev pub number_of : Option (Entry m) → Option ℕ
   number_of None = None
   number_of (Some z) = Some z.number

@@ -7,6 +7,7 @@ use Rattle.std.specs.declared.option.Option.{Option}
 use Rattle.std.specs.declared.option.Option.TheVariants.{None, Some}
 use Rattle.std.specs.FinMap.{FinMap, get, insert, remove}
 use Rattle.rev_causal.specs.Machine.{Machine}
+use Rattle.rev_causal.specs.History.{numbered_by}
 
 pub data Footprint (K : Type 0) : Type 0 where
   Whole : Footprint K
@@ -88,3 +89,7 @@ pub record IsLocalTable {K V E F : Type 0} {R : K → K → Ordering} (t : Table
 abbrev pub all_replaced : {K V E F : Type 0} {R : K → K → Ordering} → Table K V E F R → FinMap R V → List (ℕ × E) → List (List (K × Option V))
 all_replaced t s [] = []
 all_replaced {R = R} t s (e ∷ es) = replaced s (t.effect s e.1) ∷ all_replaced t (set_cells R s (t.effect s e.1)) es
+
+-- the same under their numbers
+abbrev pub replaced_by_number : {K V E F : Type 0} {R : K → K → Ordering} → Table K V E F R → FinMap R V → List (ℕ × E) → List (ℕ × List (K × Option V))
+replaced_by_number t s es = numbered_by es (all_replaced t s es)
