@@ -8,8 +8,9 @@ use Rattle.std.specs.declared.option.Option.{Option}
 use Rattle.std.specs.declared.option.Option.TheVariants.{None, Some}
 use Rattle.std.specs.FinMap.{FinMap, get, get-insert, get-remove, same_map, IsAntisymmetric}
 use Rattle.rev_causal.specs.Machine.{IsLocal, Legal, Accepts, run, footprints, NoneConflicts, Removed, Avoids, AgreeOff}
-use Rattle.rev_causal.specs.Store.{Footprint, Footprint.Whole, Footprint.Cells, among, is_written, is_touched, conflict, set_cell, set_cells, Table, machine_of, replaced, all_replaced, keys_of, WritesAre, IsLocalTable}
+use Rattle.rev_causal.specs.Store.{Footprint, Footprint.Whole, Footprint.Cells, among, is_written, is_touched, conflict, set_cell, set_cells, Table, machine_of, replaced, all_replaced, keys_of, WritesAre, IsLocalTable, is_whole, IsLocalEvent}
 use Rattle.rev_causal.specs.Order.{Has}
+use Rattle.rev_causal.specs.Laws.{ConflictIsExact}
 use Rattle.std.proofs.lemmas.Map.Views.{tells_apart}
 use Rattle.rev_causal.proofs.Runs
 use Rattle.rev_causal.proofs.Runs.{either}
@@ -202,3 +203,94 @@ module _ {K : Type 0} {R : K → K → Ordering} (o : IsTotalOrder R) (exact : I
   -- states that agree on what a whole event touches are one state
   pub whole_agrees : {V : Type 0} (s u : FinMap R V) → ((k : K) → is_touched R Whole k ≡ true → get u k ≡ get s k) → u ≡ s
   whole_agrees s u on = same_map o exact u s (λ q. on q refl)
+
+  -- Events handled one by one make a local table: where one is whole, states that agree on its cells are one state.
+  module _ {V E F : Type 0} (t : Table K V E F R) where
+    -- what is touched by a whole event is all
+    one_state : (f : Footprint K) → is_whole f ≡ true → (s u : FinMap R V) → ((k : K) → is_touched R f k ≡ true → get u k ≡ get s k) → u ≡ s
+    one_state Whole h s u on = whole_agrees s u on
+    one_state (Cells reads writes) h s u on = absurd (true≢false (sym h))
+
+    whole_writes : (f : Footprint K) (ks : List K) → is_whole f ≡ true → WritesAre f ks
+    whole_writes Whole ks h = tt
+    whole_writes (Cells reads writes) ks h = absurd (true≢false (sym h))
+
+    pub table_of_events : ((e : E) → IsLocalEvent t e) → IsLocalTable t
+    table_of_events each = record {
+      accepted = λ s u e acc on. elim (either (is_whole (t.footprint s e))) [
+        | inl w ↦ ap (λ x. t.refusal x e) (one_state (t.footprint s e) w s u on) ∙ acc
+        | inr c ↦ (each e).accepted s u acc c on
+      ];
+      same_effect = λ s u e acc on. elim (either (is_whole (t.footprint s e))) [
+        | inl w ↦ ap (λ x. t.effect x e) (one_state (t.footprint s e) w s u on)
+        | inr c ↦ (each e).same_effect s u acc c on
+      ];
+      same_footprint = λ s u e acc on. elim (either (is_whole (t.footprint s e))) [
+        | inl w ↦ ap (λ x. t.footprint x e) (one_state (t.footprint s e) w s u on)
+        | inr c ↦ (each e).same_footprint s u acc c on
+      ];
+      writes = λ s e acc. elim (either (is_whole (t.footprint s e))) [
+        | inl w ↦ whole_writes (t.footprint s e) (keys_of (t.effect s e)) w
+        | inr c ↦ (each e).writes s acc c
+      ];
+    }
+
+    -- an event that is whole in every state owes nothing
+    pub whole_event : (e : E) → ((s : FinMap R V) → is_whole (t.footprint s e) ≡ true) → IsLocalEvent t e
+    whole_event e whole = record {
+      accepted = λ s u acc c on. absurd (true≢false (sym (whole s) ∙ c));
+      same_effect = λ s u acc c on. absurd (true≢false (sym (whole s) ∙ c));
+      same_footprint = λ s u acc c on. absurd (true≢false (sym (whole s) ∙ c));
+      writes = λ s acc c. absurd (true≢false (sym (whole s) ∙ c));
+    }
+
+  -- what a list holds by its test it holds
+  any_has : (test : K → Bool) (ks : List K) → list_any test ks ≡ true → (k : K) × (among R ks k ≡ true) × (test k ≡ true)
+  any_has test [] h = absurd (true≢false (sym h))
+  any_has test (x ∷ ks) h = elim (either (test x)) [
+    | inl p ↦ (x, ap (λ b. b || among R ks x) ((eq_by_cmp_equiv o).refl x), p)
+    | inr f ↦
+        let r : (k : K) × (among R ks k ≡ true) × (test k ≡ true) = any_has test ks (sym (ap (λ b. b || list_any test ks) f) ∙ h) in
+        (r.0, or_right (eq_by_cmp R r.0 x) (among R ks r.0) r.1, r.2)
+  ]
+
+  has_any : (test : K → Bool) (ks : List K) (k : K) → among R ks k ≡ true → test k ≡ true → list_any test ks ≡ true
+  has_any test [] k h p = absurd (true≢false (sym h))
+  has_any test (x ∷ ks) k h p = elim (either (eq_by_cmp R k x)) [
+    | inl e ↦ ap (λ b. b || list_any test ks) (ap test (sym (alike k x e)) ∙ p)
+    | inr e ↦ or_right (test x) (list_any test ks) (has_any test ks k (sym (ap (λ b. b || among R ks k) e) ∙ h) p)
+  ]
+
+  -- what it is for one to write a cell that the other touches
+  abbrev Shares : Footprint K → Footprint K → Type 0
+  Shares f g = (k : K) × (is_written R f k ≡ true) × (is_touched R g k ≡ true)
+
+  pub sharing_conflicts : (f g : Footprint K) → Shares f g → conflict R f g ≡ true
+  sharing_conflicts Whole g h = refl
+  sharing_conflicts (Cells r w) Whole h = refl
+  sharing_conflicts (Cells r w) (Cells r' w') h = ap (λ b. b || list_any (is_touched R (Cells r w)) w') (has_any (is_touched R (Cells r' w')) w h.0 h.1 h.2)
+
+  conflict_parts : (f g : Footprint K) → conflict R f g ≡ true → (is_whole f ≡ true) ⊎ (is_whole g ≡ true) ⊎ Shares f g ⊎ ((k : K) × (is_touched R f k ≡ true) × (is_written R g k ≡ true))
+  conflict_parts Whole g h = inl refl
+  conflict_parts (Cells r w) Whole h = inr (inl refl)
+  conflict_parts (Cells r w) (Cells r' w') h = elim (either (list_any (is_touched R (Cells r' w')) w)) [
+    | inl p ↦ inr (inr (inl (any_has (is_touched R (Cells r' w')) w p)))
+    | inr f ↦
+        let k : (k : K) × (among R w' k ≡ true) × (is_touched R (Cells r w) k ≡ true) = any_has (is_touched R (Cells r w)) w' (sym (ap (λ b. b || list_any (is_touched R (Cells r w)) w') f) ∙ h) in
+        inr (inr (inr (k.0, k.2, k.1)))
+  ]
+
+  whole_conflicts : (f g : Footprint K) → is_whole f ≡ true → conflict R f g ≡ true
+  whole_conflicts Whole g h = refl
+  whole_conflicts (Cells r w) g h = absurd (true≢false (sym h))
+
+  pub conflict_is_exact : ConflictIsExact R
+  conflict_is_exact f g = (
+    conflict_parts f g,
+    λ h. elim h [
+      | inl p ↦ whole_conflicts f g p
+      | inr (inl p) ↦ both_ways f g ∙ whole_conflicts g f p
+      | inr (inr (inl p)) ↦ sharing_conflicts f g p
+      | inr (inr (inr p)) ↦ both_ways f g ∙ sharing_conflicts g f (p.0, p.2, p.1)
+    ],
+  )

@@ -1,5 +1,5 @@
 -- The laws of undo, redo, cones and equivalent histories, each as one type over a machine or a table.
-use Rattle.std.specs.Prelude.{◌≡◌, ℕ, ◌<◌, ◌≤◌, Bool, true, false, List, [], ◌∷◌, ◌++◌, ◌↔◌, map}
+use Rattle.std.specs.Prelude.{◌≡◌, ℕ, ◌<◌, ◌≤◌, Bool, true, false, List, [], ◌∷◌, ◌++◌, ◌↔◌, ◌⊎◌, map}
 use Rattle.std.specs.declared.cmp.Ordering.{Ordering}
 use Rattle.std.specs.declared.option.Option.{Option}
 use Rattle.std.specs.declared.option.Option.TheVariants.{None, Some}
@@ -8,7 +8,17 @@ use Rattle.rev_causal.specs.Machine.{Machine, Accepts, Legal, run, footprints, N
 use Rattle.rev_causal.specs.Order.{Has, Stands, Distinct, InCone}
 use Rattle.rev_causal.specs.Entries.{Entry, entries, events, clash, SwapEquivalent, Swaps}
 use Rattle.rev_causal.specs.History.{IsRising, event_at, without, put, nearest_to, nearest_above, Undone, Redone, cone_of, rest_of, footprints_by_number}
-use Rattle.rev_causal.specs.Store.{Table, machine_of, set_cells, replaced, replaced_by_number}
+use Rattle.rev_causal.specs.Store.{Footprint, is_whole, is_written, is_touched, conflict, Table, machine_of, set_cells, replaced, replaced_by_number}
+
+-- CONFLICT
+module _ {K : Type 0} (R : K → K → Ordering) where
+  -- Two footprints conflict exactly where one is whole, or a cell that one writes is read or written by the other.
+  abbrev pub ConflictIsExact : Type 0
+  ConflictIsExact = (f g : Footprint K) → (conflict R f g ≡ true) ↔ (
+    (is_whole f ≡ true) ⊎ (is_whole g ≡ true) ⊎
+    ((k : K) × (is_written R f k ≡ true) × (is_touched R g k ≡ true)) ⊎
+    ((k : K) × (is_touched R f k ≡ true) × (is_written R g k ≡ true))
+  )
 
 -- EXCHANGE, REMOVAL AND PLACE
 module _ (m : Machine) where

@@ -1,5 +1,5 @@
 -- A machine over a finite map from cells to values. A cell at its default is absent.
-use Rattle.std.specs.Prelude.{◌≡◌, ℕ, Bool, true, List, [], ◌∷◌, ◌||◌}
+use Rattle.std.specs.Prelude.{◌≡◌, ℕ, Bool, true, false, List, [], ◌∷◌, ◌||◌}
 use Rattle.std.specs.List.{list_any}
 use Rattle.std.specs.Ordering.{eq_by_cmp}
 use Rattle.std.specs.declared.cmp.Ordering.{Ordering}
@@ -84,6 +84,19 @@ pub record IsLocalTable {K V E F : Type 0} {R : K → K → Ordering} (t : Table
   pub same_effect : (s u : FinMap R V) (e : E) → t.refusal s e ≡ None → ((k : K) → is_touched R (t.footprint s e) k ≡ true → get u k ≡ get s k) → t.effect u e ≡ t.effect s e
   pub same_footprint : (s u : FinMap R V) (e : E) → t.refusal s e ≡ None → ((k : K) → is_touched R (t.footprint s e) k ≡ true → get u k ≡ get s k) → t.footprint u e ≡ t.footprint s e
   pub writes : (s : FinMap R V) (e : E) → t.refusal s e ≡ None → WritesAre (t.footprint s e) (keys_of (t.effect s e))
+
+-- whether all cells are read and written
+abbrev pub is_whole : {K : Type 0} → Footprint K → Bool
+is_whole Whole = true
+is_whole (Cells reads writes) = false
+
+-- What one event owes, where its footprint names its cells. Where it is whole it owes nothing: states that agree on
+-- all cells are one state.
+pub record IsLocalEvent {K V E F : Type 0} {R : K → K → Ordering} (t : Table K V E F R) (e : E) : Type 0 where
+  pub accepted : (s u : FinMap R V) → t.refusal s e ≡ None → is_whole (t.footprint s e) ≡ false → ((k : K) → is_touched R (t.footprint s e) k ≡ true → get u k ≡ get s k) → t.refusal u e ≡ None
+  pub same_effect : (s u : FinMap R V) → t.refusal s e ≡ None → is_whole (t.footprint s e) ≡ false → ((k : K) → is_touched R (t.footprint s e) k ≡ true → get u k ≡ get s k) → t.effect u e ≡ t.effect s e
+  pub same_footprint : (s u : FinMap R V) → t.refusal s e ≡ None → is_whole (t.footprint s e) ≡ false → ((k : K) → is_touched R (t.footprint s e) k ≡ true → get u k ≡ get s k) → t.footprint u e ≡ t.footprint s e
+  pub writes : (s : FinMap R V) → t.refusal s e ≡ None → is_whole (t.footprint s e) ≡ false → WritesAre (t.footprint s e) (keys_of (t.effect s e))
 
 -- what each event of a list replaces, at its place
 abbrev pub all_replaced : {K V E F : Type 0} {R : K → K → Ordering} → Table K V E F R → FinMap R V → List (ℕ × E) → List (List (K × Option V))
