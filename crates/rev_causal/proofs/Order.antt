@@ -119,7 +119,7 @@ cut_at a (x ∷ xs) h = elim h [
 ]
 
 module _ {A : Type 0} where
-  has_insert : (y : A) (front rest : List A) (a : A) → Has (front ++ y ∷ rest) a ↔ ((y ≡ a) ⊎ Has (front ++ rest) a)
+  pub has_insert : (y : A) (front rest : List A) (a : A) → Has (front ++ y ∷ rest) a ↔ ((y ≡ a) ⊎ Has (front ++ rest) a)
   has_insert y [] rest a = (λ h. h, λ h. h)
   has_insert y (x ∷ front) rest a = (
     λ h. elim h [
@@ -133,7 +133,7 @@ module _ {A : Type 0} where
     ],
   )
 
-  distinct_insert : (y : A) (front rest : List A) → Distinct (front ++ y ∷ rest) → Distinct (front ++ rest) × (Has (front ++ rest) y → ⊥)
+  pub distinct_insert : (y : A) (front rest : List A) → Distinct (front ++ y ∷ rest) → Distinct (front ++ rest) × (Has (front ++ rest) y → ⊥)
   distinct_insert y [] rest d = (d.1, d.0)
   distinct_insert y (x ∷ front) rest d =
       let r : Distinct (front ++ rest) × (Has (front ++ rest) y → ⊥) = distinct_insert y front rest d.1 in (
@@ -141,7 +141,7 @@ module _ {A : Type 0} where
         λ h. elim h [ inl p ↦ d.0 ((has_insert y front rest x).1 (inl (sym p))) | inr q ↦ r.1 q ],
       )
 
-  stands_insert : (y : A) (front rest : List A) (a b : A) → Stands a b (front ++ rest) → Stands a b (front ++ y ∷ rest)
+  pub stands_insert : (y : A) (front rest : List A) (a b : A) → Stands a b (front ++ rest) → Stands a b (front ++ y ∷ rest)
   stands_insert y [] rest a b h = inr h
   stands_insert y (x ∷ front) rest a b h = elim h [
     | inl w ↦ inl (w.0, (has_insert y front rest b).1 (inr w.1))
