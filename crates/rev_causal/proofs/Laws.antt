@@ -14,11 +14,11 @@ use Rattle.rev_causal.proofs.Cones
 use Rattle.rev_causal.proofs.Entries
 use Rattle.rev_causal.proofs.Numbers as numbers
 
-nothing_clashes : {B : Type 0} → B → B → Bool
+pub nothing_clashes : {B : Type 0} → B → B → Bool
 nothing_clashes a b = false
 
 -- exchanges of the images, where nothing conflicts
-mapped : {A B : Type 0} (conflict : A → A → Bool) (f : A → B) {xs ys : List A} → Equivalent conflict xs ys → Equivalent nothing_clashes (map f xs) (map f ys)
+pub mapped : {A B : Type 0} (conflict : A → A → Bool) (f : A → B) {xs ys : List A} → Equivalent conflict xs ys → Equivalent nothing_clashes (map f xs) (map f ys)
 unfolding nothing_clashes
 mapped conflict f same = same
 mapped conflict f (exchange a b xs none) = exchange (f a) (f b) (map f xs) refl
@@ -175,7 +175,7 @@ stands_unmap f (x ∷ xs) a b ia ib h = elim h [
 ]
 
 module _ (m : Machine) (l : IsLocal m) where
-  abbrev pair : Entry m → ℕ × m.Event
+  abbrev pub pair : Entry m → ℕ × m.Event
   pair z = (z.number, z.event)
 
   same_number : (x y : Entry m) → pair x ≡ pair y → number m x ≡ number m y
@@ -185,14 +185,14 @@ module _ (m : Machine) (l : IsLocal m) where
   events_are [] = refl
   events_are (z ∷ zs) = ap (λ ys. (z.number, z.event) ∷ ys) (events_are zs)
 
-  numbers_are : (zs : List (Entry m)) → map (number m) zs ≡ map (λ (y : ℕ × m.Event). y.0) (map pair zs)
+  pub numbers_are : (zs : List (Entry m)) → map (number m) zs ≡ map (λ (y : ℕ × m.Event). y.0) (map pair zs)
   numbers_are [] = refl
   numbers_are (z ∷ zs) = ap (λ ns. z.number ∷ ns) (numbers_are zs)
 
-  pairs_of : (s : m.State) (xs : List (ℕ × m.Event)) → map pair (entries m s xs) ≡ xs
+  pub pairs_of : (s : m.State) (xs : List (ℕ × m.Event)) → map pair (entries m s xs) ≡ xs
   pairs_of s xs = sym (events_are (entries m s xs)) ∙ Entries.events-entries m s xs
 
-  has_entry : (s : m.State) (xs : List (ℕ × m.Event)) (x : ℕ × m.Event) → Has xs x → (z : Entry m) × Has (entries m s xs) z × (pair z ≡ x)
+  pub has_entry : (s : m.State) (xs : List (ℕ × m.Event)) (x : ℕ × m.Event) → Has xs x → (z : Entry m) × Has (entries m s xs) z × (pair z ≡ x)
   has_entry s xs x h = map_has pair (entries m s xs) x (subst (λ ys. Has ys x) (sym (pairs_of s xs)) h)
 
   record Picked (zs : List (Entry m)) (ys : List (ℕ × m.Event)) : Type 0 where

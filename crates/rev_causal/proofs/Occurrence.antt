@@ -1,6 +1,7 @@
 -- Equal events matched by occurrence: there is one such list at most, and renumbering finds it.
 use Rattle.std.proofs.Common.{◌≡◌, ℕ, ◌<◌, ◌+◌, Bool, true, false, cond, List, [], ◌∷◌, ◌++◌, map, sym, refl, ap, ap₂, subst, ◌∙◌, ◌⊎◌, inl, inr, true≢false, ◌↔◌, eqb-true, eq-eqb, ne_eqb, arith}
 use Rattle.std.specs.List.{AllByRecursion, count_by}
+use Rattle.std.proofs.lemmas.List.Sums.{sum_by-cons}
 use Rattle.std.specs.declared.option.Option.{Option}
 use Rattle.std.specs.declared.option.Option.TheVariants.{None, Some}
 use Rattle.std.specs.Prelude.{nat_eq, option_map}
@@ -196,8 +197,14 @@ module _ {E : Type 0} (same : E → E → Bool) (q : IsEquality same) where
   none_of_some a h = omega arith
 
   count_insert : (p : E → Bool) (front : List (ℕ × E)) (z : ℕ × E) (rest : List (ℕ × E)) → count_by p (bare (front ++ z ∷ rest)) ≡ cond (p z.1) 1 0 + count_by p (bare (front ++ rest))
-  count_insert p [] z rest = refl
-  count_insert p (x ∷ front) z rest = ap (λ k. cond (p x.1) 1 0 + k) (count_insert p front z rest) ∙ swap_sum (cond (p x.1) 1 0) (cond (p z.1) 1 0) (count_by p (bare (front ++ rest)))
+  count_insert p [] z rest = sum_by-cons (λ e. cond (p e) 1 0) z.1 (bare rest)
+  count_insert p (x ∷ front) z rest =
+      sum_by-cons (λ e. cond (p e) 1 0) x.1 (bare (front ++ z ∷ rest)) ∙ ap (λ k. cond (p x.1) 1 0 + k) (count_insert p front z rest)
+      ∙ swap_sum (cond (p x.1) 1 0) (cond (p z.1) 1 0) (count_by p (bare (front ++ rest))) ∙ ap (λ k. cond (p z.1) 1 0 + k) (sym (sum_by-cons (λ e. cond (p e) 1 0) x.1 (bare (front ++ rest))))
+
+  -- one more where it passes
+  count_one : (p : E → Bool) (y : E) (ys : List E) → p y ≡ true → count_by p (y ∷ ys) ≡ 1 + count_by p ys
+  count_one p y ys h = sum_by-cons (λ e. cond (p e) 1 0) y ys ∙ ap (λ b. cond b 1 0 + count_by p ys) h
 
   pub matched_counts : (xs zs : List (ℕ × E)) → Distinct xs → IsMatched xs zs → SameEvents same (bare xs) (bare zs)
   matched_counts [] [] d m e = refl
@@ -208,12 +215,13 @@ module _ {E : Type 0} (same : E → E → Bool) (q : IsEquality same) where
       let further : IsMatched (c.front ++ c.rest) zs = matched_rest z zs c.front c.rest cut_d (subst (λ ys. IsMatched ys (z ∷ zs)) c.is m) in
       ap (λ us. count_by (same e) (bare us)) c.is ∙ count_insert (same e) c.front z c.rest
       ∙ ap (λ k. cond (same e z.1) 1 0 + k) (matched_counts (c.front ++ c.rest) zs (Order.distinct_insert z c.front c.rest cut_d).0 further e)
+      ∙ sym (sum_by-cons (λ x. cond (same e x) 1 0) z.1 (bare zs))
 
   first_none : (y : E) (xs : List (ℕ × E)) → first_of same y xs ≡ None → count_by (same y) (bare xs) ≡ 0
   first_none y [] h = refl
   first_none y (x ∷ xs) h = elim (either (same y x.1)) [
     | inl t ↦ let w : Some x.0 ≡ None = sym (ap (λ b. cond b (Some x.0) (first_of same y xs)) t) ∙ h in cc
-    | inr f ↦ ap (λ b. cond b 1 0 + count_by (same y) (bare xs)) f ∙ zero_more (count_by (same y) (bare xs)) ∙ first_none y xs (sym (ap (λ b. cond b (Some x.0) (first_of same y xs)) f) ∙ h)
+    | inr f ↦ sum_by-cons (λ e. cond (same y e) 1 0) x.1 (bare xs) ∙ ap (λ b. cond b 1 0 + count_by (same y) (bare xs)) f ∙ zero_more (count_by (same y) (bare xs)) ∙ first_none y xs (sym (ap (λ b. cond b (Some x.0) (first_of same y xs)) f) ∙ h)
   ]
     where
       zero_more : (k : ℕ) → 0 + k ≡ k
@@ -222,14 +230,14 @@ module _ {E : Type 0} (same : E → E → Bool) (q : IsEquality same) where
   pub renumbered_some : (ys : List E) (xs : List (ℕ × E)) → IsRising xs → SameEvents same (bare xs) ys → (zs : List (ℕ × E)) × (renumbered same xs ys ≡ Some zs)
   renumbered_some [] [] rising h = ([], refl)
   renumbered_some [] (x ∷ xs) rising h =
-      absurd (none_of_some (count_by (same x.1) (bare xs)) (ap (λ b. cond b 1 0 + count_by (same x.1) (bare xs)) (sym (q.itself x.1)) ∙ h x.1))
+      absurd (none_of_some (count_by (same x.1) (bare xs)) (sym (count_one (same x.1) x.1 (bare xs) (q.itself x.1)) ∙ h x.1))
   renumbered_some (y ∷ ys) xs rising h = elim (none_or (first_of same y xs)) [
-    | inl none ↦ absurd (none_of_some (count_by (same y) ys) (ap (λ b. cond b 1 0 + count_by (same y) ys) (sym (q.itself y)) ∙ sym (h y) ∙ first_none y xs none))
+    | inl none ↦ absurd (none_of_some (count_by (same y) ys) (sym (count_one (same y) y ys (q.itself y)) ∙ sym (h y) ∙ first_none y xs none))
     | inr found ↦
         let n : ℕ = found.0 in
         let c : FirstAt y n xs = first_at y n xs found.1 in
         let further : SameEvents same (bare (without n xs)) ys = λ e. ap (λ us. count_by (same e) (bare us)) (without_first n y xs rising c)
-        ∙ cancel (cond (same e y) 1 0) (count_by (same e) (bare (c.front ++ c.rest))) (count_by (same e) ys) (sym (count_insert (same e) c.front (n, y) c.rest) ∙ ap (λ us. count_by (same e) (bare us)) (sym c.is) ∙ h e) in
+        ∙ cancel (cond (same e y) 1 0) (count_by (same e) (bare (c.front ++ c.rest))) (count_by (same e) ys) (sym (count_insert (same e) c.front (n, y) c.rest) ∙ ap (λ us. count_by (same e) (bare us)) (sym c.is) ∙ h e ∙ sum_by-cons (λ x. cond (same e x) 1 0) y ys) in
         let r : (zs : List (ℕ × E)) × (renumbered same (without n xs) ys ≡ Some zs) = renumbered_some ys (without n xs) (by_number.without_rises n xs rising) further in (
           (n, y) ∷ r.0,
           ap (λ o. where_found o (λ k. option_map (λ us. (k, y) ∷ us) (renumbered same (without k xs) ys))) found.1 ∙ ap (option_map (λ us. (n, y) ∷ us)) r.1,
