@@ -1,14 +1,13 @@
 -- Undo, redo, back, what stands in their way, and the cone, by number.
-use Rattle.std.proofs.Common.{◌≡◌, ℕ, ◌<◌, ◌≤◌, ◌≢◌, Bool, true, false, cond, List, [], ◌∷◌, ◌++◌, append-nil, append_assoc, map, sym, refl, ap, ap₂, subst, ◌∙◌, ◌⊎◌, inl, inr, true≢false, ◌↔◌, eqb-true, eq-eqb, ne_eqb, ltb-true, ltb-false, lt-ltb, le-ltb, arith}
+use Rattle.std.proofs.Common.{◌≡◌, ℕ, ◌<◌, ◌≤◌, ◌≢◌, Bool, true, false, cond, List, [], ◌∷◌, ◌++◌, append-nil, map, sym, refl, ap, ap₂, subst, ◌∙◌, inl, inr, true≢false, ◌↔◌, eqb-true, eq-eqb, ne_eqb, ltb-true, ltb-false, lt-ltb, arith}
 use Rattle.std.specs.List.{AllByRecursion}
-use Rattle.std.specs.declared.option.Option.{Option}
 use Rattle.std.specs.declared.option.Option.TheVariants.{None, Some}
 use Rattle.std.specs.Prelude.{nat_eq, nat_lt}
 use Rattle.rev_causal.specs.Machine.{Machine, IsLocal, Accepts, Legal, run, footprints, NoneConflicts, Removed, Placed}
 use Rattle.rev_causal.specs.Order.{Free, Has, Stands, Distinct, InCone, InCone.itself, InCone.depends, any_conflict, cone, outside, nearest}
 use Rattle.rev_causal.specs.Entries.{Entry, entries, events, IsRun, clash}
 use Rattle.rev_causal.specs.History.{IsRising, event_at, without, put, numbered_by, footprints_by_number, number_of, nearest_to, nearest_above, Undone, Redone, cone_of, rest_of}
-use Rattle.rev_causal.specs.Laws.{NeighboursExchange, Removal, Place, UndoOfFree, RedoAtItsPlace, RedoneNext, RedoNextRestores, UndoRises, RedoRises, GreatestIsFree, UndoKeepsFootprints, RedoKeepsFootprints, NearestIsNone, IsLeastInTheWay, FirstAboveIsLeast, FirstAboveIsNone, IsLeastCone, ConeIsLeast, ConeIsWithin, BothFormsAgree, SameRefusals, SameEntries}
+use Rattle.rev_causal.specs.Laws.{NeighboursExchange, Removal, Place, UndoOfFree, RedoAtItsPlace, RedoNextRestores, UndoRises, RedoRises, GreatestIsFree, UndoKeepsFootprints, RedoKeepsFootprints, NearestIsNone, FirstAboveIsLeast, FirstAboveIsNone, ConeIsLeast, ConeIsWithin, BothFormsAgree, SameRefusals, SameEntries}
 use Rattle.rev_causal.proofs.Runs
 use Rattle.rev_causal.proofs.Runs.{either}
 use Rattle.rev_causal.proofs.Order
@@ -165,7 +164,7 @@ module _ (m : Machine) (l : IsLocal m) where
       ∙ footprints_by_number-append s before ((n, e) ∷ later)
       ∙ ap₂ (λ f fs. front ++ (n, f) ∷ numbered_by later fs) (p.same_footprint ∙ sym (ap (λ t. m.footprint t e) now)) p.same_footprints
       ∙ sym (numbers.put_cut n (m.footprint (run m s (before ++ later)) e) front (footprints_by_number m u later)
-          (numbered_all (λ k. k < n) before (footprints m s before) below) (numbered_all (λ k. n < k) later (footprints m u later) above))
+      (numbered_all (λ k. k < n) before (footprints m s before) below) (numbered_all (λ k. n < k) later (footprints m u later) above))
       ∙ sym (ap (put n (m.footprint (run m s (before ++ later)) e)) (footprints_by_number-append s before later))
 
   pub redo_keeps_footprints : RedoKeepsFootprints m

@@ -1,13 +1,13 @@
 -- Equal events matched by occurrence: there is one such list at most, and renumbering finds it.
-use Rattle.std.proofs.Common.{◌≡◌, ℕ, ◌<◌, ◌+◌, Bool, true, false, cond, List, [], ◌∷◌, ◌++◌, map, sym, refl, ap, ap₂, subst, ◌∙◌, ◌⊎◌, inl, inr, true≢false, ◌↔◌, eqb-true, eq-eqb, ne_eqb, arith}
+use Rattle.std.proofs.Common.{◌≡◌, ℕ, ◌<◌, ◌+◌, Bool, true, false, cond, List, [], ◌∷◌, ◌++◌, map, sym, refl, ap, subst, ◌∙◌, ◌⊎◌, inl, inr, true≢false, arith}
 use Rattle.std.specs.List.{AllByRecursion, count_by}
 use Rattle.std.proofs.lemmas.List.Sums.{sum_by-cons}
 use Rattle.std.specs.declared.option.Option.{Option}
 use Rattle.std.specs.declared.option.Option.TheVariants.{None, Some}
-use Rattle.std.specs.Prelude.{nat_eq, option_map}
+use Rattle.std.specs.Prelude.{option_map}
 use Rattle.rev_causal.specs.Order.{Has, Stands, Distinct}
 use Rattle.rev_causal.specs.History.{IsRising, without}
-use Rattle.rev_causal.specs.OrderCheck.{IsEquality, number_in, bare, IsMatched, SameEvents, first_of, where_found, none_left, renumbered, MatchingIsExact, NoMatchingWhereEventsDiffer}
+use Rattle.rev_causal.specs.OrderCheck.{IsEquality, number_in, bare, IsMatched, SameEvents, first_of, where_found, renumbered, MatchingIsExact, NoMatchingWhereEventsDiffer}
 use Rattle.rev_causal.proofs.Runs.{either}
 use Rattle.rev_causal.proofs.Order
 use Rattle.rev_causal.proofs.Numbers as numbers

@@ -1,14 +1,14 @@
 -- What events replaced, by number: undo puts it back, and changes what no other event replaced.
-use Rattle.std.proofs.Common.{◌≡◌, ℕ, ◌<◌, Bool, true, false, List, [], ◌∷◌, ◌++◌, sym, refl, ap, ap₂, subst, ◌∙◌}
+use Rattle.std.proofs.Common.{◌≡◌, ℕ, ◌<◌, List, [], ◌∷◌, ◌++◌, sym, refl, ap, ap₂, subst, ◌∙◌}
 use Rattle.std.specs.List.{AllByRecursion}
 use Rattle.std.specs.Cmp.{IsTotalOrder}
 use Rattle.std.specs.declared.cmp.Ordering.{Ordering}
 use Rattle.std.specs.declared.option.Option.{Option}
 use Rattle.std.specs.declared.option.Option.TheVariants.{None, Some}
-use Rattle.std.specs.FinMap.{FinMap, get, IsAntisymmetric}
+use Rattle.std.specs.FinMap.{FinMap, IsAntisymmetric}
 use Rattle.rev_causal.specs.Machine.{IsLocal, Accepts, Legal, AgreeOn, run, footprints, NoneConflicts, Placed}
 use Rattle.rev_causal.specs.Entries.{entries}
-use Rattle.rev_causal.specs.History.{IsRising, event_at, without, put, numbered_by, nearest_to, nearest_above}
+use Rattle.rev_causal.specs.History.{event_at, without, put, numbered_by, nearest_to, nearest_above}
 use Rattle.rev_causal.specs.Store.{Table, machine_of, IsLocalTable, set_cells, replaced, all_replaced, replaced_by_number, keys_of}
 use Rattle.rev_causal.specs.Laws.{UndoKeepsReplaced, RedoKeepsReplaced, UndoPutsBack, StepBack}
 use Rattle.rev_causal.proofs.Runs

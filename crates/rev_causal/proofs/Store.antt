@@ -63,7 +63,7 @@ module _ {K : Type 0} {R : K → K → Ordering} (o : IsTotalOrder R) (exact : I
   both_ways (Cells r w) (Cells r' w') = or_comm (list_any (is_touched R (Cells r' w')) w) (list_any (is_touched R (Cells r w)) w')
 
   module _ {V : Type 0} where
-    get-set_cell : (s : FinMap R V) (k : K) (v : Option V) (q : K) → get (set_cell R s k v) q ≡ cond (eq_by_cmp R q k) v (get s q)
+    pub get-set_cell : (s : FinMap R V) (k : K) (v : Option V) (q : K) → get (set_cell R s k v) q ≡ cond (eq_by_cmp R q k) v (get s q)
     get-set_cell s k None q = get-remove o s k q
     get-set_cell s k (Some v) q = get-insert o s k v q
 
@@ -112,7 +112,7 @@ module _ {K : Type 0} {R : K → K → Ordering} (o : IsTotalOrder R) (exact : I
       ];
     }
 
-  among_has : (ks : List K) (k : K) → Has ks k → among R ks k ≡ true
+  pub among_has : (ks : List K) (k : K) → Has ks k → among R ks k ≡ true
   among_has [] k h = absurd h
   among_has (x ∷ ks) k h = elim h [
     | inl p ↦ ap (λ b. b || among R ks k) (ap (eq_by_cmp R k) p ∙ (eq_by_cmp_equiv o).refl k)

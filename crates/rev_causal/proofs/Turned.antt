@@ -1,5 +1,5 @@
 -- The least pair that is turned, and what the order check answers.
-use Rattle.std.proofs.Common.{◌≡◌, ℕ, ◌<◌, ◌≤◌, Bool, true, false, cond, List, [], ◌∷◌, ◌++◌, ◌||◌, ◌&&◌, map, sym, refl, ap, ap₂, subst, subst₂, ◌∙◌, ◌⊎◌, inl, inr, true≢false, ◌↔◌, eqb-true, eq-eqb, arith}
+use Rattle.std.proofs.Common.{◌≡◌, ℕ, ◌<◌, ◌≤◌, Bool, true, false, cond, List, [], ◌∷◌, ◌||◌, ◌&&◌, map, sym, refl, ap, ap₂, subst, subst₂, ◌∙◌, ◌⊎◌, inl, inr, true≢false, ◌↔◌, eqb-true, eq-eqb, arith}
 use Rattle.std.specs.List.{list_any}
 use Rattle.std.specs.declared.option.Option.{Option}
 use Rattle.std.specs.declared.option.Option.TheVariants.{None, Some}
@@ -9,7 +9,7 @@ use Rattle.rev_causal.specs.Order.{Has, Stands, Distinct}
 use Rattle.rev_causal.specs.Entries.{Entry, entries, clash, SwapEquivalent}
 use Rattle.rev_causal.specs.History.{IsRising}
 use Rattle.rev_causal.specs.Laws.{NoPairTurned}
-use Rattle.rev_causal.specs.OrderCheck.{IsEquality, number_in, bare, IsMatched, SameEvents, renumbered, stands_before, first_turned, paired, least_turned, IsLeastTurned, OrderAnswer, EventsDiffer, SameOrder, Turned, pair_answer, matched_answer, order_check, EqualEventsConflict, MatchingIsTheOnlyOne, MatchedExactlyWhereNoneTurned, IsOrderAnswer, OrderCheckIsExact}
+use Rattle.rev_causal.specs.OrderCheck.{IsEquality, number_in, bare, IsMatched, SameEvents, renumbered, stands_before, first_turned, paired, least_turned, IsLeastTurned, EventsDiffer, SameOrder, Turned, pair_answer, matched_answer, order_check, EqualEventsConflict, MatchingIsTheOnlyOne, MatchedExactlyWhereNoneTurned, IsOrderAnswer, OrderCheckIsExact}
 use Rattle.rev_causal.proofs.Runs.{either}
 use Rattle.rev_causal.proofs.Order
 use Rattle.rev_causal.proofs.Laws as laws

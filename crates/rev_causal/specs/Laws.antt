@@ -15,10 +15,10 @@ module _ {K : Type 0} (R : K → K → Ordering) where
   -- Two footprints conflict exactly where one is whole, or a cell that one writes is read or written by the other.
   abbrev pub ConflictIsExact : Type 0
   ConflictIsExact = (f g : Footprint K) → (conflict R f g ≡ true) ↔ (
-    (is_whole f ≡ true) ⊎ (is_whole g ≡ true) ⊎
-    ((k : K) × (is_written R f k ≡ true) × (is_touched R g k ≡ true)) ⊎
-    ((k : K) × (is_touched R f k ≡ true) × (is_written R g k ≡ true))
-  )
+      (is_whole f ≡ true) ⊎ (is_whole g ≡ true) ⊎
+      ((k : K) × (is_written R f k ≡ true) × (is_touched R g k ≡ true)) ⊎
+      ((k : K) × (is_touched R f k ≡ true) × (is_written R g k ≡ true))
+      )
 
 -- EXCHANGE, REMOVAL AND PLACE
 module _ (m : Machine) where

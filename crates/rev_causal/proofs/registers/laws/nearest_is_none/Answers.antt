@@ -1,0 +1,6 @@
+use Rattle.rev_causal.proofs.ByNumber as by_number
+use Rattle.rev_causal.specs.Registers.{register_machine}
+use Rattle.rev_causal.proofs.registers.laws.nearest_is_none.Goals as goal
+
+pub returns : goal.returns
+returns c = by_number.nearest_is_none register_machine

@@ -1,0 +1,6 @@
+use Rattle.rev_causal.proofs.ByNumber as by_number
+use Rattle.rev_causal.specs.Registers.{register_machine}
+use Rattle.rev_causal.proofs.registers.laws.undo_rises.Goals as goal
+
+pub returns : goal.returns
+returns c = by_number.undo_rises register_machine
