@@ -1,0 +1,16 @@
+-- The numbers of the faults of a depfile, and where they stand.
+use Rattle.std.specs.Prelude.{ℕ, Option, Some, None}
+use Rattle.rev_depfile.specs.declared.fault.DepfileFault.{DepfileFault}
+use Rattle.rev_depfile.specs.declared.fault.DepfileFault.TheVariants.{Memory, NoColon, OtherTarget, LongPath}
+
+abbrev pub code_of : DepfileFault → Option ℕ
+code_of Memory = None
+code_of (NoColon at) = Some 30
+code_of (OtherTarget at) = Some 31
+code_of (LongPath at) = Some 32
+
+abbrev pub offset_of : DepfileFault → Option ℕ
+offset_of Memory = None
+offset_of (NoColon at) = Some at
+offset_of (OtherTarget at) = Some at
+offset_of (LongPath at) = Some at
