@@ -1,2 +1,5 @@
+pub mod FaultLemmas
+pub mod LineLemmas
+pub mod MentionLemmas
 pub mod SignLemmas
 pub mod WordLemmas

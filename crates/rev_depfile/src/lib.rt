@@ -2,8 +2,10 @@
 #![tactic(auto)]
 
 mod fault;
+mod reader;
 mod sign;
 mod signs;
 mod words;
 
 pub use fault::DepfileFault;
+pub use reader::read;

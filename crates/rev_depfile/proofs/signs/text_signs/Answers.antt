@@ -39,7 +39,7 @@ loop-i-preserved c =
     let step = left-byte l.at l.backslashes l.i b text c.loop-i-test.true refl (ne_eqb b 92 c.if-byte-eq92.false) other in
     let rest = signs_left (l.i + 1) 0 (l.i + 1) text in (
       ap (λ xs. xs ++ rest) (c.in_ok-push_reading.ensures.ok ∙ ap (λ r. l.signs.items ++ read_signs l.at r) read)
-      ∙ append_assoc l.signs.items (read_signs l.at (reading l.backslashes b (drop (l.i + 1) text))) rest
-      ∙ ap (λ xs. l.signs.items ++ xs) (sym step) ∙ l.invariant.0,
+          ∙ append_assoc l.signs.items (read_signs l.at (reading l.backslashes b (drop (l.i + 1) text))) rest
+          ∙ ap (λ xs. l.signs.items ++ xs) (sym step) ∙ l.invariant.0,
       omega arith,
     )
