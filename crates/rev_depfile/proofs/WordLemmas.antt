@@ -2,7 +2,7 @@
 use Rattle.std.proofs.Common.{◌≡◌, ℕ, ◌+◌, ◌-◌, ◌<◌, ◌≤◌, ◌==◌, Bool, true, false, not, ◌&&◌, List, [], ◌∷◌, ◌++◌, map, take, drop, length, filter, refl, sym, ap, ◌∙◌, arith, suc, zero, cond, if◌then◌else◌, append_assoc}
 use Rattle.std.proofs.lemmas.Bool.{eqb-true}
 use Rattle.rev_depfile.specs.declared.sign.Sign.{Sign}
-use Rattle.rev_depfile.specs.Lines.{onto, parts, place, has_some, words, is_blank, single_dollars}
+use Rattle.rev_depfile.specs.Lines.{onto, parts, place, has_some, words, is_blank, single_dollars, byte_of, word_text}
 
 -- the parts of what follows the first part
 abbrev pub parts_after : {A : Type 0} → (A → Bool) → List A → List (List A)

@@ -1,5 +1,5 @@
 //! Reads a depfile.
-ghost use Rattle.std.specs.Prelude.{◌≡◌, ℕ, ◌⊎◌, List, [], map, None, Some, true, false, bytes_eq, IfOk, IfErr, OnOk, MatchOption};
+ghost use Rattle.std.specs.Prelude.{◌≡◌, ◌<◌, ℕ, ◌⊎◌, All, length, List, [], map, None, Some, true, false, bytes_eq, IfOk, IfErr, OnOk, MatchOption};
 ghost use Rattle.std.specs.List.{list_any, flat_map};
 ghost use Rattle.indexmap.specs.IndexSet.{insert_key, insert_all};
 ghost use Rattle.rev_depfile.specs.declared.fault.DepfileFault.TheVariants.{LongPath, Memory};
@@ -37,13 +37,15 @@ fn line_at(targets: &[&[Sign]], colon: &Sign) -> u64
 
 // The name of a word, or none where the word is too long.
 fn word_name(alloc: Global, word: &[Sign]) -> Result<Option<Name>, AllocError>
+    requires { 0 < length word.now }
     ensures name { IfOk result (λ found. MatchOption found (is_long word.now ≡ true) (λ name. (is_long word.now ≡ false) × (name ≡ path_of word.now))) }
 {
     let text = word_bytes(alloc, word)?;
     match Name::new(alloc, &text) {
         Ok(name) => Ok(Some(name)),
         Err(PathFault::LongPath) => Ok(None),
-        Err(_) => Err(AllocError),
+        Err(PathFault::Memory) => Err(AllocError),
+        Err(PathFault::EmptyPath) => unreachable!(),
     }
 }
 
@@ -60,6 +62,7 @@ fn name_set(alloc: Global, names: &[Name]) -> Result<IndexSet<Name>, AllocError>
 
 // Whether a target is an output.
 fn is_output(alloc: Global, outputs: &IndexSet<Name>, target: &[Sign]) -> Result<bool, AllocError>
+    requires { 0 < length target.now }
     ensures output { IfOk result (λ answer. answer ≡ is_output outputs.now.keys target.now) }
 {
     match word_name(alloc, target)? {
@@ -74,6 +77,7 @@ fn names_output(
     outputs: &IndexSet<Name>,
     targets: &[&[Sign]],
 ) -> Result<bool, AllocError>
+    requires { All (λ target. 0 < length target.now) targets.now }
     ensures output { IfOk result (λ answer. answer ≡ list_any (is_output outputs.now.keys) (texts targets.now)) }
 {
     for target in targets {
@@ -90,6 +94,7 @@ fn add_prerequisite(
     found: &mut IndexSet<Name>,
     word: &[Sign],
 ) -> Result<(), DepfileFault>
+    requires { 0 < length word.now }
     ensures path { OnOk result (found.new.keys ≡ insert_key bytes_eq found.old.keys (path_of word.now)) }
     ensures short { OnOk result (is_long word.now ≡ false) }
     ensures fault { IfErr result (λ fault. (fault ≡ Memory) ⊎ ((is_long word.now ≡ true) × (fault ≡ LongPath (word_at word.now)))) }
@@ -109,6 +114,7 @@ fn add_prerequisites(
     found: &mut IndexSet<Name>,
     words: &[&[Sign]],
 ) -> Result<(), DepfileFault>
+    requires { All (λ word. 0 < length word.now) words.now }
     ensures paths { OnOk result (found.new.keys ≡ insert_all bytes_eq found.old.keys (map path_of (texts words.now))) }
     ensures short { OnOk result (long_fault (texts words.now) ≡ None) }
     ensures fault { IfErr result (λ fault. (fault ≡ Memory) ⊎ (long_fault (texts words.now) ≡ Some fault)) }
@@ -128,6 +134,7 @@ fn read_rule(
     rest: &[Sign],
     found: &mut IndexSet<Name>,
 ) -> Result<(), DepfileFault>
+    requires { All (λ target. 0 < length target.now) targets.now }
     ensures paths { OnOk result (found.new.keys ≡ insert_all bytes_eq found.old.keys (map path_of (words rest.now))) }
     ensures sound { OnOk result (rule_fault outputs.now.keys (texts targets.now) colon.now (words rest.now) ≡ None) }
     ensures fault { IfErr result (λ fault. (fault ≡ Memory) ⊎ (rule_fault outputs.now.keys (texts targets.now) colon.now (words rest.now) ≡ Some fault)) }

@@ -1,5 +1,5 @@
 //! The lines and words of signs.
-ghost use Rattle.std.specs.Prelude.{◌≡◌, ◌≤◌, ◌++◌, ◌∷◌, [], filter, map, length, IfOk, OnOk};
+ghost use Rattle.std.specs.Prelude.{◌≡◌, ◌<◌, ◌≤◌, All, ◌++◌, ◌∷◌, [], filter, map, length, IfOk, OnOk};
 ghost use Rattle.rev_depfile.specs.Lines.{has_some, is_blank, is_colon, is_line_end, place, word_text, words};
 ghost use Rattle.rev_depfile.specs.Slices.{texts};
 
@@ -48,6 +48,7 @@ fn word_len(signs: &[Sign]) -> usize
 // Adds a word, where there is one between two blanks.
 fn push_word<'a>(found: &mut Vec<&'a [Sign]>, word: &'a [Sign]) -> Result<(), AllocError>
     ensures ok { OnOk result (texts found.new.items ≡ texts found.old.items ++ filter has_some (word.now ∷ [])) }
+    ensures named { OnOk result (All (λ word. 0 < length word.now) found.old.items → All (λ word. 0 < length word.now) found.new.items) }
 {
     if !word.is_empty() {
         found.push(word)?;
@@ -58,6 +59,7 @@ fn push_word<'a>(found: &mut Vec<&'a [Sign]>, word: &'a [Sign]) -> Result<(), Al
 /// The words of a part of a line.
 pub(crate) fn part_words<'a>(alloc: Global, part: &'a [Sign]) -> Result<Vec<&'a [Sign]>, AllocError>
     ensures words { IfOk result (λ found. texts found.items ≡ words part.now) }
+    ensures named { IfOk result (λ found. All (λ word. 0 < length word.now) found.items) }
 {
     let mut found = Vec::new(alloc);
     let mut rest = part;

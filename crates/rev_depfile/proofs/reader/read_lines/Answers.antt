@@ -36,6 +36,6 @@ loop-found-preserved c =
     let x = c.in-Some.field-0-0.now in
     let some : drop n rest ≡ x ∷ after = sym c.split_at.ensures.back ∙ c.in-Some.ensures.cases.0 in (
       ap (λ ks. insert_all bytes_eq ks (flat_map line_paths (parts is_line_end after))) c.in_ok-read_line.ensures.paths
-      ∙ paths-more c.loop-found.found.keys rest line after n x c.line_len.ensures.place c.split_at.ensures.front some ∙ c.loop-found.invariant.0,
+          ∙ paths-more c.loop-found.found.keys rest line after n x c.line_len.ensures.place c.split_at.ensures.front some ∙ c.loop-found.invariant.0,
       faults-more c.args.outputs.now.keys rest line after n x c.line_len.ensures.place c.split_at.ensures.front some c.in_ok-read_line.ensures.sound ∙ c.loop-found.invariant.1,
     )
