@@ -1,0 +1,23 @@
+-- Answers that go on from others.
+use Rattle.std.proofs.Common.{◌≡◌, List, [], ◌∷◌, ◌++◌, Result, Ok, Err, refl, ap, append_assoc}
+use Rattle.rev_manifest.specs.declared.fault.ManifestFault.{ManifestFault}
+use Rattle.rev_manifest.specs.declared.fault.ReadFault.{ReadFault}
+use Rattle.rev_manifest.specs.declared.fault.ReadFault.TheVariants.{Memory, Manifest}
+use Rattle.rev_manifest.specs.Values.{IsFault}
+use Rattle.rev_manifest.specs.Statements.{and_then}
+
+-- elements before the others
+abbrev pub onto_list : {A : Type 0} → List A → Result (List A) ManifestFault → Result (List A) ManifestFault
+onto_list first (Ok others) = Ok (first ++ others)
+onto_list first (Err fault) = Err fault
+
+pub onto_list-push : {A : Type 0} (first : List A) (x : A) (r : Result (List A) ManifestFault)
+    → onto_list (first ++ x ∷ []) r ≡ onto_list first (and_then r (λ others. Ok (x ∷ others)))
+onto_list-push first x (Ok others) = ap Ok (append_assoc first (x ∷ []) others)
+onto_list-push first x (Err fault) = refl
+
+-- a fault of a part is that of the whole
+pub fault_passes : {A B : Type 0} (e : ReadFault) (part : Result A ManifestFault) (whole : Result B ManifestFault)
+    → ((fault : ManifestFault) → part ≡ Err fault → whole ≡ Err fault) → IsFault e part → IsFault e whole
+fault_passes Memory part whole passes h = tt
+fault_passes (Manifest fault) part whole passes h = passes fault h

@@ -1,0 +1,132 @@
+-- Names of which each counts once.
+use Rattle.std.proofs.Common.{◌≡◌, ℕ, ◌<◌, Bool, true, false, not, ◌&&◌, ◌||◌, List, [], ◌∷◌, ◌++◌, length, filter, cond, bytes_eq, refl, sym, ap, ◌∙◌, append_assoc, arith, if◌then◌else◌}
+use Rattle.std.specs.List.{list_any}
+use Rattle.std.proofs.lemmas.List.Folds.{list_any-append}
+use Rattle.std.proofs.lemmas.Slice.Eq.{bytes_eq-Decides}
+use Rattle.indexmap.specs.IndexSet.{insert_key}
+use Rattle.rev_manifest.specs.Manifest.{is_among, distinct}
+
+pub distinct-short : (xs : List (List ℕ)) → length xs < 2 → distinct xs ≡ xs
+distinct-short [] h = refl
+distinct-short (x ∷ []) h = refl
+distinct-short (x ∷ y ∷ ys) h = absurd (omega arith)
+
+step : {A : Type 0} (p : A → Bool) (x : A) (fq fr : List A) (a b c : Bool) → p x ≡ a → c ≡ (a && b) → filter p fq ≡ fr → filter p (cond b (x ∷ fq) fq) ≡ cond c (x ∷ fr) fr
+step p x fq fr true true c ea ec h = ap (λ t. cond t (x ∷ filter p fq) (filter p fq)) ea ∙ ap (λ t. x ∷ t) h ∙ sym (ap (λ t. cond t (x ∷ fr) fr) ec)
+step p x fq fr false true c ea ec h = ap (λ t. cond t (x ∷ filter p fq) (filter p fq)) ea ∙ h ∙ sym (ap (λ t. cond t (x ∷ fr) fr) ec)
+step p x fq fr true false c ea ec h = h ∙ sym (ap (λ t. cond t (x ∷ fr) fr) ec)
+step p x fq fr false false c ea ec h = h ∙ sym (ap (λ t. cond t (x ∷ fr) fr) ec)
+
+-- two tests in turn
+filter-both : {A : Type 0} (p q r : A → Bool) → ((x : A) → r x ≡ (p x && q x)) → (xs : List A) → filter p (filter q xs) ≡ filter r xs
+filter-both p q r same [] = refl
+filter-both p q r same (x ∷ xs) = step p x (filter q xs) (filter r xs) (p x) (q x) (r x) refl (same x) (filter-both p q r same xs)
+
+abbrev pub is_left : List (List ℕ) → List ℕ → Bool
+is_left once other = not (is_among once other)
+
+and_true : (b : Bool) → b ≡ (b && true)
+and_true true = refl
+and_true false = refl
+
+-- a path that stands there already hides the same paths
+same-old : (once : List (List ℕ)) (x y : List ℕ) → is_among once x ≡ true → is_left once y ≡ (is_left once y && not (bytes_eq y x))
+same-old once x y h = by (bytes_eq y x) refl
+  where
+    by : (b : Bool) → bytes_eq y x ≡ b → is_left once y ≡ (is_left once y && not b)
+    by false e = and_true (is_left once y)
+    by true e =
+        let same : y ≡ x = (bytes_eq-Decides y x).0 e in
+        let gone : is_left once y ≡ false = ap (λ z. not (is_among once z)) same ∙ ap not h in
+        gone ∙ sym (ap (λ b. b && false) gone)
+
+not_or : (a b : Bool) → not (a || (b || false)) ≡ (not a && not b)
+not_or true b = refl
+not_or false true = refl
+not_or false false = refl
+
+same-new : (once : List (List ℕ)) (x y : List ℕ) → is_left (once ++ x ∷ []) y ≡ (is_left once y && not (bytes_eq y x))
+same-new once x y = ap not (list_any-append (bytes_eq y) once (x ∷ [])) ∙ not_or (is_among once y) (bytes_eq y x)
+
+-- a name that is there, and one that is new
+pub distinct-old : (once rest : List (List ℕ)) (x : List ℕ) → is_among once x ≡ true
+    → once ++ filter (is_left once) (distinct rest) ≡ once ++ filter (is_left once) (distinct (x ∷ rest))
+distinct-old once rest x h =
+    ap (λ t. once ++ t)
+    (sym (filter-both (is_left once) (λ other. not (bytes_eq other x)) (is_left once) (λ y. same-old once x y h) (distinct rest))
+    ∙ sym (ap (λ t. cond (not t) (x ∷ filter (is_left once) (filter (λ other. not (bytes_eq other x)) (distinct rest))) (filter (is_left once) (filter (λ other. not (bytes_eq other x)) (distinct rest)))) h))
+
+pub distinct-new : (once rest : List (List ℕ)) (x : List ℕ) → is_among once x ≡ false
+    → (once ++ x ∷ []) ++ filter (is_left (once ++ x ∷ [])) (distinct rest) ≡ once ++ filter (is_left once) (distinct (x ∷ rest))
+distinct-new once rest x h =
+    append_assoc once (x ∷ []) (filter (is_left (once ++ x ∷ [])) (distinct rest))
+    ∙ ap (λ t. once ++ x ∷ t) (sym (filter-both (is_left once) (λ other. not (bytes_eq other x)) (is_left (once ++ x ∷ [])) (same-new once x) (distinct rest)))
+    ∙ ap (λ t. once ++ t)
+    (sym (ap (λ t. cond (not t) (x ∷ filter (is_left once) (filter (λ other. not (bytes_eq other x)) (distinct rest))) (filter (is_left once) (filter (λ other. not (bytes_eq other x)) (distinct rest)))) h))
+
+pub filter-all : (xs : List (List ℕ)) → filter (is_left []) xs ≡ xs
+filter-all [] = refl
+filter-all (x ∷ xs) = ap (λ t. x ∷ t) (filter-all xs)
+
+not-true : (b : Bool) → not b ≡ true → b ≡ false
+not-true true h = cc
+not-true false h = refl
+
+not-false : (b : Bool) → not b ≡ false → b ≡ true
+not-false true h = refl
+not-false false h = cc
+
+-- a set that has the names so far, and a name that is new to it or not
+pub insert-new : (keys once : List (List ℕ)) (x v : List ℕ) → keys ≡ once → v ≡ x → not (list_any (bytes_eq v) keys) ≡ true
+    → (insert_key bytes_eq keys v ≡ once ++ x ∷ []) × (is_among once x ≡ false)
+insert-new keys once x v same_keys same new =
+    let absent : list_any (bytes_eq v) keys ≡ false = not-true _ new in (
+      ap (λ t. if t then keys else keys ++ v ∷ []) absent ∙ (λ i. same_keys i ++ same i ∷ []),
+      sym (λ i. list_any (bytes_eq (same i)) (same_keys i)) ∙ absent,
+    )
+
+pub insert-old : (keys once : List (List ℕ)) (x v : List ℕ) → keys ≡ once → v ≡ x → not (list_any (bytes_eq v) keys) ≡ false
+    → (insert_key bytes_eq keys v ≡ once) × (is_among once x ≡ true)
+insert-old keys once x v same_keys same old =
+    let present : list_any (bytes_eq v) keys ≡ true = not-false _ old in (
+      ap (λ t. if t then keys else keys ++ v ∷ []) present ∙ same_keys,
+      sym (λ i. list_any (bytes_eq (same i)) (same_keys i)) ∙ present,
+    )
+
+or_false : (b : Bool) → (b || false) ≡ b
+or_false true = refl
+or_false false = refl
+
+or_true : (b : Bool) → b ≡ true → b ≡ (b || true)
+or_true true h = refl
+or_true false h = cc
+
+or_assoc : (a b c : Bool) → ((a || b) || c) ≡ (a || (b || c))
+or_assoc true b c = refl
+or_assoc false b c = refl
+
+pub is_among-push : (paths : List (List ℕ)) (x y : List ℕ) → is_among (paths ++ x ∷ []) y ≡ (is_among paths y || bytes_eq y x)
+is_among-push paths x y = list_any-append (bytes_eq y) paths (x ∷ []) ∙ ap (λ b. is_among paths y || b) (or_false (bytes_eq y x))
+
+insert-present : (keys : List (List ℕ)) (v y : List ℕ) (b : Bool) → bytes_eq y v ≡ b → list_any (bytes_eq v) keys ≡ true → is_among keys y ≡ (is_among keys y || b)
+insert-present keys v y false e h = sym (or_false (is_among keys y))
+insert-present keys v y true e h = or_true (is_among keys y) (ap (is_among keys) ((bytes_eq-Decides y v).0 e) ∙ h)
+
+insert-by : (keys : List (List ℕ)) (v y : List ℕ) (b : Bool) → list_any (bytes_eq v) keys ≡ b → is_among (if b then keys else keys ++ v ∷ []) y ≡ (is_among keys y || bytes_eq y v)
+insert-by keys v y true h = insert-present keys v y (bytes_eq y v) refl h
+insert-by keys v y false h = is_among-push keys v y
+
+is_among-insert : (keys : List (List ℕ)) (v y : List ℕ) → is_among (insert_key bytes_eq keys v) y ≡ (is_among keys y || bytes_eq y v)
+is_among-insert keys v y = insert-by keys v y (list_any (bytes_eq v) keys) refl
+
+-- a set with one more of the names
+pub names_more : (keys first names : List (List ℕ)) (v x y : List ℕ) → v ≡ x → is_among keys y ≡ (is_among first y || is_among names y)
+    → is_among (insert_key bytes_eq keys v) y ≡ (is_among first y || is_among (names ++ x ∷ []) y)
+names_more keys first names v x y same h =
+    is_among-insert keys v y ∙ ap (λ z. is_among keys y || bytes_eq y z) same ∙ ap (λ b. b || bytes_eq y x) h
+    ∙ or_assoc (is_among first y) (is_among names y) (bytes_eq y x) ∙ ap (λ b. is_among first y || b) (sym (is_among-push names x y))
+
+-- one test in place of an equal one
+pub filter-same : (p q : List ℕ → Bool) → ((x : List ℕ) → p x ≡ q x) → (xs : List (List ℕ)) → filter p xs ≡ filter q xs
+filter-same p q same [] = refl
+filter-same p q same (x ∷ xs) = (λ i. cond (same x i) (x ∷ filter-same p q same xs i) (filter-same p q same xs i))

@@ -1,0 +1,15 @@
+-- The numbers of the faults of a manifest.
+use Rattle.std.specs.Prelude.{ℕ}
+use Rattle.rev_manifest.specs.declared.fault.FaultKind.{FaultKind}
+use Rattle.rev_manifest.specs.declared.fault.FaultKind.TheVariants.{EmptyPath, LongPath, Syntax, Tab, BadEscape, UnknownRule, DoubleRule, NoCommand, NoFile}
+
+abbrev pub code_of : FaultKind → ℕ
+code_of EmptyPath = 1
+code_of LongPath = 2
+code_of Syntax = 10
+code_of Tab = 11
+code_of BadEscape = 12
+code_of UnknownRule = 13
+code_of DoubleRule = 14
+code_of NoCommand = 16
+code_of NoFile = 20

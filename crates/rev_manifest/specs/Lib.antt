@@ -1,0 +1,11 @@
+pub mod Bytes
+pub mod Scope
+pub mod Fault
+pub mod Forms
+pub mod Joining
+pub mod Lines
+pub mod Manifest
+pub mod Quoting
+pub mod Seen
+pub mod Statements
+pub mod Values

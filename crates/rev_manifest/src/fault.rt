@@ -1,0 +1,84 @@
+//! Why a manifest is not read.
+ghost use Rattle.std.specs.Prelude.{◌≡◌};
+ghost use Rattle.rev_manifest.specs.declared.fault.ReadFault.TheVariants.{Memory};
+ghost use Rattle.rev_manifest.specs.Fault.{code_of};
+
+use std::alloc::{AllocError, AllocFailed};
+
+/// What a manifest's fault is. Each kind has a number of its own.
+#[derive(Clone, Copy, Debug, PartialEq, Eq)]
+pub enum FaultKind {
+    /// 1: a path is empty.
+    EmptyPath,
+    /// 2: a path has more than 4,096 bytes.
+    LongPath,
+    /// 10: no line of the grammar goes on like this.
+    Syntax,
+    /// 11: a tab stands among the blanks at the front of a line.
+    Tab,
+    /// 12: a `$` with nothing after it that it can stand before.
+    BadEscape,
+    /// 13: a build line names a rule that no line above it declares.
+    UnknownRule,
+    /// 14: a rule is declared twice, or is named `phony`.
+    DoubleRule,
+    /// 16: a rule has no command.
+    NoCommand,
+    /// 20: no file was given.
+    NoFile,
+}
+
+impl FaultKind {
+    /// The number of this kind of fault.
+    pub fn code(self) -> u16
+        ensures { result ≡ code_of self }
+    {
+        match self {
+            FaultKind::EmptyPath => 1,
+            FaultKind::LongPath => 2,
+            FaultKind::Syntax => 10,
+            FaultKind::Tab => 11,
+            FaultKind::BadEscape => 12,
+            FaultKind::UnknownRule => 13,
+            FaultKind::DoubleRule => 14,
+            FaultKind::NoCommand => 16,
+            FaultKind::NoFile => 20,
+        }
+    }
+}
+
+/// A fault and where it stands.
+#[derive(Clone, Copy, Debug, PartialEq, Eq)]
+pub struct ManifestFault {
+    /// What it is.
+    pub kind: FaultKind,
+    /// The place of the file among those given, from 0. It is 0 for a fault about no line.
+    pub file: u64,
+    /// The line, from 1; of lines that are joined the first. It is 0 for a fault about no line.
+    pub line: u64,
+}
+
+/// Why no manifest is read.
+#[derive(Clone, Copy, Debug, PartialEq, Eq)]
+pub enum ReadFault {
+    /// An allocation was refused.
+    Memory,
+    /// The files are no manifest, and this is their first fault.
+    Manifest(ManifestFault),
+}
+
+impl From<AllocError> for ReadFault {
+    ghost from_gives = { λ _ fault. fault ≡ Memory };
+
+    fn from(_e: AllocError) -> ReadFault {
+        ReadFault::Memory
+    }
+}
+
+impl<T: Drop> From<AllocFailed<T>> for ReadFault {
+    ghost from_gives = { λ _ fault. fault ≡ Memory };
+
+    fn from(_e: AllocFailed<T>) -> ReadFault {
+        ReadFault::Memory
+    }
+}
