@@ -13,6 +13,7 @@ ghost use Rattle.rev_causal.specs.Registers.{cell_cmp, cells_of};
 use std::alloc::{AllocError, Global};
 use std::marker::Model;
 
+pub mod history;
 pub mod laws;
 
 /// A cell of the state.

@@ -1,0 +1,200 @@
+//! A history over the machine of registers: its kept events can be undone out of order, by the values that each replaced.
+
+ghost use Rattle.std.specs.Prelude.{◌≡◌, ◌↔◌, ℕ, ◌<◌, [], map, IfOk, IsErrOf, OnOk, OnErr, MatchOption};
+ghost use Rattle.std.specs.declared.option.Option.TheVariants.{None};
+ghost use Rattle.rev_causal.specs.Order.{nearest as nearest_behind};
+ghost use Rattle.rev_causal.specs.Entries.{clash};
+ghost use Rattle.rev_causal.specs.History.{IsRising, event_at, number_of, nearest_to, nearest_above as first_above};
+ghost use Rattle.rev_causal.specs.Registers.{registers, register_machine};
+ghost use Rattle.rev_causal.specs.declared.registers.Refusal.{Refusal};
+ghost use Rattle.rev_causal.specs.RegisterHistory.{state_of, nearest_of, in_the_way, undone as without_it, kept_at_its_place, cone_numbers, numbered, entry_of, IsPlaceOf, IsKeptAt, IsMadeFor};
+
+use super::{Cell, Cells, Event, Footprint, Refusal, check, conflict, effect, footprint_of, values_before};
+use std::alloc::{AllocError, Global};
+use std::marker::Model;
+
+/// A kept event.
+#[derive(Drop)]
+pub struct Kept {
+    /// Its number. Numbers rise in a history.
+    pub number: u32,
+    /// The event.
+    pub event: Event,
+    /// The cells that it read and wrote at its place.
+    pub footprint: Footprint,
+    /// What the cells that it wrote held before it.
+    pub replaced: Vec<(Cell, Option<u32>)>,
+}
+
+/// Why a history refuses.
+#[derive(Clone, Copy, Debug, Drop, PartialEq, Eq)]
+pub enum HistoryFault {
+    /// An allocation failed.
+    Memory,
+    /// No event is kept under that number.
+    NotKept,
+    /// An event is kept under that number.
+    IsKept,
+    /// The event is refused in the present state.
+    Refused(Refusal),
+    /// An undo: the event of this number depends on it, and it is the least that does.
+    Needed(u32),
+    /// A redo: the event of this number conflicts with it, and it is the least above its own that does.
+    InTheWay(u32),
+}
+
+/// The first later event that conflicts.
+fn nearest(of: &Kept, later: &[Kept]) -> Option<u32>
+    ensures { result ≡ number_of register_machine (nearest_behind (clash register_machine) (entry_of of.now) (map entry_of later.now)) }
+{
+    for k in later {
+        if conflict(&of.footprint, &k.footprint) {
+            return Some(k.number);
+        }
+    }
+    None
+}
+
+/// The first kept event above the number that conflicts with the footprint.
+pub fn nearest_above(number: u32, footprint: &Footprint, kept: &[Kept]) -> Option<u32>
+    ensures { result ≡ first_above register_machine number footprint.now (map entry_of kept.now) }
+{
+    for k in kept {
+        if number < k.number && conflict(footprint, &k.footprint) {
+            return Some(k.number);
+        }
+    }
+    None
+}
+
+/// The first place whose number is not below this one.
+fn place_of(number: u32, kept: &[Kept]) -> usize
+    ensures { IsPlaceOf number kept.now result }
+{
+    for place in 0..kept.len() {
+        if number <= kept[place].number {
+            return place;
+        }
+    }
+    kept.len()
+}
+
+/// The place at which the number is kept.
+fn kept_at(number: u32, kept: &[Kept]) -> Option<usize>
+    requires { IsRising (map numbered kept.now) }
+    ensures { MatchOption result (event_at number (map numbered kept.now) ≡ None) (λ place. IsKeptAt number kept.now place) }
+{
+    let place = place_of(number, kept);
+    if place < kept.len() {
+        if kept[place].number == number {
+            return Some(place);
+        }
+    }
+    None
+}
+
+/// The number of the nearest event that depends on the one at the place.
+fn dependent(number: u32, kept: &[Kept], place: usize) -> Option<u32>
+    requires { IsKeptAt number kept.now place }
+    ensures { result ≡ nearest_to register_machine number (map entry_of kept.now) }
+{
+    nearest(&kept[place], &kept[place + 1..])
+}
+
+/// The place of a kept event on which no other depends.
+fn takeable(number: u32, kept: &[Kept]) -> Result<usize, HistoryFault>
+    requires { IsRising (map numbered kept.now) }
+    ensures taken { IfOk result (λ place. IsKeptAt number kept.now place × (nearest_to register_machine number (map entry_of kept.now) ≡ None)) }
+    ensures not_kept { IsErrOf result HistoryFault.NotKept ↔ (event_at number (map numbered kept.now) ≡ None) }
+    ensures needed { (m : ℕ) → IsErrOf result (HistoryFault.Needed m) ↔ (nearest_to register_machine number (map entry_of kept.now) ≡ Some m) }
+{
+    let Some(place) = kept_at(number, kept) else {
+        return Err(HistoryFault::NotKept);
+    };
+    if let Some(other) = dependent(number, kept, place) {
+        return Err(HistoryFault::Needed(other));
+    }
+    Ok(place)
+}
+
+/// Whether the number is free and the event accepted in the cells.
+fn askable(number: u32, event: Event, kept: &[Kept], cells: &Cells) -> Result<(), HistoryFault>
+    requires { IsRising (map numbered kept.now) }
+    ensures ok { IfOk result (λ _. (event_at number (map numbered kept.now) ≡ None) × (registers.refusal cells.now event ≡ None)) }
+    ensures is_kept { IsErrOf result HistoryFault.IsKept ↔ (event_at number (map numbered kept.now) ≡ None → ⊥) }
+    ensures refused { (r : Refusal) → IsErrOf result (HistoryFault.Refused r) ↔ ((event_at number (map numbered kept.now) ≡ None) × (registers.refusal cells.now event ≡ Some r)) }
+{
+    if kept_at(number, kept).is_some() {
+        return Err(HistoryFault::IsKept);
+    }
+    match check(cells, event) {
+        Some(refusal) => Err(HistoryFault::Refused(refusal)),
+        None => Ok(()),
+    }
+}
+
+/// An opening, and the events that are kept after it under rising numbers.
+#[derive(Drop)]
+pub struct History {
+    opening: Cells,
+    cells: Cells,
+    kept: Vec<Kept>,
+}
+
+impl Model for History {
+    ghost use Rattle.rev_causal.specs.Registers.{State, coded_state};
+    ghost use Rattle.rev_causal.specs.contracts.registers.Event as event;
+    ghost use Rattle.rev_causal.specs.declared.registers.Event.{Event};
+    ghost use Rattle.std.specs.Coded.{code_by, coded×, coded_list, coded_ℕ};
+    ghost use Rattle.std.specs.Prelude.{ℕ, List, refl, map};
+    ghost use Rattle.rev_causal.specs.RegisterHistory.{RegisterHistory, numbered, IsHistory};
+
+    ghost Value = { RegisterHistory };
+
+    ghost coded = { code_by (State × List (ℕ × Event)) (coded× coded_state (coded_list (coded× coded_ℕ event.the_row.coded))) (λ h. (h.opening, h.kept)) (λ p. record { opening = p.0; kept = p.1 }) (λ _. refl) };
+
+    ghost view = { λ h. record { opening = h.opening; kept = map numbered h.kept.items } };
+
+    ghost invariant = { λ h. IsHistory h.opening h.cells h.kept.items };
+}
+
+impl History {
+    /// The history in which nothing is kept yet.
+    pub fn new(alloc: Global, opening: &Cells) -> Result<Self, AllocError>
+        ensures { IfOk result (λ history. history ≡ record { opening = opening.now; kept = [] }) }
+    {
+        Ok(History {
+            opening: opening.written(alloc, &[])?,
+            cells: opening.written(alloc, &[])?,
+            kept: Vec::new(alloc),
+        })
+    }
+
+    /// The state that the kept events lead to.
+    pub fn cells(&self) -> &Cells
+        ensures { result.now ≡ state_of self.now }
+    {
+        &self.cells
+    }
+
+    /// Takes out a kept event on which no other depends. Where it is refused, nothing changes.
+    pub fn undo(&mut self, alloc: Global, number: u32) -> Result<Kept, HistoryFault>
+        ensures ok { OnOk result (self.new ≡ without_it number self.old) }
+        ensures free { IfOk result (λ _. nearest_of number self.old ≡ None) }
+        ensures not_kept { IsErrOf result HistoryFault.NotKept ↔ (event_at number self.old.kept ≡ None) }
+        ensures needed { (m : ℕ) → IsErrOf result (HistoryFault.Needed m) ↔ (nearest_of number self.old ≡ Some m) }
+        ensures err { OnErr result (self.new ≡ self.old) }
+    {
+        let place = match takeable(number, &self.kept) {
+            Ok(place) => place,
+            Err(fault) => return Err(fault),
+        };
+        match self.cells.written(alloc, &self.kept[place].replaced) {
+            Ok(cells) => {
+                self.cells = cells;
+                Ok(self.kept.remove(place))
+            },
+            Err(_) => Err(HistoryFault::Memory),
+        }
+    }
+}
