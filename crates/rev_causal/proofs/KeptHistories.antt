@@ -1,5 +1,5 @@
 -- Taking a kept event out of a history, and putting one in: what the code keeps beside the events stays right.
-use Rattle.std.proofs.Common.{◌≡◌, ℕ, ◌<◌, false, cond, List, [], ◌∷◌, ◌++◌, map, length, take, drop, get_or, suc, ◌+◌, ◌-◌, ◌≤◌, add-one, length-drop, take-append-drop, sym, refl, ap, ap₂, subst, ◌∙◌, eq-eqb, ne_eqb, inl, inr, arith}
+use Rattle.std.proofs.Common.{◌≡◌, ℕ, ◌<◌, false, cond, List, [], ◌∷◌, ◌++◌, map, length, take, drop, get_or, suc, ◌+◌, ◌-◌, ◌≤◌, add-one, length-drop, take-append-drop, sym, refl, ap, ap₂, subst, ◌∙◌, eq-eqb, ne_eqb, inl, inr, ◌↔◌, arith}
 use Rattle.std.specs.Prelude.{nat_eq}
 use Rattle.std.specs.List.{AllByRecursion, insert, remove}
 use Rattle.std.proofs.lemmas.List.{take_all}
@@ -8,13 +8,17 @@ use Rattle.std.specs.declared.option.Option.TheVariants.{None, Some}
 use Rattle.rev_causal.specs.declared.registers.Cell.{Cell}
 use Rattle.rev_causal.specs.declared.registers.Event.{Event}
 use Rattle.rev_causal.specs.declared.registers.history.Kept.{Kept}
+use Rattle.rev_causal.specs.declared.registers.history.HistoryFault.{HistoryFault}
+use Rattle.rev_causal.specs.declared.registers.history.HistoryFault.TheVariants as fault
+use Rattle.rev_causal.specs.declared.registers.Refusal.{Refusal}
+use Rattle.std.specs.Prelude.{IsErrOf, Ok, Err}
 use Rattle.rev_causal.specs.Machine.{Legal, Accepts, run, footprints}
 use Rattle.rev_causal.specs.Order.{nearest}
 use Rattle.rev_causal.specs.Entries.{Entry, entries, clash}
 use Rattle.rev_causal.specs.History.{IsRising, event_at, without, put, number_of, nearest_to, nearest_above, footprints_by_number, Undone, Redone}
 use Rattle.rev_causal.specs.Store.{Footprint, set_cells, replaced, replaced_by_number}
 use Rattle.rev_causal.specs.Registers.{State, cell_cmp, registers, register_machine}
-use Rattle.rev_causal.specs.RegisterHistory.{RegisterHistory, numbered, entry_of, footprint_by, replaced_by, IsHistory, AllBelow, IsPlaceOf, IsKeptAt, IsMadeFor, state_of}
+use Rattle.rev_causal.specs.RegisterHistory.{RegisterHistory, numbered, entry_of, footprint_by, replaced_by, IsHistory, AllBelow, IsPlaceOf, IsKeptAt, IsMadeFor, state_of, in_the_way}
 use Rattle.rev_causal.proofs.Runs.{either}
 use Rattle.rev_causal.proofs.ByNumber as by_number
 use Rattle.rev_causal.proofs.Replaced as replacing
@@ -142,3 +146,33 @@ nearest_there n items place k at is =
 -- the nearest, by what the code keeps
 pub nearest_kept : (opening cells : State) (items : List Kept) (n : ℕ) → IsHistory opening cells items → nearest_to register_machine n (entries register_machine opening (map numbered items)) ≡ nearest_to register_machine n (map entry_of items)
 nearest_kept opening cells items n h = ap (nearest_to register_machine n) (sym (entries_from opening items h.footprints_are))
+
+-- what stands in the way, by what the code keeps
+pub way_kept : (opening cells : State) (items : List Kept) (n : ℕ) (e : Event) → IsHistory opening cells items → in_the_way n e (record { opening = opening; kept = map numbered items }) ≡ nearest_above register_machine n (registers.footprint cells e) (map entry_of items)
+way_kept opening cells items n e h = ap₂ (λ s zs. nearest_above register_machine n (registers.footprint s e) zs) (sym h.cells_are) (sym (entries_from opening items h.footprints_are))
+
+-- the same refusal of another call, whose list and state are equal
+pub same_refused : {T U : Type 0} (ks js : List (ℕ × Event)) (s t : State) (n : ℕ) (e : Event) (f : HistoryFault) (r : Refusal) → ks ≡ js → s ≡ t →
+    IsErrOf {T = T} (Err f) (fault.Refused r) ↔ ((event_at n js ≡ None) × (registers.refusal t e ≡ Some r)) → IsErrOf {T = U} (Err f) (fault.Refused r) ↔ ((event_at n ks ≡ None) × (registers.refusal s e ≡ Some r))
+same_refused {T = T} {U = U} ks js s t n e f r ki si k = (
+  λ h.
+      let one : f ≡ fault.Refused r = cc in
+      let there : (event_at n js ≡ None) × (registers.refusal t e ≡ Some r) = k.0 (ap Err one) in
+      (ap (event_at n) ki ∙ there.0, ap (λ x. registers.refusal x e) si ∙ there.1),
+  λ h.
+      let there : IsErrOf {T = T} (Err f) (fault.Refused r) = k.1 (ap (event_at n) (sym ki) ∙ h.0, ap (λ x. registers.refusal x e) (sym si) ∙ h.1) in
+      let one : f ≡ fault.Refused r = cc in
+      ap Err one,
+)
+
+-- what keeping an event now needs, by what the code keeps
+pub made_for : (opening cells : State) (items : List Kept) (past : RegisterHistory) → record { opening = opening; kept = map numbered items } ≡ past → IsHistory opening cells items → (k : Kept) →
+    event_at k.number (map numbered items) ≡ None → registers.refusal cells k.event ≡ None → nearest_above register_machine k.number k.footprint (map entry_of items) ≡ None →
+    k.footprint ≡ registers.footprint cells k.event → k.replaced.items ≡ replaced cells (registers.effect cells k.event) → IsMadeFor past k
+made_for opening cells items past is h k missing acc none print values = subst (λ g. IsMadeFor g k) is (record {
+  missing = missing;
+  accepted = ap (λ x. registers.refusal x k.event) (sym h.cells_are) ∙ acc;
+  nothing_in_the_way = way_kept opening cells items k.number k.event h ∙ ap (λ f. nearest_above register_machine k.number f (map entry_of items)) (sym print) ∙ none;
+  footprint = print ∙ ap (λ x. registers.footprint x k.event) h.cells_are;
+  replaced = values ∙ ap (λ x. replaced x (registers.effect x k.event)) h.cells_are;
+})

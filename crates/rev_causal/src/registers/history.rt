@@ -1,11 +1,12 @@
 //! A history over the machine of registers: its kept events can be undone out of order, by the values that each replaced.
 
-ghost use Rattle.std.specs.Prelude.{◌≡◌, ◌↔◌, ℕ, ◌<◌, [], map, IfOk, IsErrOf, OnOk, OnErr, MatchOption};
+ghost use Rattle.std.specs.Prelude.{◌≡◌, ◌↔◌, ℕ, ◌<◌, [], map, IfOk, IfErr, IsErrOf, OnOk, OnErr, MatchOption};
 ghost use Rattle.std.specs.declared.option.Option.TheVariants.{None};
 ghost use Rattle.rev_causal.specs.Order.{nearest as nearest_behind};
 ghost use Rattle.rev_causal.specs.Entries.{clash};
 ghost use Rattle.rev_causal.specs.History.{IsRising, event_at, number_of, nearest_to, nearest_above as first_above};
-ghost use Rattle.rev_causal.specs.Registers.{registers, register_machine};
+ghost use Rattle.rev_causal.specs.Store.{set_cells, replaced};
+ghost use Rattle.rev_causal.specs.Registers.{registers, register_machine, cell_cmp};
 ghost use Rattle.rev_causal.specs.declared.registers.Refusal.{Refusal};
 ghost use Rattle.rev_causal.specs.RegisterHistory.{state_of, nearest_of, in_the_way, undone as without_it, kept_at_its_place, cone_numbers, numbered, entry_of, IsPlaceOf, IsKeptAt, IsMadeFor};
 
@@ -118,19 +119,36 @@ fn takeable(number: u32, kept: &[Kept]) -> Result<usize, HistoryFault>
 }
 
 /// Whether the number is free and the event accepted in the cells.
-fn askable(number: u32, event: Event, kept: &[Kept], cells: &Cells) -> Result<(), HistoryFault>
+fn keepable(number: u32, event: Event, kept: &[Kept], cells: &Cells) -> Result<(), HistoryFault>
     requires { IsRising (map numbered kept.now) }
     ensures ok { IfOk result (λ _. (event_at number (map numbered kept.now) ≡ None) × (registers.refusal cells.now event ≡ None)) }
     ensures is_kept { IsErrOf result HistoryFault.IsKept ↔ (event_at number (map numbered kept.now) ≡ None → ⊥) }
     ensures refused { (r : Refusal) → IsErrOf result (HistoryFault.Refused r) ↔ ((event_at number (map numbered kept.now) ≡ None) × (registers.refusal cells.now event ≡ Some r)) }
+    ensures nothing_else { (m : ℕ) → IsErrOf result (HistoryFault.InTheWay m) → ⊥ }
 {
-    if kept_at(number, kept).is_some() {
+    if let Some(_place) = kept_at(number, kept) {
         return Err(HistoryFault::IsKept);
     }
     match check(cells, event) {
         Some(refusal) => Err(HistoryFault::Refused(refusal)),
         None => Ok(()),
     }
+}
+
+/// What the event would replace now.
+fn replaced_now(alloc: Global, cells: &Cells, event: Event) -> Result<Vec<(Cell, Option<u32>)>, AllocError>
+    ensures { IfOk result (λ values. values.items ≡ replaced cells.now (registers.effect cells.now event)) }
+{
+    let writes = effect(alloc, cells, event)?;
+    values_before(alloc, cells, &writes)
+}
+
+/// The cells after the event.
+fn cells_after(alloc: Global, cells: &Cells, event: Event) -> Result<Cells, AllocError>
+    ensures { IfOk result (λ after. after ≡ set_cells cell_cmp cells.now (registers.effect cells.now event)) }
+{
+    let writes = effect(alloc, cells, event)?;
+    cells.written(alloc, &writes)
 }
 
 /// An opening, and the events that are kept after it under rising numbers.
@@ -193,6 +211,82 @@ impl History {
             Ok(cells) => {
                 self.cells = cells;
                 Ok(self.kept.remove(place))
+            },
+            Err(_) => Err(HistoryFault::Memory),
+        }
+    }
+
+    /// Accepts the event in the present state and keeps it at its number's place. Where it is refused, nothing changes.
+    pub fn accept(&mut self, alloc: Global, number: u32, event: Event) -> Result<(), HistoryFault>
+        ensures ok { OnOk result (self.new ≡ kept_at_its_place number event self.old) }
+        ensures nothing_in_the_way { IfOk result (λ _. in_the_way number event self.old ≡ None) }
+        ensures is_kept { IsErrOf result HistoryFault.IsKept ↔ (event_at number self.old.kept ≡ None → ⊥) }
+        ensures refused { (r : Refusal) → IsErrOf result (HistoryFault.Refused r) ↔ ((event_at number self.old.kept ≡ None) × (registers.refusal (state_of self.old) event ≡ Some r)) }
+        ensures in_the_way { (m : ℕ) → IsErrOf result (HistoryFault.InTheWay m) → in_the_way number event self.old ≡ Some m }
+        ensures err { OnErr result (self.new ≡ self.old) }
+    {
+        match self.made(alloc, number, event) {
+            Ok(made) => self.put(alloc, made),
+            Err(fault) => Err(fault),
+        }
+    }
+
+    /// Keeps an event again that was undone, as it is in the present state. Where it is refused, nothing changes.
+    pub fn redo(&mut self, alloc: Global, undone: &Kept) -> Result<(), HistoryFault>
+        ensures ok { OnOk result (self.new ≡ kept_at_its_place undone.now.number undone.now.event self.old) }
+        ensures nothing_in_the_way { IfOk result (λ _. in_the_way undone.now.number undone.now.event self.old ≡ None) }
+        ensures is_kept { IsErrOf result HistoryFault.IsKept ↔ (event_at undone.now.number self.old.kept ≡ None → ⊥) }
+        ensures refused { (r : Refusal) → IsErrOf result (HistoryFault.Refused r) ↔ ((event_at undone.now.number self.old.kept ≡ None) × (registers.refusal (state_of self.old) undone.now.event ≡ Some r)) }
+        ensures in_the_way { (m : ℕ) → IsErrOf result (HistoryFault.InTheWay m) → in_the_way undone.now.number undone.now.event self.old ≡ Some m }
+        ensures err { OnErr result (self.new ≡ self.old) }
+    {
+        match self.made(alloc, undone.number, undone.event) {
+            Ok(again) => self.put(alloc, again),
+            Err(fault) => Err(fault),
+        }
+    }
+
+    /// The event as it would be kept now.
+    fn made(&self, alloc: Global, number: u32, event: Event) -> Result<Kept, HistoryFault>
+        ensures made { IfOk result (λ k. IsMadeFor self.now k × (k.number ≡ number) × (k.event ≡ event)) }
+        ensures is_kept { IsErrOf result HistoryFault.IsKept ↔ (event_at number self.now.kept ≡ None → ⊥) }
+        ensures refused { (r : Refusal) → IsErrOf result (HistoryFault.Refused r) ↔ ((event_at number self.now.kept ≡ None) × (registers.refusal (state_of self.now) event ≡ Some r)) }
+        ensures in_the_way { (m : ℕ) → IsErrOf result (HistoryFault.InTheWay m) → in_the_way number event self.now ≡ Some m }
+    {
+        if let Err(fault) = keepable(number, event, &self.kept, &self.cells) {
+            return Err(fault);
+        }
+        let Ok(footprint) = footprint_of(alloc, &self.cells, event) else {
+            return Err(HistoryFault::Memory);
+        };
+        if let Some(other) = nearest_above(number, &footprint, &self.kept) {
+            return Err(HistoryFault::InTheWay(other));
+        }
+        let Ok(replaced) = replaced_now(alloc, &self.cells, event) else {
+            return Err(HistoryFault::Memory);
+        };
+        Ok(Kept {
+            number,
+            event,
+            footprint,
+            replaced,
+        })
+    }
+
+    fn put(&mut self, alloc: Global, made: Kept) -> Result<(), HistoryFault>
+        requires { IsMadeFor self.old made }
+        ensures ok { OnOk result (self.new ≡ kept_at_its_place made.number made.event self.old) }
+        ensures memory { IfErr result (λ fault. fault ≡ HistoryFault.Memory) }
+        ensures err { OnErr result (self.new ≡ self.old) }
+    {
+        let Ok(cells) = cells_after(alloc, &self.cells, made.event) else {
+            return Err(HistoryFault::Memory);
+        };
+        let place = place_of(made.number, &self.kept);
+        match self.kept.insert(place, made) {
+            Ok(_) => {
+                self.cells = cells;
+                Ok(())
             },
             Err(_) => Err(HistoryFault::Memory),
         }
