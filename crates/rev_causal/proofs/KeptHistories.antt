@@ -1,9 +1,8 @@
 -- Taking a kept event out of a history, and putting one in: what the code keeps beside the events stays right.
-use Rattle.std.proofs.Common.{◌≡◌, ℕ, ◌<◌, false, cond, List, [], ◌∷◌, ◌++◌, map, length, take, drop, get_or, suc, ◌+◌, ◌-◌, ◌≤◌, add-one, length-drop, take-append-drop, sym, refl, ap, ap₂, subst, ◌∙◌, eq-eqb, ne_eqb, inl, inr, ◌↔◌, arith}
+use Rattle.std.proofs.Common.{◌≡◌, ℕ, ◌<◌, cond, List, [], ◌∷◌, ◌++◌, map, length, take, drop, get_or, suc, ◌+◌, ◌-◌, add-one, length-drop, take-append-drop, sym, refl, ap, ap₂, subst, ◌∙◌, eq-eqb, ne_eqb, inl, inr, ◌↔◌, arith}
 use Rattle.std.specs.Prelude.{nat_eq}
 use Rattle.std.specs.List.{AllByRecursion, insert, remove}
 use Rattle.std.proofs.lemmas.List.{take_all}
-use Rattle.std.specs.declared.option.Option.{Option}
 use Rattle.std.specs.declared.option.Option.TheVariants.{None, Some}
 use Rattle.rev_causal.specs.declared.registers.Cell.{Cell}
 use Rattle.rev_causal.specs.declared.registers.Event.{Event}
@@ -11,14 +10,14 @@ use Rattle.rev_causal.specs.declared.registers.history.Kept.{Kept}
 use Rattle.rev_causal.specs.declared.registers.history.HistoryFault.{HistoryFault}
 use Rattle.rev_causal.specs.declared.registers.history.HistoryFault.TheVariants as fault
 use Rattle.rev_causal.specs.declared.registers.Refusal.{Refusal}
-use Rattle.std.specs.Prelude.{IsErrOf, Ok, Err}
-use Rattle.rev_causal.specs.Machine.{Legal, Accepts, run, footprints}
-use Rattle.rev_causal.specs.Order.{nearest}
-use Rattle.rev_causal.specs.Entries.{Entry, entries, clash}
-use Rattle.rev_causal.specs.History.{IsRising, event_at, without, put, number_of, nearest_to, nearest_above, footprints_by_number, Undone, Redone}
+use Rattle.std.specs.Prelude.{IsErrOf, Err}
+use Rattle.rev_causal.specs.Machine.{Legal, run}
+use Rattle.rev_causal.specs.Order.{nearest, cone}
+use Rattle.rev_causal.specs.Entries.{entries, clash}
+use Rattle.rev_causal.specs.History.{IsRising, event_at, without, put, number_of, nearest_to, nearest_above, footprints_by_number, Undone, Redone, cone_of}
 use Rattle.rev_causal.specs.Store.{Footprint, set_cells, replaced, replaced_by_number}
 use Rattle.rev_causal.specs.Registers.{State, cell_cmp, registers, register_machine}
-use Rattle.rev_causal.specs.RegisterHistory.{RegisterHistory, numbered, entry_of, footprint_by, replaced_by, IsHistory, AllBelow, IsPlaceOf, IsKeptAt, IsMadeFor, state_of, in_the_way}
+use Rattle.rev_causal.specs.RegisterHistory.{RegisterHistory, numbered, entry_of, footprint_by, replaced_by, IsHistory, AllBelow, IsPlaceOf, IsKeptAt, IsMadeFor, in_the_way}
 use Rattle.rev_causal.proofs.Runs.{either}
 use Rattle.rev_causal.proofs.ByNumber as by_number
 use Rattle.rev_causal.proofs.Replaced as replacing
@@ -176,3 +175,24 @@ made_for opening cells items past is h k missing acc none print values = subst (
   footprint = print ∙ ap (λ x. registers.footprint x k.event) h.cells_are;
   replaced = values ∙ ap (λ x. replaced x (registers.effect x k.event)) h.cells_are;
 })
+
+-- the cone of a number that stands behind lower ones
+cone_after : (n : ℕ) (before : List Kept) (k : Kept) (later : List Kept) → AllBelow n before → k.number ≡ n →
+    cone_of register_machine n (map entry_of (before ++ k ∷ later)) ≡ entry_of k ∷ cone (clash register_machine) (entry_of k ∷ []) (map entry_of later)
+cone_after n [] k later below e = ap (λ b. cond b (entry_of k ∷ cone (clash register_machine) (entry_of k ∷ []) (map entry_of later)) (cone_of register_machine n (map entry_of later))) (eq-eqb k.number n e)
+cone_after n (x ∷ before) k later below e =
+    ap (λ b. cond b (entry_of x ∷ cone (clash register_machine) (entry_of x ∷ []) (map entry_of (before ++ k ∷ later))) (cone_of register_machine n (map entry_of (before ++ k ∷ later)))) (ne_eqb x.number n (λ p. let lt : x.number < n = below.0 in omega arith))
+    ∙ cone_after n before k later below.1 e
+
+-- the cone of what is kept at a place
+pub cone_there : (opening cells : State) (items : List Kept) (n place : ℕ) (k : Kept) → IsHistory opening cells items → IsKeptAt n items place → k ≡ get_or items place k →
+    cone_of register_machine n (entries register_machine opening (map numbered items)) ≡ entry_of k ∷ cone (clash register_machine) (entry_of k ∷ []) (map entry_of (drop (place + 1) items))
+cone_there opening cells items n place k h at is =
+    ap (cone_of register_machine n) (sym (entries_from opening items h.footprints_are))
+    ∙ ap (λ ks. cone_of register_machine n (map entry_of ks)) (around items place k at.within)
+    ∙ cone_after n (take place items) (get_or items place k) (drop (suc place) items) at.below (at.number k)
+    ∙ ap₂ (λ (x : Kept) j. entry_of x ∷ cone (clash register_machine) (entry_of x ∷ []) (map entry_of (drop j items))) (sym is) (sym (add-one place))
+
+-- a number that has a place is kept in the history too
+pub kept_in : (opening : State) (items : List Kept) (past : RegisterHistory) (n place : ℕ) → record { opening = opening; kept = map numbered items } ≡ past → IsKeptAt n items place → event_at n past.kept ≡ None → ⊥
+kept_in opening items past n place is at none = is_kept n items place at (ap (λ (h : RegisterHistory). event_at n h.kept) is ∙ none)

@@ -1,12 +1,11 @@
 -- Kept events in a list: where a number stands, and what the lists that go with them are.
-use Rattle.std.proofs.Common.{◌≡◌, ℕ, ◌<◌, ◌≤◌, ◌≢◌, Bool, true, false, cond, List, [], ◌∷◌, ◌++◌, map, length, take, drop, get_or, suc, ◌+◌, add-one, append-nil, drop-cons, take-append-drop, sym, refl, ap, ap₂, subst, subst₂, ◌∙◌, ne_eqb, eq-eqb, eqb-true, lt-ltb, le-ltb, ltb-true, ltb-false, ◌⊎◌, inl, inr, arith}
-use Rattle.std.specs.Prelude.{nat_eq, nat_lt}
+use Rattle.std.proofs.Common.{◌≡◌, ℕ, ◌<◌, ◌≤◌, ◌≢◌, cond, List, [], ◌∷◌, ◌++◌, map, length, take, drop, get_or, suc, ◌+◌, append-nil, drop-cons, take-append-drop, sym, refl, ap, subst, ◌∙◌, ne_eqb, eq-eqb, lt-ltb, le-ltb, ltb-true, ltb-false, ◌⊎◌, inl, inr, arith}
+use Rattle.std.specs.Prelude.{nat_lt}
 use Rattle.std.specs.List.{AllByRecursion}
 use Rattle.std.proofs.lemmas.List.{take_more, drop_all}
-use Rattle.std.specs.declared.option.Option.{Option}
 use Rattle.std.specs.declared.option.Option.TheVariants.{None, Some}
 use Rattle.rev_causal.specs.History.{IsRising, event_at, without, put}
-use Rattle.rev_causal.specs.RegisterHistory.{numbered, AllBelow, IsPlaceOf, IsKeptAt}
+use Rattle.rev_causal.specs.RegisterHistory.{numbered, AllBelow, IsPlaceOf}
 use Rattle.rev_causal.specs.declared.registers.Event.{Event}
 use Rattle.rev_causal.specs.declared.registers.history.Kept.{Kept}
 use Rattle.rev_causal.proofs.Numbers as numbers

@@ -1,8 +1,8 @@
 -- A history over the machine of registers, as its callers see it and as the code keeps it.
-use Rattle.std.specs.Prelude.{◌≡◌, ℕ, ◌<◌, ◌≤◌, List, map, length, take, drop, slice_index_or}
+use Rattle.std.specs.Prelude.{◌≡◌, ℕ, ◌<◌, ◌≤◌, List, map, length, take, slice_index_or}
 use Rattle.std.specs.List.{AllByRecursion}
 use Rattle.std.specs.declared.option.Option.{Option}
-use Rattle.std.specs.declared.option.Option.TheVariants.{None, Some}
+use Rattle.std.specs.declared.option.Option.TheVariants.{None}
 use Rattle.rev_causal.specs.Machine.{Legal, Accepts, run}
 use Rattle.rev_causal.specs.Entries.{Entry, entries}
 use Rattle.rev_causal.specs.History.{IsRising, event_at, without, put, nearest_to, nearest_above, footprints_by_number, cone_of}
@@ -10,7 +10,6 @@ use Rattle.rev_causal.specs.Store.{Footprint, replaced, replaced_by_number}
 use Rattle.rev_causal.specs.Registers.{State, registers, register_machine}
 use Rattle.rev_causal.specs.declared.registers.Cell.{Cell}
 use Rattle.rev_causal.specs.declared.registers.Event.{Event}
-use Rattle.rev_causal.specs.declared.registers.Refusal.{Refusal}
 use Rattle.rev_causal.specs.declared.registers.history.Kept.{Kept}
 
 -- AS CALLERS SEE IT
@@ -41,9 +40,12 @@ undone n h = record { opening = h.opening; kept = without n h.kept }
 abbrev pub kept_at_its_place : ℕ → Event → RegisterHistory → RegisterHistory
 kept_at_its_place n e h = record { opening = h.opening; kept = put n e h.kept }
 
+abbrev pub number_of_entry : Entry register_machine → ℕ
+number_of_entry z = z.number
+
 -- the numbers of n's cone
 abbrev pub cone_numbers : ℕ → RegisterHistory → List ℕ
-cone_numbers n h = map (λ (z : Entry register_machine). z.number) (cone_of register_machine n (entries_of h))
+cone_numbers n h = map number_of_entry (cone_of register_machine n (entries_of h))
 
 -- AS THE CODE KEEPS IT
 abbrev pub numbered : Kept → ℕ × Event

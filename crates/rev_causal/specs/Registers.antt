@@ -112,6 +112,12 @@ abbrev pub same_event : Event → Event → Bool
 same_event a b = eq_by_cmp (slice_cmp nat_cmp) (event_numbers a) (event_numbers b)
 
 -- FOOTPRINTS AS THE CODE KEEPS THEM
+-- what reads and writes all that either does
+abbrev pub joined : Footprint Cell → Footprint Cell → Footprint Cell
+joined Whole g = Whole
+joined (Cells reads writes) Whole = Whole
+joined (Cells reads writes) (Cells reads' writes') = Cells (reads ++ reads') (writes ++ writes')
+
 abbrev pub print_of : Bool → List Cell → List Cell → Footprint Cell
 print_of true reads writes = Whole
 print_of false reads writes = Cells reads writes

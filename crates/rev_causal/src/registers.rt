@@ -88,6 +88,27 @@ impl Footprint {
         }
     }
 
+    /// An equal footprint.
+    pub fn copy(&self, alloc: Global) -> Result<Self, AllocError>
+        ensures { IfOk result (λ copy. copy ≡ self.now) }
+    {
+        Ok(Footprint {
+            whole: self.whole,
+            reads: Vec::from_slice(alloc, &self.reads)?,
+            writes: Vec::from_slice(alloc, &self.writes)?,
+        })
+    }
+
+    /// Makes this the footprint that reads and writes all that either does. After an error it is any footprint.
+    pub fn join(&mut self, other: &Footprint) -> Result<(), AllocError>
+        ensures { IfOk result (λ _. self.new ≡ table.joined self.old other.now) }
+    {
+        self.whole = self.whole || other.whole;
+        self.reads.extend_from_slice(&other.reads)?;
+        self.writes.extend_from_slice(&other.writes)?;
+        Ok(())
+    }
+
     /// Whether the cell is read or written.
     pub fn touches(&self, cell: Cell) -> bool
         ensures { result ≡ is_touched cell_cmp self.now cell }

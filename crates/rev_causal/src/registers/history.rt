@@ -1,16 +1,18 @@
 //! A history over the machine of registers: its kept events can be undone out of order, by the values that each replaced.
 
-ghost use Rattle.std.specs.Prelude.{◌≡◌, ◌↔◌, ℕ, ◌<◌, [], map, IfOk, IfErr, IsErrOf, OnOk, OnErr, MatchOption};
+ghost use Rattle.std.specs.Prelude.{◌≡◌, ◌↔◌, ℕ, ◌<◌, [], ◌∷◌, map, IfOk, IfErr, IsErrOf, OnOk, OnErr, MatchOption};
 ghost use Rattle.std.specs.declared.option.Option.TheVariants.{None};
-ghost use Rattle.rev_causal.specs.Order.{nearest as nearest_behind};
+ghost use Rattle.rev_causal.specs.Order.{nearest as nearest_behind, cone};
 ghost use Rattle.rev_causal.specs.Entries.{clash};
 ghost use Rattle.rev_causal.specs.History.{IsRising, event_at, number_of, nearest_to, nearest_above as first_above};
 ghost use Rattle.rev_causal.specs.Store.{set_cells, replaced};
 ghost use Rattle.rev_causal.specs.Registers.{registers, register_machine, cell_cmp};
 ghost use Rattle.rev_causal.specs.declared.registers.Refusal.{Refusal};
-ghost use Rattle.rev_causal.specs.RegisterHistory.{state_of, nearest_of, in_the_way, undone as without_it, kept_at_its_place, cone_numbers, numbered, entry_of, IsPlaceOf, IsKeptAt, IsMadeFor};
+ghost use Rattle.rev_causal.specs.RegisterHistory.{state_of, nearest_of, in_the_way, undone as without_it, kept_at_its_place, cone_numbers, number_of_entry, numbered, entry_of, IsPlaceOf, IsKeptAt, IsMadeFor};
 
-use super::{Cell, Cells, Event, Footprint, Refusal, check, conflict, effect, footprint_of, values_before};
+use super::{
+    Cell, Cells, Event, Footprint, Refusal, check, conflict, effect, footprint_of, values_before,
+};
 use std::alloc::{AllocError, Global};
 use std::marker::Model;
 
@@ -118,6 +120,22 @@ fn takeable(number: u32, kept: &[Kept]) -> Result<usize, HistoryFault>
     Ok(place)
 }
 
+/// The numbers of the cone of an event, among those that stand behind it.
+fn cone_behind(alloc: Global, first: &Kept, later: &[Kept]) -> Result<Vec<u32>, AllocError>
+    ensures { IfOk result (λ numbers. numbers.items ≡ map number_of_entry (entry_of first.now ∷ cone (clash register_machine) (entry_of first.now ∷ []) (map entry_of later.now))) }
+{
+    let mut numbers = Vec::new(alloc);
+    numbers.push(first.number)?;
+    let mut members = first.footprint.copy(alloc)?;
+    for k in later {
+        if conflict(&members, &k.footprint) {
+            numbers.push(k.number)?;
+            members.join(&k.footprint)?;
+        }
+    }
+    Ok(numbers)
+}
+
 /// Whether the number is free and the event accepted in the cells.
 fn keepable(number: u32, event: Event, kept: &[Kept], cells: &Cells) -> Result<(), HistoryFault>
     requires { IsRising (map numbered kept.now) }
@@ -136,7 +154,11 @@ fn keepable(number: u32, event: Event, kept: &[Kept], cells: &Cells) -> Result<(
 }
 
 /// What the event would replace now.
-fn replaced_now(alloc: Global, cells: &Cells, event: Event) -> Result<Vec<(Cell, Option<u32>)>, AllocError>
+fn replaced_now(
+    alloc: Global,
+    cells: &Cells,
+    event: Event,
+) -> Result<Vec<(Cell, Option<u32>)>, AllocError>
     ensures { IfOk result (λ values. values.items ≡ replaced cells.now (registers.effect cells.now event)) }
 {
     let writes = effect(alloc, cells, event)?;
@@ -212,6 +234,20 @@ impl History {
                 self.cells = cells;
                 Ok(self.kept.remove(place))
             },
+            Err(_) => Err(HistoryFault::Memory),
+        }
+    }
+
+    /// The numbers of the kept event's cone, rising: its own, and each whose event depends on a member.
+    pub fn cone(&self, alloc: Global, number: u32) -> Result<Vec<u32>, HistoryFault>
+        ensures ok { IfOk result (λ numbers. numbers.items ≡ cone_numbers number self.now) }
+        ensures not_kept { IsErrOf result HistoryFault.NotKept ↔ (event_at number self.now.kept ≡ None) }
+    {
+        let Some(place) = kept_at(number, &self.kept) else {
+            return Err(HistoryFault::NotKept);
+        };
+        match cone_behind(alloc, &self.kept[place], &self.kept[place + 1..]) {
+            Ok(numbers) => Ok(numbers),
             Err(_) => Err(HistoryFault::Memory),
         }
     }

@@ -1,4 +1,4 @@
-use Rattle.std.proofs.Common.{◌≡◌, ◌+◌, List, map, sym, ap, ◌∙◌}
+use Rattle.std.proofs.Common.{◌+◌, List, map, sym, ap, ◌∙◌}
 use Rattle.rev_causal.specs.declared.registers.history.Kept.{Kept}
 use Rattle.rev_causal.specs.Order.{nearest}
 use Rattle.rev_causal.specs.Entries.{clash}

@@ -1,7 +1,7 @@
-use Rattle.std.proofs.Common.{◌≡◌, ℕ, List, map, refl, ◌↔◌}
+use Rattle.std.proofs.Common.{◌≡◌, map, refl, ◌↔◌}
 use Rattle.std.specs.declared.option.Option.{Option}
 use Rattle.std.specs.declared.option.Option.TheVariants.{None, Some}
-use Rattle.std.specs.Prelude.{IsErrOf, Ok, Err}
+use Rattle.std.specs.Prelude.{IsErrOf, Err}
 use Rattle.rev_causal.specs.History.{event_at}
 use Rattle.rev_causal.specs.Registers.{State, registers}
 use Rattle.rev_causal.specs.RegisterHistory.{numbered}

@@ -1,13 +1,11 @@
-use Rattle.std.proofs.Common.{◌≡◌, ℕ, List, map, sym, refl, ap, ap₂, ◌∙◌}
-use Rattle.std.specs.Prelude.{Ok, Err}
-use Rattle.std.specs.declared.option.Option.{Option}
-use Rattle.std.specs.declared.option.Option.TheVariants.{None, Some}
+use Rattle.std.proofs.Common.{◌≡◌, List, map, sym, refl, ap, ap₂, ◌∙◌}
+use Rattle.std.specs.Prelude.{Err}
+use Rattle.std.specs.declared.option.Option.TheVariants.{Some}
 use Rattle.rev_causal.specs.declared.registers.history.Kept.{Kept}
-use Rattle.rev_causal.specs.declared.registers.history.HistoryFault.{HistoryFault}
 use Rattle.rev_causal.specs.declared.registers.history.HistoryFault.TheVariants as fault
 use Rattle.rev_causal.specs.History.{event_at, nearest_above}
-use Rattle.rev_causal.specs.Registers.{State, registers, register_machine}
-use Rattle.rev_causal.specs.RegisterHistory.{RegisterHistory, numbered, entry_of, state_of, in_the_way, IsMadeFor}
+use Rattle.rev_causal.specs.Registers.{register_machine}
+use Rattle.rev_causal.specs.RegisterHistory.{RegisterHistory, numbered, entry_of, state_of, in_the_way}
 use Rattle.rev_causal.proofs.KeptHistories.{same_refused, way_kept, made_for}
 use Rattle.rev_causal.proofs.registers.history.History.made.Goals as goal
 
@@ -30,10 +28,10 @@ returns-in-Some-clause-in_the_way c = λ m h.
 pub returns-clause-made : goal.returns-clause-made
 returns-clause-made c = (
   made_for c.self.inside.opening c.self.inside.cells c.self.inside.kept.items c.args.self.now c.self.view_is c.self.invariant
-  (record { number = c.args.number; event = c.args.event; footprint = c.in-Ok.footprint; replaced = c.in-Ok-replaced_now.replaced })
-  (ap (λ (ks : List Kept). event_at c.args.number (map numbered ks)) (sym c.deref.ensures.value) ∙ c.in_default.ensures.ok.0) c.in_default.ensures.ok.1
-  (ap (λ (ks : List Kept). nearest_above register_machine c.args.number c.in-Ok.footprint (map entry_of ks)) (sym c.deref-2.ensures.value) ∙ sym c.in_default-nearest_above.ensures)
-  c.in-Ok.ensures c.in-Ok-replaced_now.ensures,
+      (record { number = c.args.number; event = c.args.event; footprint = c.in-Ok.footprint; replaced = c.in-Ok-replaced_now.replaced })
+      (ap (λ (ks : List Kept). event_at c.args.number (map numbered ks)) (sym c.deref.ensures.value) ∙ c.in_default.ensures.ok.0) c.in_default.ensures.ok.1
+      (ap (λ (ks : List Kept). nearest_above register_machine c.args.number c.in-Ok.footprint (map entry_of ks)) (sym c.deref-2.ensures.value) ∙ sym c.in_default-nearest_above.ensures)
+      c.in-Ok.ensures c.in-Ok-replaced_now.ensures,
   refl,
   refl,
 )

@@ -1,4 +1,4 @@
-use Rattle.std.proofs.Common.{◌≡◌, ℕ, List, map, sym, ap, subst, subst₂, ◌∙◌}
+use Rattle.std.proofs.Common.{List, map, sym, ap, subst, subst₂, ◌∙◌}
 use Rattle.rev_causal.specs.declared.registers.history.Kept.{Kept}
 use Rattle.rev_causal.specs.RegisterHistory.{RegisterHistory, numbered, IsHistory, IsPlaceOf, IsMadeFor, kept_at_its_place}
 use Rattle.rev_causal.proofs.KeptHistories.{PutOk, put_ok}

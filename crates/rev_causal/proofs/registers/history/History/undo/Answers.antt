@@ -8,7 +8,7 @@ use Rattle.rev_causal.specs.declared.registers.history.HistoryFault.TheVariants 
 use Rattle.rev_causal.specs.History.{nearest_to}
 use Rattle.rev_causal.specs.Store.{set_cells}
 use Rattle.rev_causal.specs.Registers.{register_machine, cell_cmp}
-use Rattle.rev_causal.specs.RegisterHistory.{RegisterHistory, numbered, entry_of, IsHistory, IsKeptAt, undone, nearest_of}
+use Rattle.rev_causal.specs.RegisterHistory.{numbered, entry_of, IsHistory, IsKeptAt, undone, nearest_of}
 use Rattle.rev_causal.proofs.KeptHistories.{UndoOk, undo_ok, nearest_kept}
 use Rattle.rev_causal.proofs.registers.history.History.undo.Goals as goal
 
