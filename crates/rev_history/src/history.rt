@@ -1,0 +1,216 @@
+//! The history.
+ghost use Rattle.std.specs.Prelude.{◌≡◌, ◌↔◌, ◌<◌, IfOk, OnOk, OnErr, IsErrOf, Some, None};
+ghost use Rattle.std.specs.Option.{option_copied};
+ghost use Rattle.rev_history.specs.declared.refusal.Refusal.{Refusal};
+ghost use Rattle.rev_history.specs.Timeline.{IsHistory, Timeline, accept_refusal, accepted_as, back_refusal, event_at, greatest_kept, last_of, opened, redo_refusal, redone, state_at, undo_refusal, undone};
+
+use crate::event::Event;
+use crate::footprint::Footprint;
+use crate::refusal::{Fault, Refusal};
+use crate::replay::{all_but, nearest, place_of, replay, with_number};
+use crate::step::{apply, footprint_now, refusal};
+use indexmap::IndexMap;
+use rev_cells::{Cells, Opening};
+use std::alloc::{AllocError, Global};
+use std::marker::Model;
+
+/// An opening, the events that were accepted since under rising numbers, and those of them that are kept. The state is
+/// that which the kept events lead to from the opening, in the order of their numbers.
+#[derive(Drop)]
+pub struct History {
+    alloc: Global,
+    opening: Opening,
+    accepted: IndexMap<u32, Event>,
+    kept: Vec<u32>,
+    footprints: Vec<Footprint>,
+    cells: Cells,
+    last: u32,
+}
+
+impl Model for History {
+    ghost use Rattle.rev_history.specs.Timeline.{Timeline, timeline_code};
+
+    ghost Value = { Timeline };
+
+    ghost coded = { timeline_code };
+
+    ghost use Rattle.rev_history.specs.Sound.{timeline_of, IsSound};
+
+    ghost view = { timeline_of };
+
+    ghost invariant = { IsSound };
+}
+
+impl History {
+    /// A history in which nothing was accepted yet.
+    pub fn new(alloc: Global, opening: &Opening) -> Result<History, AllocError>
+        ensures { IfOk result (λ h. h ≡ opened opening.now.jobs opening.now.state) }
+    {
+        Ok(History {
+            alloc,
+            opening: opening.copy()?,
+            accepted: IndexMap::new(alloc),
+            kept: Vec::new(alloc),
+            footprints: Vec::new(alloc),
+            cells: Cells::new(alloc, opening)?,
+            last: 0,
+        })
+    }
+
+    /// The greatest number under which an event was accepted, 0 at first.
+    pub fn last(&self) -> u32
+        ensures { result ≡ last_of self.now.accepted }
+    {
+        self.last
+    }
+
+    /// The event that was accepted under a number, whether it is kept or not.
+    pub fn event(&self, number: u32) -> Option<&Event>
+        ensures { option_copied result ≡ event_at self.now number }
+    {
+        self.accepted.get(&number)
+    }
+
+    /// The kept numbers. They rise, an event was accepted under each, and each of these events is accepted in the
+    /// state that the kept events before it lead to.
+    pub fn kept(&self) -> &[u32]
+        ensures kept { result.now ≡ self.now.kept }
+        ensures legal { IsHistory self.now }
+    {
+        self.kept.as_slice()
+    }
+
+    /// The state that the kept events lead to from the opening.
+    pub fn cells(&self) -> &Cells
+        ensures state { result.now.state ≡ state_at self.now }
+        ensures jobs { result.now.jobs ≡ self.now.jobs }
+    {
+        &self.cells
+    }
+
+    /// Accepts an event under a number above all others, and keeps it.
+    pub fn accept(&mut self, number: u32, event: &Event) -> Result<(), Fault>
+        requires { last_of self.old.accepted < number }
+        ensures refused { (r : Refusal) → IsErrOf result (Fault.Refused r) ↔ (accept_refusal self.old event.now ≡ Some r) }
+        ensures free { OnOk result (accept_refusal self.old event.now ≡ None) }
+        ensures ok { OnOk result (self.new ≡ accepted_as number event.now self.old) }
+        ensures err { OnErr result (self.new ≡ self.old) }
+    {
+        if let Some(refusal) = refusal(&self.cells, event) {
+            return Err(Fault::Refused(refusal));
+        }
+        let footprint = footprint_now(self.alloc, &self.cells, event)?;
+        let event = event.copy()?;
+        self.accepted.reserve(1)?;
+        self.kept.reserve(1)?;
+        self.footprints.reserve(1)?;
+        apply(&mut self.cells, &event)?;
+        self.accepted.insert(number, event)?;
+        self.kept.push(number)?;
+        self.footprints.push(footprint)?;
+        self.last = number;
+        Ok(())
+    }
+
+    /// Takes a kept event out, whose number is any of those kept. It is refused where no event was accepted under the number, where the event is not
+    /// kept, and where the event of a later kept number conflicts with it.
+    pub fn undo(&mut self, number: u32) -> Result<(), Fault>
+        ensures refused { (r : Refusal) → IsErrOf result (Fault.Refused r) ↔ (undo_refusal self.old number ≡ Some r) }
+        ensures free { OnOk result (undo_refusal self.old number ≡ None) }
+        ensures ok { OnOk result (self.new ≡ undone number self.old) }
+        ensures err { OnErr result (self.new ≡ self.old) }
+    {
+        if let Some(refusal) = self.undo_refused(number) {
+            return Err(Fault::Refused(refusal));
+        }
+        let kept = all_but(self.alloc, &self.kept, number)?;
+        self.keep(kept)?;
+        Ok(())
+    }
+
+    /// Puts an event that was undone back at its number's place.
+    pub fn redo(&mut self, number: u32) -> Result<(), Fault>
+        ensures refused { (r : Refusal) → IsErrOf result (Fault.Refused r) → redo_refusal self.old number ≡ Some r }
+        ensures free { OnOk result (redo_refusal self.old number ≡ None) }
+        ensures ok { OnOk result (self.new ≡ redone number self.old) }
+        ensures err { OnErr result (self.new ≡ self.old) }
+    {
+        if let Some(refusal) = self.redo_refused(number)? {
+            return Err(Fault::Refused(refusal));
+        }
+        let kept = with_number(self.alloc, &self.kept, number)?;
+        self.keep(kept)?;
+        Ok(())
+    }
+
+    /// Takes out the event of the greatest kept number, and gives that number.
+    pub fn back(&mut self) -> Result<u32, Fault>
+        ensures refused { (r : Refusal) → IsErrOf result (Fault.Refused r) ↔ (back_refusal self.old ≡ Some r) }
+        ensures greatest { IfOk result (λ n. greatest_kept self.old ≡ Some n) }
+        ensures ok { IfOk result (λ n. self.new ≡ undone n self.old) }
+        ensures err { OnErr result (self.new ≡ self.old) }
+    {
+        let Some(number) = self.kept.last().copied() else {
+            return Err(Fault::Refused(Refusal::NothingKept));
+        };
+        let kept = all_but(self.alloc, &self.kept, number)?;
+        self.keep(kept)?;
+        Ok(number)
+    }
+
+    // Why an undo is refused.
+    fn undo_refused(&self, number: u32) -> Option<Refusal>
+        ensures { result ≡ undo_refusal self.now number }
+    {
+        if self.event(number).is_none() {
+            return Some(Refusal::NoSuchEvent);
+        }
+        let Some(place) = place_of(&self.kept, number) else {
+            return Some(Refusal::NotKept);
+        };
+        let dependent = nearest(
+            number,
+            &self.footprints[place],
+            &self.kept,
+            &self.footprints,
+        )?;
+        Some(Refusal::DependedOn(dependent))
+    }
+
+    // Why a redo is refused.
+    fn redo_refused(&self, number: u32) -> Result<Option<Refusal>, AllocError>
+        ensures { IfOk result (λ refused. refused ≡ redo_refusal self.now number) }
+    {
+        let Some(event) = self.event(number) else {
+            return Ok(Some(Refusal::NoSuchEvent));
+        };
+        if place_of(&self.kept, number).is_some() {
+            return Ok(Some(Refusal::AlreadyKept));
+        }
+        if let Some(refusal) = refusal(&self.cells, event) {
+            let [first, _] = refusal.numbers();
+            return Ok(Some(Refusal::NotNow {
+                refusal: refusal.code(),
+                first,
+            }));
+        }
+        let footprint = footprint_now(self.alloc, &self.cells, event)?;
+        match nearest(number, &footprint, &self.kept, &self.footprints) {
+            Some(other) => Ok(Some(Refusal::Overtaken(other))),
+            None => Ok(None),
+        }
+    }
+
+    // Keeps other events, which are accepted one after the other.
+    fn keep(&mut self, kept: Vec<u32>) -> Result<(), AllocError>
+        requires { IsHistory (record self.old { kept = kept.items }) }
+        ensures ok { OnOk result (self.new ≡ record self.old { kept = kept.items }) }
+        ensures err { OnErr result (self.new ≡ self.old) }
+    {
+        let replayed = replay(self.alloc, &self.opening, &self.accepted, &kept)?;
+        self.kept = kept;
+        self.cells = replayed.cells;
+        self.footprints = replayed.footprints;
+        Ok(())
+    }
+}
