@@ -1,0 +1,37 @@
+-- The faults of lines, and the first fault of a text.
+use Rattle.std.specs.Prelude.{◌≡◌, ℕ, ◌+◌, Option, Result, Ok, Err}
+use Rattle.std.specs.Option.{option_map}
+use Rattle.std.specs.List.{slice_get, filter_map, range_with_len}
+use Rattle.rebug.specs.declared.lines.faults.FaultKind.{FaultKind}
+use Rattle.rebug.specs.declared.lines.faults.FaultKind.TheVariants.{Syntax, Number, LaneOrder, DoubleRecord, Header}
+use Rattle.rebug.specs.declared.lines.faults.TextFault.{TextFault}
+use Rattle.rebug.specs.declared.lines.faults.LineFault.{LineFault}
+use Rattle.rebug.specs.declared.lines.faults.LineFault.TheVariants.{Memory, Kind}
+
+-- the number of a fault
+abbrev pub code_of : FaultKind → ℕ
+code_of Syntax = 100
+code_of Number = 101
+code_of LaneOrder = 102
+code_of DoubleRecord = 103
+code_of Header = 104
+
+-- a part of a line, and then what is made of it: the first fault of the two counts
+infixl 10 ◌>>=◌
+abbrev pub ◌>>=◌ : {A B : Type 0} → Result A FaultKind → (A → Result B FaultKind) → Result B FaultKind
+Ok a >>= f = f a
+Err fault >>= f = Err fault
+
+-- a fault at a place of a text, where places count from 0 and lines from 1
+abbrev pub fault_in : ℕ → FaultKind → TextFault
+fault_in place kind = record { kind = kind; line = place + 1 }
+
+-- the first fault of a text of so many lines, from what is wrong at each place
+abbrev pub first_fault : (ℕ → Option FaultKind) → ℕ → Option TextFault
+first_fault wrong_at count = slice_get (filter_map (λ place. option_map (fault_in place) (wrong_at place)) (range_with_len 0 count)) 0
+
+-- what is read is what the line says, or memory ran out
+abbrev pub Answers : {V T : Type 0} → Result V LineFault → (V → T) → Result T FaultKind → Type 0
+Answers (Ok value) view said = said ≡ Ok (view value)
+Answers (Err Memory) view said = Unit {0}
+Answers (Err (Kind kind)) view said = said ≡ Err kind

@@ -1,0 +1,6 @@
+pub mod Faults
+pub mod Fields
+pub mod Lines
+pub mod Numbers
+pub mod Scripts
+pub mod Traces
