@@ -3,7 +3,7 @@ use Rattle.std.specs.Prelude.{◌≡◌, ℕ, ◌+◌, Option, Result, Ok, Err}
 use Rattle.std.specs.Option.{option_map}
 use Rattle.std.specs.List.{slice_get, filter_map, range_with_len}
 use Rattle.rebug.specs.declared.lines.faults.FaultKind.{FaultKind}
-use Rattle.rebug.specs.declared.lines.faults.FaultKind.TheVariants.{Syntax, Number, LaneOrder, DoubleRecord, Header}
+use Rattle.rebug.specs.declared.lines.faults.FaultKind.TheVariants.{Syntax, Number, DoubleRecord, Header}
 use Rattle.rebug.specs.declared.lines.faults.TextFault.{TextFault}
 use Rattle.rebug.specs.declared.lines.faults.LineFault.{LineFault}
 use Rattle.rebug.specs.declared.lines.faults.LineFault.TheVariants.{Memory, Kind}
@@ -12,7 +12,6 @@ use Rattle.rebug.specs.declared.lines.faults.LineFault.TheVariants.{Memory, Kind
 abbrev pub code_of : FaultKind → ℕ
 code_of Syntax = 100
 code_of Number = 101
-code_of LaneOrder = 102
 code_of DoubleRecord = 103
 code_of Header = 104
 

@@ -9,10 +9,6 @@ use Rattle.rebug.specs.declared.lines.commands.Command.{Command}
 use Rattle.rebug.specs.declared.lines.commands.Command.TheVariants as command
 use Rattle.rebug.specs.declared.lines.commands.Word.{Word}
 use Rattle.rebug.specs.declared.lines.commands.Word.TheVariants as word
-use Rattle.rebug.specs.declared.lines.commands.OpeningLine.{OpeningLine}
-use Rattle.rebug.specs.declared.lines.commands.OpeningLine.TheVariants as opening
-use Rattle.rebug.specs.declared.lines.commands.LaneLine.{LaneLine}
-use Rattle.rebug.specs.declared.lines.commands.LaneLine.TheVariants as lane
 use Rattle.rebug.specs.Faults.{◌>>=◌}
 use Rattle.rebug.specs.Fields.{texts_of}
 use Rattle.rebug.specs.Numbers.{number_below}
@@ -25,19 +21,27 @@ abbrev pub is_blank : List ℕ → Bool
 is_blank [] = true
 is_blank (b ∷ bs) = false
 
--- a path, in canonical form
+-- a path, in canonical form: it has 1 to 4,096 bytes
 abbrev pub path_of : List ℕ → Result (List ℕ) FaultKind
 path_of text = if is_blank text || nat_lt 4096 (length text) then Err Syntax else Ok (canonical text)
 
--- `stamp PATH N` or `touch PATH N`
+-- a word with a path and a stamp
 abbrev pub stamped : {T : Type 0} → (List ℕ → ℕ → T) → List ℕ → List ℕ → Result T FaultKind
 stamped make path stamp = path_of path >>= λ p. number_below (2 ^ 64) stamp >>= λ n. Ok (make p n)
 
--- a word with one number
+-- a word with a number
 abbrev pub numbered : {T : Type 0} → (ℕ → T) → List ℕ → Result T FaultKind
 numbered make number = number_below (2 ^ 32) number >>= λ n. Ok (make n)
 
--- the command that these texts of fields are
+-- the record `stamp PATH N`, where the fields have these texts
+abbrev pub record_of : List (List ℕ) → Result (List ℕ × ℕ) FaultKind
+record_of [] = Err Syntax
+record_of (w ∷ []) = Err Syntax
+record_of (w ∷ p ∷ []) = Err Syntax
+record_of (w ∷ p ∷ n ∷ []) = if bytes_eq w (codes "stamp") then stamped (λ path stamp. (path, stamp)) p n else Err Syntax
+record_of (w ∷ p ∷ n ∷ more ∷ rest) = Err Syntax
+
+-- the command `back`, `undo N`, `redo N` or `touch PATH N`
 abbrev pub command_of : List (List ℕ) → Result Command FaultKind
 command_of [] = Err Syntax
 command_of (w ∷ []) = if bytes_eq w (codes "back") then Ok command.Back else Err Syntax
@@ -50,7 +54,7 @@ command_of (w ∷ p ∷ n ∷ more ∷ rest) = Err Syntax
 abbrev pub command_word : List (List ℕ) → Result Word FaultKind
 command_word texts = command_of texts >>= λ c. Ok (word.Command c)
 
--- the word of a script
+-- the word `run`, `kept`, `stamps` or `run K` of a script, or a command
 abbrev pub word_of : List (List ℕ) → Result Word FaultKind
 word_of [] = Err Syntax
 word_of (w ∷ []) =
@@ -58,35 +62,16 @@ word_of (w ∷ []) =
 word_of (w ∷ n ∷ []) = if bytes_eq w (codes "run") then numbered (λ k. word.Run (Some k)) n else command_word (w ∷ n ∷ [])
 word_of (w ∷ p ∷ n ∷ rest) = command_word (w ∷ p ∷ n ∷ rest)
 
--- a line of a trace before its lanes
-abbrev pub opening_line_of : List (List ℕ) → Result OpeningLine FaultKind
-opening_line_of [] = Err Syntax
-opening_line_of (w ∷ []) = Err Syntax
-opening_line_of (w ∷ n ∷ []) = if bytes_eq w (codes "lane") then numbered opening.Lane n else Err Syntax
-opening_line_of (w ∷ p ∷ n ∷ []) = if bytes_eq w (codes "stamp") then stamped opening.Record p n else Err Syntax
-opening_line_of (w ∷ p ∷ n ∷ more ∷ rest) = Err Syntax
-
--- a command as a line of a lane
-abbrev pub command_line : List (List ℕ) → Result LaneLine FaultKind
-command_line texts = command_of texts >>= λ c. Ok (lane.Command c)
-
--- a line of a trace within a lane
-abbrev pub lane_line_of : List (List ℕ) → Result LaneLine FaultKind
-lane_line_of [] = Err Syntax
-lane_line_of (w ∷ []) = command_line (w ∷ [])
-lane_line_of (w ∷ n ∷ []) = if bytes_eq w (codes "lane") then numbered lane.Lane n else command_line (w ∷ n ∷ [])
-lane_line_of (w ∷ p ∷ n ∷ rest) = command_line (w ∷ p ∷ n ∷ rest)
-
 -- what a line says, by what the texts of its fields say
 abbrev pub read_as : {T : Type 0} → (List (List ℕ) → Result T FaultKind) → Option (List (List ℕ)) → Result T FaultKind
 read_as said None = Err Syntax
 read_as said (Some texts) = said texts
 
-abbrev pub opening_line : List ℕ → Result OpeningLine FaultKind
-opening_line line = read_as opening_line_of (texts_of line)
+abbrev pub record_line : List ℕ → Result (List ℕ × ℕ) FaultKind
+record_line line = read_as record_of (texts_of line)
 
-abbrev pub lane_line : List ℕ → Result LaneLine FaultKind
-lane_line line = read_as lane_line_of (texts_of line)
+abbrev pub command_line : List ℕ → Result Command FaultKind
+command_line line = read_as command_of (texts_of line)
 
 abbrev pub script_line : List ℕ → Result Word FaultKind
 script_line line = read_as word_of (texts_of line)

@@ -1,7 +1,6 @@
 //! What lines ask for.
 
 use rev_history::Event;
-use rev_paths::Name;
 
 /// A command of a lane or of a script.
 #[derive(Debug, Drop, PartialEq, Eq)]
@@ -27,22 +26,4 @@ pub enum Word {
     Kept,
     /// `stamps` lists the files that are there.
     Stamps,
-}
-
-/// A line of a trace before its lanes.
-#[derive(Debug, Drop, PartialEq, Eq)]
-pub(crate) enum OpeningLine {
-    /// `stamp PATH N`: the file has this stamp where the trace begins, 0 where it is missing.
-    Record { path: Name, stamp: u64 },
-    /// `lane N` opens a lane.
-    Lane(u32),
-}
-
-/// A line of a trace within a lane.
-#[derive(Debug, Drop, PartialEq, Eq)]
-pub(crate) enum LaneLine {
-    /// A command of the lane.
-    Command(Command),
-    /// `lane N` opens a lane.
-    Lane(u32),
 }

@@ -6,7 +6,7 @@ ghost use Rattle.rebug.specs.Faults.{code_of};
 
 use std::alloc::{AllocError, AllocFailed};
 
-/// What is wrong with a line. Where several things are, the first of these but `Header` counts.
+/// What is wrong with a line. Where several of the first three are, the first of them counts.
 #[derive(Clone, Copy, Debug, PartialEq, Eq)]
 pub enum FaultKind {
     /// No line of the language: a field that is no text, an unknown word, a wrong count of fields,
@@ -14,8 +14,6 @@ pub enum FaultKind {
     Syntax,
     /// A field that has to be a number is none in form, or is out of its range.
     Number,
-    /// A lane is opened out of turn: a trace opens at most `lane 0`, and opens it once.
-    LaneOrder,
     /// A second record of one path.
     DoubleRecord,
     /// The first line of a trace is not `rebug-trace 1`.
@@ -39,7 +37,6 @@ impl FaultKind {
         match self {
             FaultKind::Syntax => 100,
             FaultKind::Number => 101,
-            FaultKind::LaneOrder => 102,
             FaultKind::DoubleRecord => 103,
             FaultKind::Header => 104,
         }
