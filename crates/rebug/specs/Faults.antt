@@ -2,9 +2,13 @@
 use Rattle.std.specs.Prelude.{◌≡◌, ℕ, ◌+◌, Option, Result, Ok, Err}
 use Rattle.std.specs.Option.{option_map}
 use Rattle.std.specs.List.{slice_get, filter_map, range_with_len}
+use Rattle.rev_paths.specs.declared.fault.PathFault.{PathFault}
+use Rattle.rev_paths.specs.declared.fault.PathFault.TheVariants as path
 use Rattle.rebug.specs.declared.lines.faults.FaultKind.{FaultKind}
 use Rattle.rebug.specs.declared.lines.faults.FaultKind.TheVariants.{Syntax, Number, DoubleRecord, Header}
 use Rattle.rebug.specs.declared.lines.faults.TextFault.{TextFault}
+use Rattle.rebug.specs.declared.lines.faults.ReadFault.{ReadFault}
+use Rattle.rebug.specs.declared.lines.faults.ReadFault.TheVariants as text
 use Rattle.rebug.specs.declared.lines.faults.LineFault.{LineFault}
 use Rattle.rebug.specs.declared.lines.faults.LineFault.TheVariants.{Memory, Kind}
 
@@ -28,6 +32,17 @@ fault_in place kind = record { kind = kind; line = place + 1 }
 -- the first fault of a text of so many lines, from what is wrong at each place
 abbrev pub first_fault : (ℕ → Option FaultKind) → ℕ → Option TextFault
 first_fault wrong_at count = slice_get (filter_map (λ place. option_map (fault_in place) (wrong_at place)) (range_with_len 0 count)) 0
+
+-- what is answered for a text, a line of which at this place is not read
+abbrev pub read_fault : ℕ → LineFault → ReadFault
+read_fault place Memory = text.Memory
+read_fault place (Kind kind) = text.Numbered (fault_in place kind)
+
+-- what is answered for a line whose path is refused
+abbrev pub path_fault : PathFault → LineFault
+path_fault path.Memory = Memory
+path_fault path.EmptyPath = Kind Syntax
+path_fault path.LongPath = Kind Syntax
 
 -- what is read is what the line says, or memory ran out
 abbrev pub Answers : {V T : Type 0} → Result V LineFault → (V → T) → Result T FaultKind → Type 0

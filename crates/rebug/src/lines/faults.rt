@@ -1,9 +1,10 @@
 //! What is wrong with a text of lines.
-ghost use Rattle.std.specs.Prelude.{◌≡◌};
+ghost use Rattle.std.specs.Prelude.{◌≡◌, ◌+◌, ◌^◌, ◌<◌};
 ghost use Rattle.rebug.specs.declared.lines.faults.LineFault.TheVariants as line;
 ghost use Rattle.rebug.specs.declared.lines.faults.ReadFault.TheVariants as text;
-ghost use Rattle.rebug.specs.Faults.{code_of};
+ghost use Rattle.rebug.specs.Faults.{code_of, path_fault, read_fault};
 
+use rev_paths::PathFault;
 use std::alloc::{AllocError, AllocFailed};
 
 /// What is wrong with a line. Where several of the first three are, the first of them counts.
@@ -90,5 +91,33 @@ impl<T: Drop> From<AllocFailed<T>> for LineFault {
 
     fn from(_e: AllocFailed<T>) -> LineFault {
         LineFault::Memory
+    }
+}
+
+impl From<PathFault> for LineFault {
+    ghost from_gives = { λ path fault. fault ≡ path_fault path };
+
+    fn from(fault: PathFault) -> LineFault {
+        match fault {
+            PathFault::Memory => LineFault::Memory,
+            PathFault::EmptyPath => LineFault::Kind(FaultKind::Syntax),
+            PathFault::LongPath => LineFault::Kind(FaultKind::Syntax),
+        }
+    }
+}
+
+impl LineFault {
+    /// The fault of the text in which the line stands at this place, counted from 0.
+    pub(crate) fn at(self, place: usize) -> ReadFault
+        requires { place + 1 < 2 ^ 64 }
+        ensures { result ≡ read_fault place self }
+    {
+        match self {
+            LineFault::Memory => ReadFault::Memory,
+            LineFault::Kind(kind) => ReadFault::Numbered(TextFault {
+                kind,
+                line: place as u64 + 1,
+            }),
+        }
     }
 }
