@@ -1,7 +1,9 @@
 -- The faults of lines, and the first fault of a text.
-use Rattle.std.specs.Prelude.{◌≡◌, ℕ, ◌+◌, Option, Result, Ok, Err}
+use Rattle.std.specs.Prelude.{◌≡◌, ℕ, ◌+◌, ◌<◌, Option, Some, None, Result, Ok, Err}
 use Rattle.std.specs.Option.{option_map}
 use Rattle.std.specs.List.{slice_get, filter_map, range_with_len}
+use Rattle.rev_cells.specs.declared.fault.OpeningFault.{OpeningFault}
+use Rattle.rev_cells.specs.declared.fault.OpeningFault.TheVariants as opening
 use Rattle.rev_paths.specs.declared.fault.PathFault.{PathFault}
 use Rattle.rev_paths.specs.declared.fault.PathFault.TheVariants as path
 use Rattle.rebug.specs.declared.lines.faults.FaultKind.{FaultKind}
@@ -38,6 +40,12 @@ abbrev pub read_fault : ℕ → LineFault → ReadFault
 read_fault place Memory = text.Memory
 read_fault place (Kind kind) = text.Numbered (fault_in place kind)
 
+-- what is answered for a line whose record is refused
+abbrev pub record_fault : OpeningFault → LineFault
+record_fault opening.Memory = Memory
+record_fault opening.BadJobs = Kind Number
+record_fault opening.DoubleRecord = Kind DoubleRecord
+
 -- what is answered for a line whose path is refused
 abbrev pub path_fault : PathFault → LineFault
 path_fault path.Memory = Memory
@@ -49,3 +57,12 @@ abbrev pub Answers : {V T : Type 0} → Result V LineFault → (V → T) → Res
 Answers (Ok value) view said = said ≡ Ok (view value)
 Answers (Err Memory) view said = Unit {0}
 Answers (Err (Kind kind)) view said = said ≡ Err kind
+
+-- some line of these is at fault, the first of them at a place where so many lines stand before the first of these
+pub record IsFirstWrong (wrong_at : ℕ → Option FaultKind) (count before : ℕ) (fault : TextFault) : Type 0 where
+  pub place : ℕ
+  pub within : place < count
+  pub earlier : (k : ℕ) → k < place → wrong_at k ≡ None
+  pub kind : FaultKind
+  pub wrong : wrong_at place ≡ Some kind
+  pub is : fault ≡ fault_in (before + place) kind

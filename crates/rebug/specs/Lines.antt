@@ -1,6 +1,7 @@
 -- What a line of a trace or of a script says, by itself.
 use Rattle.std.specs.Prelude.{ℕ, ◌^◌, ◌==◌, Bool, true, false, ◌||◌, if◌then◌else◌, nat_lt, bytes_eq, codes, List, [], ◌∷◌, length, Option, Some, None, Result, Ok, Err}
-use Rattle.std.specs.List.{slice_split}
+use Rattle.std.specs.Result.{result_ok, result_err}
+use Rattle.std.specs.List.{slice_split, filter_map}
 use Rattle.rev_paths.specs.Canonical.{canonical}
 use Rattle.rev_history.specs.declared.event.Event.TheVariants.{Touch}
 use Rattle.rebug.specs.declared.lines.faults.FaultKind.{FaultKind}
@@ -67,6 +68,7 @@ abbrev pub read_as : {T : Type 0} → (List (List ℕ) → Result T FaultKind) �
 read_as said None = Err Syntax
 read_as said (Some texts) = said texts
 
+-- what a line says that is a record, a command, or the word of a script
 abbrev pub record_line : List ℕ → Result (List ℕ × ℕ) FaultKind
 record_line line = read_as record_of (texts_of line)
 
@@ -75,3 +77,11 @@ command_line line = read_as command_of (texts_of line)
 
 abbrev pub script_line : List ℕ → Result Word FaultKind
 script_line line = read_as word_of (texts_of line)
+
+-- what is wrong with a line that has to be empty or to say something
+abbrev pub wrong_by : {T : Type 0} → (List ℕ → Result T FaultKind) → List ℕ → Option FaultKind
+wrong_by said line = if is_blank line then None else result_err (said line)
+
+-- what the lines say that say something
+abbrev pub said_by : {T : Type 0} → (List ℕ → Result T FaultKind) → List (List ℕ) → List T
+said_by said lines = filter_map (λ line. result_ok (said line)) lines

@@ -10,3 +10,7 @@ slices_of slices = map (λ s. s.now) slices
 -- the texts that vectors hold
 abbrev pub vectors_of : List (Vec ℕ) → List (List ℕ)
 vectors_of vectors = map (λ v. v.items) vectors
+
+-- the lists that vectors hold
+abbrev pub lanes_of : {T : Type 0} → List (Vec T) → List (List T)
+lanes_of vectors = map (λ v. v.items) vectors

@@ -2,8 +2,9 @@
 ghost use Rattle.std.specs.Prelude.{◌≡◌, ◌+◌, ◌^◌, ◌<◌};
 ghost use Rattle.rebug.specs.declared.lines.faults.LineFault.TheVariants as line;
 ghost use Rattle.rebug.specs.declared.lines.faults.ReadFault.TheVariants as text;
-ghost use Rattle.rebug.specs.Faults.{code_of, path_fault, read_fault};
+ghost use Rattle.rebug.specs.Faults.{code_of, path_fault, read_fault, record_fault};
 
+use rev_cells::OpeningFault;
 use rev_paths::PathFault;
 use std::alloc::{AllocError, AllocFailed};
 
@@ -102,6 +103,18 @@ impl From<PathFault> for LineFault {
             PathFault::Memory => LineFault::Memory,
             PathFault::EmptyPath => LineFault::Kind(FaultKind::Syntax),
             PathFault::LongPath => LineFault::Kind(FaultKind::Syntax),
+        }
+    }
+}
+
+impl From<OpeningFault> for LineFault {
+    ghost from_gives = { λ refusal fault. fault ≡ record_fault refusal };
+
+    fn from(fault: OpeningFault) -> LineFault {
+        match fault {
+            OpeningFault::Memory => LineFault::Memory,
+            OpeningFault::BadJobs => LineFault::Kind(FaultKind::Number),
+            OpeningFault::DoubleRecord => LineFault::Kind(FaultKind::DoubleRecord),
         }
     }
 }

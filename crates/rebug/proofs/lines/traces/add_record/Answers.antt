@@ -1,0 +1,17 @@
+use Rattle.std.proofs.Common.{rules, ◌≡◌, ℕ, ◌+◌, ◌^◌, ◌<◌, ◌≤◌, ◌++◌, ◌∷◌, [], List, length, take, slice_index, Some, None, true, false, IfOk, OnOk, IsErrOf, ◌-◌, ◌*◌, ◌/◌, ◌%◌, Bool, nat_eq, nat_lt, slice_set, bit_and, bit_or, Fits, w8, w32, w64, Bor, MutBor}
+use Rattle.std.specs.List.{slice_index_or}
+use Rattle.rebug.specs.declared.lines.faults.FaultKind.{FaultKind}
+use Rattle.rebug.specs.declared.lines.faults.TextFault.{TextFault}
+use Rattle.rebug.specs.Faults.{IsFirstWrong}
+use Rattle.rebug.specs.Lines.{record_line}
+use Rattle.rebug.specs.Parts.{slices_of, lanes_of}
+use Rattle.rebug.specs.Traces.{Record, commands_in, has_lane, has_path, opens_lane, opening_of, record_wrong, records_in, command_wrong, wrong_at, value_of, trace_fault, trace_of, IsOpened, IsRecordAdded}
+use Rattle.rebug.proofs.lines.traces.add_record.Goals as goal
+
+-- src/lines/traces.rt:33:5
+pub returns-in_err-add_stamp-clause-fault : goal.returns-in_err-add_stamp-clause-fault
+returns-in_err-add_stamp-clause-fault c = ?
+
+-- src/lines/traces.rt:28:1
+pub returns-clause-ok : goal.returns-clause-ok
+returns-clause-ok c = ?
