@@ -11,8 +11,14 @@ use Rattle.std.specs.Str.{bytes_eq}
 use Rattle.rev_cells.specs.declared.cell.Cell.{Cell}
 use Rattle.rev_cells.specs.declared.cell.Cell.TheVariants as cell
 use Rattle.rev_cells.specs.declared.cell.Value.TheVariants as value
+use Rattle.rev_cells.specs.declared.fault.OpeningFault.{OpeningFault}
+use Rattle.rev_cells.specs.declared.fault.OpeningFault.TheVariants as refusal
 use Rattle.rev_cells.specs.State.{State, set}
 use Rattle.rev_cells.specs.Table.{Table}
+use Rattle.rebug.specs.declared.lines.faults.FaultKind.{FaultKind}
+use Rattle.rebug.specs.declared.lines.faults.FaultKind.TheVariants.{DoubleRecord}
+use Rattle.rebug.specs.declared.lines.faults.LineFault.TheVariants as line
+use Rattle.rebug.specs.Faults.{record_fault}
 use Rattle.rebug.specs.Traces.{Record, has_path, opening_of, state_of_records}
 use Rattle.rebug.proofs.ListLemmas.{list_any_true, place_of_any}
 
@@ -48,3 +54,9 @@ opening_of-push records path stamp =
     let added : Record = (path, stamp) in
     ap (λ s. table_of s (map (λ r. cell.Stamp r.0) records ++ cell.Stamp path ∷ [])) (sym (fold-append (λ (state : State) (r : Record). set state (cell.Stamp r.0) (value.Stamp r.1)) map.empty records (added ∷ [])))
     ∙ ap (table_of (state_of_records (records ++ added ∷ []))) (sym (map-append (λ (r : Record). cell.Stamp r.0) records (added ∷ [])))
+
+-- which refusal of a record is a fault of its line
+pub double_from_fault : (refused : OpeningFault) (kind : FaultKind) → record_fault refused ≡ line.Kind kind → (refused ≡ refusal.BadJobs → ⊥) → (refused ≡ refusal.DoubleRecord) × (kind ≡ DoubleRecord)
+double_from_fault refusal.Memory kind e no_jobs = absurd (let no : line.Memory ≡ line.Kind kind = e in cc)
+double_from_fault refusal.BadJobs kind e no_jobs = absurd (no_jobs refl)
+double_from_fault refusal.DoubleRecord kind e no_jobs = (refl, let same : line.Kind DoubleRecord ≡ line.Kind kind = e in cc)
