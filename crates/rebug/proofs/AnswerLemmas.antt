@@ -1,6 +1,7 @@
 -- What passes from the reader of a part to the reader of the whole.
 use Rattle.std.proofs.Common.{◌≡◌, Option, Some, None, Result, Ok, Err, refl, sym, ap, ◌∙◌, subst}
 use Rattle.std.specs.Option.{ok_or}
+use Rattle.std.specs.Result.{OnOk}
 use Rattle.rebug.specs.declared.lines.faults.FaultKind.{FaultKind}
 use Rattle.rebug.specs.declared.lines.faults.FaultKind.TheVariants.{Syntax}
 use Rattle.rebug.specs.declared.lines.faults.LineFault.{LineFault}
@@ -24,3 +25,8 @@ some_from_ok_or (Some y) x h = cc
 pub none_from_ok_or : {T : Type 0} (o : Option T) (kind : FaultKind) → ok_or o Syntax ≡ Err kind → (o ≡ None) × (kind ≡ Syntax)
 none_from_ok_or None kind h = (refl, cc)
 none_from_ok_or (Some y) kind h = let no : Ok y ≡ Err kind = h in (cc, cc)
+
+-- what holds of a value also where what it follows from does
+pub on_ok : {T E : Type 0} (r : Result T E) (P Q : Type 0) → (P → Q) → OnOk r P → OnOk r Q
+on_ok (Ok x) P Q f h = f h
+on_ok (Err e) P Q f h = h

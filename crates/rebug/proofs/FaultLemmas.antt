@@ -50,3 +50,7 @@ first_fault-first wrong_at n f h =
 pub line_at_fault : {V T : Type 0} (fault : LineFault) (view : V → T) (said : Result T FaultKind) (place : ℕ) (f : TextFault) → Answers (Err fault) view said → read_fault place fault ≡ text.Numbered f → (kind : FaultKind) × (said ≡ Err kind) × (f ≡ fault_in place kind)
 line_at_fault Memory view said place f h e = absurd (let no : text.Memory ≡ text.Numbered f = e in cc)
 line_at_fault (Kind kind) view said place f h e = (kind, h, let same : text.Numbered (fault_in place kind) ≡ text.Numbered f = e in cc)
+
+pub kind_of_fault : (fault : LineFault) (place : ℕ) (f : TextFault) → read_fault place fault ≡ text.Numbered f → (kind : FaultKind) × (fault ≡ Kind kind) × (f ≡ fault_in place kind)
+kind_of_fault Memory place f e = absurd (let no : text.Memory ≡ text.Numbered f = e in cc)
+kind_of_fault (Kind kind) place f e = (kind, refl, let same : text.Numbered (fault_in place kind) ≡ text.Numbered f = e in cc)

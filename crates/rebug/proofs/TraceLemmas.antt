@@ -196,3 +196,21 @@ trace_first first rest f head h =
 pub trace_header : (first : List ℕ) (rest : List (List ℕ)) → bytes_eq first (codes "rebug-trace 1") ≡ false → first_fault (whole_wrong (first ∷ rest)) (length (first ∷ rest)) ≡ Some (fault_in 0 Header)
 trace_header first rest head =
     first_fault-some (whole_wrong (first ∷ rest)) (length (first ∷ rest)) 0 Header (omega arith) (λ k lt. absurd (omega arith)) (ap (λ b. cond b None (Some Header)) head)
+
+-- the same, where the lines are told by their places
+pub lines_sound : (lines : List (List ℕ)) → 0 < length lines → bytes_eq (get_or lines 0 []) (codes "rebug-trace 1") ≡ true → ((k : ℕ) → k < length (drop 1 lines) → wrong_at (drop 1 lines) k ≡ None) → first_fault (whole_wrong lines) (length lines) ≡ None
+lines_sound [] some head sound = absurd (omega arith)
+lines_sound (first ∷ rest) some head sound = trace_sound first rest head sound
+
+pub lines_first : (lines : List (List ℕ)) (f : TextFault) → 0 < length lines → bytes_eq (get_or lines 0 []) (codes "rebug-trace 1") ≡ true → IsFirstWrong (wrong_at (drop 1 lines)) (length (drop 1 lines)) 1 f → first_fault (whole_wrong lines) (length lines) ≡ Some f
+lines_first [] f some head h = absurd (omega arith)
+lines_first (first ∷ rest) f some head h = trace_first first rest f head h
+
+pub lines_header : (lines : List (List ℕ)) → 0 < length lines → bytes_eq (get_or lines 0 []) (codes "rebug-trace 1") ≡ false → first_fault (whole_wrong lines) (length lines) ≡ Some (fault_in 0 Header)
+lines_header [] some head = absurd (omega arith)
+lines_header (first ∷ rest) some head = trace_header first rest head
+
+pub IsFirstWrong-length : (lines : List (List ℕ)) (n : ℕ) (f : TextFault) → length lines ≡ n → IsFirstWrong (wrong_at lines) (length lines) 1 f → IsFirstWrong (wrong_at lines) n 1 f
+IsFirstWrong-length lines n f e h =
+    let P : ℕ → Type 0 = λ m. IsFirstWrong (wrong_at lines) m 1 f in
+    subst P e h

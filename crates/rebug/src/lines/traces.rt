@@ -24,6 +24,12 @@ pub struct Trace {
     pub lanes: Vec<Vec<Command>>,
 }
 
+// The first line does not name the format.
+const NO_HEADER: ReadFault = ReadFault::Numbered(TextFault {
+    kind: FaultKind::Header,
+    line: 1,
+});
+
 // Adds the record that a line is.
 fn add_record(alloc: Global, opening: &mut Opening, line: &[u8]) -> Result<(), LineFault>
     ensures ok { (records : List Record) → opening.old ≡ opening_of records → OnOk result (IsRecordAdded records (record_line line.now) opening.new) }
@@ -103,11 +109,11 @@ pub fn read_trace(alloc: Global, text: &[u8]) -> Result<Trace, ReadFault>
     ensures fault { (f : TextFault) → IsErrOf result (ReadFault.Numbered f) → trace_fault text.now ≡ Some f }
 {
     let lines = parts_at(alloc, text, b'\n')?;
-    match lines.as_slice() {
-        [first, rest @ ..] if *first == b"rebug-trace 1".as_slice() => read_lines(alloc, rest),
-        _ => Err(ReadFault::Numbered(TextFault {
-            kind: FaultKind::Header,
-            line: 1,
-        })),
+    let Some((first, rest)) = lines.split_first() else {
+        return Err(NO_HEADER);
+    };
+    if *first != b"rebug-trace 1".as_slice() {
+        return Err(NO_HEADER);
     }
+    read_lines(alloc, rest)
 }
