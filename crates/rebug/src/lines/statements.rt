@@ -1,5 +1,5 @@
 //! What single lines say.
-ghost use Rattle.std.specs.Prelude.{◌≡◌};
+ghost use Rattle.std.specs.Prelude.{◌≡◌, ◌∷◌, []};
 ghost use Rattle.rebug.specs.Faults.{Answers};
 ghost use Rattle.rev_history.specs.declared.event.Event.TheVariants.{Touch};
 ghost use Rattle.rebug.specs.declared.lines.commands.Command.TheVariants as command;
@@ -72,16 +72,37 @@ fn command_as_word(alloc: Global, texts: &[Vec<u8>]) -> Result<Word, LineFault>
     Ok(Word::Command(command(alloc, texts)?))
 }
 
+// A word of a script that stands alone.
+fn bare_word(text: &[u8]) -> Result<Word, LineFault>
+    ensures { Answers result (λ w. w) (word_of (text.now ∷ [])) }
+{
+    if text == b"run".as_slice() {
+        return Ok(Word::Run(None));
+    }
+    if text == b"kept".as_slice() {
+        return Ok(Word::Kept);
+    }
+    if text == b"stamps".as_slice() {
+        return Ok(Word::Stamps);
+    }
+    if text == b"back".as_slice() {
+        return Ok(Word::Command(Command::Back));
+    }
+    Err(BAD_LINE)
+}
+
 // The word of a script, from the texts of the fields.
 fn word(alloc: Global, texts: &[Vec<u8>]) -> Result<Word, LineFault>
     ensures { Answers result (λ w. w) (word_of (vectors_of texts.now)) }
 {
     match texts {
-        [word] if word.as_slice() == b"run".as_slice() => Ok(Word::Run(None)),
-        [word] if word.as_slice() == b"kept".as_slice() => Ok(Word::Kept),
-        [word] if word.as_slice() == b"stamps".as_slice() => Ok(Word::Stamps),
-        [word, count] if word.as_slice() == b"run".as_slice() => {
-            Ok(Word::Run(Some(number(count)?)))
+        [] => Err(BAD_LINE),
+        [word] => bare_word(word),
+        [word, count] => {
+            if word.as_slice() == b"run".as_slice() {
+                return Ok(Word::Run(Some(number(count)?)));
+            }
+            command_as_word(alloc, texts)
         }
         _ => command_as_word(alloc, texts),
     }
