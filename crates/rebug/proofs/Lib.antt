@@ -1,0 +1,9 @@
+pub mod AnswerLemmas
+pub mod FaultLemmas
+pub mod FieldLemmas
+pub mod ListLemmas
+pub mod NumberLemmas
+pub mod RecordLemmas
+pub mod SaidLemmas
+pub mod SliceLemmas
+pub mod TraceLemmas

@@ -1,0 +1,41 @@
+use Rattle.std.proofs.Common.{◌≡◌, ◌==◌, ◌<◌, ◌+◌, ◌-◌, ◌∷◌, [], ℕ, List, get_or, length, drop, Some, None, Ok, Err, true, false, not, rules, arith, refl, sym, ap, ◌∙◌, subst, take}
+use Rattle.std.proofs.lemmas.Bool.{not-false, not-true}
+use Rattle.std.proofs.lemmas.List.Splits.{length-slice_split}
+use Rattle.std.specs.Prelude.{codes}
+use Rattle.std.specs.Str.{bytes_eq}
+use Rattle.rebug.specs.declared.lines.faults.FaultKind.TheVariants.{Header}
+use Rattle.rebug.specs.declared.lines.faults.ReadFault.TheVariants as text
+use Rattle.rebug.specs.Faults.{IsFirstWrong, first_fault}
+use Rattle.rebug.specs.Lines.{lines_of}
+use Rattle.rebug.specs.Parts.{slices_of}
+use Rattle.rebug.specs.Traces.{trace_fault, wrong_at}
+use Rattle.rebug.proofs.AnswerLemmas.{on_ok}
+use Rattle.rebug.proofs.SliceLemmas.{length-slices_of}
+use Rattle.rebug.proofs.TraceLemmas.{trace_first, trace_header, trace_sound, whole_wrong}
+use Rattle.rebug.proofs.lines.traces.read_trace.Goals as goal
+
+pub returns-in_default-clause-fault : goal.returns-in_default-clause-fault
+returns-in_default-clause-fault c = λ f h.
+    let items = c.deref.result.now in
+    let whole : slices_of items ≡ lines_of c.args.text.now = ap slices_of c.deref.ensures.value ∙ c.in_ok-lines.ensures in
+    absurd (omega (arith, c.in_default.ensures.cases, length-slices_of items, ap length whole, length-slice_split (λ b. b == 10) c.args.text.now))
+
+pub returns-clause-sound : goal.returns-clause-sound
+returns-clause-sound c =
+    let first = c.in-Some.first.now.now in
+    let rest = slices_of c.in-Some.rest.now in
+    let whole : lines_of c.args.text.now ≡ first ∷ rest = sym (ap slices_of c.deref.ensures.value ∙ c.in_ok-lines.ensures) ∙ ap slices_of c.in-Some.ensures.cases.0 in
+    let head : bytes_eq first (codes "rebug-trace 1") ≡ true = not-false _ (rw c.as_slice.ensures at (sym c.ne.ensures) ∙ c.if-ne.false) in
+    on_ok c.read_lines.result _ _ (λ sound.
+      ap (λ lines. first_fault (whole_wrong lines) (length lines)) whole
+      ∙ trace_sound first rest head (λ k lt. sound k (omega (arith, lt, length-slices_of c.in-Some.rest.now)))) c.read_lines.ensures.sound
+
+pub returns-clause-fault : goal.returns-clause-fault
+returns-clause-fault c = λ f h.
+    let first = c.in-Some.first.now.now in
+    let rest = slices_of c.in-Some.rest.now in
+    let whole : lines_of c.args.text.now ≡ first ∷ rest = sym (ap slices_of c.deref.ensures.value ∙ c.in_ok-lines.ensures) ∙ ap slices_of c.in-Some.ensures.cases.0 in
+    let head : bytes_eq first (codes "rebug-trace 1") ≡ true = not-false _ (rw c.as_slice.ensures at (sym c.ne.ensures) ∙ c.if-ne.false) in
+    let P : ℕ → Type 0 = λ n. IsFirstWrong (wrong_at rest) n 1 f in
+    ap (λ lines. first_fault (whole_wrong lines) (length lines)) whole
+    ∙ trace_first first rest f head (subst P (sym (length-slices_of c.in-Some.rest.now)) (c.read_lines.ensures.fault f h))

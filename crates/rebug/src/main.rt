@@ -1,0 +1,6 @@
+//! A reversible debugger for Ninja builds.
+#![tactic(auto)]
+
+mod lines;
+
+fn main() {}
