@@ -7,3 +7,7 @@ pub mod RecordLemmas
 pub mod SaidLemmas
 pub mod SliceLemmas
 pub mod TraceLemmas
+pub mod OutputLemmas
+pub mod SessionLemmas
+pub mod ListingLemmas
+pub mod ReportLemmas

@@ -1,6 +1,100 @@
-//! A reversible debugger for Ninja builds.
+//! A reversible debugger for Ninja builds: it replays a recorded build, and undoes and redoes its events.
 #![tactic(auto)]
 
+mod fault;
+mod input;
 mod lines;
+mod listing;
+mod options;
+mod output;
+mod report;
+mod session;
+#[cfg(test)]
+mod tests;
+mod text;
 
-fn main() {}
+use clap::error::ErrorKind;
+use fault::{ProgramFault, RunFault};
+use input::{InputFault, read_whole};
+use options::{Options, matches_of, options_of};
+use report::{Status, run_serial};
+use std::alloc::Global;
+use std::fs;
+use std::io;
+use std::io::{BufWriter, Write};
+use std::process::ExitCode;
+use std::rt::{Env, Files};
+
+// The status of a command line that asks for help or is wrong.
+const USAGE: u8 = 2;
+// The status of a run that could not read, write or get memory.
+const FAILURE: u8 = 3;
+
+// All bytes of a file.
+fn read_file<'a, R: Files + AllocGlobal>(rt: &R, name: &'a str) -> Result<Vec<u8>, ProgramFault<'a>> {
+    let Ok(mut file) = fs::open(rt, name) else {
+        return Err(ProgramFault::Read(name));
+    };
+    match read_whole(rt.alloc(), &mut file) {
+        Ok(bytes) => Ok(bytes),
+        Err(InputFault::Read) => Err(ProgramFault::Read(name)),
+        Err(InputFault::Memory) => Err(ProgramFault::Run(RunFault::Memory)),
+    }
+}
+
+// Reads the files and writes the report to the standard output.
+fn run<'a, R: Files + Print + AllocGlobal>(rt: &R, options: &Options<'a>) -> Result<Status, ProgramFault<'a>> {
+    let alloc = rt.alloc();
+    let name = Vec::from_slice(alloc, options.manifest.as_bytes())?;
+    let files = [(name, read_file(rt, options.manifest)?)];
+    let trace = read_file(rt, options.trace)?;
+    let script = read_file(rt, options.script)?;
+    let Ok(mut writer) = BufWriter::new(alloc, io::writer(rt)) else {
+        return Err(ProgramFault::Run(RunFault::Memory));
+    };
+    let status = run_serial(alloc, &files, &trace, &script, &mut writer)?;
+    match writer.flush() {
+        Ok(()) => Ok(status),
+        Err(_) => Err(ProgramFault::Run(RunFault::Write)),
+    }
+}
+
+// Ends with a line on the standard error.
+fn fail<R: Eprint>(rt: &R, fault: ProgramFault<'_>) -> ExitCode {
+    let _ = eprintln!(rt; "rebug: {fault}");
+    ExitCode::from(FAILURE)
+}
+
+// Ends with the text about the command line on the standard error.
+fn explain<R: Eprint>(rt: &R, error: &clap::Error) -> ExitCode {
+    if error.kind() == ErrorKind::OutOfMemory {
+        return fail(rt, ProgramFault::Run(RunFault::Memory));
+    }
+    let _ = rt.eprint(error);
+    ExitCode::from(USAGE)
+}
+
+// The words of the command line, and the program's name first.
+fn words<R: Env + Alloc<A = Global>>(rt: &R) -> io::Result<Vec<String>> {
+    let words: Vec<String> = std::env::args(rt)?.collect(rt.alloc())?;
+    Ok(words)
+}
+
+fn main(rt: HostRuntime) -> ExitCode {
+    let Ok(words) = words(&rt) else {
+        let _ = eprintln!(rt; "rebug: the words of the command line are no text");
+        return ExitCode::from(USAGE);
+    };
+    let matches = match matches_of(rt.alloc(), &words) {
+        Ok(matches) => matches,
+        Err(error) => return explain(&rt, &error),
+    };
+    let Some(options) = options_of(&matches) else {
+        return ExitCode::from(USAGE);
+    };
+    match run(&rt, &options) {
+        Ok(Status::Success) => ExitCode::SUCCESS,
+        Ok(Status::Fault) => ExitCode::FAILURE,
+        Err(fault) => fail(&rt, fault),
+    }
+}

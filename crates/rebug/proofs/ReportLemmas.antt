@@ -1,0 +1,42 @@
+-- Texts of lists, one item after the other.
+use Rattle.std.proofs.Common.{◌≡◌, ℕ, ◌+◌, ◌<◌, ◌≤◌, List, [], ◌∷◌, ◌++◌, Option, Some, None, map, length, min, take, drop, get_or, refl, sym, ap, subst, ◌∙◌, arith, add-one}
+use Rattle.std.proofs.Math.Seq.{drop-cons}
+use Rattle.std.specs.List.{flat_map}
+use Rattle.rev_cells.specs.State.{State, stamp_of}
+use Rattle.rebug.specs.declared.lines.commands.Command.{Command}
+use Rattle.rebug.specs.declared.lines.commands.Word.{Word}
+use Rattle.rebug.specs.Session.{Session, after_command, reply_line, reply_to}
+use Rattle.rebug.specs.Report.{after_commands, after_word, left_after, paths_there, replies_text, script_text, stamp_line, stamps_text, word_text}
+use Rattle.rebug.specs.Listing.{with_stamp, files_there}
+
+-- what is left from an item on
+pub from_item : {A : Type 0} (xs : List A) (i : ℕ) (x : A) → i < length xs → x ≡ get_or xs i x → drop i xs ≡ x ∷ drop (i + 1) xs
+from_item xs i x h at = drop-cons xs i x h ∙ (λ j. sym at j ∷ drop (sym (add-one i) j) xs)
+
+pub replies_next : (lane : ℕ) (s : Session) (cs : List Command) (i : ℕ) (c : Command) → i < length cs → c ≡ get_or cs i c
+    → replies_text lane s (drop i cs) ≡ reply_line lane (reply_to s c) ++ replies_text lane (after_command s c) (drop (i + 1) cs)
+replies_next lane s cs i c h at = ap (replies_text lane s) (from_item cs i c h at)
+
+pub after_next : (s : Session) (cs : List Command) (i : ℕ) (c : Command) → i < length cs → c ≡ get_or cs i c → after_commands s (drop i cs) ≡ after_commands (after_command s c) (drop (i + 1) cs)
+after_next s cs i c h at = ap (after_commands s) (from_item cs i c h at)
+
+pub script_next : (lane : ℕ) (s : Session) (left : List Command) (words : List Word) (i : ℕ) (w : Word) → i < length words → w ≡ get_or words i w
+    → script_text lane s left (drop i words) ≡ word_text lane s left w ++ script_text lane (after_word s left w) (left_after left w) (drop (i + 1) words)
+script_next lane s left words i w h at = ap (script_text lane s left) (from_item words i w h at)
+
+pub flat_next : {A : Type 0} (f : A → List ℕ) (xs : List A) (i : ℕ) (x : A) → i < length xs → x ≡ get_or xs i x → flat_map f (drop i xs) ≡ f x ++ flat_map f (drop (i + 1) xs)
+flat_next f xs i x h at = ap (flat_map f) (from_item xs i x h at)
+
+pub flat_next_number : (f : ℕ → List ℕ) (xs : List ℕ) (i : ℕ) → i < length xs → flat_map f (drop i xs) ≡ f (get_or xs i 0) ++ flat_map f (drop (i + 1) xs)
+flat_next_number f xs i h = ap (flat_map f) (drop-cons xs i 0 h ∙ ap (λ j. get_or xs i 0 ∷ drop j xs) (sym (add-one i)))
+
+flat_mapped : {A B : Type 0} (f : B → List ℕ) (g : A → B) (xs : List A) → flat_map f (map g xs) ≡ flat_map (λ x. f (g x)) xs
+flat_mapped f g [] = refl
+flat_mapped f g (x ∷ xs) = ap (λ l. f (g x) ++ l) (flat_mapped f g xs)
+
+abbrev pub file_line : List ℕ × ℕ → List ℕ
+file_line file = stamp_line file.0 file.1
+
+-- the lines of the files are those of the paths that are there
+pub file_lines : (s : State) → flat_map file_line (files_there s) ≡ stamps_text s
+file_lines s = flat_mapped file_line (with_stamp s) (paths_there s)

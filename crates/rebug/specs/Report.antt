@@ -1,0 +1,159 @@
+-- The report: what a run writes for files, a trace and a script, and its status.
+use Rattle.std.specs.Prelude.{ℕ, ◌==◌, Bool, not, List, [], ◌∷◌, ◌++◌, filter, take, drop, Option, Some, None, codes, decimal, slice_get}
+use Rattle.std.specs.List.{flat_map}
+use Rattle.std.specs.FinMap as map
+use Rattle.rev_cells.specs.declared.cell.Cell.{Cell}
+use Rattle.rev_cells.specs.declared.cell.Cell.TheVariants as cell
+use Rattle.rev_cells.specs.State.{State, stamp_of}
+use Rattle.rev_cells.specs.Table.{Table}
+use Rattle.rev_history.specs.declared.event.Event.{Event}
+use Rattle.rev_history.specs.declared.event.Event.TheVariants.{Touch}
+use Rattle.rev_history.specs.Timeline.{Timeline, opened, event_at, state_at}
+use Rattle.rev_manifest.specs.declared.fault.ManifestFault.{ManifestFault}
+use Rattle.rev_manifest.specs.Fault as manifest_faults
+use Rattle.rev_manifest.specs.Manifest as manifest
+use Rattle.rebug.specs.declared.lines.commands.Command.{Command}
+use Rattle.rebug.specs.declared.lines.commands.Word.{Word}
+use Rattle.rebug.specs.declared.lines.commands.Word.TheVariants as word
+use Rattle.rebug.specs.declared.lines.faults.TextFault.{TextFault}
+use Rattle.rebug.specs.declared.report.Status.{Status}
+use Rattle.rebug.specs.declared.report.Status.TheVariants.{Success, Fault}
+use Rattle.rebug.specs.Faults.{code_of}
+use Rattle.rebug.specs.Fields.{field_text}
+use Rattle.rebug.specs.Traces.{trace_fault, trace_of, opening_of}
+use Rattle.rebug.specs.Scripts.{script_fault, script_of}
+use Rattle.rebug.specs.Session.{Session, reply_to, reply_line, after_command}
+
+-- The word `kept`: a line for each kept event, in rising number, with the command that it was.
+
+abbrev pub event_text : Event → List ℕ
+event_text (Touch path stamp) = codes "touch " ++ field_text path ++ codes " " ++ decimal stamp
+
+abbrev pub kept_line : ℕ → Option Event → List ℕ
+kept_line number None = []
+kept_line number (Some e) = codes "kept " ++ decimal number ++ codes " " ++ event_text e ++ codes "\n"
+
+abbrev pub kept_text : Timeline → List ℕ
+kept_text t = flat_map (λ number. kept_line number (event_at t number)) t.kept
+
+-- The word `stamps`: a line for each path whose file is not missing, in byte order of the paths.
+
+-- the path whose stamp a cell holds
+abbrev pub stamped_path : Cell → List (List ℕ)
+stamped_path (cell.Stamp path) = path ∷ []
+
+abbrev pub is_there : State → List ℕ → Bool
+is_there state path = not (stamp_of state path == 0)
+
+-- the paths that are not missing; the cells of a state stand in order, and those of stamps in byte order of their paths
+abbrev pub paths_there : State → List (List ℕ)
+paths_there state = filter (is_there state) (flat_map stamped_path (map.keys state))
+
+abbrev pub stamp_line : List ℕ → ℕ → List ℕ
+stamp_line path stamp = codes "stamp " ++ field_text path ++ codes " " ++ decimal stamp ++ codes "\n"
+
+abbrev pub stamps_text : State → List ℕ
+stamps_text state = flat_map (λ path. stamp_line path (stamp_of state path)) (paths_there state)
+
+-- Commands of one lane, one after the other: the lines of their replies, and the session after them.
+
+abbrev pub replies_text : ℕ → Session → List Command → List ℕ
+replies_text lane s [] = []
+replies_text lane s (c ∷ cs) = reply_line lane (reply_to s c) ++ replies_text lane (after_command s c) cs
+
+abbrev pub after_commands : Session → List Command → Session
+after_commands s [] = s
+after_commands s (c ∷ cs) = after_commands (after_command s c) cs
+
+-- what `run` takes of the trace's commands that are left, and `run K`, and what either leaves
+
+abbrev pub taken : Option ℕ → List Command → List Command
+taken None commands = commands
+taken (Some k) commands = take k commands
+
+abbrev pub untaken : Option ℕ → List Command → List Command
+untaken None commands = []
+untaken (Some k) commands = drop k commands
+
+-- what a word of a script writes, where these commands of the trace's lane 0 are left; the script's own commands are of the given lane
+abbrev pub word_text : ℕ → Session → List Command → Word → List ℕ
+word_text lane s left (word.Command c) = reply_line lane (reply_to s c)
+word_text lane s left (word.Run k) = replies_text 0 s (taken k left)
+word_text lane s left word.Kept = kept_text s.history
+word_text lane s left word.Stamps = stamps_text (state_at s.history)
+
+-- the session after a word
+abbrev pub after_word : Session → List Command → Word → Session
+after_word s left (word.Command c) = after_command s c
+after_word s left (word.Run k) = after_commands s (taken k left)
+after_word s left word.Kept = s
+after_word s left word.Stamps = s
+
+-- the commands of the trace's lane 0 that are left after a word
+abbrev pub left_after : List Command → Word → List Command
+left_after left (word.Command c) = left
+left_after left (word.Run k) = untaken k left
+left_after left word.Kept = left
+left_after left word.Stamps = left
+
+-- what a script writes: its words in turn
+abbrev pub script_text : ℕ → Session → List Command → List Word → List ℕ
+script_text lane s left [] = []
+script_text lane s left (w ∷ words) = word_text lane s left w ++ script_text lane (after_word s left w) (left_after left w) words
+
+-- a session that has just been opened
+abbrev pub opened_session : Table → Session
+opened_session opening = record { history = opened opening.jobs opening.state; entries = 0 }
+
+-- the commands of the trace's lane 0, none where the trace does not open it
+abbrev pub lane_commands : List (List Command) → List Command
+lane_commands [] = []
+lane_commands (commands ∷ lanes) = commands
+
+-- the number of the script's lane, the one after the trace's lanes
+abbrev pub script_lane : List (List Command) → ℕ
+script_lane [] = 0
+script_lane (commands ∷ lanes) = 1
+
+-- what the words of a script write, for a trace with this opening and these lanes
+abbrev pub session_text : Table → List (List Command) → List Word → List ℕ
+session_text opening lanes words = script_text (script_lane lanes) (opened_session opening) (lane_commands lanes) words
+
+-- Faults: one line, with the line and the number of the fault.
+
+abbrev pub fault_line : List ℕ → ℕ → ℕ → List ℕ
+fault_line what line code = codes "fault " ++ what ++ codes " " ++ decimal line ++ codes " " ++ decimal code ++ codes "\n"
+
+-- the name of a file as it was given, or a dash where there is none
+abbrev pub name_text : Option (List ℕ × List ℕ) → List ℕ
+name_text None = codes "-"
+name_text (Some file) = field_text file.0
+
+abbrev pub manifest_fault_line : List (List ℕ × List ℕ) → ManifestFault → List ℕ
+manifest_fault_line files f = fault_line (codes "manifest " ++ name_text (slice_get files f.file)) f.line (manifest_faults.code_of f.kind)
+
+abbrev pub text_fault_line : List ℕ → TextFault → List ℕ
+text_fault_line what f = fault_line what f.line (code_of f.kind)
+
+-- what is written, and the status
+pub record Report : Type 0 where
+  pub text : List ℕ
+  pub status : Status
+
+-- a fault, if there is one, is all of the report
+abbrev pub unless_fault : {F : Type 0} → Option F → (F → List ℕ) → Report → Report
+unless_fault None line report = report
+unless_fault (Some f) line report = record { text = line f; status = Fault }
+
+-- the report of a script, where the trace has been read
+abbrev pub script_report : Table → List (List Command) → List ℕ → Report
+script_report opening lanes script =
+    unless_fault (script_fault script) (text_fault_line (codes "script")) (record { text = session_text opening lanes (script_of script); status = Success })
+
+-- the report of a trace and a script, where the manifest has been read
+abbrev pub trace_report : List ℕ → List ℕ → Report
+trace_report trace script = unless_fault (trace_fault trace) (text_fault_line (codes "trace")) (script_report (opening_of (trace_of trace).records) (trace_of trace).lanes script)
+
+-- the report of files, a trace and a script, which are looked at in that order
+abbrev pub report : List (List ℕ × List ℕ) → List ℕ → List ℕ → Report
+report files trace script = unless_fault (manifest.first_fault files) (manifest_fault_line files) (trace_report trace script)

@@ -1,0 +1,48 @@
+//! The words of the command line.
+
+use clap::{Arg, ArgAction, ArgMatches, Command, Error};
+use std::alloc::{AllocError, Global};
+
+/// The files that the program reads.
+#[derive(Clone, Copy, Debug)]
+pub struct Options<'a> {
+    /// The manifest.
+    pub manifest: &'a str,
+    /// The trace.
+    pub trace: &'a str,
+    /// The script.
+    pub script: &'a str,
+}
+
+// An option that names a file, and that has to be given.
+fn file_option<'a>(alloc: Global, name: &'a str, help: &'a str) -> Arg<'a> {
+    Arg::new(alloc, name)
+        .long(name)
+        .value_name("F")
+        .help(help)
+        .required(true)
+        .action(ArgAction::Set)
+}
+
+// The command line of the program.
+fn command(alloc: Global) -> Result<Command<'static>, AllocError> {
+    Command::new(alloc, "rebug")
+        .about("Replays a recorded Ninja build, and undoes and redoes its events")
+        .arg(file_option(alloc, "manifest", "the manifest, as build.ninja"))?
+        .arg(file_option(alloc, "trace", "the record of the build"))?
+        .arg(file_option(alloc, "script", "the commands to do"))
+}
+
+/// What the words of a command line say, or why they are wrong. The first word is the program's name.
+pub(crate) fn matches_of<'a>(alloc: Global, words: &'a [String]) -> Result<ArgMatches<'a>, Error> {
+    command(alloc)?.try_get_matches_from(words)
+}
+
+/// The files that were named, or none where one was left out.
+pub(crate) fn options_of<'a>(matches: &ArgMatches<'a>) -> Option<Options<'a>> {
+    Some(Options {
+        manifest: matches.get_str("manifest")?,
+        trace: matches.get_str("trace")?,
+        script: matches.get_str("script")?,
+    })
+}
