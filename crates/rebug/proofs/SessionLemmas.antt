@@ -9,14 +9,23 @@ use Rattle.rev_history.specs.Timeline.{Timeline, accepted_as, last_of, undone, g
 use Rattle.rebug.specs.declared.lines.commands.Command.{Command}
 use Rattle.rebug.specs.Session.{settled, after_refusal, changed_by, undone_if}
 
--- the contract of a call names each refusal exactly
-abbrev pub Refuses : {T : Type 0} → Result T Fault → Option Refusal → Type 0
-Refuses res o = (r : Refusal) → IsErrOf res (Refused r) ↔ (o ≡ Some r)
+-- a call is refused for what there is to refuse it, and does what it is to do where there is nothing
+pub record Refuses {T : Type 0} (res : Result T Fault) (o : Option Refusal) : Type 0 where
+  pub refused : (r : Refusal) → IsErrOf res (Refused r) → o ≡ Some r
+  pub free : OnOk res (o ≡ None)
+
+free_of : {T : Type 0} (res : Result T Fault) (o : Option Refusal) → ((r : Refusal) → IsErrOf res (Refused r) ↔ (o ≡ Some r)) → OnOk res (o ≡ None)
+free_of (Ok y) None h = refl
+free_of (Ok y) (Some r) h = let bad : Ok y ≡ Err (Refused r) = (h r).1 refl in cc
+free_of (Err f) o h = tt
+
+-- a contract that names each refusal exactly
+pub exactly : {T : Type 0} (res : Result T Fault) (o : Option Refusal) → ((r : Refusal) → IsErrOf res (Refused r) ↔ (o ≡ Some r)) → Refuses res o
+exactly res o h = record { refused = λ r. (h r).0; free = free_of res o h }
 
 refusal_at : {T : Type 0} (res : Result T Fault) (o : Option Refusal) → Refuses res o → IfOk (settled res) (λ r. r ≡ o)
-refusal_at (Ok y) None h = refl
-refusal_at (Ok y) (Some r) h = let bad : Ok y ≡ Err (Refused r) = (h r).1 refl in cc
-refusal_at (Err (Refused r)) o h = sym ((h r).0 refl)
+refusal_at (Ok y) o h = sym h.free
+refusal_at (Err (Refused r)) o h = sym (h.refused r refl)
 refusal_at (Err Memory) o h = tt
 
 pub settled-refusal : {T : Type 0} (res : Result T Fault) (x : Result (Option Refusal) AllocError) (o : Option Refusal) → x ≡ settled res → Refuses res o → IfOk x (λ r. r ≡ o)
@@ -24,9 +33,8 @@ settled-refusal res x o e h = subst (λ y. IfOk y (λ r. r ≡ o)) (sym e) (refu
 
 after_at : {T : Type 0} (res : Result T Fault) (o : Option Refusal) (c : Command) (n : ℕ) (old new : Timeline) → Refuses res o
     → OnOk res (new ≡ changed_by c n old) → OnErr res (new ≡ old) → OnOk (settled res) (new ≡ after_refusal o c n old)
-after_at (Ok y) None c n old new h ok err = ok
-after_at (Ok y) (Some r) c n old new h ok err = let bad : Ok y ≡ Err (Refused r) = (h r).1 refl in cc
-after_at (Err (Refused r)) o c n old new h ok err = subst (λ p. new ≡ after_refusal p c n old) (sym ((h r).0 refl)) err
+after_at (Ok y) o c n old new h ok err = subst (λ p. new ≡ after_refusal p c n old) (sym h.free) ok
+after_at (Err (Refused r)) o c n old new h ok err = subst (λ p. new ≡ after_refusal p c n old) (sym (h.refused r refl)) err
 after_at (Err Memory) o c n old new h ok err = tt
 
 pub settled-after : {T : Type 0} (res : Result T Fault) (x : Result (Option Refusal) AllocError) (o : Option Refusal) (c : Command) (n : ℕ) (old new : Timeline)

@@ -19,11 +19,10 @@ use input::{InputFault, read_whole};
 use options::{Options, matches_of, options_of};
 use report::{Status, run_serial};
 use std::alloc::Global;
-use std::fs;
-use std::io;
 use std::io::{BufWriter, Write};
 use std::process::ExitCode;
 use std::rt::{Env, Files};
+use std::{fs, io};
 
 // The status of a command line that asks for help or is wrong.
 const USAGE: u8 = 2;
@@ -31,7 +30,10 @@ const USAGE: u8 = 2;
 const FAILURE: u8 = 3;
 
 // All bytes of a file.
-fn read_file<'a, R: Files + AllocGlobal>(rt: &R, name: &'a str) -> Result<Vec<u8>, ProgramFault<'a>> {
+fn read_file<'a, R: Files + AllocGlobal>(
+    rt: &R,
+    name: &'a str,
+) -> Result<Vec<u8>, ProgramFault<'a>> {
     let Ok(mut file) = fs::open(rt, name) else {
         return Err(ProgramFault::Read(name));
     };
@@ -43,7 +45,10 @@ fn read_file<'a, R: Files + AllocGlobal>(rt: &R, name: &'a str) -> Result<Vec<u8
 }
 
 // Reads the files and writes the report to the standard output.
-fn run<'a, R: Files + Print + AllocGlobal>(rt: &R, options: &Options<'a>) -> Result<Status, ProgramFault<'a>> {
+fn run<'a, R: Files + Print + AllocGlobal>(
+    rt: &R,
+    options: &Options<'a>,
+) -> Result<Status, ProgramFault<'a>> {
     let alloc = rt.alloc();
     let name = Vec::from_slice(alloc, options.manifest.as_bytes())?;
     let files = [(name, read_file(rt, options.manifest)?)];

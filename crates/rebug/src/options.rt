@@ -25,7 +25,7 @@ fn file_option<'a>(alloc: Global, name: &'a str, help: &'a str) -> Arg<'a> {
 }
 
 // The command line of the program.
-fn command(alloc: Global) -> Result<Command<'static>, AllocError> {
+fn command<'a>(alloc: Global) -> Result<Command<'a>, AllocError> {
     Command::new(alloc, "rebug")
         .about("Replays a recorded Ninja build, and undoes and redoes its events")
         .arg(file_option(alloc, "manifest", "the manifest, as build.ninja"))?

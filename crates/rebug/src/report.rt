@@ -153,7 +153,12 @@ fn run_words<W: Write>(
 }
 
 // Runs a script over a trace that has been read.
-fn run_script<W: Write>(alloc: Global, trace: &Trace, words: &[Word], writer: &mut W) -> Result<(), RunFault>
+fn run_script<W: Write>(
+    alloc: Global,
+    trace: &Trace,
+    words: &[Word],
+    writer: &mut W,
+) -> Result<(), RunFault>
     ensures { Writes result (W.contents writer.old) (W.contents writer.new) (session_text trace.now.opening (lanes_of trace.now.lanes.items) words.now) }
 {
     let mut session = Session::new(alloc, &trace.opening)?;
@@ -164,7 +169,12 @@ fn run_script<W: Write>(alloc: Global, trace: &Trace, words: &[Word], writer: &m
 }
 
 // Writes the line of the first fault of a text.
-fn report_fault<W: Write>(alloc: Global, what: &[u8], fault: TextFault, writer: &mut W) -> Result<Status, RunFault>
+fn report_fault<W: Write>(
+    alloc: Global,
+    what: &[u8],
+    fault: TextFault,
+    writer: &mut W,
+) -> Result<Status, RunFault>
     ensures text { Writes result (W.contents writer.old) (W.contents writer.new) (text_fault_line what.now fault) }
     ensures status { IfOk result (λ status. status ≡ Status.Fault) }
 {
@@ -174,7 +184,12 @@ fn report_fault<W: Write>(alloc: Global, what: &[u8], fault: TextFault, writer: 
 }
 
 // Reports on a script, for a trace that has been read.
-fn report_script<W: Write>(alloc: Global, trace: &Trace, script: &[u8], writer: &mut W) -> Result<Status, RunFault>
+fn report_script<W: Write>(
+    alloc: Global,
+    trace: &Trace,
+    script: &[u8],
+    writer: &mut W,
+) -> Result<Status, RunFault>
     ensures text { Writes result (W.contents writer.old) (W.contents writer.new) (script_report trace.now.opening (lanes_of trace.now.lanes.items) script.now).text }
     ensures status { IfOk result (λ status. status ≡ (script_report trace.now.opening (lanes_of trace.now.lanes.items) script.now).status) }
 {
@@ -189,7 +204,12 @@ fn report_script<W: Write>(alloc: Global, trace: &Trace, script: &[u8], writer: 
 }
 
 // Reports on a trace and a script, for a manifest that has been read.
-fn report_trace<W: Write>(alloc: Global, trace: &[u8], script: &[u8], writer: &mut W) -> Result<Status, RunFault>
+fn report_trace<W: Write>(
+    alloc: Global,
+    trace: &[u8],
+    script: &[u8],
+    writer: &mut W,
+) -> Result<Status, RunFault>
     ensures text { Writes result (W.contents writer.old) (W.contents writer.new) (trace_report trace.now script.now).text }
     ensures status { IfOk result (λ status. status ≡ (trace_report trace.now script.now).status) }
 {
@@ -201,7 +221,12 @@ fn report_trace<W: Write>(alloc: Global, trace: &[u8], script: &[u8], writer: &m
 }
 
 // Adds the name of the file at a place, or a dash where there is none.
-fn push_name(alloc: Global, line: &mut Vec<u8>, files: &[(Vec<u8>, Vec<u8>)], place: u64) -> Result<(), AllocError>
+fn push_name(
+    alloc: Global,
+    line: &mut Vec<u8>,
+    files: &[(Vec<u8>, Vec<u8>)],
+    place: u64,
+) -> Result<(), AllocError>
     ensures { OnOk result (line.new.items ≡ line.old.items ++ name_text (slice_get (seen_files files.now) place)) }
 {
     match files.get(place as usize) {

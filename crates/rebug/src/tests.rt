@@ -7,6 +7,7 @@ use std::io::Write;
 use std::test::Fail;
 
 // A run, with what it has to write.
+#[derive(Clone, Copy)]
 struct Row {
     manifest: &'static str,
     trace: &'static str,
@@ -15,7 +16,8 @@ struct Row {
     status: Status,
 }
 
-const MANIFEST: &str = "rule cc\n  command = cc -c $in -o $out\nrule ld\n  command = ld $in -o $out\n\
+const MANIFEST: &str =
+    "rule cc\n  command = cc -c $in -o $out\nrule ld\n  command = ld $in -o $out\n\
 build a.o: cc a.c\nbuild b.o: cc b.c\nbuild app: ld a.o b.o\n";
 
 const TOUCHES: Row = Row {
@@ -69,6 +71,7 @@ const BAD_SCRIPT: Row = Row {
 };
 
 // A writer that takes some writes, and then fails or takes no byte.
+#[derive(Drop)]
 struct Failing {
     left: u32,
     takes_none: bool,
@@ -101,7 +104,13 @@ fn rows(rt: HostRuntime) -> Result<(), Fail> {
         let manifest = Vec::from_slice(alloc, row.manifest.as_bytes())?;
         let files = [(name, manifest)];
         let mut report = Vec::new(alloc);
-        let status = run_serial(alloc, &files, row.trace.as_bytes(), row.script.as_bytes(), &mut report)?;
+        let status = run_serial(
+            alloc,
+            &files,
+            row.trace.as_bytes(),
+            row.script.as_bytes(),
+            &mut report,
+        )?;
         assert_eq!(rt; report.as_slice(), row.report.as_bytes());
         assert!(rt; status == row.status);
     }
@@ -151,7 +160,13 @@ fn failing_writers(rt: HostRuntime) -> Result<(), Fail> {
                 takes_none,
                 written: Vec::new(alloc),
             };
-            let result = run_serial(alloc, &files, TOUCHES.trace.as_bytes(), TOUCHES.script.as_bytes(), &mut writer);
+            let result = run_serial(
+                alloc,
+                &files,
+                TOUCHES.trace.as_bytes(),
+                TOUCHES.script.as_bytes(),
+                &mut writer,
+            );
             assert!(rt; result == Err(RunFault::Write));
             assert!(rt; TOUCHES.report.as_bytes().starts_with(&writer.written));
             assert!(rt; writer.written.len() < TOUCHES.report.len());

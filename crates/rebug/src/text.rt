@@ -30,7 +30,12 @@ fn push_number_of_refusal(line: &mut Vec<u8>, number: Option<u64>) -> Result<(),
 }
 
 // The line of a refused command.
-fn refused_line(alloc: Global, lane: u32, number: u32, refusal: Refusal) -> Result<Vec<u8>, AllocError>
+fn refused_line(
+    alloc: Global,
+    lane: u32,
+    number: u32,
+    refusal: Refusal,
+) -> Result<Vec<u8>, AllocError>
     ensures { IfOk result (λ line. line.items ≡ reply_line lane (Reply.Refused number refusal)) }
 {
     let [first, second] = refusal.numbers();
@@ -105,7 +110,12 @@ pub(crate) fn stamp_line(alloc: Global, path: &Name, stamp: u64) -> Result<Vec<u
 }
 
 /// The line of a fault in what is named.
-pub(crate) fn fault_line(alloc: Global, what: &[u8], line: u64, code: u16) -> Result<Vec<u8>, AllocError>
+pub(crate) fn fault_line(
+    alloc: Global,
+    what: &[u8],
+    line: u64,
+    code: u16,
+) -> Result<Vec<u8>, AllocError>
     ensures { IfOk result (λ text. text.items ≡ fault_line what.now line code) }
 {
     let mut text = Vec::from_slice(alloc, b"fault ")?;

@@ -13,7 +13,7 @@ returns c =
     let collected : IfOk c.collect.result (λ files. files.items ≡ c.loop-path.sorted.entries) = grind (arith, common_steps) in
     let P : List (List ℕ × ℕ) → Type 0 = λ es. IfOk c.collect.result (λ files. files.items ≡ es) in
     subst P (the_listing _ _ c.in_ok-files.files.items _ c.in_ok-files.ensures.files c.in_ok-files.ensures.all
-        (all_listed _ _ _ _ _ c.loop-path-test.false c.deref-path-items.ensures.value c.loop-path.invariant)) collected
+    (all_listed _ _ _ _ _ c.loop-path-test.false c.deref-path-items.ensures.value c.loop-path.invariant)) collected
 
 pub loop-path-preserved-then-stamp-eq0 : goal.loop-path-preserved-then-stamp-eq0
 loop-path-preserved-then-stamp-eq0 c =

@@ -10,6 +10,6 @@ pub returns-in-Err-Manifest-clause-text : goal.returns-in-Err-Manifest-clause-te
 returns-in-Err-Manifest-clause-text g c =
     let first : first_fault (seen_files c.args.files.now) ≡ Some c.in-Err-Manifest.fault = c.in-Err-Manifest.ensures.fault c.in-Err-Manifest.fault (ap Err c.in-Err-Manifest.field-0-is) in
     let P : Option ManifestFault → Type 0 = λ fault.
-        Writes c.report_manifest_fault.result (g.W.Write.contents c.args.writer.now) (g.W.Write.contents c.report_manifest_fault.new.writer)
-        (unless_fault fault (manifest_fault_line (seen_files c.args.files.now)) (trace_report c.args.trace.now c.args.script.now)).text in
+    Writes c.report_manifest_fault.result (g.W.Write.contents c.args.writer.now) (g.W.Write.contents c.report_manifest_fault.new.writer)
+    (unless_fault fault (manifest_fault_line (seen_files c.args.files.now)) (trace_report c.args.trace.now c.args.script.now)).text in
     subst P (sym first) c.report_manifest_fault.ensures.text

@@ -11,7 +11,7 @@ pub returns-in_err-send : goal.returns-in_err-send
 returns-in_err-send g c =
     writes-err _ _ _ _ _ c.from_residual-in_err-send.ensures.1
     (stops-in _ _ _ _ _ _ _ _ c.loop-path.invariant (flat_next file_line _ _ c.loop-path-item.result c.loop-path-test.true c.loop-path-item.is)
-        (c.deref.ensures.value ∙ c.in_ok-line.ensures) c.in_err-send.ensures)
+    (c.deref.ensures.value ∙ c.in_ok-line.ensures) c.in_err-send.ensures)
 
 pub loop-path-preserved : goal.loop-path-preserved
 loop-path-preserved g c =
