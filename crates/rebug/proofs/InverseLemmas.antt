@@ -39,10 +39,10 @@ text_of-unescaped : (field : List ℕ) (b : ℕ) (bs : List ℕ) → unescaped f
 text_of-unescaped [] b bs h = let never : Some [] ≡ Some (b ∷ bs) = h in cc
 text_of-unescaped (c ∷ cs) b bs h =
     elim (cases_Bool (bytes_eq (c ∷ cs) empty_field)) [
-      inl same ↦
-        let is = (bytes_eq-Decides (c ∷ cs) empty_field).0 same in
-        let never : None ≡ Some (b ∷ bs) = sym (ap unescaped is) ∙ h in cc
-    | inr other ↦ ap (λ t. cond t (Some []) (unescaped (c ∷ cs))) other ∙ h
+      | inl same ↦
+          let is = (bytes_eq-Decides (c ∷ cs) empty_field).0 same in
+          let never : None ≡ Some (b ∷ bs) = sym (ap unescaped is) ∙ h in cc
+      | inr other ↦ ap (λ t. cond t (Some []) (unescaped (c ∷ cs))) other ∙ h
     ]
 
 -- reading a written field gives its text
@@ -81,18 +81,18 @@ written-unescaped [] text h = let same : Some [] ≡ Some text = h in let is : t
 written-unescaped (b ∷ []) text h = last_byte b text h (cases_Bool (is_some (letter_of b)))
 written-unescaped (b ∷ c ∷ cs) text h =
     elim (cases_Bool (b == 92)) [
-      inl backslash ↦
-        let parts = before_text-some (byte_of c) (unescaped cs) text (sym (ap (λ t. cond t (before_text (byte_of c) (unescaped cs)) (cond (is_some (letter_of b)) None (before_text (Some b) (unescaped (c ∷ cs))))) backslash) ∙ h) in
-        written-escaped parts.0 c cs text (letter_of-byte c parts.0 parts.2) parts.1 (written-unescaped cs parts.1 parts.3) parts.4 ∙ ap (λ x. x ∷ c ∷ cs) (sym (eqb-true b 92 backslash))
-    | inr plain ↦
-        elim (cases_Bool (is_some (letter_of b))) [
-          inl bare ↦ let never : None ≡ Some text = sym (unescaped-bare b (c ∷ cs) plain bare) ∙ h in absurd (cc)
-        | inr stands ↦
-            let parts = before_text-some (Some b) (unescaped (c ∷ cs)) text (sym (unescaped-plain b (c ∷ cs) plain stands) ∙ h) in
-            let same : Some b ≡ Some parts.0 = parts.2 in
-            let first : b ≡ parts.0 = cc in
-            written-step b (c ∷ cs) text (none_from_is_some (letter_of b) stands) parts.1 (written-unescaped (c ∷ cs) parts.1 parts.3) (parts.4 ∙ ap (λ x. x ∷ parts.1) (sym first))
-        ]
+      | inl backslash ↦
+          let parts = before_text-some (byte_of c) (unescaped cs) text (sym (ap (λ t. cond t (before_text (byte_of c) (unescaped cs)) (cond (is_some (letter_of b)) None (before_text (Some b) (unescaped (c ∷ cs))))) backslash) ∙ h) in
+          written-escaped parts.0 c cs text (letter_of-byte c parts.0 parts.2) parts.1 (written-unescaped cs parts.1 parts.3) parts.4 ∙ ap (λ x. x ∷ c ∷ cs) (sym (eqb-true b 92 backslash))
+      | inr plain ↦
+          elim (cases_Bool (is_some (letter_of b))) [
+            | inl bare ↦ let never : None ≡ Some text = sym (unescaped-bare b (c ∷ cs) plain bare) ∙ h in absurd (cc)
+            | inr stands ↦
+                let parts = before_text-some (Some b) (unescaped (c ∷ cs)) text (sym (unescaped-plain b (c ∷ cs) plain stands) ∙ h) in
+                let same : Some b ≡ Some parts.0 = parts.2 in
+                let first : b ≡ parts.0 = cc in
+                written-step b (c ∷ cs) text (none_from_is_some (letter_of b) stands) parts.1 (written-unescaped (c ∷ cs) parts.1 parts.3) (parts.4 ∙ ap (λ x. x ∷ parts.1) (sym first))
+          ]
     ]
 
 filled : (b : ℕ) (bs text : List ℕ) → flat_map written_byte text ≡ b ∷ bs → field_text text ≡ b ∷ bs
@@ -104,11 +104,11 @@ pub field_text-text_of : (field text : List ℕ) → text_of field ≡ Some text
 field_text-text_of [] text h = let never : None ≡ Some text = h in absurd (cc)
 field_text-text_of (b ∷ bs) text h =
     elim (cases_Bool (bytes_eq (b ∷ bs) empty_field)) [
-      inl same ↦
-        let is : Some [] ≡ Some text = sym (ap (λ t. cond t (Some []) (unescaped (b ∷ bs))) same) ∙ h in
-        let empty : text ≡ [] = cc in
-        ap field_text empty ∙ sym ((bytes_eq-Decides (b ∷ bs) empty_field).0 same)
-    | inr other ↦ filled b bs text (written-unescaped (b ∷ bs) text (sym (ap (λ t. cond t (Some []) (unescaped (b ∷ bs))) other) ∙ h))
+      | inl same ↦
+          let is : Some [] ≡ Some text = sym (ap (λ t. cond t (Some []) (unescaped (b ∷ bs))) same) ∙ h in
+          let empty : text ≡ [] = cc in
+          ap field_text empty ∙ sym ((bytes_eq-Decides (b ∷ bs) empty_field).0 same)
+      | inr other ↦ filled b bs text (written-unescaped (b ∷ bs) text (sym (ap (λ t. cond t (Some []) (unescaped (b ∷ bs))) other) ∙ h))
     ]
 
 -- what is read of a field is written as that field

@@ -11,6 +11,9 @@ mod traces;
 
 pub use commands::{Command, Word};
 pub use faults::{FaultKind, ReadFault, TextFault};
+pub use fields::{field, push_field};
 pub use scripts::read_script;
 pub use traces::{Trace, read_trace};
-pub use fields::{field, push_field};
+
+#[cfg(test)]
+mod tests;
