@@ -27,10 +27,10 @@ some_from : (wrong_at : ℕ → Option FaultKind) (n a i : ℕ) (kind : FaultKin
 some_from wrong_at zero a i kind low high before here = absurd (omega arith)
 some_from wrong_at (suc n) a i kind low high before here =
     elim (cases_eq a i) [
-      inl e ↦ ap (with_fault wrong_at a n) (ap wrong_at e ∙ here) ∙ ap (λ p. Some (fault_in p kind)) e
-    | inr ne ↦
-        ap (with_fault wrong_at a n) (before a (omega arith) (omega arith))
-        ∙ some_from wrong_at n (a + 1) i kind (omega arith) (omega arith) (λ k l h. before k (omega arith) h) here
+      | inl e ↦ ap (with_fault wrong_at a n) (ap wrong_at e ∙ here) ∙ ap (λ p. Some (fault_in p kind)) e
+      | inr ne ↦
+          ap (with_fault wrong_at a n) (before a (omega arith) (omega arith))
+          ∙ some_from wrong_at n (a + 1) i kind (omega arith) (omega arith) (λ k l h. before k (omega arith) h) here
     ]
 
 -- no line is at fault

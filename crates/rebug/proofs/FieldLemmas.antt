@@ -27,16 +27,16 @@ pub joined-empty : {X : Type 0} (t : Option (List X)) → joined [] t ≡ t
 joined-empty None = refl
 joined-empty (Some t) = refl
 
-unescaped-backslash : (bs : List ℕ) → unescaped (92 ∷ bs) ≡ rest_of true bs
+pub unescaped-backslash : (bs : List ℕ) → unescaped (92 ∷ bs) ≡ rest_of true bs
 unescaped-backslash [] = refl
 unescaped-backslash (c ∷ bs) = refl
 
-unescaped-plain : (b : ℕ) (bs : List ℕ) → (b == 92) ≡ false → is_some (letter_of b) ≡ false → unescaped (b ∷ bs) ≡ before_text (Some b) (unescaped bs)
+pub unescaped-plain : (b : ℕ) (bs : List ℕ) → (b == 92) ≡ false → is_some (letter_of b) ≡ false → unescaped (b ∷ bs) ≡ before_text (Some b) (unescaped bs)
 unescaped-plain b [] e h = ap (λ t. cond t None (Some (b ∷ []))) h
 unescaped-plain b (c ∷ bs) e h =
     ap (λ t. cond t (before_text (byte_of c) (unescaped bs)) (cond (is_some (letter_of b)) None (before_text (Some b) (unescaped (c ∷ bs))))) e ∙ ap (λ t. cond t None (before_text (Some b) (unescaped (c ∷ bs)))) h
 
-unescaped-bare : (b : ℕ) (bs : List ℕ) → (b == 92) ≡ false → is_some (letter_of b) ≡ true → unescaped (b ∷ bs) ≡ None
+pub unescaped-bare : (b : ℕ) (bs : List ℕ) → (b == 92) ≡ false → is_some (letter_of b) ≡ true → unescaped (b ∷ bs) ≡ None
 unescaped-bare b [] e h = ap (λ t. cond t None (Some (b ∷ []))) h
 unescaped-bare b (c ∷ bs) e h =
     ap (λ t. cond t (before_text (byte_of c) (unescaped bs)) (cond (is_some (letter_of b)) None (before_text (Some b) (unescaped (c ∷ bs))))) e ∙ ap (λ t. cond t None (before_text (Some b) (unescaped (c ∷ bs)))) h

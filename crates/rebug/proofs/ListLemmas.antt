@@ -19,6 +19,6 @@ pub place_of_any : {X : Type 0} (p : X → Bool) (xs : List X) (d : X) → list_
 place_of_any p [] d h = absurd (false≢true h)
 place_of_any p (x ∷ xs) d h =
     elim (or_cases (p x) (list_any p xs) h) [
-      inl here ↦ (0, omega arith, here)
-    | inr later ↦ let found = place_of_any p xs d later in (suc found.0, omega (arith, found.1), found.2)
+      | inl here ↦ (0, omega arith, here)
+      | inr later ↦ let found = place_of_any p xs d later in (suc found.0, omega (arith, found.1), found.2)
     ]

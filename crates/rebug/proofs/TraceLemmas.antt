@@ -83,8 +83,8 @@ reads_record lines opening next i lt filled opens added inv =
     record {
       no_lane = below_more (λ k. opens_lane (get_or lines k []) ≡ false) i inv.no_lane opens;
       sound = below_more (λ k. wrong_at lines k ≡ None) i inv.sound
-        (wrong_at-record lines i (no_lane_before lines i within inv.no_lane) filled opens
-        ∙ ap (record_wrong (records_in (take i lines))) added.said_is ∙ ap (λ b. cond b (Some DoubleRecord) None) added.new);
+          (wrong_at-record lines i (no_lane_before lines i within inv.no_lane) filled opens
+          ∙ ap (record_wrong (records_in (take i lines))) added.said_is ∙ ap (λ b. cond b (Some DoubleRecord) None) added.new);
       opening_is = added.opening_is ∙ ap opening_of (said_step record_line lines (records_in (take i lines)) i added.added lt added.said_is refl);
     }
 
@@ -144,12 +144,12 @@ opened_line lines opening end h lt = wrong_at-lane lines end (no_lane_before lin
 before_place : (lines after : List (List ℕ)) (opening : Table) (end n : ℕ) → IsOpened lines opening end → end < length lines → after ≡ drop (end + 1) lines → end + 1 + n ≤ length lines → ((j : ℕ) → j < n → command_wrong after j ≡ None) → (k : ℕ) → k < end + 1 + n → wrong_at lines k ≡ None
 before_place lines after opening end n h lt is within sound k below =
     elim (cases_lt k end) [
-      inl early ↦ h.sound k early
-    | inr late ↦
-        elim (cases_eq k end) [
-          inl e ↦ ap (wrong_at lines) e ∙ opened_line lines opening end h lt
-        | inr ne ↦ in_lane lines after opening end (k - (end + 1)) k h (omega arith) (omega arith) is (sound (k - (end + 1)) (omega arith))
-        ]
+      | inl early ↦ h.sound k early
+      | inr late ↦
+          elim (cases_eq k end) [
+            | inl e ↦ ap (wrong_at lines) e ∙ opened_line lines opening end h lt
+            | inr ne ↦ in_lane lines after opening end (k - (end + 1)) k h (omega arith) (omega arith) is (sound (k - (end + 1)) (omega arith))
+          ]
     ]
   where
     in_lane : (lines after : List (List ℕ)) (opening : Table) (end j k : ℕ) → IsOpened lines opening end → k ≡ end + 1 + j → k < length lines → after ≡ drop (end + 1) lines → command_wrong after j ≡ None → wrong_at lines k ≡ None

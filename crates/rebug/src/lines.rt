@@ -14,3 +14,6 @@ pub use faults::{FaultKind, ReadFault, TextFault};
 pub use fields::{field, push_field};
 pub use scripts::read_script;
 pub use traces::{Trace, read_trace};
+
+#[cfg(test)]
+mod tests;

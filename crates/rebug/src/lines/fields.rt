@@ -1,5 +1,5 @@
 //! Fields, the parts of a line between single spaces.
-ghost use Rattle.std.specs.Prelude.{◌≡◌, ◌++◌, IfOk, OnOk, OnErr};
+ghost use Rattle.std.specs.Prelude.{◌≡◌, ◌++◌, Some, IfOk, OnOk, OnErr};
 ghost use Rattle.std.specs.Option.{ok_or};
 ghost use Rattle.rebug.specs.declared.lines.faults.FaultKind.TheVariants.{Syntax};
 ghost use Rattle.rebug.specs.Faults.{Answers};
@@ -69,7 +69,10 @@ fn unescape(alloc: Global, field: &[u8]) -> Result<Vec<u8>, LineFault>
 
 // The text that a field writes.
 fn read_field(alloc: Global, field: &[u8]) -> Result<Vec<u8>, LineFault>
-    ensures { Answers result (λ text. text.items) (ok_or (text_of field.now) Syntax) }
+    ensures text { Answers result (λ text. text.items) (ok_or (text_of field.now) Syntax) }
+
+    // No other field writes the text.
+    ensures only { IfOk result (λ text. field_text text.items ≡ field.now) }
 {
     if field.is_empty() {
         return Err(BAD_FIELD);
@@ -93,9 +96,12 @@ pub(crate) fn read_fields(alloc: Global, line: &[u8]) -> Result<Vec<Vec<u8>>, Li
     Ok(texts)
 }
 
-/// The field that writes a text.
+/// The field that writes a text, with a backslash and a letter for each space, tab, LF, CR and backslash, and `\0` for the empty text.
 pub fn field(alloc: Global, text: &[u8]) -> Result<Vec<u8>, AllocError>
-    ensures { IfOk result (λ field. field.items ≡ field_text text.now) }
+    ensures field { IfOk result (λ field. field.items ≡ field_text text.now) }
+
+    // Reading the field gives the text.
+    ensures read { IfOk result (λ field. text_of field.items ≡ Some text.now) }
 {
     let mut field = Vec::new(alloc);
     if text.is_empty() {

@@ -28,21 +28,21 @@ returns-then-is_some c =
 pub loop-byte-preserved : goal.loop-byte-preserved
 loop-byte-preserved c =
     elim c.if-after_backslash.branch [
-      then-after_backslash+in-Some+in_ok-push w ↦
-        let inv = same_read c.args.field.now _ c.loop-byte.text.items _ true c.loop-byte.byte-index refl (sym w.if-after_backslash.true) c.loop-byte.invariant in
-        let some : byte_of (get_or c.args.field.now c.loop-byte.byte-index 0) ≡ Some w.in-Some.written = sym w.escaped_byte.ensures ∙ w.in-Some.is in
-        let step = escaped_step c.args.field.now c.loop-byte.text.items c.loop-byte.byte-index w.in-Some.written c.loop-byte-test.true some inv in
-        same_read c.args.field.now (c.loop-byte.text.items ++ w.in-Some.written ∷ []) c.if-after_backslash.text.items false c.if-after_backslash.after_backslash (c.loop-byte.byte-index + 1) (rw w.text-is w.in_ok-push.ensures.items) w.after_backslash-is step
-    | else-after_backslash+then-byte-eq92 w ↦
-        let inv = same_read c.args.field.now _ c.loop-byte.text.items _ false c.loop-byte.byte-index refl (sym w.if-after_backslash.false) c.loop-byte.invariant in
-        let step = backslash_step c.args.field.now c.loop-byte.text.items c.loop-byte.byte-index c.loop-byte-test.true w.if-byte-eq92.true inv in
-        same_read c.args.field.now c.loop-byte.text.items c.if-after_backslash.text.items true c.if-after_backslash.after_backslash (c.loop-byte.byte-index + 1) (rw w.text-is refl) w.after_backslash-is step
-    | else-after_backslash+else-byte-eq92+else-is_some+in_ok-push-2 w ↦
-        let inv = same_read c.args.field.now _ c.loop-byte.text.items _ false c.loop-byte.byte-index refl (sym w.if-after_backslash.false) c.loop-byte.invariant in
-        let plain : (get_or c.args.field.now c.loop-byte.byte-index 0 == 92) ≡ false = ne_eqb _ _ w.if-byte-eq92.false in
-        let none : is_some (letter_of (get_or c.args.field.now c.loop-byte.byte-index 0)) ≡ false = ap is_some (sym w.letter.ensures) ∙ sym w.is_some.ensures ∙ w.if-is_some.false in
-        let step = plain_step c.args.field.now c.loop-byte.text.items c.loop-byte.byte-index c.loop-byte-test.true plain none inv in
-        same_read c.args.field.now (c.loop-byte.text.items ++ get_or c.args.field.now c.loop-byte.byte-index 0 ∷ []) c.if-after_backslash.text.items false c.if-after_backslash.after_backslash (c.loop-byte.byte-index + 1) (rw w.text-is w.in_ok-push-2.ensures.items) (w.after_backslash-is ∙ w.if-after_backslash.false) step
+      | then-after_backslash+in-Some+in_ok-push w ↦
+          let inv = same_read c.args.field.now _ c.loop-byte.text.items _ true c.loop-byte.byte-index refl (sym w.if-after_backslash.true) c.loop-byte.invariant in
+          let some : byte_of (get_or c.args.field.now c.loop-byte.byte-index 0) ≡ Some w.in-Some.written = sym w.escaped_byte.ensures ∙ w.in-Some.is in
+          let step = escaped_step c.args.field.now c.loop-byte.text.items c.loop-byte.byte-index w.in-Some.written c.loop-byte-test.true some inv in
+          same_read c.args.field.now (c.loop-byte.text.items ++ w.in-Some.written ∷ []) c.if-after_backslash.text.items false c.if-after_backslash.after_backslash (c.loop-byte.byte-index + 1) (rw w.text-is w.in_ok-push.ensures.items) w.after_backslash-is step
+      | else-after_backslash+then-byte-eq92 w ↦
+          let inv = same_read c.args.field.now _ c.loop-byte.text.items _ false c.loop-byte.byte-index refl (sym w.if-after_backslash.false) c.loop-byte.invariant in
+          let step = backslash_step c.args.field.now c.loop-byte.text.items c.loop-byte.byte-index c.loop-byte-test.true w.if-byte-eq92.true inv in
+          same_read c.args.field.now c.loop-byte.text.items c.if-after_backslash.text.items true c.if-after_backslash.after_backslash (c.loop-byte.byte-index + 1) (rw w.text-is refl) w.after_backslash-is step
+      | else-after_backslash+else-byte-eq92+else-is_some+in_ok-push-2 w ↦
+          let inv = same_read c.args.field.now _ c.loop-byte.text.items _ false c.loop-byte.byte-index refl (sym w.if-after_backslash.false) c.loop-byte.invariant in
+          let plain : (get_or c.args.field.now c.loop-byte.byte-index 0 == 92) ≡ false = ne_eqb _ _ w.if-byte-eq92.false in
+          let none : is_some (letter_of (get_or c.args.field.now c.loop-byte.byte-index 0)) ≡ false = ap is_some (sym w.letter.ensures) ∙ sym w.is_some.ensures ∙ w.if-is_some.false in
+          let step = plain_step c.args.field.now c.loop-byte.text.items c.loop-byte.byte-index c.loop-byte-test.true plain none inv in
+          same_read c.args.field.now (c.loop-byte.text.items ++ get_or c.args.field.now c.loop-byte.byte-index 0 ∷ []) c.if-after_backslash.text.items false c.if-after_backslash.after_backslash (c.loop-byte.byte-index + 1) (rw w.text-is w.in_ok-push-2.ensures.items) (w.after_backslash-is ∙ w.if-after_backslash.false) step
     ]
 
 pub returns-then-after_backslash-2 : goal.returns-then-after_backslash-2

@@ -21,7 +21,7 @@ returns-in_err-commands-clause-fault c = λ f h.
     let first = c.in_err-commands.ensures.fault f (ap Err same) in
     let P : ℕ → Type 0 = λ n. IsFirstWrong (command_wrong (slices_of after)) n (end + 2) f in
     IsFirstWrong-length (slices_of items) (length items) f (length-slices_of items)
-      (fault_lane (slices_of items) (slices_of after) c.in_ok-opening.opening end f c.in_ok-opening.ensures.opened (within-slices_of items end c.if-end-lines.true) (slices_of-tail (end + 1) items) (subst P (sym (length-slices_of after)) first))
+    (fault_lane (slices_of items) (slices_of after) c.in_ok-opening.opening end f c.in_ok-opening.ensures.opened (within-slices_of items end c.if-end-lines.true) (slices_of-tail (end + 1) items) (subst P (sym (length-slices_of after)) first))
 
 pub returns-clause-opening : goal.returns-clause-opening
 returns-clause-opening c = value_records (slices_of c.args.lines.now) c.in_ok-opening.opening c.in_ok-opening.end c.in_ok-opening.ensures.opened
@@ -31,13 +31,13 @@ returns-clause-lanes c =
     let items = c.args.lines.now in
     let end = c.in_ok-opening.end in
     elim c.if-end-lines.branch [
-      then-end-lines+in_ok-commands+in_ok-push w ↦
-        ap (λ v. lanes_of v.items) w.lanes-is ∙ ap lanes_of w.in_ok-push.ensures.items ∙ ap (λ l. lanes_of (l ++ w.in_ok-commands.commands ∷ [])) c.new-lanes.ensures.items
-        ∙ ap (λ l. l ∷ []) w.in_ok-commands.ensures.commands
-        ∙ sym (value_lane (slices_of items) (slices_of (take (length items - (end + 1)) (drop (end + 1) items))) c.in_ok-opening.opening end c.in_ok-opening.ensures.opened (within-slices_of items end w.if-end-lines.true) (slices_of-tail (end + 1) items))
-    | else-end-lines w ↦
-        ap (λ v. lanes_of v.items) w.lanes-is ∙ ap lanes_of c.new-lanes.ensures.items
-        ∙ sym (value_no_lane (slices_of items) c.in_ok-opening.opening end c.in_ok-opening.ensures.opened (past-slices_of items end w.if-end-lines.false))
+      | then-end-lines+in_ok-commands+in_ok-push w ↦
+          ap (λ v. lanes_of v.items) w.lanes-is ∙ ap lanes_of w.in_ok-push.ensures.items ∙ ap (λ l. lanes_of (l ++ w.in_ok-commands.commands ∷ [])) c.new-lanes.ensures.items
+          ∙ ap (λ l. l ∷ []) w.in_ok-commands.ensures.commands
+          ∙ sym (value_lane (slices_of items) (slices_of (take (length items - (end + 1)) (drop (end + 1) items))) c.in_ok-opening.opening end c.in_ok-opening.ensures.opened (within-slices_of items end w.if-end-lines.true) (slices_of-tail (end + 1) items))
+      | else-end-lines w ↦
+          ap (λ v. lanes_of v.items) w.lanes-is ∙ ap lanes_of c.new-lanes.ensures.items
+          ∙ sym (value_no_lane (slices_of items) c.in_ok-opening.opening end c.in_ok-opening.ensures.opened (past-slices_of items end w.if-end-lines.false))
     ]
 
 pub returns-clause-sound : goal.returns-clause-sound
@@ -45,8 +45,8 @@ returns-clause-sound c =
     let items = c.args.lines.now in
     let end = c.in_ok-opening.end in
     elim c.if-end-lines.branch [
-      then-end-lines+in_ok-commands+in_ok-push w ↦ λ k lt.
-        let after = take (length items - (end + 1)) (drop (end + 1) items) in
-        sound_lane (slices_of items) (slices_of after) c.in_ok-opening.opening end c.in_ok-opening.ensures.opened (within-slices_of items end w.if-end-lines.true) (slices_of-tail (end + 1) items) (λ j below. w.in_ok-commands.ensures.sound j (omega (arith, length-slices_of after))) k (within-slices_of items k lt)
-    | else-end-lines w ↦ λ k lt. sound_no_lane (slices_of items) c.in_ok-opening.opening end c.in_ok-opening.ensures.opened (past-slices_of items end w.if-end-lines.false) k (within-slices_of items k lt)
+      | then-end-lines+in_ok-commands+in_ok-push w ↦ λ k lt.
+          let after = take (length items - (end + 1)) (drop (end + 1) items) in
+          sound_lane (slices_of items) (slices_of after) c.in_ok-opening.opening end c.in_ok-opening.ensures.opened (within-slices_of items end w.if-end-lines.true) (slices_of-tail (end + 1) items) (λ j below. w.in_ok-commands.ensures.sound j (omega (arith, length-slices_of after))) k (within-slices_of items k lt)
+      | else-end-lines w ↦ λ k lt. sound_no_lane (slices_of items) c.in_ok-opening.opening end c.in_ok-opening.ensures.opened (past-slices_of items end w.if-end-lines.false) k (within-slices_of items k lt)
     ]

@@ -37,7 +37,7 @@ returns-in-Err-clause-fault c = λ f h.
     let found = kind_of_fault c.in-Err.fault (i + 1) f (sym c.at.ensures ∙ same) in
     let wrong = c.in-Err.ensures.fault (records_in (take i (slices_of items))) found.0 c.loop-place.invariant.opening_is (ap Err found.1) in
     IsFirstWrong-length (slices_of items) (length items) f (length-slices_of items)
-      (record_at_fault (slices_of items) c.loop-place.opening i found.0 f (within-slices_of items i c.loop-place-test.true) filled closed (ap (λ l. record_wrong (records_in (take i (slices_of items))) (record_line l)) (at-slices_of items i) ∙ wrong) found.2 c.loop-place.invariant)
+    (record_at_fault (slices_of items) c.loop-place.opening i found.0 f (within-slices_of items i c.loop-place-test.true) filled closed (ap (λ l. record_wrong (records_in (take i (slices_of items))) (record_line l)) (at-slices_of items i) ∙ wrong) found.2 c.loop-place.invariant)
 
 pub loop-place-preserved : goal.loop-place-preserved
 loop-place-preserved c =

@@ -27,8 +27,8 @@ returns-clause-sound c =
     let whole : lines_of c.args.text.now ≡ first ∷ rest = sym (ap slices_of c.deref.ensures.value ∙ c.in_ok-lines.ensures) ∙ ap slices_of c.in-Some.ensures.cases.0 in
     let head : bytes_eq first (codes "rebug-trace 1") ≡ true = not-false _ (rw c.as_slice.ensures at (sym c.ne.ensures) ∙ c.if-ne.false) in
     on_ok c.read_lines.result _ _ (λ sound.
-      ap (λ lines. first_fault (whole_wrong lines) (length lines)) whole
-      ∙ trace_sound first rest head (λ k lt. sound k (omega (arith, lt, length-slices_of c.in-Some.rest.now)))) c.read_lines.ensures.sound
+    ap (λ lines. first_fault (whole_wrong lines) (length lines)) whole
+    ∙ trace_sound first rest head (λ k lt. sound k (omega (arith, lt, length-slices_of c.in-Some.rest.now)))) c.read_lines.ensures.sound
 
 pub returns-clause-fault : goal.returns-clause-fault
 returns-clause-fault c = λ f h.
