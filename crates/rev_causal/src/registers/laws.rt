@@ -7,13 +7,13 @@ ghost use Rattle.rev_causal.specs.Laws.{ConflictIsExact, NeighboursExchange, Rem
 ghost use Rattle.rev_causal.specs.OrderCheck.{MatchingIsExact, NoMatchingWhereEventsDiffer, EqualEventsConflict, MatchingIsTheOnlyOne, MatchedExactlyWhereNoneTurned, OrderCheckIsExact};
 ghost use Rattle.rev_causal.specs.Registers.{registers, register_machine, cell_cmp, same_event};
 
-/// A machine of tables is local: whether an event is accepted, what it then writes and its footprint depend on the cells
-/// of its footprint alone, and it changes no cell that it does not write.
+/// Locality: whether an event is accepted, what it then writes and its footprint depend on the cells of its footprint alone,
+/// and it writes what its footprint says.
 pub fn cells_decide()
     ensures { IsLocalTable registers }
 {}
 
-/// So is the machine that the table makes, for every event, whole ones among them.
+/// So the machine that the table makes is local, whole events among the others.
 pub fn table_is_local()
     ensures { IsLocal register_machine }
 {}
