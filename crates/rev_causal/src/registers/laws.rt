@@ -4,7 +4,7 @@
 ghost use Rattle.rev_causal.specs.Machine.{IsLocal};
 ghost use Rattle.rev_causal.specs.Store.{IsLocalTable};
 ghost use Rattle.rev_causal.specs.Laws.{ConflictIsExact, NeighboursExchange, Removal, Place, UndoKeepsReplaced, RedoKeepsReplaced, UndoPutsBack, StepBack, UndoOfFree, RedoAtItsPlace, RedoNextRestores, UndoRises, RedoRises, GreatestIsFree, UndoKeepsFootprints, RedoKeepsFootprints, NearestIsLeast, NearestIsNone, FirstAboveIsLeast, FirstAboveIsNone, ConeIsLeast, ConeIsWithin, BothFormsAgree, SameResult, SameRefusals, SameEntries, FreeExactlyWhereLast, SameExactlyWhereNoneTurned};
-ghost use Rattle.rev_causal.specs.OrderCheck.{MatchingIsExact, NoMatchingWhereEventsDiffer, EqualEventsConflict, MatchingIsTheOnlyOne, MatchedExactlyWhereNoneTurned, OrderCheckIsExact};
+ghost use Rattle.rev_causal.specs.OrderCheck.{MatchingIsExact, NoMatchingWhereEventsDiffer, EqualWritersConflict, EqualEventsConflict, MatchingIsTheOnlyOne, MatchedExactlyWhereNoneTurned, OrderCheckIsExact};
 ghost use Rattle.rev_causal.specs.Registers.{registers, register_machine, cell_cmp, same_event};
 
 /// Locality: whether an event is accepted, what it then writes and its footprint depend on the cells of its footprint alone,
@@ -169,6 +169,11 @@ pub fn matching_is_exact()
 /// There is no such list exactly where the events differ, or how often one stands.
 pub fn no_matching_where_events_differ()
     ensures { NoMatchingWhereEventsDiffer same_event }
+{}
+
+/// Two equal events that are whole, or write a common cell, conflict, whatever states they stand in.
+pub fn equal_writers_conflict()
+    ensures { EqualWritersConflict registers }
 {}
 
 /// Two equal events conflict, wherever they are accepted: they are whole, or they write a common cell.
