@@ -196,3 +196,14 @@ cone_there opening cells items n place k h at is =
 -- a number that has a place is kept in the history too
 pub kept_in : (opening : State) (items : List Kept) (past : RegisterHistory) (n place : ℕ) → record { opening = opening; kept = map numbered items } ≡ past → IsKeptAt n items place → event_at n past.kept ≡ None → ⊥
 kept_in opening items past n place is at none = is_kept n items place at (ap (λ (h : RegisterHistory). event_at n h.kept) is ∙ none)
+
+-- the event that is taken out
+pub event_there : (opening : State) (items : List Kept) (past : RegisterHistory) (n place : ℕ) (k : Kept) → record { opening = opening; kept = map numbered items } ≡ past → IsKeptAt n items place → k ≡ get_or items place k →
+    (k.number ≡ n) × (event_at n past.kept ≡ Some k.event)
+event_there opening items past n place k is at there = (
+  ap (λ (x : Kept). x.number) there ∙ at.number k,
+  ap (λ (h : RegisterHistory). event_at n h.kept) (sym is)
+      ∙ ap (λ ks. event_at n (map numbered ks)) (around items place k at.within)
+      ∙ found_by numbered (λ x. refl) n (take place items) (get_or items place k) (drop (suc place) items) at.below (at.number k)
+      ∙ ap (λ (x : Kept). Some x.event) (sym there),
+)

@@ -7,7 +7,12 @@ use Rattle.std.specs.declared.option.Option.TheVariants.{None, Some}
 use Rattle.std.specs.Prelude.{option_map}
 use Rattle.rev_causal.specs.Order.{Has, Stands, Distinct}
 use Rattle.rev_causal.specs.History.{IsRising, without}
-use Rattle.rev_causal.specs.OrderCheck.{IsEquality, number_in, bare, IsMatched, SameEvents, first_of, where_found, renumbered, MatchingIsExact, NoMatchingWhereEventsDiffer}
+use Rattle.rev_causal.specs.OrderCheck.{IsEquality, number_in, bare, IsMatched, SameEvents, first_of, where_found, renumbered, MatchingIsExact, NoMatchingWhereEventsDiffer, EqualWritersConflict, AlwaysWrites, EqualEventsConflict}
+use Rattle.std.specs.Cmp.{IsTotalOrder}
+use Rattle.std.specs.declared.cmp.Ordering.{Ordering}
+use Rattle.std.specs.FinMap.{IsAntisymmetric}
+use Rattle.rev_causal.specs.Store.{Table, machine_of}
+use Rattle.rev_causal.proofs.Store as store
 use Rattle.rev_causal.proofs.Runs.{either}
 use Rattle.rev_causal.proofs.Order
 use Rattle.rev_causal.proofs.Numbers as numbers
@@ -266,3 +271,18 @@ module _ {E : Type 0} (same : E → E → Bool) (q : IsEquality same) where
         let is : IsMatched first r.0 × (bare r.0 ≡ ys) = renumbered_is ys first r.0 rising r.1 in
         r.1 ∙ ap Some (matched_once first r.0 other (rising_each first rising) is.0 m.0 (is.1 ∙ sym m.1)),
   )
+
+-- equal events that always write one cell, or are whole, conflict
+module _ {K : Type 0} {R : K → K → Ordering} (o : IsTotalOrder R) (exact : IsAntisymmetric R) {V E F : Type 0} (t : Table K V E F R) where
+  pub equal_writers_conflict : EqualWritersConflict t
+  equal_writers_conflict s u e h = (store.conflict_is_exact o exact (t.footprint s e) (t.footprint u e)).1 (elim h [
+    | inl p ↦ inl p
+    | inr (inl p) ↦ inr (inl p)
+    | inr (inr p) ↦ inr (inr (inl (p.0, p.1, store.written_touched o exact (t.footprint u e) p.0 p.2)))
+  ])
+
+  pub equal_events_conflict_of : ((e : E) → AlwaysWrites t e) → EqualEventsConflict (machine_of t)
+  equal_events_conflict_of always s u e p q = equal_writers_conflict s u e (elim (always e) [
+    | inl w ↦ inl (w s p)
+    | inr w ↦ inr (inr (w.0, w.1 s p, w.1 u q))
+  ])

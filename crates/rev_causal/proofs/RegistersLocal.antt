@@ -15,9 +15,10 @@ use Rattle.rev_causal.specs.declared.registers.Event.TheVariants.{Set, Load, Clo
 use Rattle.rev_causal.specs.Machine.{IsLocal}
 use Rattle.rev_causal.specs.Order.{Has}
 use Rattle.rev_causal.specs.Store.{Footprint.Cells, is_written, is_touched, IsLocalEvent, IsLocalTable}
-use Rattle.rev_causal.specs.OrderCheck.{IsEquality, EqualEventsConflict}
+use Rattle.rev_causal.specs.OrderCheck.{IsEquality, EqualEventsConflict, AlwaysWrites}
 use Rattle.rev_causal.specs.Registers.{State, numbers_of, cell_of, cell_of-numbers_of, cell_cmp, registers, register_machine, refusal, effect, footprint, refused_by, pointed, or_zero, event_numbers, same_event, cells_of}
 use Rattle.rev_causal.proofs.Store as store
+use Rattle.rev_causal.proofs.Occurrence as occurrence
 
 pub cell_total : IsTotalOrder cell_cmp
 cell_total = on_total numbers_of nat_list_cmp_total
@@ -113,16 +114,15 @@ one_write : (reads : List Cell) (k : Cell) → is_written cell_cmp (Cells reads 
 one_write reads k = store.among_has cell_total cell_exact (k ∷ []) k (inl refl)
 
 -- each event that is not whole always writes one cell
-pub equal_events_conflict : EqualEventsConflict register_machine
+always_writes : (e : Event) → AlwaysWrites registers e
 unfolding refusal effect footprint
-equal_events_conflict s u (Set register value) p q =
-    store.sharing_conflicts cell_total cell_exact (Cells [] (Register register ∷ [])) (Cells [] (Register register ∷ [])) (Register register, one_write [] (Register register), written_by [] (Register register ∷ []) (Register register) (inl refl))
-equal_events_conflict s u (Load register pointer) p q =
-    store.sharing_conflicts cell_total cell_exact (Cells (Lock ∷ Register pointer ∷ pointed s pointer ∷ []) (Register register ∷ [])) (Cells (Lock ∷ Register pointer ∷ pointed u pointer ∷ []) (Register register ∷ []))
-    (Register register, one_write (Lock ∷ Register pointer ∷ pointed s pointer ∷ []) (Register register), written_by (Lock ∷ Register pointer ∷ pointed u pointer ∷ []) (Register register ∷ []) (Register register) (inl refl))
-equal_events_conflict s u Close p q =
-    store.sharing_conflicts cell_total cell_exact (Cells [] (Lock ∷ [])) (Cells [] (Lock ∷ [])) (Lock, one_write [] Lock, written_by [] (Lock ∷ []) Lock (inl refl))
-equal_events_conflict s u (Shift count) p q = refl
+always_writes (Set register value) = inr (Register register, λ s acc. one_write [] (Register register))
+always_writes (Load register pointer) = inr (Register register, λ s acc. one_write (Lock ∷ Register pointer ∷ pointed s pointer ∷ []) (Register register))
+always_writes Close = inr (Lock, λ s acc. one_write [] Lock)
+always_writes (Shift count) = inl (λ s acc. refl)
+
+pub equal_events_conflict : EqualEventsConflict register_machine
+equal_events_conflict = occurrence.equal_events_conflict_of cell_total cell_exact registers always_writes
 
 -- WHAT THE CODE KEEPS
 -- the cells after one more write

@@ -37,9 +37,9 @@ module _ {K : Type 0} {R : K → K → Ordering} (o : IsTotalOrder R) (exact : I
   alike : (a b : K) → eq_by_cmp R a b ≡ true → a ≡ b
   alike a b h = tells_apart exact a b h
 
-  touched : (f : Footprint K) (k : K) → is_written R f k ≡ true → is_touched R f k ≡ true
-  touched Whole k h = refl
-  touched (Cells reads writes) k h = ap (λ b. b || among R reads k) h
+  pub written_touched : (f : Footprint K) (k : K) → is_written R f k ≡ true → is_touched R f k ≡ true
+  written_touched Whole k h = refl
+  written_touched (Cells reads writes) k h = ap (λ b. b || among R reads k) h
 
   -- no element of a list passes a test that none passes
   none_among : (test : K → Bool) (ks : List K) → list_any test ks ≡ false → (k : K) → among R ks k ≡ true → test k ≡ false
@@ -98,7 +98,7 @@ module _ {K : Type 0} {R : K → K → Ordering} (o : IsTotalOrder R) (exact : I
     pub local_of : IsLocal (machine_of t)
     local_of = record {
       same_state = λ s u h. same_map o exact u s h;
-      touched = touched;
+      touched = written_touched;
       apart = apart;
       both_ways = both_ways;
       kept = λ s e acc k h. not_written s (t.effect s e) k (keys_written (t.footprint s e) _ k (l.writes s e acc) h);

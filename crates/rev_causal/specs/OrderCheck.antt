@@ -8,6 +8,9 @@ use Rattle.rev_causal.specs.Order.{Has, Stands, Distinct}
 use Rattle.rev_causal.specs.Entries.{Entry, entries, clash, SwapEquivalent}
 use Rattle.rev_causal.specs.History.{IsRising, without}
 use Rattle.rev_causal.specs.Laws.{NoPairTurned}
+use Rattle.rev_causal.specs.Store.{Table, is_whole, is_written, conflict}
+use Rattle.std.specs.FinMap.{FinMap}
+use Rattle.std.specs.declared.cmp.Ordering.{Ordering}
 
 -- a test that tells whether two events are equal
 pub record IsEquality {E : Type 0} (same : E → E → Bool) : Type 0 where
@@ -112,6 +115,19 @@ module _ (m : Machine) where
   abbrev pub order_check : (m.Event → m.Event → Bool) → m.State → List (ℕ × m.Event) → List m.Event → OrderAnswer
   order_check same s first events = matched_answer s first (renumbered same first events)
 
+-- EQUAL EVENTS
+module _ {K V E F : Type 0} {R : K → K → Ordering} (t : Table K V E F R) where
+  -- Two equal events that are whole, or write a common cell, conflict, whatever states they stand in.
+  abbrev pub EqualWritersConflict : Type 0
+  EqualWritersConflict = (s u : FinMap R V) (e : E) →
+      (is_whole (t.footprint s e) ≡ true) ⊎ (is_whole (t.footprint u e) ≡ true) ⊎ ((k : K) × (is_written R (t.footprint s e) k ≡ true) × (is_written R (t.footprint u e) k ≡ true)) →
+      conflict R (t.footprint s e) (t.footprint u e) ≡ true
+
+  -- wherever the event is accepted it is whole, or wherever it is accepted it writes one and the same cell
+  abbrev pub AlwaysWrites : E → Type 0
+  AlwaysWrites e =
+      ((s : FinMap R V) → t.refusal s e ≡ None → is_whole (t.footprint s e) ≡ true) ⊎ ((k : K) × ((s : FinMap R V) → t.refusal s e ≡ None → is_written R (t.footprint s e) k ≡ true))
+
 -- ITS LAWS
 module _ {E : Type 0} (same : E → E → Bool) where
   -- The renumbered list is exactly the one that is matched by occurrence and has those events.
@@ -123,7 +139,7 @@ module _ {E : Type 0} (same : E → E → Bool) where
   NoMatchingWhereEventsDiffer = (first : List (ℕ × E)) (ys : List E) → IsRising first → (renumbered same first ys ≡ None) ↔ (SameEvents same (bare first) ys → ⊥)
 
 module _ (m : Machine) where
-  -- Two equal events conflict, wherever they are accepted.
+  -- Two equal events conflict, wherever they are accepted: so it is where each event always writes one cell or is whole.
   abbrev pub EqualEventsConflict : Type 0
   EqualEventsConflict = (s t : m.State) (e : m.Event) → Accepts m s e → Accepts m t e → m.conflict (m.footprint s e) (m.footprint t e) ≡ true
 

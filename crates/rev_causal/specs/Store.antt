@@ -1,4 +1,4 @@
--- A machine over a finite map from cells to values. A cell at its default is absent.
+-- A machine over a finite map from cells to values, made from a table of its events. A cell at its default is absent.
 use Rattle.std.specs.Prelude.{◌≡◌, ℕ, Bool, true, false, List, [], ◌∷◌, ◌||◌}
 use Rattle.std.specs.List.{list_any}
 use Rattle.std.specs.Ordering.{eq_by_cmp}
@@ -9,44 +9,52 @@ use Rattle.std.specs.FinMap.{FinMap, get, insert, remove}
 use Rattle.rev_causal.specs.Machine.{Machine}
 use Rattle.rev_causal.specs.History.{numbered_by}
 
+-- the cells that an event reads and writes: all, or those that it names
 pub data Footprint (K : Type 0) : Type 0 where
   Whole : Footprint K
-  -- the cells that are read and not written, and those that are written
+  -- those that are read, and those that are written, which are read too
   Cells : (reads writes : List K) → Footprint K
 
 module _ {K : Type 0} (R : K → K → Ordering) where
+  -- the cell is in the list, by the order of cells
   abbrev pub among : List K → K → Bool
   among ks k = list_any (eq_by_cmp R k) ks
 
+  -- the cell is written
   abbrev pub is_written : Footprint K → K → Bool
   is_written Whole k = true
   is_written (Cells reads writes) k = among writes k
 
+  -- it is read or written
   abbrev pub is_touched : Footprint K → K → Bool
   is_touched Whole k = true
   is_touched (Cells reads writes) k = among writes k || among reads k
 
-  -- a cell that one writes is read or written by the other, or one is whole
+  -- one is whole, or a cell that one writes is read or written by the other
   abbrev pub conflict : Footprint K → Footprint K → Bool
   conflict Whole g = true
   conflict (Cells reads writes) Whole = true
   conflict (Cells reads writes) (Cells reads' writes') = list_any (is_touched (Cells reads' writes')) writes || list_any (is_touched (Cells reads writes)) writes'
 
   module _ {V : Type 0} where
+    -- the state with another value in a cell, None being the default
     abbrev pub set_cell : FinMap R V → K → Option V → FinMap R V
     set_cell s k None = remove s k
     set_cell s k (Some v) = insert s k v
 
+    -- and with several, in their order
     abbrev pub set_cells : FinMap R V → List (K × Option V) → FinMap R V
     set_cells s [] = s
     set_cells s (w ∷ ws) = set_cells (set_cell s w.0 w.1) ws
 
--- what a table of events says: when each is refused, what it writes, and its footprint
+-- What a table says of each event in a state: its refusal, its effect, which is the cells that it writes with what they then
+-- hold, and its footprint.
 pub record Table (K V E F : Type 0) (R : K → K → Ordering) : Type 0 where
   pub refusal : FinMap R V → E → Option F
   pub effect : FinMap R V → E → List (K × Option V)
   pub footprint : FinMap R V → E → Footprint K
 
+-- the machine that a table makes
 abbrev pub machine_of : {K V E F : Type 0} {R : K → K → Ordering} → Table K V E F R → Machine
 machine_of {K} {V} {E} {F} {R} t = record {
   State = FinMap R V;
@@ -64,21 +72,23 @@ machine_of {K} {V} {E} {F} {R} t = record {
   conflict = conflict R;
 }
 
--- the keys of what is written
+-- the cells of an effect
 abbrev pub keys_of : {K V : Type 0} → List (K × Option V) → List K
 keys_of [] = []
 keys_of (w ∷ ws) = w.0 ∷ keys_of ws
 
+-- the footprint says that these cells are written
 abbrev pub WritesAre : {K : Type 0} → Footprint K → List K → Type 0
 WritesAre Whole ks = Unit {0}
 WritesAre (Cells reads writes) ks = ks ≡ writes
 
--- the values in s of what is to be written
+-- what an effect replaces in s: its cells, with what they hold there
 abbrev pub replaced : {K V : Type 0} {R : K → K → Ordering} → FinMap R V → List (K × Option V) → List (K × Option V)
 replaced s [] = []
 replaced s (w ∷ ws) = (w.0, get s w.0) ∷ replaced s ws
 
--- all that a new kind of event has to show
+-- Locality of a table. Where a state agrees with the event's on what it touches, it accepts the event too, which then has
+-- the same effect and the same footprint; and the effect writes what the footprint says.
 pub record IsLocalTable {K V E F : Type 0} {R : K → K → Ordering} (t : Table K V E F R) : Type 0 where
   pub accepted : (s u : FinMap R V) (e : E) → t.refusal s e ≡ None → ((k : K) → is_touched R (t.footprint s e) k ≡ true → get u k ≡ get s k) → t.refusal u e ≡ None
   pub same_effect : (s u : FinMap R V) (e : E) → t.refusal s e ≡ None → ((k : K) → is_touched R (t.footprint s e) k ≡ true → get u k ≡ get s k) → t.effect u e ≡ t.effect s e

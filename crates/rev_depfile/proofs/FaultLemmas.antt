@@ -1,11 +1,10 @@
 -- The first fault asks of the outputs only which paths are among them.
-use Rattle.std.proofs.Common.{◌≡◌, ℕ, Bool, true, false, not, ◌||◌, ◌&&◌, List, [], ◌∷◌, Option, Some, None, bytes_eq, refl, sym, ap, ◌∙◌, if◌then◌else◌}
+use Rattle.std.proofs.Common.{◌≡◌, ℕ, not, ◌||◌, ◌&&◌, List, [], ◌∷◌, Some, bytes_eq, refl, ap, if◌then◌else◌}
 use Rattle.std.specs.List.{list_any}
-use Rattle.rev_depfile.specs.declared.fault.DepfileFault.{DepfileFault}
 use Rattle.rev_depfile.specs.declared.fault.DepfileFault.TheVariants.{OtherTarget}
 use Rattle.rev_depfile.specs.declared.sign.Sign.{Sign}
 use Rattle.rev_depfile.specs.Lines.{words, before_colon, from_colon}
-use Rattle.rev_depfile.specs.Value.{is_long, path_of, is_output, rule_fault, fault_by, line_fault, first_fault_in, long_fault, line_at, or_else}
+use Rattle.rev_depfile.specs.Value.{is_long, path_of, is_output, rule_fault, fault_by, first_fault_in, long_fault, line_at, or_else}
 
 abbrev SameMembers : List (List ℕ) → List (List ℕ) → Type 0
 SameMembers xs ys = (path : List ℕ) → list_any (bytes_eq path) xs ≡ list_any (bytes_eq path) ys

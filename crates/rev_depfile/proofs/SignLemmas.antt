@@ -1,9 +1,9 @@
 -- The pieces of a text from one of its bytes on.
-use Rattle.std.proofs.Common.{◌≡◌, ℕ, ◌+◌, ◌<◌, ◌==◌, Bool, true, false, ◌&&◌, List, [], ◌∷◌, ◌++◌, Option, Some, None, replicate, length, take, drop, ◌-◌, get_or, refl, sym, ap, ◌∙◌, arith, suc, add-zero, if◌then◌else◌, add_assoc, append_assoc, add-one, drop-cons}
+use Rattle.std.proofs.Common.{◌≡◌, ℕ, ◌+◌, ◌<◌, ◌==◌, true, false, List, [], ◌∷◌, ◌++◌, Some, length, take, drop, ◌-◌, get_or, refl, sym, ap, ◌∙◌, arith, suc, add-zero, if◌then◌else◌, add_assoc, add-one, drop-cons}
 use Rattle.std.specs.List.{flat_map}
 use Rattle.std.proofs.lemmas.Grind.{common_steps}
 use Rattle.rev_depfile.specs.declared.sign.Sign.{Sign}
-use Rattle.rev_depfile.specs.Signs.{Piece, more, pieces, is_line_end_return, signs_of_piece, signs_by, signs_of, read_signs, reading}
+use Rattle.rev_depfile.specs.Signs.{Piece, more, pieces, is_line_end_return, signs_of_piece, signs_of, read_signs, reading}
 
 abbrev with_backslashes : ℕ → Piece → ℕ → List Piece → List Piece
 with_backslashes at p n ps = record p { at = at; backslashes = n } ∷ ps

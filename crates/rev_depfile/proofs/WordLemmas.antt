@@ -1,8 +1,8 @@
 -- The parts of a list, read from the left, and the bytes of a word.
-use Rattle.std.proofs.Common.{◌≡◌, ℕ, ◌+◌, ◌-◌, ◌<◌, ◌≤◌, ◌==◌, Bool, true, false, not, ◌&&◌, List, [], ◌∷◌, ◌++◌, map, take, drop, length, filter, refl, sym, ap, ◌∙◌, arith, suc, zero, cond, if◌then◌else◌, append_assoc}
+use Rattle.std.proofs.Common.{◌≡◌, ℕ, ◌==◌, Bool, true, false, ◌&&◌, List, [], ◌∷◌, ◌++◌, take, drop, length, filter, refl, sym, ap, ◌∙◌, arith, suc, cond, if◌then◌else◌, append_assoc}
 use Rattle.std.proofs.lemmas.Bool.{eqb-true}
 use Rattle.rev_depfile.specs.declared.sign.Sign.{Sign}
-use Rattle.rev_depfile.specs.Lines.{onto, parts, place, has_some, words, is_blank, single_dollars, byte_of, word_text}
+use Rattle.rev_depfile.specs.Lines.{onto, parts, place, has_some, words, is_blank, single_dollars}
 
 -- the parts of what follows the first part
 abbrev pub parts_after : {A : Type 0} → (A → Bool) → List A → List (List A)

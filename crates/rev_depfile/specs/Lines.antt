@@ -5,6 +5,7 @@ use Rattle.rev_depfile.specs.declared.sign.Mark.TheVariants.{Byte, Colon, Blank,
 use Rattle.rev_depfile.specs.declared.sign.Sign.{Sign}
 use Rattle.rev_depfile.specs.Signs.{signs_of}
 
+-- the tests of a sign by its mark
 abbrev pub is_line_end_mark : Mark → Bool
 is_line_end_mark (Byte b) = false
 is_line_end_mark Colon = false
@@ -46,6 +47,7 @@ parts test (x ∷ xs) = if test x then [] ∷ parts test xs else onto x (parts t
 abbrev pub lines : List ℕ → List (List Sign)
 lines text = parts is_line_end (signs_of text)
 
+-- whether a list has some element
 abbrev pub has_some : {A : Type 0} → List A → Bool
 has_some [] = false
 has_some (x ∷ xs) = true
@@ -83,7 +85,7 @@ single_dollars [] = []
 single_dollars (b ∷ []) = b ∷ []
 single_dollars (b ∷ c ∷ bs) = if b == 36 && c == 36 then 36 ∷ single_dollars bs else b ∷ single_dollars (c ∷ bs)
 
--- the bytes of a word
+-- The bytes of a word are those of its signs, with one dollar sign for each two.
 abbrev pub word_text : List Sign → List ℕ
 word_text word = single_dollars (map byte_of word)
 

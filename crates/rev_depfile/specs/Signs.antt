@@ -1,11 +1,11 @@
 -- What each byte of a depfile says, told from the bytes beside it.
 use Rattle.std.specs.Prelude.{ℕ, ◌+◌, ◌-◌, ◌/◌, ◌%◌, ◌==◌, Bool, true, false, ◌&&◌, ◌||◌, List, [], ◌∷◌, ◌++◌, Option, Some, None, replicate, if◌then◌else◌}
 use Rattle.std.specs.List.{flat_map}
-use Rattle.rev_depfile.specs.declared.sign.Mark.{Mark}
 use Rattle.rev_depfile.specs.declared.sign.Mark.TheVariants.{Byte, Colon, Blank, LineEnd}
 use Rattle.rev_depfile.specs.declared.sign.Sign.{Sign}
 use Rattle.rev_depfile.specs.declared.sign.Reading.{Reading}
 
+-- whether LF comes first
 abbrev pub begins_line_feed : List ℕ → Bool
 begins_line_feed [] = false
 begins_line_feed (b ∷ bs) = b == 10
@@ -64,6 +64,7 @@ reading n b after =
     else (if b == 58 then (if is_word_end after then record { kept = n; mark = Colon } else record { kept = n - 1; mark = Byte 58 })
     else record { kept = n; mark = Byte b }))))
 
+-- a backslash that is a byte of a word
 abbrev pub backslash_at : ℕ → Sign
 backslash_at at = record { at = at; mark = Byte 92 }
 
@@ -76,6 +77,7 @@ abbrev pub signs_by : ℕ → ℕ → Option ℕ → List ℕ → List Sign
 signs_by at n None after = replicate n (backslash_at at)
 signs_by at n (Some b) after = read_signs at (reading n b after)
 
+-- the signs of a piece
 abbrev pub signs_of_piece : Piece → List Sign
 signs_of_piece p = signs_by p.at p.backslashes p.byte p.after
 

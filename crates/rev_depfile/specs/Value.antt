@@ -1,6 +1,6 @@
 -- What a depfile says: its prerequisites, or its first fault.
-use Rattle.std.specs.Prelude.{ℕ, nat_le, nat_lt, Bool, true, false, not, ◌&&◌, List, [], ◌∷◌, map, filter, length, bytes_eq, Option, Some, None, if◌then◌else◌}
-use Rattle.std.specs.List.{list_any, flat_map, find}
+use Rattle.std.specs.Prelude.{ℕ, nat_lt, Bool, not, ◌&&◌, List, [], ◌∷◌, map, filter, length, bytes_eq, Option, Some, None, if◌then◌else◌}
+use Rattle.std.specs.List.{list_any, flat_map}
 use Rattle.rev_paths.specs.Canonical.{canonical}
 use Rattle.rev_depfile.specs.declared.fault.DepfileFault.{DepfileFault}
 use Rattle.rev_depfile.specs.declared.fault.DepfileFault.TheVariants.{NoColon, OtherTarget, LongPath}
@@ -53,9 +53,11 @@ abbrev pub paths_by : List Sign → List (List ℕ)
 paths_by [] = []
 paths_by (colon ∷ rest) = map path_of (words rest)
 
+-- The paths of a line are those of its prerequisites.
 abbrev pub line_paths : List Sign → List (List ℕ)
 line_paths line = paths_by (from_colon line)
 
+-- a fault where there is one, and otherwise a later one
 abbrev pub or_else : Option DepfileFault → Option DepfileFault → Option DepfileFault
 or_else None later = later
 or_else (Some fault) later = Some fault
@@ -65,6 +67,7 @@ abbrev pub first_fault_in : List (List ℕ) → List (List Sign) → Option Depf
 first_fault_in outputs [] = None
 first_fault_in outputs (line ∷ ls) = or_else (line_fault outputs line) (first_fault_in outputs ls)
 
+-- The first fault of a text for an edge with these outputs is that of its lines.
 abbrev pub first_fault : List (List ℕ) → List ℕ → Option DepfileFault
 first_fault outputs text = first_fault_in outputs (lines text)
 

@@ -9,3 +9,6 @@ mod words;
 
 pub use fault::DepfileFault;
 pub use reader::read;
+
+#[cfg(test)]
+mod tests;

@@ -67,7 +67,7 @@ fn reading(backslashes: usize, byte: u8, after: &[u8]) -> Reading
 fn push_backslashes(signs: &mut Vec<Sign>, at: usize, count: usize) -> Result<(), AllocError>
     ensures ok { OnOk result (signs.new.items ≡ signs.old.items ++ replicate count (backslash_at at)) }
 {
-    for k in 0..count {
+    for _k in 0..count {
         signs.push(Sign {
             at,
             mark: Mark::Byte(b'\\'),

@@ -4,16 +4,16 @@
 ghost use Rattle.rev_causal.specs.Machine.{IsLocal};
 ghost use Rattle.rev_causal.specs.Store.{IsLocalTable};
 ghost use Rattle.rev_causal.specs.Laws.{ConflictIsExact, NeighboursExchange, Removal, Place, UndoKeepsReplaced, RedoKeepsReplaced, UndoPutsBack, StepBack, UndoOfFree, RedoAtItsPlace, RedoNextRestores, UndoRises, RedoRises, GreatestIsFree, UndoKeepsFootprints, RedoKeepsFootprints, NearestIsLeast, NearestIsNone, FirstAboveIsLeast, FirstAboveIsNone, ConeIsLeast, ConeIsWithin, BothFormsAgree, SameResult, SameRefusals, SameEntries, FreeExactlyWhereLast, SameExactlyWhereNoneTurned};
-ghost use Rattle.rev_causal.specs.OrderCheck.{MatchingIsExact, NoMatchingWhereEventsDiffer, EqualEventsConflict, MatchingIsTheOnlyOne, MatchedExactlyWhereNoneTurned, OrderCheckIsExact};
+ghost use Rattle.rev_causal.specs.OrderCheck.{MatchingIsExact, NoMatchingWhereEventsDiffer, EqualWritersConflict, EqualEventsConflict, MatchingIsTheOnlyOne, MatchedExactlyWhereNoneTurned, OrderCheckIsExact};
 ghost use Rattle.rev_causal.specs.Registers.{registers, register_machine, cell_cmp, same_event};
 
-/// A machine of tables is local: whether an event is accepted, what it then writes and its footprint depend on the cells
-/// of its footprint alone, and it changes no cell that it does not write.
+/// Locality: whether an event is accepted, what it then writes and its footprint depend on the cells of its footprint alone,
+/// and it writes what its footprint says.
 pub fn cells_decide()
     ensures { IsLocalTable registers }
 {}
 
-/// So is the machine that the table makes, for every event, whole ones among them.
+/// So the machine that the table makes is local, whole events among the others.
 pub fn table_is_local()
     ensures { IsLocal register_machine }
 {}
@@ -169,6 +169,11 @@ pub fn matching_is_exact()
 /// There is no such list exactly where the events differ, or how often one stands.
 pub fn no_matching_where_events_differ()
     ensures { NoMatchingWhereEventsDiffer same_event }
+{}
+
+/// Two equal events that are whole, or write a common cell, conflict, whatever states they stand in.
+pub fn equal_writers_conflict()
+    ensures { EqualWritersConflict registers }
 {}
 
 /// Two equal events conflict, wherever they are accepted: they are whole, or they write a common cell.

@@ -1,4 +1,4 @@
-use Rattle.std.proofs.Common.{◌≡◌, ap, bytes_eq, get_or, sym, ◌∙◌}
+use Rattle.std.proofs.Common.{ap, bytes_eq, ◌∙◌}
 use Rattle.std.specs.List.{list_any}
 use Rattle.indexmap.specs.IndexSet.{insert_key}
 use Rattle.rev_depfile.proofs.MentionLemmas.{members-more}

@@ -1,4 +1,4 @@
-use Rattle.std.proofs.Common.{◌≡◌, ◌++◌, ◌+◌, true, false, ◌==◌, get_or, drop, refl, ap, sym, ◌∙◌, arith, append_assoc}
+use Rattle.std.proofs.Common.{◌≡◌, ◌++◌, ◌+◌, true, false, get_or, drop, refl, ap, sym, ◌∙◌, arith, append_assoc}
 use Rattle.std.proofs.lemmas.Bool.{eq-eqb, ne_eqb}
 use Rattle.rev_depfile.specs.Signs.{is_line_end_return, reading, read_signs}
 use Rattle.rev_depfile.proofs.SignLemmas.{signs_left, left-backslash, left-return, left-byte, left-none, tail-all}

@@ -1,4 +1,4 @@
-use Rattle.std.proofs.Common.{◌≡◌, ◌++◌, ◌∷◌, [], filter, take, drop, ap, sym, ◌∙◌}
+use Rattle.std.proofs.Common.{◌≡◌, ◌++◌, ◌∷◌, [], filter, drop, ap, sym, ◌∙◌}
 use Rattle.rev_depfile.specs.Lines.{has_some, words}
 use Rattle.rev_depfile.specs.Slices.{texts}
 use Rattle.rev_depfile.proofs.WordLemmas.{words-none, words-more, empty_of_length}

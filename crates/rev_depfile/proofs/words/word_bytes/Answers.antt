@@ -1,4 +1,4 @@
-use Rattle.std.proofs.Common.{◌≡◌, ◌++◌, false, map, ap, ◌∙◌}
+use Rattle.std.proofs.Common.{◌++◌, false, map, ap, ◌∙◌}
 use Rattle.rev_depfile.specs.Lines.{byte_of}
 use Rattle.rev_depfile.proofs.WordLemmas.{dollars_after, dollars-single}
 use Rattle.rev_depfile.proofs.words.word_bytes.Goals as goal

@@ -9,7 +9,7 @@ use Rattle.rev_causal.specs.History.{nearest_to}
 use Rattle.rev_causal.specs.Store.{set_cells}
 use Rattle.rev_causal.specs.Registers.{register_machine, cell_cmp}
 use Rattle.rev_causal.specs.RegisterHistory.{numbered, entry_of, IsHistory, IsKeptAt, undone, nearest_of}
-use Rattle.rev_causal.proofs.KeptHistories.{UndoOk, undo_ok, nearest_kept}
+use Rattle.rev_causal.proofs.KeptHistories.{UndoOk, undo_ok, nearest_kept, event_there}
 use Rattle.rev_causal.proofs.registers.history.History.undo.Goals as goal
 
 -- one answer is not another
@@ -60,3 +60,8 @@ pub returns-in-Err-written-clause-needed : goal.returns-in-Err-written-clause-ne
 returns-in-Err-written-clause-needed c = λ m. memory_not_needed (nearest_of c.args.number c.args.self.now) m
     (ap (nearest_of c.args.number) (sym c.self.view_is) ∙ nearest_kept c.self.inside.opening c.self.inside.cells c.self.inside.kept.items c.args.number c.self.invariant
     ∙ ap (λ (ks : List Kept). nearest_to register_machine c.args.number (map entry_of ks)) (sym c.deref.ensures.value) ∙ c.in-Ok.ensures.taken.1)
+
+pub returns-in-Ok-written-clause-taken : goal.returns-in-Ok-written-clause-taken
+returns-in-Ok-written-clause-taken c =
+    event_there c.self.inside.opening c.self.inside.kept.items c.args.self.now c.args.number c.in-Ok.place c.remove.result c.self.view_is
+    (subst (λ (ks : List Kept). IsKeptAt c.args.number ks c.in-Ok.place) c.deref.ensures.value c.in-Ok.ensures.taken.0) c.remove.ensures.value
