@@ -95,3 +95,6 @@ pub fn read(alloc: Global, files: &[(Vec<u8>, Vec<u8>)]) -> Result<Manifest, Rea
         }
     }
 }
+
+#[cfg(test)]
+mod tests;
