@@ -1,5 +1,5 @@
 -- What undo, redo, accept and back make of a history.
-use Rattle.std.proofs.Common.{◌≡◌, ℕ, ◌+◌, ◌-◌, ◌<◌, ◌≤◌, Bool, true, false, cond, List, [], ◌∷◌, ◌++◌, ◌||◌, Option, None, Some, IsSome, slice_get, length, refl, sym, ap, subst, ◌∙◌, inl, inr, true≢false, eq-eqb, ne_eqb, arith, suc}
+use Rattle.std.proofs.Common.{◌≡◌, ℕ, ◌-◌, ◌<◌, Bool, true, false, cond, List, [], ◌∷◌, ◌++◌, ◌||◌, Option, None, Some, IsSome, slice_get, length, refl, sym, ap, subst, ◌∙◌, inl, inr, eq-eqb, ne_eqb, arith, suc}
 use Rattle.std.specs.Prelude.{nat_eq}
 use Rattle.std.specs.List.{AllByRecursion}
 use Rattle.rev_causal.specs.Machine.{Legal, run, footprints}
@@ -12,12 +12,11 @@ use Rattle.rev_causal.proofs.Numbers as by_number
 use Rattle.rev_cells.specs.State.{State}
 use Rattle.rev_history.specs.declared.event.Event.{Event}
 use Rattle.rev_history.specs.declared.refusal.Refusal.{Refusal}
-use Rattle.rev_history.specs.declared.refusal.Refusal.TheVariants.{NoSuchEvent, NotKept, DependedOn, AlreadyKept, Overtaken, NothingKept}
+use Rattle.rev_history.specs.declared.refusal.Refusal.TheVariants.{NotKept, AlreadyKept}
 use Rattle.rev_history.specs.Machine.{machine, refusal, footprint, after}
-use Rattle.rev_history.specs.Refusal.{not_now}
 use Rattle.rev_history.specs.Timeline.{Timeline, Numbered, IsHistory, IsRising, event_at, under, chosen, kept_events, kept_entries, state_at, last_of, is_among, without, placed, depended_on, undo_refusal_of, undo_refusal, undone, overtaken, redo_refusal_now, redo_refusal_of, redo_refusal, redone, accept_refusal, accepted_as, greatest_kept}
 use Rattle.rev_history.proofs.Local.{machine_local}
-use Rattle.rev_history.proofs.Numbers.{AllAccepted, All-append, All-filter, All-placed, IsRising-push, IsRising-filter, IsRising-placed, AllAccepted-push, all_below, some_is, chosen-push, chosen-rises, chosen-without, chosen-placed, event_at-chosen, event_at-not_chosen, without-last}
+use Rattle.rev_history.proofs.Numbers.{AllAccepted, All-filter, All-placed, IsRising-push, IsRising-filter, IsRising-placed, AllAccepted-push, all_below, some_is, chosen-push, chosen-rises, chosen-without, chosen-placed, event_at-chosen, event_at-not_chosen}
 
 -- accept
 

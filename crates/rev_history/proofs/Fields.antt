@@ -6,7 +6,6 @@ use Rattle.rev_causal.specs.Store.{Footprint}
 use Rattle.rev_cells.specs.declared.cell.Cell.{Cell}
 use Rattle.rev_history.specs.declared.event.Event.{Event}
 use Rattle.rev_history.specs.declared.history.History.TheInside.{Inside}
-use Rattle.rev_history.specs.declared.refusal.Refusal.{Refusal}
 use Rattle.rev_history.specs.declared.refusal.Refusal.TheVariants.{NotKept, AlreadyKept}
 use Rattle.rev_history.specs.Machine.{machine, refusal, footprint, after}
 use Rattle.rev_history.specs.Nearest.{nearest_in}

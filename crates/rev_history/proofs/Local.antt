@@ -1,5 +1,5 @@
 -- Events depend on no cell but those of their footprints.
-use Rattle.std.proofs.Common.{◌≡◌, Option, None, refl, ◌∙◌}
+use Rattle.std.proofs.Common.{◌≡◌, refl, ◌∙◌}
 use Rattle.rev_causal.specs.Machine.{IsLocal}
 use Rattle.rev_causal.specs.Store.{WritesAre, keys_of, IsLocalTable}
 use Rattle.rev_causal.proofs.Store.{local_of}

@@ -1,6 +1,6 @@
 -- The nearest conflict among footprints that stand beside their numbers.
-use Rattle.std.proofs.Common.{◌≡◌, ℕ, ◌+◌, ◌<◌, ◌≤◌, true, false, cond, List, [], ◌∷◌, Option, None, Some, length, drop, get_or, refl, sym, ap, subst, ◌∙◌, eq-eqb, ne_eqb, lt-ltb, le-ltb, arith, zero, suc}
-use Rattle.std.specs.Prelude.{nat_eq, nat_lt}
+use Rattle.std.proofs.Common.{◌≡◌, ℕ, ◌<◌, true, false, cond, List, [], ◌∷◌, Option, Some, length, drop, get_or, refl, sym, ap, subst, ◌∙◌, eq-eqb, ne_eqb, lt-ltb, le-ltb, arith, zero, suc}
+use Rattle.std.specs.Prelude.{nat_lt}
 use Rattle.std.specs.List.{AllByRecursion}
 use Rattle.rev_causal.specs.Machine.{footprints}
 use Rattle.rev_causal.specs.Order.{nearest}

@@ -1,5 +1,5 @@
 -- The laws of histories.
-use Rattle.std.proofs.Common.{◌≡◌, ℕ, ◌-◌, ◌<◌, true, false, cond, List, [], ◌∷◌, ◌++◌, Option, None, Some, length, slice_get, refl, sym, ap, ap₂, subst, ◌∙◌, ◌⊎◌, inl, inr, true≢false, ◌↔◌, eqb-true, eq-eqb, arith, suc}
+use Rattle.std.proofs.Common.{◌≡◌, ℕ, ◌-◌, ◌<◌, true, false, cond, List, [], ◌∷◌, ◌++◌, Option, None, Some, length, slice_get, refl, sym, ap, ap₂, subst, ◌∙◌, inl, inr, true≢false, eqb-true, eq-eqb, arith, suc}
 use Rattle.std.specs.Prelude.{nat_eq}
 use Rattle.std.specs.List.{AllByRecursion}
 use Rattle.rev_causal.specs.Machine.{run}
@@ -11,11 +11,10 @@ use Rattle.rev_causal.proofs.Laws as theory
 use Rattle.rev_causal.proofs.Runs.{either}
 use Rattle.rev_cells.specs.State.{State}
 use Rattle.rev_history.specs.declared.event.Event.{Event}
-use Rattle.rev_history.specs.declared.refusal.Refusal.TheVariants.{NoSuchEvent, NotKept, DependedOn}
-use Rattle.rev_history.specs.Laws.{DependsOn, StepBack, StepsBack, UndoExactlyWhenIndependent, NearestIsNamed, UndoLeavesTheOthers, RedoNextRestores, RedoRunsNow}
+use Rattle.rev_history.specs.declared.refusal.Refusal.TheVariants.{NotKept, DependedOn}
+use Rattle.rev_history.specs.Laws.{DependsOn, StepBack, UndoExactlyWhenIndependent, NearestIsNamed, UndoLeavesTheOthers, RedoNextRestores, RedoRunsNow}
 use Rattle.rev_history.specs.Machine.{machine, refusal, footprint, after}
-use Rattle.rev_history.specs.Timeline.{Timeline, Numbered, IsHistory, IsRising, event_at, chosen, kept_events, kept_entries, state_at, last_of, is_among, without, placed, accepted_as, depended_on, undo_refusal_of, undo_refusal, undone, redone}
-use Rattle.rev_history.proofs.Local.{machine_local}
+use Rattle.rev_history.specs.Timeline.{Timeline, Numbered, IsHistory, event_at, chosen, kept_events, kept_entries, state_at, is_among, without, placed, depended_on, undo_refusal_of, undone}
 use Rattle.rev_history.proofs.Numbers.{all_below, chosen-rises, event_at-chosen, without-last, placed-without, without-not_among, accepted_among, chosen-front}
 use Rattle.rev_history.proofs.Commands.{IsFree, is_free, free_undo, IsReady, is_ready, ready_redo, kept_undone, kept_redone, undone_by, redone_by, undone_history, redone_history}
 

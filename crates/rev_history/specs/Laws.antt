@@ -1,5 +1,5 @@
 -- What holds of every history of events.
-use Rattle.std.specs.Prelude.{◌≡◌, ℕ, ◌<◌, true, ◌↔◌, List, Some, None}
+use Rattle.std.specs.Prelude.{◌≡◌, ℕ, ◌<◌, true, ◌↔◌, Some, None}
 use Rattle.rev_causal.specs.Order.{Stands}
 use Rattle.rev_causal.specs.Entries.{Entry, clash}
 use Rattle.rev_causal.specs.Laws.{IsLeastDependent}

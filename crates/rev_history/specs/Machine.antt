@@ -1,5 +1,5 @@
 -- What events do to a state: when each is refused, what it writes, and which cells it reads and writes.
-use Rattle.std.specs.Prelude.{ℕ, List, [], ◌∷◌, Option, None}
+use Rattle.std.specs.Prelude.{List, [], ◌∷◌, Option, None}
 use Rattle.rev_causal.specs.Machine.{Machine}
 use Rattle.rev_causal.specs.Store.{Footprint, Footprint.Cells, Table, machine_of, set_cells}
 use Rattle.rev_cells.specs.declared.cell.Cell.{Cell}

@@ -1,5 +1,5 @@
 -- The numbers of refusals, and the numbers that they carry.
-use Rattle.std.specs.Prelude.{ℕ, List, [], ◌∷◌, Option, Some, None}
+use Rattle.std.specs.Prelude.{ℕ, Option, Some, None}
 use Rattle.rev_history.specs.declared.refusal.Refusal.{Refusal}
 use Rattle.rev_history.specs.declared.refusal.Refusal.TheVariants.{NoSuchEvent, NotKept, DependedOn, AlreadyKept, NotNow, Overtaken, NothingKept}
 

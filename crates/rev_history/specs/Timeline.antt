@@ -1,5 +1,5 @@
 -- A history: where it opened, each event that was accepted under its number, and which of these are kept.
-use Rattle.std.specs.Prelude.{◌≡◌, ℕ, ◌<◌, Bool, not, cond, List, [], ◌∷◌, ◌++◌, Option, Some, None, IsSome, filter, max, length, slice_get, ◌-◌, nat_eq, nat_lt, refl, if◌then◌else◌}
+use Rattle.std.specs.Prelude.{ℕ, ◌<◌, Bool, not, List, [], ◌∷◌, ◌++◌, Option, Some, None, IsSome, filter, max, length, slice_get, ◌-◌, nat_eq, nat_lt, refl, if◌then◌else◌}
 use Rattle.std.specs.List.{list_any, AllByRecursion}
 use Rattle.std.specs.Coded.{Coded, code_by, coded×, coded_list, coded_ℕ}
 use Rattle.std.specs.FinMap as map

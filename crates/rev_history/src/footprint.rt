@@ -7,7 +7,8 @@ ghost use Rattle.rev_cells.specs.State.{cell_cmp};
 use rev_cells::Cell;
 use std::marker::Model;
 
-/// The cells that an event reads and does not write, and those that it writes. The event of a whole footprint reads and writes all.
+/// The cells that an event reads and does not write, and those that it writes. The event of a whole footprint
+/// reads and writes all.
 #[derive(Drop)]
 pub(crate) struct Footprint {
     pub(crate) whole: bool,

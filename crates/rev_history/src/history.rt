@@ -88,7 +88,7 @@ impl History {
         &self.cells
     }
 
-    /// Accepts an event under a number above all others, and keeps it.
+    /// Accepts an event under a number above all others, and keeps it. Its refusal is that of the present state.
     pub fn accept(&mut self, number: u32, event: &Event) -> Result<(), Fault>
         requires { last_of self.old.accepted < number }
         ensures refused { (r : Refusal) → IsErrOf result (Fault.Refused r) ↔ (accept_refusal self.old event.now ≡ Some r) }
@@ -112,8 +112,8 @@ impl History {
         Ok(())
     }
 
-    /// Takes a kept event out, whose number is any of those kept. It is refused where no event was accepted under the number, where the event is not
-    /// kept, and where the event of a later kept number conflicts with it.
+    /// Takes a kept event out, whichever it is of those on which no later kept one depends. The other events stay, and
+    /// the state is then that of these alone. It takes the time of a run of all of them.
     pub fn undo(&mut self, number: u32) -> Result<(), Fault>
         ensures refused { (r : Refusal) → IsErrOf result (Fault.Refused r) ↔ (undo_refusal self.old number ≡ Some r) }
         ensures free { OnOk result (undo_refusal self.old number ≡ None) }
@@ -128,7 +128,8 @@ impl History {
         Ok(())
     }
 
-    /// Puts an event that was undone back at its number's place.
+    /// Puts an event that was undone back at its number's place. Want of memory may be answered before it is known
+    /// whether another event stands in the way.
     pub fn redo(&mut self, number: u32) -> Result<(), Fault>
         ensures refused { (r : Refusal) → IsErrOf result (Fault.Refused r) → redo_refusal self.old number ≡ Some r }
         ensures free { OnOk result (redo_refusal self.old number ≡ None) }
@@ -211,6 +212,143 @@ impl History {
         self.kept = kept;
         self.cells = replayed.cells;
         self.footprints = replayed.footprints;
+        Ok(())
+    }
+}
+
+#[cfg(test)]
+mod tests {
+    use super::*;
+    use rev_cells::{Cell, Value};
+    use rev_paths::Name;
+    use std::test::Fail;
+
+    // A history from an opening in which a.c has the stamp 10.
+    fn opened(alloc: Global) -> Result<History, Fail> {
+        let mut opening = Opening::new(alloc, 2)?;
+        opening.add_stamp(Name::new(alloc, b"a.c")?, 10)?;
+        Ok(History::new(alloc, &opening)?)
+    }
+
+    // Touches a path under the next number.
+    fn touch(history: &mut History, path: Name, stamp: u64) -> Result<(), Fail> {
+        let event = Event::Touch { path, stamp };
+        let last = history.last();
+        if last < 9 {
+            history.accept(last + 1, &event)?;
+        }
+        Ok(())
+    }
+
+    // Touches a.c, b.c and a.c again, under the numbers 1, 2 and 3.
+    fn touched(alloc: Global) -> Result<History, Fail> {
+        let mut history = opened(alloc)?;
+        touch(&mut history, Name::new(alloc, b"a.c")?, 11)?;
+        touch(&mut history, Name::new(alloc, b"b.c")?, 21)?;
+        touch(&mut history, Name::new(alloc, b"a.c")?, 12)?;
+        Ok(history)
+    }
+
+    // The stamp that a cell holds.
+    fn stamp_of(cells: &Cells, path: Name) -> u64 {
+        match cells.get(&Cell::Stamp(path)) {
+            Some(Value::Stamp(stamp)) => *stamp,
+            None => 0,
+        }
+    }
+
+    #[test]
+    fn events_are_accepted(rt: HostRuntime) -> Result<(), Fail> {
+        let history = touched(rt.alloc())?;
+        assert_eq!(rt; history.last(), 3);
+        assert_eq!(rt; history.kept(), [1, 2, 3].as_slice());
+        assert_eq!(rt;
+            stamp_of(history.cells(), Name::new(rt.alloc(), b"a.c")?),
+            12
+        );
+        Ok(())
+    }
+
+    #[test]
+    fn an_event_is_found_by_its_number(rt: HostRuntime) -> Result<(), Fail> {
+        let history = touched(rt.alloc())?;
+        let event = Event::Touch {
+            path: Name::new(rt.alloc(), b"./b.c")?,
+            stamp: 21,
+        };
+        assert_eq!(rt; history.event(2), Some(&event.copy()?));
+        assert_eq!(rt; history.event(4), None);
+        Ok(())
+    }
+
+    #[test]
+    fn a_refused_undo_names_the_nearest(rt: HostRuntime) -> Result<(), Fail> {
+        let mut history = touched(rt.alloc())?;
+        touch(&mut history, Name::new(rt.alloc(), b"a.c")?, 13)?;
+        assert_eq!(rt;
+            history.undo(1),
+            Err(Fault::Refused(Refusal::DependedOn(3)))
+        );
+        Ok(())
+    }
+
+    #[test]
+    fn an_event_is_undone_out_of_order(rt: HostRuntime) -> Result<(), Fail> {
+        let mut history = touched(rt.alloc())?;
+        assert_eq!(rt; history.undo(2), Ok(()));
+        assert_eq!(rt; history.kept(), [1, 3].as_slice());
+        assert_eq!(rt;
+            stamp_of(history.cells(), Name::new(rt.alloc(), b"b.c")?),
+            0
+        );
+        Ok(())
+    }
+
+    #[test]
+    fn an_event_is_redone_at_its_place(rt: HostRuntime) -> Result<(), Fail> {
+        let mut history = touched(rt.alloc())?;
+        history.undo(2)?;
+        assert_eq!(rt; history.redo(2), Ok(()));
+        assert_eq!(rt; history.kept(), [1, 2, 3].as_slice());
+        Ok(())
+    }
+
+    #[test]
+    fn a_step_back_undoes_the_greatest(rt: HostRuntime) -> Result<(), Fail> {
+        let mut history = touched(rt.alloc())?;
+        assert_eq!(rt; history.back(), Ok(3));
+        assert_eq!(rt;
+            stamp_of(history.cells(), Name::new(rt.alloc(), b"a.c")?),
+            11
+        );
+        Ok(())
+    }
+
+    #[test]
+    fn a_redo_is_overtaken(rt: HostRuntime) -> Result<(), Fail> {
+        let mut history = opened(rt.alloc())?;
+        touch(&mut history, Name::new(rt.alloc(), b"a.c")?, 11)?;
+        history.undo(1)?;
+        touch(&mut history, Name::new(rt.alloc(), b"a.c")?, 12)?;
+        assert_eq!(rt; history.redo(1), Err(Fault::Refused(Refusal::Overtaken(2))));
+        Ok(())
+    }
+
+    #[test]
+    fn what_was_never_accepted_is_refused(rt: HostRuntime) -> Result<(), Fail> {
+        let mut history = opened(rt.alloc())?;
+        assert_eq!(rt; history.undo(1), Err(Fault::Refused(Refusal::NoSuchEvent)));
+        assert_eq!(rt; history.redo(1), Err(Fault::Refused(Refusal::NoSuchEvent)));
+        assert_eq!(rt; history.back(), Err(Fault::Refused(Refusal::NothingKept)));
+        Ok(())
+    }
+
+    #[test]
+    fn what_is_kept_or_not_is_refused(rt: HostRuntime) -> Result<(), Fail> {
+        let mut history = touched(rt.alloc())?;
+        assert_eq!(rt; history.redo(1), Err(Fault::Refused(Refusal::AlreadyKept)));
+        history.undo(3)?;
+        assert_eq!(rt; history.undo(3), Err(Fault::Refused(Refusal::NotKept)));
         Ok(())
     }
 }

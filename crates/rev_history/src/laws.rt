@@ -3,7 +3,8 @@ ghost use Rattle.rev_causal.specs.Laws.{FreeExactlyWhereLast, SameResult};
 ghost use Rattle.rev_history.specs.Laws.{NearestIsNamed, RedoNextRestores, RedoRunsNow, StepBack, UndoExactlyWhenIndependent, UndoLeavesTheOthers};
 ghost use Rattle.rev_history.specs.Machine.{machine};
 
-/// Where an event is accepted and a step back follows, that event is undone, and state and kept numbers are those before.
+/// Where an event is accepted and a step back follows, that event is undone, and state and kept numbers are those
+/// before.
 pub fn step_back()
     ensures { StepBack }
 {}

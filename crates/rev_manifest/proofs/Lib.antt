@@ -5,3 +5,4 @@ pub mod FormLemmas
 pub mod AnswerLemmas
 pub mod NameLemmas
 pub mod StatementLemmas
+pub mod TextLemmas

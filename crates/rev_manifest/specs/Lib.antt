@@ -1,5 +1,6 @@
 pub mod Bytes
 pub mod Scope
+pub mod CommandText
 pub mod Fault
 pub mod Forms
 pub mod Joining

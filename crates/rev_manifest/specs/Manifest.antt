@@ -150,7 +150,7 @@ read_lines lines = and_then (read_statements lines) (λ above. Ok (manifest_valu
 
 -- The value of files, each a name and its content, or their first fault. The first file is the manifest;
 -- this grammar has no statement that reads another.
-abbrev pub manifest_of : List (List ℕ × List ℕ) → Result ManifestValue ManifestFault
+unfoldable pub manifest_of : List (List ℕ × List ℕ) → Result ManifestValue ManifestFault
 manifest_of [] = Err (record { kind = NoFile; file = 0; line = 0 })
 manifest_of (file ∷ files) = read_lines (lines_of file.1)
 

@@ -58,6 +58,15 @@ pub struct ManifestFault {
     pub line: u64,
 }
 
+impl ManifestFault {
+    /// The number of the fault.
+    pub fn code(self) -> u16
+        ensures { result ≡ code_of self.kind }
+    {
+        self.kind.code()
+    }
+}
+
 /// Why no manifest is read.
 #[derive(Clone, Copy, Debug, PartialEq, Eq)]
 pub enum ReadFault {

@@ -7,6 +7,7 @@ mod bytes;
 mod expansion;
 mod fault;
 mod forms;
+pub mod laws;
 mod lines;
 mod manifest;
 mod names;

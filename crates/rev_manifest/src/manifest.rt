@@ -75,6 +75,7 @@ fn read_content(alloc: Global, content: &[u8]) -> Result<Manifest, ReadFault>
 /// # Errors
 /// [`ReadFault::Manifest`] with the first fault of the files, and [`ReadFault::Memory`] only where
 /// an allocation was refused.
+#[tactic(auto, unfolding(crate::specs::Manifest::manifest_of))]
 pub fn read(alloc: Global, files: &[(Vec<u8>, Vec<u8>)]) -> Result<Manifest, ReadFault>
     // What is read is what the files say, and they have no fault.
     ensures value { IfOk result (λ manifest. manifest_of (seen_files files.now) ≡ Ok (contents manifest)) }
@@ -95,3 +96,6 @@ pub fn read(alloc: Global, files: &[(Vec<u8>, Vec<u8>)]) -> Result<Manifest, Rea
         }
     }
 }
+
+#[cfg(test)]
+mod tests;

@@ -1,6 +1,5 @@
-use Rattle.std.proofs.Common.{◌≡◌, false, true, Some, IsSome, get_or, sym, ◌∙◌, subst, ap}
+use Rattle.std.proofs.Common.{◌≡◌, false, true, IsSome, get_or, sym, ◌∙◌, subst, ap}
 use Rattle.std.proofs.Common.{List, ◌∷◌, [], ◌++◌, ◌+◌}
-use Rattle.rev_causal.specs.History as causal
 use Rattle.rev_causal.specs.Store.{Footprint}
 use Rattle.rev_cells.specs.declared.cell.Cell.{Cell}
 use Rattle.rev_history.specs.Machine.{footprint}

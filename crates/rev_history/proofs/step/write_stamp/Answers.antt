@@ -1,4 +1,4 @@
-use Rattle.std.proofs.Common.{◌≡◌, true, false, if◌then◌else◌, Some, None, ap, sym, ◌∙◌, refl}
+use Rattle.std.proofs.Common.{◌≡◌, true, false, if◌then◌else◌, Some, None, ap, ◌∙◌, refl}
 use Rattle.std.specs.FinMap as map
 use Rattle.rev_causal.specs.Store.{set_cell}
 use Rattle.rev_cells.specs.declared.cell.Cell.{Cell}

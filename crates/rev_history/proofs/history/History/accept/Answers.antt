@@ -1,9 +1,9 @@
-use Rattle.std.proofs.Common.{◌≡◌, ◌<◌, ◌++◌, ◌∷◌, [], List, ℕ, None, ap, sym, subst, ◌∙◌, refl, nat_eq}
+use Rattle.std.proofs.Common.{◌≡◌, ◌<◌, ◌++◌, ◌∷◌, [], ℕ, ap, sym, subst, ◌∙◌, refl, nat_eq}
 use Rattle.std.specs.Map.{lookup}
 use Rattle.indexmap.specs.IndexMap.{IndexMap, insert_entry}
 use Rattle.indexmap.proofs.CallerLemmas.{insert_entry-new}
 use Rattle.rev_history.specs.declared.event.Event.{Event}
-use Rattle.rev_history.specs.Machine.{refusal, footprint, after}
+use Rattle.rev_history.specs.Machine.{refusal, after}
 use Rattle.rev_history.specs.Timeline.{Numbered, last_of, accepted_as}
 use Rattle.rev_history.proofs.Fields.{accepted_sound}
 use Rattle.rev_history.proofs.Numbers.{lookup-above}

@@ -1,6 +1,5 @@
-use Rattle.std.proofs.Common.{◌≡◌, Bool, true, false, Option, Some, None, is_some, length, ap, sym, ◌∙◌}
+use Rattle.std.proofs.Common.{◌≡◌, false, Option, Some, None, is_some, length, ap, sym, ◌∙◌}
 use Rattle.std.specs.Option.{IfNone}
-use Rattle.rev_history.specs.Timeline.{is_among}
 use Rattle.rev_history.proofs.Fields.{lengths, redo_refusal_found}
 use Rattle.rev_history.proofs.history.History.redo_refused.Goals as goal
 
