@@ -9,6 +9,8 @@ mod options;
 mod output;
 mod report;
 mod session;
+#[cfg(test)]
+mod tests;
 mod text;
 
 use clap::error::ErrorKind;
