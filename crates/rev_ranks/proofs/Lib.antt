@@ -1,0 +1,4 @@
+pub mod Ways
+pub mod Marks
+pub mod Searches
+pub mod Counts

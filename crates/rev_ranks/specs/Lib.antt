@@ -1,0 +1,3 @@
+pub mod Graph
+pub mod Sets
+pub mod Laws

@@ -1,0 +1,10 @@
+//! Ranks for the nodes of a directed graph, or the least node that reaches itself.
+#![tactic(auto)]
+
+mod fault;
+pub mod laws;
+mod ranking;
+mod reach;
+
+pub use fault::RankFault;
+pub use ranking::ranks;

@@ -1,0 +1,24 @@
+//! Ranks for the nodes of a directed graph.
+ghost use Rattle.std.specs.Prelude.{◌≡◌, ◌<◌, ℕ, ◌^◌, length, IfOk, OnOk};
+ghost use Rattle.std.specs.List.{All};
+ghost use Rattle.rev_ranks.specs.Graph.{graph_of, AreRanks, IsLeastOnCycle, Reaches};
+
+use super::RankFault;
+use super::reach::ranks_by_sets;
+use std::alloc::Global;
+
+/// Ranks for the nodes of a directed graph, in which node n steps to each node of `successors[n]`: a node's rank is above
+/// those of the nodes that it steps to.
+///
+/// # Errors
+/// `Cycle` names the least node that reaches itself, where there is one. `Memory` comes only where an allocation was
+/// refused.
+pub fn ranks(alloc: Global, successors: &[Vec<u32>]) -> Result<Vec<u32>, RankFault>
+    requires inside { All (λ v. All (λ s. s < length successors.now) v.items) successors.now }
+    requires small { length successors.now < 2 ^ 32 }
+    ensures ok { IfOk result (λ ranks. AreRanks (graph_of successors.now) ranks.items) }
+    ensures acyclic { OnOk result ((n : ℕ) → Reaches (graph_of successors.now) n n → ⊥) }
+    ensures cycle { (n : ℕ) → result ≡ Err (RankFault.Cycle n) → IsLeastOnCycle (graph_of successors.now) n }
+{
+    ranks_by_sets(alloc, successors)
+}
