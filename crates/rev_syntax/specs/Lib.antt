@@ -1,0 +1,4 @@
+pub mod Bytes
+pub mod Fault
+pub mod Texts
+pub mod Pieces
