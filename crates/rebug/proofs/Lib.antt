@@ -1,6 +1,7 @@
 pub mod AnswerLemmas
 pub mod FaultLemmas
 pub mod FieldLemmas
+pub mod InputLemmas
 pub mod InverseLemmas
 pub mod ListLemmas
 pub mod NumberLemmas

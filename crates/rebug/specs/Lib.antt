@@ -1,5 +1,6 @@
 pub mod Faults
 pub mod Fields
+pub mod Input
 pub mod InStep
 pub mod Lines
 pub mod Listing
