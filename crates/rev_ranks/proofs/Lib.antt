@@ -2,3 +2,4 @@ pub mod Ways
 pub mod Marks
 pub mod Searches
 pub mod Counts
+pub mod Certificates

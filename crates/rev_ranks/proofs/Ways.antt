@@ -58,3 +58,7 @@ steps_inside (x ∷ xs) inside n s h =
     let at : Contains (get_or (x ∷ xs) n x).items s = subst (λ (l : List ℕ). Contains l s) e h in
     let below : s < length (x ∷ xs) = All-contains (λ t. t < length (x ∷ xs)) (get_or (x ∷ xs) n x).items s (inside n x within) at in
     omega (arith, below, nodes_are (x ∷ xs))
+
+pub reaches_from_node : {graph : List (List ℕ)} {n m : ℕ} → Reaches graph n m → n < length graph
+reaches_from_node {graph} {n} {m} (step h) = steps_from_node graph n m h
+reaches_from_node {graph} {n} {m} (further {s = s} h r) = steps_from_node graph n s h

@@ -1,3 +1,5 @@
 pub mod Graph
 pub mod Sets
+pub mod Certificate
+pub mod Walks
 pub mod Laws

@@ -1,6 +1,8 @@
 //! Ranks for the nodes of a directed graph, or the least node that reaches itself.
 #![tactic(auto)]
 
+mod certificate;
+mod components;
 mod fault;
 pub mod laws;
 mod ranking;
@@ -8,3 +10,6 @@ mod reach;
 
 pub use fault::RankFault;
 pub use ranking::ranks;
+
+#[cfg(test)]
+mod tests;

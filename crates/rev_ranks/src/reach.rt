@@ -27,7 +27,7 @@ fn mark_each(
 }
 
 /// The set of nodes that the node reaches.
-fn reached_from(
+pub(crate) fn reached_from(
     alloc: Global,
     successors: &[Vec<u32>],
     node: usize,

@@ -1,0 +1,41 @@
+-- Numbers that never rise along a step.
+use Rattle.std.proofs.Common.{◌≡◌, ℕ, ◌+◌, ◌<◌, ◌≤◌, List, length, get_or, take, subst, arith}
+use Rattle.std.specs.Global.{Vec}
+use Rattle.std.specs.List.{All}
+use Rattle.std.proofs.lemmas.List.{get_or_default}
+use Rattle.std.proofs.lemmas.List.Elements.{All-more, All-weaker, All-contains, All-from_get_or}
+use Rattle.rev_ranks.specs.Graph.{IsLeastOnCycle, Reaches, Reaches.step, Reaches.further, graph_of}
+use Rattle.rev_ranks.specs.Certificate.{FallsBelow, IsCertificate}
+use Rattle.rev_ranks.proofs.Ways.{nodes_are, reaches_from_node}
+
+-- one more number below a bound that may have grown
+pub bounded_more : (numbers nodes : List ℕ) (i bound grown : ℕ) → i < length nodes → All (λ s. get_or numbers s 0 < bound) (take i nodes) → bound ≤ grown → get_or numbers (get_or nodes i 0) 0 < grown → All (λ s. get_or numbers s 0 < grown) (take (i + 1) nodes)
+bounded_more numbers nodes i bound grown h was more here =
+    All-more (λ s. get_or numbers s 0 < grown) nodes i 0 h
+    (All-weaker (λ s. get_or numbers s 0 < bound) (λ s. get_or numbers s 0 < grown) (λ s below. omega arith) (take i nodes) was)
+    here
+
+module _ (graph : List (List ℕ)) (numbers : List ℕ) (certificate : IsCertificate graph numbers) where
+  -- along a way numbers never rise
+  never_rises_on : {n m : ℕ} → Reaches graph n m → get_or numbers m 0 ≤ get_or numbers n 0
+  never_rises_on {n} {m} (step h) = certificate.never_rises n m h
+  never_rises_on {n} {m} (further {s = s} h r) = omega (arith, certificate.never_rises n s h, never_rises_on r)
+
+  -- so a node of which each step falls does not reach itself
+  pub acyclic_below : (m : ℕ) → FallsBelow graph numbers m → (n : ℕ) → n < m → Reaches graph n n → ⊥
+  acyclic_below m falls n below (step h) = omega (arith, falls n n below h)
+  acyclic_below m falls n below (further {s = s} h r) = omega (arith, falls n s below h, never_rises_on r)
+
+-- so where each step falls no node reaches itself
+pub acyclic_by : (xs : List (Vec ℕ)) (certified levelled : List ℕ) → levelled ≡ certified → IsCertificate (graph_of xs) certified → FallsBelow (graph_of xs) levelled (length xs) → (n : ℕ) → Reaches (graph_of xs) n n → ⊥
+acyclic_by xs certified levelled e certificate falls n way =
+    acyclic_below (graph_of xs) certified certificate (length xs) (subst (λ (ns : List ℕ). FallsBelow (graph_of xs) ns (length xs)) e falls) n
+    (omega (arith, nodes_are xs, reaches_from_node way)) way
+
+-- and the least node of which a step does not fall is the least that reaches itself, if it does
+pub least_by : (xs : List (Vec ℕ)) (m : ℕ) (certified levelled : List ℕ) → levelled ≡ certified → IsCertificate (graph_of xs) certified → (m < length xs) × FallsBelow (graph_of xs) levelled m → Reaches (graph_of xs) m m → IsLeastOnCycle (graph_of xs) m
+least_by xs m certified levelled e certificate falls way = record {
+  is_node = omega (arith, falls.0, nodes_are xs);
+  on_cycle = way;
+  least = λ k below r. acyclic_below (graph_of xs) certified certificate m (subst (λ (ns : List ℕ). FallsBelow (graph_of xs) ns m) e falls.1) k below r;
+}
