@@ -1,0 +1,3 @@
+pub mod BindingLemmas
+pub mod RuleLemmas
+pub mod ScopeLemmas
