@@ -1,3 +1,4 @@
 pub mod BindingLemmas
+pub mod ExpansionLemmas
 pub mod RuleLemmas
 pub mod ScopeLemmas

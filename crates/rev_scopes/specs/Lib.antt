@@ -1,4 +1,5 @@
 pub mod Bindings
+pub mod Expansion
 pub mod Fault
 pub mod RuleNames
 pub mod Scopes
