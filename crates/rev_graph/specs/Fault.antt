@@ -1,0 +1,26 @@
+-- Why edges make no graph.
+use Rattle.std.specs.Prelude.{◌≡◌, ℕ, ◌<◌, ◌≤◌, List, length, Option, Some, None}
+use Rattle.rev_manifest.specs.Manifest.{BuildValue}
+use Rattle.rev_graph.specs.declared.fault.GraphFault.{GraphFault}
+use Rattle.rev_graph.specs.declared.fault.GraphFault.TheVariants.{Memory, TooManyEdges, MultipleProducers, Cycle}
+use Rattle.rev_graph.specs.Graph.{first_double, NamesCycle, EdgeReaches}
+
+-- the numbers of the faults
+abbrev pub code_of : GraphFault → Option ℕ
+code_of Memory = None
+code_of TooManyEdges = Some 42
+code_of (MultipleProducers path) = Some 40
+code_of (Cycle path) = Some 41
+
+-- what each fault says of the edges; they are asked for in this order
+abbrev pub Explains : GraphFault → List BuildValue → Type 0
+Explains Memory builds = Unit {0}
+Explains TooManyEdges builds = 262144 < length builds
+Explains (MultipleProducers path) builds = (length builds ≤ 262144) × (first_double builds ≡ Some path)
+Explains (Cycle path) builds = (length builds ≤ 262144) × (first_double builds ≡ None) × NamesCycle builds path
+
+-- Edges that have none of the faults.
+pub record IsFaultless (builds : List BuildValue) : Type 0 where
+  pub few : length builds ≤ 262144
+  pub single : first_double builds ≡ None
+  pub acyclic : (edge : ℕ) → EdgeReaches builds edge edge → ⊥

@@ -1,0 +1,5 @@
+pub mod Entries
+pub mod Fault
+pub mod Graph
+pub mod Lists
+pub mod Sound

@@ -1,0 +1,54 @@
+//! Why a manifest has no graph.
+ghost use Rattle.std.specs.Prelude.{◌≡◌};
+ghost use Rattle.rev_graph.specs.declared.fault.GraphFault.TheVariants.{Memory};
+ghost use Rattle.rev_graph.specs.Fault.{code_of};
+
+use rev_paths::Name;
+use std::alloc::{AllocError, AllocFailed};
+
+/// Why a manifest has no graph. The faults are asked for in the order [`GraphFault::TooManyEdges`],
+/// [`GraphFault::MultipleProducers`], [`GraphFault::Cycle`].
+#[derive(Debug, Drop, PartialEq, Eq)]
+pub enum GraphFault {
+    /// An allocation was refused, which says nothing about the manifest.
+    Memory,
+    /// There are more than [`Graph::MAX_EDGES`](crate::Graph::MAX_EDGES) edges.
+    TooManyEdges,
+    /// The first output, in reading order, that an earlier edge has
+    /// (Ninja: "multiple rules generate").
+    MultipleProducers(Name),
+    /// The first output of the least edge that reaches itself through explicit, implicit or order-only inputs
+    /// (Ninja: "dependency cycle").
+    Cycle(Name),
+}
+
+impl GraphFault {
+    /// The number of the fault: 42 for too many edges, 40 for a second producer, 41 for a cycle,
+    /// and none for want of memory.
+    pub fn code(&self) -> Option<u16>
+        ensures { result ≡ code_of self.now }
+    {
+        match self {
+            GraphFault::Memory => None,
+            GraphFault::TooManyEdges => Some(42),
+            GraphFault::MultipleProducers(_) => Some(40),
+            GraphFault::Cycle(_) => Some(41),
+        }
+    }
+}
+
+impl From<AllocError> for GraphFault {
+    ghost from_gives = { λ _ fault. fault ≡ Memory };
+
+    fn from(_e: AllocError) -> GraphFault {
+        GraphFault::Memory
+    }
+}
+
+impl<T: Drop> From<AllocFailed<T>> for GraphFault {
+    ghost from_gives = { λ _ fault. fault ≡ Memory };
+
+    fn from(_e: AllocFailed<T>) -> GraphFault {
+        GraphFault::Memory
+    }
+}

@@ -1,0 +1,257 @@
+//! Graphs of edges.
+ghost use Rattle.std.specs.Prelude.{◌≡◌, ◌<◌, ◌↔◌, map, length, IsTrue, IfOk, IfErr, IsErrOf, OnOk};
+ghost use Rattle.rev_manifest.specs.Seen.{contents};
+ghost use Rattle.rev_graph.specs.Entries.{entry};
+ghost use Rattle.rev_graph.specs.Fault.{Explains, IsFaultless};
+ghost use Rattle.rev_graph.specs.Graph.{build_at, is_known, producer_of, pool_of, input_producers, rank_at, IsGraph};
+ghost use Rattle.rev_graph.specs.Lists.{seen_pools};
+
+use crate::edge::{Edge, edges_of, names_copy};
+use crate::fault::GraphFault;
+use crate::steps::{all_producers, ranks_of};
+use crate::table::{Table, producer, table_of};
+use rev_manifest::Manifest;
+use rev_paths::Name;
+use std::alloc::{AllocError, Global};
+use std::marker::Model;
+
+/// The edges of a manifest, by number, with the producer of each path. No path is an output of two edges, and
+/// no edge reaches itself through explicit, implicit or order-only inputs.
+///
+/// Calls about one edge take a number below [`Graph::edges`]. No call but [`Graph::build`] takes memory.
+#[derive(Drop)]
+pub struct Graph {
+    edges: Vec<Edge>,
+    pools: Vec<(Vec<u8>, u32)>,
+    defaults: Vec<Name>,
+    table: Table,
+    producers: Vec<Vec<Option<u32>>>,
+    ranks: Vec<u32>,
+}
+
+impl Model for Graph {
+    ghost use Rattle.rev_graph.specs.Graph.{GraphValue};
+
+    ghost Value = { GraphValue };
+
+    ghost use Rattle.rev_graph.specs.Sound.{value_of, IsSound};
+
+    ghost view = { value_of };
+
+    ghost invariant = { IsSound };
+}
+
+/// The inputs on an edge's build line.
+#[derive(Clone, Copy, Debug)]
+pub struct Inputs<'a> {
+    /// The inputs before `|`.
+    pub explicit: &'a [Name],
+    /// The inputs after `|`.
+    pub implicit: &'a [Name],
+    /// The inputs after `||`, which come first but are no reason to run (Ninja manual, order-only dependencies).
+    pub order_only: &'a [Name],
+}
+
+/// The outputs of an edge.
+#[derive(Clone, Copy, Debug)]
+pub struct Outputs<'a> {
+    /// The outputs before `|`.
+    pub explicit: &'a [Name],
+    /// The outputs after `|`.
+    pub implicit: &'a [Name],
+}
+
+// Copies of pools.
+fn pools_copy(alloc: Global, pools: &[(Vec<u8>, u32)]) -> Result<Vec<(Vec<u8>, u32)>, AllocError>
+    ensures { IfOk result (λ copy. seen_pools copy.items ≡ seen_pools pools.now) }
+{
+    let mut copy = Vec::with_capacity(alloc, pools.len())?;
+    for pool in pools {
+        copy.push((Vec::from_slice(alloc, &pool.0)?, pool.1))?;
+    }
+    Ok(copy)
+}
+
+impl Graph {
+    /// The most edges that a graph has.
+    pub const MAX_EDGES: u32 = 262_144;
+
+    /// The graph of a manifest, in time linear in its edges and paths up to hashing.
+    ///
+    /// # Errors
+    /// [`GraphFault::TooManyEdges`] where there are more than [`Graph::MAX_EDGES`] edges; else
+    /// [`GraphFault::MultipleProducers`] with the first output, in reading order, that an earlier edge has; else
+    /// [`GraphFault::Cycle`] with the first output of the least edge that reaches itself. [`GraphFault::Memory`] only where an
+    /// allocation was refused.
+    pub fn build(alloc: Global, manifest: &Manifest) -> Result<Graph, GraphFault>
+        // The graph has the manifest's edges, pools and defaults, and these have no fault.
+        ensures value { IfOk result (λ graph. graph.manifest ≡ contents manifest.now) }
+        ensures faultless { OnOk result (IsFaultless (contents manifest.now).builds) }
+
+        // A fault is the first that they have.
+        ensures fault { IfErr result (λ fault. Explains fault (contents manifest.now).builds) }
+        ensures many { IsErrOf result GraphFault.TooManyEdges ↔ (262144 < length (contents manifest.now).builds) }
+    {
+        if manifest.builds.len() > Self::MAX_EDGES as usize {
+            return Err(GraphFault::TooManyEdges);
+        }
+        let edges = edges_of(alloc, &manifest.builds)?;
+        let table = table_of(alloc, &edges)?;
+        let producers = all_producers(alloc, &table, &edges)?;
+        let ranks = ranks_of(alloc, &edges, &producers)?;
+        let pools = pools_copy(alloc, &manifest.pools)?;
+        let defaults = names_copy(alloc, &manifest.defaults)?;
+        Ok(Graph {
+            edges,
+            pools,
+            defaults,
+            table,
+            producers,
+            ranks,
+        })
+    }
+
+    /// How many edges there are, at most [`Graph::MAX_EDGES`].
+    pub fn edges(&self) -> u32
+        ensures edges { result ≡ length self.now.manifest.builds }
+        ensures graph { IsGraph self.now }
+    {
+        self.edges.len() as u32
+    }
+
+    /// The edge that has the path among its outputs, if one has.
+    pub fn producer(&self, path: &Name) -> Option<u32>
+        ensures { result ≡ producer_of self.now.manifest.builds path.now }
+    {
+        producer(&self.table, path)
+    }
+
+    /// Whether the path stands on a build line: as an output, an input of any kind, or a validation.
+    pub fn known(&self, path: &Name) -> bool
+        ensures { result ≡ is_known self.now.manifest.builds path.now }
+    {
+        self.table.contains_key(path)
+    }
+
+    // The edge of a number.
+    fn at(&self, edge: u32) -> &Edge
+        requires { edge < length self.now.manifest.builds }
+        ensures { result.now ≡ build_at self.now.manifest.builds edge }
+    {
+        &self.edges[edge as usize]
+    }
+
+    /// The inputs on an edge's build line.
+    pub fn inputs(&self, edge: u32) -> Inputs<'_>
+        requires { edge < length self.now.manifest.builds }
+        ensures explicit { result.explicit.now ≡ (build_at self.now.manifest.builds edge).explicit }
+        ensures implicit { result.implicit.now ≡ (build_at self.now.manifest.builds edge).implicit }
+        ensures order_only { result.order_only.now ≡ (build_at self.now.manifest.builds edge).order_only }
+    {
+        let edge = self.at(edge);
+        Inputs {
+            explicit: edge.explicit(),
+            implicit: edge.implicit(),
+            order_only: edge.order_only(),
+        }
+    }
+
+    /// For each input on an edge's build line, explicit, implicit, then order-only, the edge that produces it, if one does.
+    pub fn producers(&self, edge: u32) -> &[Option<u32>]
+        requires { edge < length self.now.manifest.builds }
+        ensures { result.now ≡ input_producers self.now.manifest.builds (build_at self.now.manifest.builds edge) }
+    {
+        &self.producers[edge as usize]
+    }
+
+    /// The outputs of an edge.
+    pub fn outputs(&self, edge: u32) -> Outputs<'_>
+        requires { edge < length self.now.manifest.builds }
+        ensures explicit { result.explicit.now ≡ (build_at self.now.manifest.builds edge).explicit_outs }
+        ensures implicit { result.implicit.now ≡ (build_at self.now.manifest.builds edge).implicit_outs }
+    {
+        let edge = self.at(edge);
+        Outputs {
+            explicit: edge.explicit_outs(),
+            implicit: edge.implicit_outs(),
+        }
+    }
+
+    /// The paths after `|@` on an edge's build line.
+    pub fn validations(&self, edge: u32) -> &[Name]
+        requires { edge < length self.now.manifest.builds }
+        ensures { result.now ≡ (build_at self.now.manifest.builds edge).validations }
+    {
+        self.at(edge).validations()
+    }
+
+    /// The command of an edge that is compared with the recorded one.
+    pub fn command(&self, edge: u32) -> &[u8]
+        requires { edge < length self.now.manifest.builds }
+        ensures { result.now ≡ (build_at self.now.manifest.builds edge).command }
+    {
+        self.at(edge).command()
+    }
+
+    /// Whether an edge's rule is `phony`.
+    pub fn is_phony(&self, edge: u32) -> bool
+        requires { edge < length self.now.manifest.builds }
+        ensures { result ≡ (build_at self.now.manifest.builds edge).phony }
+    {
+        self.at(edge).is_phony()
+    }
+
+    /// Whether the listing of an edge's depfile is kept.
+    pub fn keeps_deps(&self, edge: u32) -> bool
+        requires { edge < length self.now.manifest.builds }
+        ensures { result ≡ (build_at self.now.manifest.builds edge).keeps_deps }
+    {
+        self.at(edge).keeps_deps()
+    }
+
+    /// Whether outputs that an edge's command leaves alone count as unchanged (Ninja manual, restat).
+    pub fn restat(&self, edge: u32) -> bool
+        requires { edge < length self.now.manifest.builds }
+        ensures { result ≡ (build_at self.now.manifest.builds edge).restat }
+    {
+        self.at(edge).restat()
+    }
+
+    /// Whether a change of an edge's command is no reason to run it (Ninja manual, generator).
+    pub fn generator(&self, edge: u32) -> bool
+        requires { edge < length self.now.manifest.builds }
+        ensures { result ≡ (build_at self.now.manifest.builds edge).generator }
+    {
+        self.at(edge).generator()
+    }
+
+    /// The number and the depth of an edge's pool: none where it has no pool, or one of depth 0, which limits nothing
+    /// (Ninja manual, pools).
+    pub fn pool(&self, edge: u32) -> Option<(u32, u32)>
+        requires { edge < length self.now.manifest.builds }
+        ensures { result ≡ pool_of self.now.manifest edge }
+    {
+        let number = self.at(edge).pool()?;
+        let (_, depth) = self.pools.get(number as usize)?;
+        if *depth == 0 {
+            return None;
+        }
+        Some((number, *depth))
+    }
+
+    /// The outputs that are built where no target is named.
+    pub fn defaults(&self) -> &[Name]
+        ensures { result.now ≡ self.now.manifest.defaults }
+    {
+        &self.defaults
+    }
+
+    /// The rank of an edge, which is below [`Graph::edges`] and above the ranks of the edges that produce its inputs.
+    pub fn rank(&self, edge: u32) -> u32
+        requires { edge < length self.now.manifest.builds }
+        ensures rank { result ≡ rank_at self.now.ranks edge }
+        ensures graph { IsGraph self.now }
+    {
+        self.ranks[edge as usize]
+    }
+}

@@ -1,0 +1,13 @@
+//! The graph of a manifest's edges: one producer for each path, and no cycle.
+//!
+//! An edge's number is the place of its build statement among all, from 0.
+#![tactic(auto)]
+
+mod edge;
+mod fault;
+mod graph;
+mod steps;
+mod table;
+
+pub use fault::GraphFault;
+pub use graph::{Graph, Inputs, Outputs};
