@@ -2,8 +2,7 @@
 use Rattle.std.proofs.Common.{◌≡◌, ℕ, ◌+◌, ◌<◌, ◌≤◌, List, length, get_or, take, subst, arith}
 use Rattle.std.specs.Global.{Vec}
 use Rattle.std.specs.List.{All}
-use Rattle.std.proofs.lemmas.List.{get_or_default}
-use Rattle.std.proofs.lemmas.List.Elements.{All-more, All-weaker, All-contains, All-from_get_or}
+use Rattle.std.proofs.lemmas.List.Elements.{All-more, All-weaker}
 use Rattle.rev_ranks.specs.Graph.{IsLeastOnCycle, Reaches, Reaches.step, Reaches.further, graph_of}
 use Rattle.rev_ranks.specs.Certificate.{FallsBelow, IsCertificate}
 use Rattle.rev_ranks.proofs.Ways.{nodes_are, reaches_from_node}

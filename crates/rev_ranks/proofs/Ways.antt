@@ -9,7 +9,7 @@ use Rattle.std.proofs.lemmas.Bool.{cases_lt}
 use Rattle.std.proofs.lemmas.List.{get_or-map, get_or_past, length-map}
 use Rattle.std.proofs.lemmas.List.Elements.{All-contains}
 use Rattle.rev_ranks.specs.declared.fault.RankFault.{RankFault}
-use Rattle.rev_ranks.specs.Graph.{AreRanks, Reaches, Reaches.step, Reaches.further, Steps, graph_of, successors_of}
+use Rattle.rev_ranks.specs.Graph.{AreRanks, IsLeastOnCycle, Reaches, Reaches.step, Reaches.further, Steps, graph_of, successors_of}
 
 -- one step more at the end of a way
 pub reaches_more : {graph : List (List ℕ)} {n m s : ℕ} → Reaches graph n m → Steps graph m s → Reaches graph n s
@@ -62,3 +62,11 @@ steps_inside (x ∷ xs) inside n s h =
 pub reaches_from_node : {graph : List (List ℕ)} {n m : ℕ} → Reaches graph n m → n < length graph
 reaches_from_node {graph} {n} {m} (step h) = steps_from_node graph n m h
 reaches_from_node {graph} {n} {m} (further {s = s} h r) = steps_from_node graph n s h
+
+-- one node at most is the least on a cycle
+pub least_is_one : (graph : List (List ℕ)) (n m : ℕ) → IsLeastOnCycle graph n → IsLeastOnCycle graph m → n ≡ m
+least_is_one graph n m a b =
+    elim (cases_lt n m) [
+      | inl below ↦ absurd (b.least n below a.on_cycle)
+      | inr above ↦ elim (cases_lt m n) [ inl below ↦ absurd (a.least m below b.on_cycle) | inr over ↦ omega arith ]
+    ]

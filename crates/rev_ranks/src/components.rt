@@ -6,7 +6,7 @@ ghost use Rattle.rev_ranks.specs.Walks.{IsWithin};
 use std::alloc::{AllocError, Global};
 
 /// What the walk knows of a node.
-#[derive(Clone, Copy, Debug)]
+#[derive(Clone, Copy)]
 struct Visit {
     /// When the walk met it, from 1; 0 while it has not.
     met: u32,
@@ -139,7 +139,7 @@ fn walk_from(
 }
 
 /// A number for each node, equal within a strongly connected component, and less for the components that it steps to.
-/// What is proved of it is that there is one for each node: `is_certificate` checks the rest.
+/// Proved of it is only that there is one for each node: `is_certificate` and `first_level` check the rest.
 pub(crate) fn components(alloc: Global, successors: &[Vec<u32>]) -> Result<Vec<u32>, AllocError>
     requires inside { All (λ v. All (λ s. s < length successors.now) v.items) successors.now }
     requires small { length successors.now < 2 ^ 32 }

@@ -12,8 +12,9 @@ use std::alloc::Global;
 /// Ranks for the nodes of a directed graph, in which node n steps to each node of `successors[n]`: a node's rank is above
 /// those of the nodes that it steps to.
 ///
-/// Time and memory are linear in nodes and steps. The numbers of the strongly connected components serve as ranks, and
-/// the proof rests on a check of them. Where the check failed, which it does for no graph, sets would give the answer.
+/// The numbers of the strongly connected components serve as ranks, and the proof rests on a check of them, in time and
+/// memory linear in nodes and steps. Were the check to fail, sets of reached nodes would give the answer, in quadratic
+/// time; that it does not fail is tested and not proved.
 ///
 /// # Errors
 /// `Cycle` names the least node that reaches itself, where there is one. `Memory` comes only where an allocation was

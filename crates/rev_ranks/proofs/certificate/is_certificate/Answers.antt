@@ -1,4 +1,4 @@
-use Rattle.std.proofs.Common.{◌≡◌, ◌<◌, ℕ, get_or, length, arith}
+use Rattle.std.proofs.Common.{◌≡◌, get_or, arith}
 use Rattle.std.proofs.lemmas.List.{get_or_default}
 use Rattle.rev_ranks.specs.Graph.{graph_of}
 use Rattle.rev_ranks.proofs.Ways.{nodes_are, steps_from_node}

@@ -1,6 +1,4 @@
-use Rattle.std.proofs.Common.{◌≡◌, ◌<◌, ℕ, length, arith, sym, ◌∙◌, subst}
-use Rattle.std.specs.declared.result.Result.TheVariants.{Err}
-use Rattle.rev_ranks.specs.declared.fault.RankFault.TheVariants.{Cycle}
+use Rattle.std.proofs.Common.{◌≡◌, ◌<◌, length, arith, sym, ◌∙◌, subst}
 use Rattle.rev_ranks.specs.Graph.{graph_of, IsLeastOnCycle}
 use Rattle.rev_ranks.specs.Sets.{IsMarked}
 use Rattle.rev_ranks.proofs.Ways.{acyclic_where_ok, nodes_are}
