@@ -1,4 +1,11 @@
 pub mod Bytes
+pub mod Ends
 pub mod Fault
-pub mod Texts
+pub mod Faults
+pub mod Joining
+pub mod Lines
+pub mod Paths
 pub mod Pieces
+pub mod Seen
+pub mod Statements
+pub mod Texts

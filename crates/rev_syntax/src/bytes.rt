@@ -1,7 +1,8 @@
 //! Runs of bytes of one class.
-ghost use Rattle.std.specs.Prelude.{◌≡◌, ◌≤◌, length};
+ghost use Rattle.std.specs.Prelude.{◌≡◌, ◌≤◌, false, length, take, drop};
+ghost use Rattle.rev_syntax.specs.Ends.{ends_at, free_len};
 ghost use Rattle.std.specs.List.{prefix_len, position_or_len, take_while};
-ghost use Rattle.rev_syntax.specs.Bytes.{has, is_byte, after, without_spaces};
+ghost use Rattle.rev_syntax.specs.Bytes.{has, is_byte, after, without_spaces, begins_with};
 
 use memchr::memchr;
 
@@ -67,4 +68,60 @@ pub(crate) fn without_spaces(text: &[u8]) -> &[u8]
     ensures { result.now ≡ without_spaces text.now }
 {
     split_run(Class::Space, text).1
+}
+
+/// Whether a text begins with that byte.
+pub(crate) fn begins_with(byte: u8, text: &[u8]) -> bool
+    ensures { result ≡ begins_with byte text.now }
+{
+    match text.first() {
+        None => false,
+        Some(first) => *first == byte,
+    }
+}
+
+/// Where a part of a line ends.
+#[derive(Clone, Copy)]
+pub(crate) enum End {
+    /// At a space.
+    SpaceEnd,
+    /// At a space, a colon or a bar, as a path.
+    PathEnd,
+    /// At a colon or a bar, as a list of paths.
+    ListEnd,
+}
+
+impl End {
+    fn is_at(self, byte: u8) -> bool
+        ensures { result ≡ ends_at self byte }
+    {
+        match self {
+            End::SpaceEnd => byte == b' ',
+            End::PathEnd => byte == b' ' || byte == b':' || byte == b'|',
+            End::ListEnd => byte == b':' || byte == b'|',
+        }
+    }
+}
+
+/// How many bytes stand before the first end that no `$` takes along.
+pub(crate) fn free_len(end: End, text: &[u8]) -> usize
+    ensures within { result ≤ length text.now }
+    ensures free { result ≡ free_len end false text.now }
+{
+    let mut taken = false;
+    for (i, byte) in text.iter().enumerate() {
+        if !taken && end.is_at(*byte) {
+            return i;
+        }
+        taken = !taken & (*byte == b'$');
+    }
+    text.len()
+}
+
+/// The bytes before the first end that no `$` takes along, and those from it on.
+pub(crate) fn split_free(end: End, text: &[u8]) -> (&[u8], &[u8])
+    ensures front { result.0.now ≡ take (free_len end false text.now) text.now }
+    ensures rest { result.1.now ≡ drop (free_len end false text.now) text.now }
+{
+    text.split_at(free_len(end, text))
 }

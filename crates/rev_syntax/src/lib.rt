@@ -7,7 +7,15 @@
 
 mod bytes;
 mod fault;
+mod forms;
+mod lines;
+mod paths;
+mod reader;
+mod statement;
 mod text;
 
-pub use fault::SyntaxKind;
+pub use fault::{ReadFault, SyntaxFault, SyntaxKind};
+pub use lines::{Line, lines_of};
+pub use reader::first_statement;
+pub use statement::{Binding, BuildLine, Form, Statement};
 pub use text::{Piece, StoredText, Text};
