@@ -1,5 +1,5 @@
 -- What passes from the reader of a part to the reader of the whole.
-use Rattle.std.proofs.Common.{◌≡◌, Option, Some, None, Result, Ok, Err, refl, sym, ap, ◌∙◌, subst}
+use Rattle.std.proofs.Common.{◌≡◌, Option, Some, None, Result, Ok, Err, refl, sym, subst}
 use Rattle.std.specs.Option.{ok_or}
 use Rattle.std.specs.Result.{OnOk}
 use Rattle.rebug.specs.declared.lines.faults.FaultKind.{FaultKind}

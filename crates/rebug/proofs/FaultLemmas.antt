@@ -1,11 +1,10 @@
 -- The first fault of a text.
-use Rattle.std.proofs.Common.{◌≡◌, ℕ, zero, suc, ◌<◌, ◌≤◌, ◌+◌, List, [], ◌∷◌, length, refl, sym, ap, ◌∙◌, arith, ◌⊎◌, inl, inr, Option, Some, None, Result, Ok, Err}
+use Rattle.std.proofs.Common.{◌≡◌, ℕ, zero, suc, ◌<◌, ◌≤◌, ◌+◌, List, refl, sym, ap, ◌∙◌, arith, inl, inr, Option, Some, None, Result, Err}
 use Rattle.std.proofs.lemmas.Bool.{cases_eq}
 use Rattle.std.specs.Option.{option_map}
 use Rattle.std.specs.List.{slice_get, filter_map, cons_option, range_with_len}
 use Rattle.rebug.specs.declared.lines.faults.FaultKind.{FaultKind}
 use Rattle.rebug.specs.declared.lines.faults.TextFault.{TextFault}
-use Rattle.rebug.specs.declared.lines.faults.ReadFault.{ReadFault}
 use Rattle.rebug.specs.declared.lines.faults.ReadFault.TheVariants as text
 use Rattle.rebug.specs.declared.lines.faults.LineFault.{LineFault}
 use Rattle.rebug.specs.declared.lines.faults.LineFault.TheVariants.{Memory, Kind}

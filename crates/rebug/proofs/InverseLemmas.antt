@@ -1,10 +1,10 @@
 -- Fields and the texts that they write: each is told by the other.
-use Rattle.std.proofs.Common.{◌≡◌, ℕ, ◌<◌, ◌+◌, Bool, true, false, cond, ◌==◌, List, [], ◌∷◌, ◌++◌, refl, ap, ◌∙◌, sym, arith, Option, Some, None, inl, inr, ◌⊎◌}
-use Rattle.std.proofs.lemmas.Bool.{cases_Bool, cases_eq, ne_eqb, eqb-true, eqb-false}
+use Rattle.std.proofs.Common.{◌≡◌, ℕ, true, false, cond, ◌==◌, List, [], ◌∷◌, ◌++◌, refl, ap, ◌∙◌, sym, arith, Option, Some, None, inl, inr, ◌⊎◌}
+use Rattle.std.proofs.lemmas.Bool.{cases_Bool, ne_eqb, eqb-true}
 use Rattle.std.proofs.lemmas.Bool.Decides.{nat_tests}
 use Rattle.std.proofs.lemmas.Slice.Eq.{bytes_eq-Decides}
 use Rattle.std.specs.List.{flat_map}
-use Rattle.std.specs.Option.{option_map, is_some}
+use Rattle.std.specs.Option.{is_some}
 use Rattle.std.specs.Str.{bytes_eq}
 use Rattle.std.specs.Global.{Vec}
 use Rattle.std.specs.Prelude.{Result, Ok, Err}
@@ -15,7 +15,7 @@ use Rattle.rebug.specs.declared.lines.faults.LineFault.{LineFault}
 use Rattle.rebug.specs.Faults.{Answers}
 use Rattle.rebug.proofs.AnswerLemmas.{some_from_ok_or}
 use Rattle.rebug.specs.Fields.{letter_of, byte_of, before_text, empty_field, field_text, unescaped, text_of, written_as, written_byte}
-use Rattle.rebug.proofs.FieldLemmas.{unescaped-plain, unescaped-bare, unescaped-backslash, rest_of}
+use Rattle.rebug.proofs.FieldLemmas.{unescaped-plain, unescaped-bare}
 
 byte_of-letter : (b l : ℕ) → letter_of b ≡ Some l → byte_of l ≡ Some b
 byte_of-letter b l h = grind (arith, nat_tests)

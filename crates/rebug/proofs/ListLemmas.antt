@@ -1,5 +1,5 @@
 -- Tests of the elements of a list, by their places.
-use Rattle.std.proofs.Common.{◌≡◌, ℕ, suc, ◌<◌, ◌+◌, Bool, true, false, ◌||◌, zero, List, [], ◌∷◌, length, get_or, refl, sym, ap, ◌∙◌, arith, ◌⊎◌, inl, inr}
+use Rattle.std.proofs.Common.{◌≡◌, ℕ, suc, ◌<◌, Bool, true, false, zero, List, [], ◌∷◌, length, get_or, refl, arith, inl, inr}
 use Rattle.std.proofs.lemmas.Bool.{or_left, or_right, or_from, or_cases, false≢true}
 use Rattle.std.specs.List.{list_any}
 

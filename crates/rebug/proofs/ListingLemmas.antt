@@ -1,27 +1,28 @@
 -- The list of the paths that are not missing, in order.
-use Rattle.std.proofs.Common.{◌≡◌, ℕ, ◌+◌, ◌<◌, ◌≤◌, Bool, true, false, cond, not, ◌&&◌, ◌||◌, ◌==◌, List, [], ◌∷◌, ◌++◌, Option, Some, None, IsSome, is_some, Contains, map, filter, length, take, slice_get, get_or, refl, sym, ap, subst, ◌∙◌, arith, eq-eqb}
+use Rattle.std.proofs.Common.{◌≡◌, ℕ, ◌+◌, ◌<◌, ◌≤◌, Bool, true, false, cond, not, ◌&&◌, ◌||◌, ◌==◌, List, [], ◌∷◌, ◌++◌, Option, Some, None, IsSome, is_some, Contains, map, filter, length, take, slice_get, get_or, refl, sym, ap, subst, ◌∙◌, arith}
 use Rattle.std.proofs.lemmas.Bool.Decides.{nat_tests}
 use lib.Dec.{T}
 use Rattle.std.specs.declared.cmp.Ordering.{Ordering}
 use Rattle.std.specs.declared.cmp.Ordering.TheVariants.{Less, Equal, Greater}
 use Rattle.std.specs.Ordering.{nat_cmp, eq_by_cmp, is_eq, is_lt, match_ordering}
-use Rattle.std.specs.Cmp.{IsTotalOrder, tied_itself}
+use Rattle.std.specs.Cmp.{tied_itself}
 use Rattle.std.specs.Cmp.Lexicographic.{slice_cmp, nat_list_cmp_total}
-use Rattle.std.specs.FinMap.{FinMap, find, put, is_sorted, same_entries_map, nat_cmp-IsAntisymmetric, slice_cmp-IsAntisymmetric}
+use Rattle.std.specs.FinMap.{find, put, is_sorted, nat_cmp-IsAntisymmetric, slice_cmp-IsAntisymmetric}
 use Rattle.std.specs.FinMap as map
 use Rattle.std.specs.List.{list_any, flat_map}
 use Rattle.std.specs.FinMap.Entries.{by_order, is_sorted-put, find-put, same_entries, below_all}
 use Rattle.std.specs.BTreeMap.{insert_entry}
-use Rattle.std.proofs.Common.{◌⊎◌, inl, inr, zero, suc, length-append}
+use Rattle.std.proofs.Common.{◌⊎◌, inl, inr, zero, suc, append_assoc}
 use Rattle.std.proofs.lemmas.List.{take_more, take_all}
 use Rattle.std.proofs.lemmas.Option.{slice_get_within, get_or_from_slice_get, slice_get_cases}
 use Rattle.rev_cells.specs.declared.cell.Cell.{Cell}
 use Rattle.rev_cells.specs.declared.cell.Cell.TheVariants as cell
-use Rattle.rev_cells.specs.declared.cell.Value.{Value}
-use Rattle.rev_cells.specs.declared.cell.Value.TheVariants as value
-use Rattle.rev_cells.specs.State.{State, cell_cmp, default_or, value_at, stamp_in, stamp_of}
-use Rattle.rebug.specs.Report.{is_there, paths_there, stamped_path}
-use Rattle.rebug.specs.Listing.{with_stamp, stamped, files_there}
+use Rattle.rev_cells.specs.declared.value.Value.{Value}
+use Rattle.rev_cells.specs.Keys.{cell_cmp}
+use Rattle.rev_cells.specs.Values.{default_of}
+use Rattle.rev_cells.specs.State.{State, default_or, value_at, stamp_in, stamp_of}
+use Rattle.rebug.specs.Report.{is_there, stamped_path}
+use Rattle.rebug.specs.Listing.{with_stamp, files_there}
 
 abbrev pub path_cmp : List ℕ → List ℕ → Ordering
 path_cmp = slice_cmp nat_cmp
@@ -34,16 +35,14 @@ same_path p q e = slice_cmp-IsAntisymmetric nat_cmp-IsAntisymmetric p q (equal (
     equal Equal e = refl
     equal Greater e = let no : false ≡ true = e in cc
 
--- the stamp that a look-up gives
-stamp-default_or : (p : List ℕ) (o : Option Value) (n : ℕ) → default_or (cell.Stamp p) o ≡ value.Stamp n → stamp_in o ≡ n
-stamp-default_or p None n e = let same : value.Stamp 0 ≡ value.Stamp n = e in cc
-stamp-default_or p (Some (value.Stamp v)) n e = let same : value.Stamp v ≡ value.Stamp n = e in cc
+-- what a look-up gives is the stamp
+pub stamp_by : (s : State) (c : Cell) (v : Value) → v ≡ value_at s c → stamp_in v ≡ stamp_in (value_at s c)
+stamp_by s c v e = ap stamp_in e
 
-pub stamped-none : (s : State) (c : Cell) → default_or c None ≡ value_at s c → 0 ≡ (stamped s c).1
-stamped-none s (cell.Stamp p) e = sym (stamp-default_or p (map.get s (cell.Stamp p)) 0 (sym e))
-
-pub stamped-some : (s : State) (c : Cell) (n : ℕ) → value.Stamp n ≡ value_at s c → n ≡ (stamped s c).1
-stamped-some s (cell.Stamp p) n e = sym (stamp-default_or p (map.get s (cell.Stamp p)) n (sym e))
+-- no default is a stamp but 0
+pub default_stamp : (c : Cell) → stamp_in (default_of c) ≡ 0
+default_stamp (cell.Stamp path) = refl
+default_stamp _ = refl
 
 -- a stamp that is not 0
 abbrev pub unless_zero : ℕ → Option ℕ
@@ -86,24 +85,44 @@ any_pushed f (x ∷ xs) y = ap (λ b. f x || b) (any_pushed f xs y) ∙ or_assoc
     or_assoc true b c = refl
     or_assoc false b c = refl
 
+map_joined : {A B : Type 0} (f : A → B) (xs ys : List A) → map f (xs ++ ys) ≡ map f xs ++ map f ys
+map_joined f [] ys = refl
+map_joined f (x ∷ xs) ys = ap (λ l. f x ∷ l) (map_joined f xs ys)
+
+paths_pushed : (cs : List Cell) (c : Cell) → flat_map stamped_path (cs ++ c ∷ []) ≡ flat_map stamped_path cs ++ stamped_path c
+paths_pushed [] c = append_none (stamped_path c)
+  where
+    append_none : (ps : List (List ℕ)) → ps ++ [] ≡ ps
+    append_none [] = refl
+    append_none (p ∷ ps) = ap (λ l. p ∷ l) (append_none ps)
+paths_pushed (d ∷ cs) c = ap (λ l. stamped_path d ++ l) (paths_pushed cs c) ∙ sym (append_assoc (stamped_path d) (flat_map stamped_path cs) (stamped_path c))
+
+abbrev pub stamped_files : State → List Cell → List (List ℕ × ℕ)
+stamped_files s cs = map (with_stamp s) (flat_map stamped_path cs)
+
 -- one more place
-pub more_places : (s : State) (places : List Cell) (files new : List (List ℕ × ℕ)) (c : Cell) → files ≡ map (stamped s) (take (length files) places)
-    → slice_get places (length files) ≡ Some c → new ≡ files ++ stamped s c ∷ [] → new ≡ map (stamped s) (take (length new) places)
-more_places s places files new c so_far here e =
-    let n : ℕ = length files in
-    let within : n < length places = slice_get_within places n c here in
-    let more : take (n + 1) places ≡ take n places ++ c ∷ [] = take_more places n c within ∙ ap (λ x. take n places ++ x ∷ []) (get_or_from_slice_get places n c c here) in
-    let longer : length new ≡ n + 1 = ap length e ∙ length-append files (stamped s c ∷ []) in
-    e ∙ ap (λ l. l ++ stamped s c ∷ []) so_far ∙ sym (map_pushed (stamped s) (take n places) c) ∙ ap (map (stamped s)) (sym more) ∙ ap (λ k. map (stamped s) (take k places)) (sym longer)
+pub more_places : (s : State) (places : List Cell) (files new : List (List ℕ × ℕ)) (i : ℕ) (c : Cell) → files ≡ stamped_files s (take i places)
+    → Some c ≡ slice_get places i → new ≡ files ++ map (with_stamp s) (stamped_path c) → new ≡ stamped_files s (take (i + 1) places)
+more_places s places files new i c so_far here e =
+    let within : i < length places = slice_get_within places i c (sym here) in
+    let more : take (i + 1) places ≡ take i places ++ c ∷ [] = take_more places i c within ∙ ap (λ x. take i places ++ x ∷ []) (get_or_from_slice_get places i c c (sym here)) in
+    e ∙ ap (λ l. l ++ map (with_stamp s) (stamped_path c)) so_far
+    ∙ sym (map_joined (with_stamp s) (flat_map stamped_path (take i places)) (stamped_path c))
+    ∙ ap (map (with_stamp s)) (sym (paths_pushed (take i places) c))
+    ∙ ap (stamped_files s) (sym more)
+
+-- a place that there is
+pub place_within : (places : List Cell) (i : ℕ) (c : Cell) → Some c ≡ slice_get places i → i < length places
+place_within places i c here = slice_get_within places i c (sym here)
 
 -- no more place
-pub all_places : (s : State) (places : List Cell) (files : List (List ℕ × ℕ)) → files ≡ map (stamped s) (take (length files) places)
-    → slice_get places (length files) ≡ None → files ≡ map (stamped s) places
-all_places s places files so_far none = so_far ∙ ap (map (stamped s)) (take_all (length files) places (past (slice_get_cases places (length files)).1))
+pub all_places : (s : State) (places : List Cell) (files : List (List ℕ × ℕ)) (i : ℕ) → files ≡ stamped_files s (take i places)
+    → None ≡ slice_get places i → files ≡ stamped_files s places
+all_places s places files i so_far none = so_far ∙ ap (stamped_files s) (take_all i places (past (slice_get_cases places i).1))
   where
-    past : ((x : Cell) × (length files < length places) × (slice_get places (length files) ≡ Some x) × (get_or places (length files) x ≡ x)) ⊎ ((length places ≤ length files) × (slice_get places (length files) ≡ None))
-        → length places ≤ length files
-    past (inl h) = let some : slice_get places (length files) ≡ Some h.0 = h.2 in cc
+    past : ((x : Cell) × (i < length places) × (slice_get places i ≡ Some x) × (get_or places i x ≡ x)) ⊎ ((length places ≤ i) × (slice_get places i ≡ None))
+        → length places ≤ i
+    past (inl h) = let some : slice_get places i ≡ Some h.0 = h.2 in cc
     past (inr h) = h.0
 
 -- one more file
@@ -141,19 +160,19 @@ other_is_some n h = ap (λ b. cond b None (Some n)) differs
     differs : (n == 0) ≡ false
     differs = grind (arith, nat_tests)
 
-stamp_of_place : (s : State) (places : List Cell) (i : ℕ) (f : List ℕ × ℕ) → i < length (map (stamped s) places)
-    → (get_or (map (stamped s) places) i f).1 ≡ stamp_of s (get_or (map (stamped s) places) i f).0
-stamp_of_place s [] i f h = absurd (omega arith)
-stamp_of_place s (cell.Stamp p ∷ cs) zero f h = refl
-stamp_of_place s (c ∷ cs) (suc i) f h = stamp_of_place s cs i f (omega arith)
+stamp_of_path : (s : State) (ps : List (List ℕ)) (i : ℕ) (f : List ℕ × ℕ) → i < length (map (with_stamp s) ps)
+    → (get_or (map (with_stamp s) ps) i f).1 ≡ stamp_of s (get_or (map (with_stamp s) ps) i f).0
+stamp_of_path s [] i f h = absurd (omega arith)
+stamp_of_path s (p ∷ ps) zero f h = refl
+stamp_of_path s (p ∷ ps) (suc i) f h = stamp_of_path s ps i f (omega arith)
 
 -- each file has the stamp that its path has
-pub stamp_at : (s : State) (places : List Cell) (files : List (List ℕ × ℕ)) (i : ℕ) (f : List ℕ × ℕ) → files ≡ map (stamped s) places
+pub stamp_at : (s : State) (places : List Cell) (files : List (List ℕ × ℕ)) (i : ℕ) (f : List ℕ × ℕ) → files ≡ stamped_files s places
     → i < length files → f ≡ get_or files i f → f.1 ≡ stamp_of s f.0
 stamp_at s places files i f e h at =
-    let same : f ≡ get_or (map (stamped s) places) i f = at ∙ ap (λ l. get_or l i f) e in
-    let within : i < length (map (stamped s) places) = subst (λ l. i < length l) e h in
-    ap (λ (x : List ℕ × ℕ). x.1) same ∙ stamp_of_place s places i f within ∙ ap (λ (x : List ℕ × ℕ). stamp_of s x.0) (sym same)
+    let same : f ≡ get_or (stamped_files s places) i f = at ∙ ap (λ l. get_or l i f) e in
+    let within : i < length (stamped_files s places) = subst (λ l. i < length l) e h in
+    ap (λ (x : List ℕ × ℕ). x.1) same ∙ stamp_of_path s (flat_map stamped_path places) i f within ∙ ap (λ (x : List ℕ × ℕ). stamp_of s x.0) (sym same)
 
 pushed_paths : (files more : List (List ℕ × ℕ)) (f : List ℕ × ℕ) → more ≡ files ++ f ∷ [] → paths_of more ≡ paths_of files ++ f.0 ∷ []
 pushed_paths files more f e = ap paths_of e ∙ map_pushed (λ (x : List ℕ × ℕ). x.0) files f
@@ -221,6 +240,7 @@ below_one s p (cell.Stamp q) rest lt h =
       | true ↦ both (is_lt (path_cmp p q)) (below_all path_cmp p (listing s rest)) lt h
       | false ↦ h
     ]
+below_one s p _ rest lt h = h
 
 below_listing : (s : State) (p : List ℕ) (es : List (Cell × Value)) → T (below_all cell_cmp (cell.Stamp p) es) → T (below_all path_cmp p (listing s (cell_paths es)))
 below_listing s p [] h = tt
@@ -235,6 +255,7 @@ sorted_one s (cell.Stamp q) es below h =
       | true ↦ both (below_all path_cmp q (listing s (cell_paths es))) (is_sorted path_cmp (listing s (cell_paths es))) (below_listing s q es below) h
       | false ↦ h
     ]
+sorted_one s _ es below h = h
 
 sorted_listing : (s : State) (es : List (Cell × Value)) → T (is_sorted cell_cmp es) → T (is_sorted path_cmp (listing s (cell_paths es)))
 sorted_listing s [] h = tt
@@ -279,17 +300,15 @@ found_in_listing s (p ∷ ps) q = one_more s p q ps (found_in_listing s ps q) (i
 -- a path among those of cells is that of a stamp's cell
 any_cell : (q : List ℕ) (c : Cell) (rest : List (List ℕ)) → list_any (eq_by_cmp path_cmp q) (stamped_path c ++ rest) ≡ (eq_by_cmp cell_cmp (cell.Stamp q) c || list_any (eq_by_cmp path_cmp q) rest)
 any_cell q (cell.Stamp p) rest = refl
+any_cell q _ rest = refl
 
 any_cells : (q : List ℕ) (cs : List Cell) → list_any (eq_by_cmp path_cmp q) (flat_map stamped_path cs) ≡ list_any (eq_by_cmp cell_cmp (cell.Stamp q)) cs
 any_cells q [] = refl
 any_cells q (c ∷ cs) = any_cell q c (flat_map stamped_path cs) ∙ ap (λ b. eq_by_cmp cell_cmp (cell.Stamp q) c || b) (any_cells q cs)
 
-place_path : (s : State) (c : Cell) (rest : List (List ℕ)) → (stamped s c).0 ∷ rest ≡ stamped_path c ++ rest
-place_path s (cell.Stamp p) rest = refl
-
-places_paths : (s : State) (cs : List Cell) → paths_of (map (stamped s) cs) ≡ flat_map stamped_path cs
-places_paths s [] = refl
-places_paths s (c ∷ cs) = ap (λ ps. (stamped s c).0 ∷ ps) (places_paths s cs) ∙ place_path s c (flat_map stamped_path cs)
+paths_stamped : (s : State) (ps : List (List ℕ)) → paths_of (map (with_stamp s) ps) ≡ ps
+paths_stamped s [] = refl
+paths_stamped s (p ∷ ps) = ap (λ l. p ∷ l) (paths_stamped s ps)
 
 any_at : (q : List ℕ) (cs : List Cell) (i : ℕ) → i < length cs → get_or cs i (cell.Stamp q) ≡ cell.Stamp q → list_any (eq_by_cmp cell_cmp (cell.Stamp q)) cs ≡ true
 any_at q [] i h at = absurd (omega arith)
@@ -301,9 +320,9 @@ any_at q (c ∷ cs) (suc i) h at = or_true (eq_by_cmp cell_cmp (cell.Stamp q) c)
     or_true true b e = refl
     or_true false b e = e
 
-has_stamp : (o : Option Value) → (stamp_in o ≡ 0 → ⊥) → IsSome o
-has_stamp None h = absurd (h refl)
-has_stamp (Some v) h = refl
+has_stamp : (q : List ℕ) (o : Option Value) → (stamp_in (default_or (cell.Stamp q) o) ≡ 0 → ⊥) → IsSome o
+has_stamp q None h = absurd (h refl)
+has_stamp q (Some v) h = refl
 
 -- of two lists of paths that both have each file that is there
 same_among : (s : State) (ps qs : List (List ℕ)) (q : List ℕ)
@@ -322,7 +341,7 @@ same_among s ps qs q f g = at (stamp_of s q == 0) refl
         ap (λ b. cond b (unless_zero (stamp_of s q)) None) (f other ∙ sym (g other))
 
 -- entries of all places, in order and without missing files, are the files that are there
-pub the_listing : (s : State) (places : List Cell) (files es : List (List ℕ × ℕ)) → files ≡ map (stamped s) places → ((c : Cell) → IsSome (map.get s c) → Contains places c)
+pub the_listing : (s : State) (places : List Cell) (files es : List (List ℕ × ℕ)) → files ≡ stamped_files s places → ((c : Cell) → IsSome (map.get s c) → Contains places c)
     → IsListingOf s files es → es ≡ files_there s
 the_listing s places files es e all l =
     same_entries path_cmp nat_list_cmp_total (slice_cmp-IsAntisymmetric nat_cmp-IsAntisymmetric) es (files_there s) l.sorted (sorted_listing s (map.entries s) (map.entries_sorted s))
@@ -330,11 +349,11 @@ the_listing s places files es e all l =
   where
     placed : (q : List ℕ) → (stamp_of s q ≡ 0 → ⊥) → list_any (eq_by_cmp path_cmp q) (paths_of files) ≡ true
     placed q other =
-        let there : Contains places (cell.Stamp q) = all (cell.Stamp q) (has_stamp (map.get s (cell.Stamp q)) other) in
-        ap (λ fs. list_any (eq_by_cmp path_cmp q) (paths_of fs)) e ∙ ap (list_any (eq_by_cmp path_cmp q)) (places_paths s places) ∙ any_cells q places ∙ any_at q places there.0 there.1 there.2
+        let there : Contains places (cell.Stamp q) = all (cell.Stamp q) (has_stamp q (map.get s (cell.Stamp q)) other) in
+        ap (λ fs. list_any (eq_by_cmp path_cmp q) (paths_of fs)) e ∙ ap (list_any (eq_by_cmp path_cmp q)) (paths_stamped s (flat_map stamped_path places)) ∙ any_cells q places ∙ any_at q places there.0 there.1 there.2
 
     kept : (q : List ℕ) → (stamp_of s q ≡ 0 → ⊥) → list_any (eq_by_cmp path_cmp q) (flat_map stamped_path (map.keys s)) ≡ true
-    kept q other = any_cells q (map.keys s) ∙ sym (map.contains_key-keys s (cell.Stamp q)) ∙ is_true (map.get s (cell.Stamp q)) (has_stamp (map.get s (cell.Stamp q)) other)
+    kept q other = any_cells q (map.keys s) ∙ sym (map.contains_key-keys s (cell.Stamp q)) ∙ is_true (map.get s (cell.Stamp q)) (has_stamp q (map.get s (cell.Stamp q)) other)
       where
         is_true : (o : Option Value) → IsSome o → is_some o ≡ true
         is_true None h = h

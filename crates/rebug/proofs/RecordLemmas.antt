@@ -1,20 +1,20 @@
 -- Records in an opening.
-use Rattle.std.proofs.Common.{◌≡◌, ℕ, ◌<◌, Bool, true, false, List, [], ◌∷◌, ◌++◌, length, get_or, map, refl, sym, ap, ◌∙◌, arith}
+use Rattle.std.proofs.Common.{◌≡◌, ℕ, ◌<◌, true, false, List, [], ◌∷◌, ◌++◌, length, get_or, map, refl, sym, ap, ◌∙◌, arith}
 use Rattle.std.proofs.lemmas.Bool.{false_from_ne_true}
 use Rattle.std.proofs.lemmas.Grind.{fold-append}
 use Rattle.std.proofs.lemmas.List.{map-append, length-map}
 use Rattle.std.proofs.lemmas.Slice.Eq.{bytes_eq-Decides}
 use Rattle.std.proofs.Math.ListN.{get_or-map}
 use Rattle.std.specs.FinMap as map
-use Rattle.std.specs.List.{Contains, fold}
+use Rattle.std.specs.List.{Contains}
 use Rattle.std.specs.Str.{bytes_eq}
 use Rattle.rev_cells.specs.declared.cell.Cell.{Cell}
 use Rattle.rev_cells.specs.declared.cell.Cell.TheVariants as cell
-use Rattle.rev_cells.specs.declared.cell.Value.TheVariants as value
+use Rattle.rev_cells.specs.declared.value.Value.TheVariants as value
 use Rattle.rev_cells.specs.declared.fault.OpeningFault.{OpeningFault}
 use Rattle.rev_cells.specs.declared.fault.OpeningFault.TheVariants as refusal
 use Rattle.rev_cells.specs.State.{State, set}
-use Rattle.rev_cells.specs.Table.{Table}
+use Rattle.rev_cells.specs.Table.{Records}
 use Rattle.rebug.specs.declared.lines.faults.FaultKind.{FaultKind}
 use Rattle.rebug.specs.declared.lines.faults.FaultKind.TheVariants.{DoubleRecord}
 use Rattle.rebug.specs.declared.lines.faults.LineFault.TheVariants as line
@@ -45,15 +45,15 @@ places_from_has_path records path h =
 pub has_path-absent : (records : List Record) (path : List ℕ) → (Contains (map (λ r. cell.Stamp r.0) records) (cell.Stamp path) → ⊥) → has_path records path ≡ false
 has_path-absent records path h = false_from_ne_true (has_path records path) (λ e. h (places_from_has_path records path e))
 
-abbrev table_of : State → List Cell → Table
-table_of state places = record { jobs = 1; state = state; places = places }
+abbrev records_with : State → List Cell → Records
+records_with state places = record { jobs = 1; state = state; places = places }
 
 -- one more record
-pub opening_of-push : (records : List Record) (path : List ℕ) (stamp : ℕ) → table_of (set (state_of_records records) (cell.Stamp path) (value.Stamp stamp)) (map (λ r. cell.Stamp r.0) records ++ cell.Stamp path ∷ []) ≡ opening_of (records ++ (path, stamp) ∷ [])
+pub opening_of-push : (records : List Record) (path : List ℕ) (stamp : ℕ) → records_with (set (state_of_records records) (cell.Stamp path) (value.Stamp stamp)) (map (λ r. cell.Stamp r.0) records ++ cell.Stamp path ∷ []) ≡ opening_of (records ++ (path, stamp) ∷ [])
 opening_of-push records path stamp =
     let added : Record = (path, stamp) in
-    ap (λ s. table_of s (map (λ r. cell.Stamp r.0) records ++ cell.Stamp path ∷ [])) (sym (fold-append (λ (state : State) (r : Record). set state (cell.Stamp r.0) (value.Stamp r.1)) map.empty records (added ∷ [])))
-    ∙ ap (table_of (state_of_records (records ++ added ∷ []))) (sym (map-append (λ (r : Record). cell.Stamp r.0) records (added ∷ [])))
+    ap (λ s. records_with s (map (λ r. cell.Stamp r.0) records ++ cell.Stamp path ∷ [])) (sym (fold-append (λ (state : State) (r : Record). set state (cell.Stamp r.0) (value.Stamp r.1)) map.empty records (added ∷ [])))
+    ∙ ap (records_with (state_of_records (records ++ added ∷ []))) (sym (map-append (λ (r : Record). cell.Stamp r.0) records (added ∷ [])))
 
 -- which refusal of a record is a fault of its line
 pub double_from_fault : (refused : OpeningFault) (kind : FaultKind) → record_fault refused ≡ line.Kind kind → (refused ≡ refusal.BadJobs → ⊥) → (refused ≡ refusal.DoubleRecord) × (kind ≡ DoubleRecord)

@@ -1,8 +1,8 @@
 -- Texts of lists, one item after the other.
-use Rattle.std.proofs.Common.{◌≡◌, ℕ, ◌+◌, ◌<◌, ◌≤◌, List, [], ◌∷◌, ◌++◌, Option, Some, None, map, length, min, take, drop, get_or, refl, sym, ap, subst, ◌∙◌, arith, add-one}
+use Rattle.std.proofs.Common.{◌≡◌, ℕ, ◌+◌, ◌<◌, List, [], ◌∷◌, ◌++◌, map, length, drop, get_or, refl, sym, ap, ◌∙◌, add-one}
 use Rattle.std.proofs.Math.Seq.{drop-cons}
 use Rattle.std.specs.List.{flat_map}
-use Rattle.rev_cells.specs.State.{State, stamp_of}
+use Rattle.rev_cells.specs.State.{State}
 use Rattle.rebug.specs.declared.lines.commands.Command.{Command}
 use Rattle.rebug.specs.declared.lines.commands.Word.{Word}
 use Rattle.rebug.specs.Session.{Session, after_command, reply_line, reply_to}

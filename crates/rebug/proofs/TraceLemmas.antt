@@ -1,5 +1,5 @@
 -- The two parts of a trace after its first line.
-use Rattle.std.proofs.Common.{◌≡◌, ℕ, zero, suc, ◌<◌, ◌≤◌, ◌+◌, ◌-◌, Bool, true, false, cond, List, [], ◌∷◌, ◌++◌, length, get_or, take, drop, refl, sym, ap, ◌∙◌, arith, ◌⊎◌, inl, inr, subst, Option, Some, None, Result, Ok, Err}
+use Rattle.std.proofs.Common.{◌≡◌, ℕ, zero, suc, ◌<◌, ◌≤◌, ◌+◌, ◌-◌, true, false, cond, List, [], ◌∷◌, length, get_or, take, drop, refl, sym, ap, ◌∙◌, arith, inl, inr, subst, Option, Some, None}
 use Rattle.std.proofs.lemmas.Bool.{false≢true, cases_eq, cases_lt}
 use Rattle.std.proofs.lemmas.List.{get_or-take, get_or-drop, length-take-le, length-drop}
 use Rattle.std.proofs.lemmas.List.Sums.{position_or_len_is}
@@ -7,20 +7,20 @@ use Rattle.std.specs.Prelude.{codes}
 use Rattle.std.specs.Result.{result_err}
 use Rattle.std.specs.List.{position_or_len}
 use Rattle.std.specs.Str.{bytes_eq}
-use Rattle.rev_cells.specs.Table.{Table}
+use Rattle.rev_cells.specs.Table.{Records}
 use borrow.Author.Count.{below_more}
 use Rattle.rebug.specs.declared.lines.faults.FaultKind.{FaultKind}
 use Rattle.rebug.specs.declared.lines.faults.FaultKind.TheVariants.{Syntax, DoubleRecord, Header}
 use Rattle.rebug.specs.declared.lines.faults.TextFault.{TextFault}
 use Rattle.rebug.specs.Faults.{IsFirstWrong, fault_in, first_fault}
 use Rattle.rebug.specs.Lines.{is_blank, record_line, command_line, wrong_by}
-use Rattle.rebug.specs.Traces.{Record, has_lane, has_path, opens_lane, records_in, commands_in, record_wrong, command_wrong, wrong_after, wrong_at, trace_wrong, value_of, opening_of, IsOpened, IsRecordAdded}
+use Rattle.rebug.specs.Traces.{has_lane, opens_lane, records_in, commands_in, record_wrong, command_wrong, wrong_after, wrong_at, trace_wrong, value_of, opening_of, IsOpened, IsRecordAdded}
 use Rattle.rebug.proofs.FaultLemmas.{first_fault-none, first_fault-some}
 use Rattle.rebug.proofs.ListLemmas.{list_any_true, list_any_false}
 use Rattle.rebug.proofs.SaidLemmas.{said-blank, said_step, unsaid_step}
 
 -- the records of so many lines are read, and none of these opens the lane
-pub record ReadsRecords (lines : List (List ℕ)) (opening : Table) (count : ℕ) : Type 0 where
+pub record ReadsRecords (lines : List (List ℕ)) (opening : Records) (count : ℕ) : Type 0 where
   pub no_lane : (k : ℕ) → k < count → opens_lane (get_or lines k []) ≡ false
   pub sound : (k : ℕ) → k < count → wrong_at lines k ≡ None
   pub opening_is : opening ≡ opening_of (records_in (take count lines))
@@ -69,7 +69,7 @@ wrong_at-record lines i none filled opens =
     wrong_at-filled lines i filled ∙ before_lane lines i none ∙ ap (λ b. cond b None (record_wrong (records_in (take i lines)) (record_line (get_or lines i [])))) opens
 
 -- one more line before the lane
-pub reads_blank : (lines : List (List ℕ)) (opening : Table) (i : ℕ) → i < length lines → is_blank (get_or lines i []) ≡ true → ReadsRecords lines opening i → ReadsRecords lines opening (i + 1)
+pub reads_blank : (lines : List (List ℕ)) (opening : Records) (i : ℕ) → i < length lines → is_blank (get_or lines i []) ≡ true → ReadsRecords lines opening i → ReadsRecords lines opening (i + 1)
 reads_blank lines opening i lt blank inv =
     record {
       no_lane = below_more (λ k. opens_lane (get_or lines k []) ≡ false) i inv.no_lane (opens_lane-blank (get_or lines i []) blank);
@@ -77,7 +77,7 @@ reads_blank lines opening i lt blank inv =
       opening_is = inv.opening_is ∙ ap opening_of (unsaid_step record_line lines (records_in (take i lines)) i Syntax lt (said-blank record_line (get_or lines i []) refl blank) refl);
     }
 
-pub reads_record : (lines : List (List ℕ)) (opening next : Table) (i : ℕ) → i < length lines → is_blank (get_or lines i []) ≡ false → opens_lane (get_or lines i []) ≡ false → IsRecordAdded (records_in (take i lines)) (record_line (get_or lines i [])) next → ReadsRecords lines opening i → ReadsRecords lines next (i + 1)
+pub reads_record : (lines : List (List ℕ)) (opening next : Records) (i : ℕ) → i < length lines → is_blank (get_or lines i []) ≡ false → opens_lane (get_or lines i []) ≡ false → IsRecordAdded (records_in (take i lines)) (record_line (get_or lines i [])) next → ReadsRecords lines opening i → ReadsRecords lines next (i + 1)
 reads_record lines opening next i lt filled opens added inv =
     let within : i ≤ length lines = omega arith in
     record {
@@ -88,7 +88,7 @@ reads_record lines opening next i lt filled opens added inv =
       opening_is = added.opening_is ∙ ap opening_of (said_step record_line lines (records_in (take i lines)) i added.added lt added.said_is refl);
     }
 
-pub record_at_fault : (lines : List (List ℕ)) (opening : Table) (i : ℕ) (kind : FaultKind) (f : TextFault) → i < length lines → is_blank (get_or lines i []) ≡ false → opens_lane (get_or lines i []) ≡ false → record_wrong (records_in (take i lines)) (record_line (get_or lines i [])) ≡ Some kind → f ≡ fault_in (i + 1) kind → ReadsRecords lines opening i → IsFirstWrong (wrong_at lines) (length lines) 1 f
+pub record_at_fault : (lines : List (List ℕ)) (opening : Records) (i : ℕ) (kind : FaultKind) (f : TextFault) → i < length lines → is_blank (get_or lines i []) ≡ false → opens_lane (get_or lines i []) ≡ false → record_wrong (records_in (take i lines)) (record_line (get_or lines i [])) ≡ Some kind → f ≡ fault_in (i + 1) kind → ReadsRecords lines opening i → IsFirstWrong (wrong_at lines) (length lines) 1 f
 record_at_fault lines opening i kind f lt filled opens wrong is inv =
     let within : i ≤ length lines = omega arith in
     let same : i + 1 ≡ 1 + i = omega arith in
@@ -101,47 +101,47 @@ record_at_fault lines opening i kind f lt filled opens wrong is inv =
       is = is ∙ ap (λ p. fault_in p kind) same;
     }
 
-pub opened_at_lane : (lines : List (List ℕ)) (opening : Table) (i : ℕ) → i < length lines → opens_lane (get_or lines i []) ≡ true → ReadsRecords lines opening i → IsOpened lines opening i
+pub opened_at_lane : (lines : List (List ℕ)) (opening : Records) (i : ℕ) → i < length lines → opens_lane (get_or lines i []) ≡ true → ReadsRecords lines opening i → IsOpened lines opening i
 opened_at_lane lines opening i lt opens inv =
     record { within = omega arith; no_lane = inv.no_lane; ends = λ _. opens; sound = inv.sound; opening_is = inv.opening_is }
 
-pub opened_at_end : (lines : List (List ℕ)) (opening : Table) (i n : ℕ) → n ≡ i → length lines ≡ n → ReadsRecords lines opening i → IsOpened lines opening n
+pub opened_at_end : (lines : List (List ℕ)) (opening : Records) (i n : ℕ) → n ≡ i → length lines ≡ n → ReadsRecords lines opening i → IsOpened lines opening n
 opened_at_end lines opening i n e whole inv =
     let P : ℕ → Type 0 = λ m. ReadsRecords lines opening m in
     let at_n : ReadsRecords lines opening n = subst P (sym e) inv in
     record { within = omega arith; no_lane = at_n.no_lane; ends = λ lt. absurd (omega arith); sound = at_n.sound; opening_is = at_n.opening_is }
 
 -- the first line that opens the lane
-first_lane : (lines : List (List ℕ)) (opening : Table) (end : ℕ) → IsOpened lines opening end → position_or_len opens_lane lines ≡ end
+first_lane : (lines : List (List ℕ)) (opening : Records) (end : ℕ) → IsOpened lines opening end → position_or_len opens_lane lines ≡ end
 first_lane lines opening end h = position_or_len_is opens_lane lines end [] h.within h.no_lane h.ends
 
-pub value_records : (lines : List (List ℕ)) (opening : Table) (end : ℕ) → IsOpened lines opening end → opening ≡ opening_of (value_of lines).records
+pub value_records : (lines : List (List ℕ)) (opening : Records) (end : ℕ) → IsOpened lines opening end → opening ≡ opening_of (value_of lines).records
 value_records lines opening end h = h.opening_is ∙ ap (λ n. opening_of (records_in (take n lines))) (sym (first_lane lines opening end h))
 
-pub value_no_lane : (lines : List (List ℕ)) (opening : Table) (end : ℕ) → IsOpened lines opening end → length lines ≤ end → (value_of lines).lanes ≡ []
+pub value_no_lane : (lines : List (List ℕ)) (opening : Records) (end : ℕ) → IsOpened lines opening end → length lines ≤ end → (value_of lines).lanes ≡ []
 value_no_lane lines opening end h all =
     let none : has_lane lines ≡ false = list_any_false opens_lane lines [] (λ k lt. h.no_lane k (omega arith)) in
     ap (λ b. cond b (commands_in (drop (position_or_len opens_lane lines + 1) lines) ∷ []) []) none
 
-pub value_lane : (lines after : List (List ℕ)) (opening : Table) (end : ℕ) → IsOpened lines opening end → end < length lines → after ≡ drop (end + 1) lines → (value_of lines).lanes ≡ commands_in after ∷ []
+pub value_lane : (lines after : List (List ℕ)) (opening : Records) (end : ℕ) → IsOpened lines opening end → end < length lines → after ≡ drop (end + 1) lines → (value_of lines).lanes ≡ commands_in after ∷ []
 value_lane lines after opening end h lt is =
     let some : has_lane lines ≡ true = list_any_true opens_lane lines end [] lt (h.ends lt) in
     ap (λ b. cond b (commands_in (drop (position_or_len opens_lane lines + 1) lines) ∷ []) []) some
     ∙ ap (λ n. commands_in (drop (n + 1) lines) ∷ []) (first_lane lines opening end h) ∙ ap (λ l. commands_in l ∷ []) (sym is)
 
-pub sound_no_lane : (lines : List (List ℕ)) (opening : Table) (end : ℕ) → IsOpened lines opening end → length lines ≤ end → (k : ℕ) → k < length lines → wrong_at lines k ≡ None
+pub sound_no_lane : (lines : List (List ℕ)) (opening : Records) (end : ℕ) → IsOpened lines opening end → length lines ≤ end → (k : ℕ) → k < length lines → wrong_at lines k ≡ None
 sound_no_lane lines opening end h all k lt = h.sound k (omega arith)
 
 -- a line of the lane
-command_after : (lines after : List (List ℕ)) (opening : Table) (end j : ℕ) → IsOpened lines opening end → end + 1 + j < length lines → after ≡ drop (end + 1) lines → wrong_at lines (end + 1 + j) ≡ command_wrong after j
+command_after : (lines after : List (List ℕ)) (opening : Records) (end j : ℕ) → IsOpened lines opening end → end + 1 + j < length lines → after ≡ drop (end + 1) lines → wrong_at lines (end + 1 + j) ≡ command_wrong after j
 command_after lines after opening end j h lt is =
     wrong_at-command lines (end + 1 + j) (lane_before lines end (end + 1 + j) (omega arith) (omega arith) (h.ends (omega arith)))
     ∙ ap (wrong_by command_line) (sym (ap (λ l. get_or l j []) is ∙ get_or-drop (end + 1) lines j []))
 
-opened_line : (lines : List (List ℕ)) (opening : Table) (end : ℕ) → IsOpened lines opening end → end < length lines → wrong_at lines end ≡ None
+opened_line : (lines : List (List ℕ)) (opening : Records) (end : ℕ) → IsOpened lines opening end → end < length lines → wrong_at lines end ≡ None
 opened_line lines opening end h lt = wrong_at-lane lines end (no_lane_before lines end h.within h.no_lane) (h.ends lt)
 
-before_place : (lines after : List (List ℕ)) (opening : Table) (end n : ℕ) → IsOpened lines opening end → end < length lines → after ≡ drop (end + 1) lines → end + 1 + n ≤ length lines → ((j : ℕ) → j < n → command_wrong after j ≡ None) → (k : ℕ) → k < end + 1 + n → wrong_at lines k ≡ None
+before_place : (lines after : List (List ℕ)) (opening : Records) (end n : ℕ) → IsOpened lines opening end → end < length lines → after ≡ drop (end + 1) lines → end + 1 + n ≤ length lines → ((j : ℕ) → j < n → command_wrong after j ≡ None) → (k : ℕ) → k < end + 1 + n → wrong_at lines k ≡ None
 before_place lines after opening end n h lt is within sound k below =
     elim (cases_lt k end) [
       | inl early ↦ h.sound k early
@@ -152,16 +152,16 @@ before_place lines after opening end n h lt is within sound k below =
           ]
     ]
   where
-    in_lane : (lines after : List (List ℕ)) (opening : Table) (end j k : ℕ) → IsOpened lines opening end → k ≡ end + 1 + j → k < length lines → after ≡ drop (end + 1) lines → command_wrong after j ≡ None → wrong_at lines k ≡ None
+    in_lane : (lines after : List (List ℕ)) (opening : Records) (end j k : ℕ) → IsOpened lines opening end → k ≡ end + 1 + j → k < length lines → after ≡ drop (end + 1) lines → command_wrong after j ≡ None → wrong_at lines k ≡ None
     in_lane lines after opening end j k h e lt is none = ap (wrong_at lines) e ∙ command_after lines after opening end j h (omega arith) is ∙ none
 
-pub sound_lane : (lines after : List (List ℕ)) (opening : Table) (end : ℕ) → IsOpened lines opening end → end < length lines → after ≡ drop (end + 1) lines → ((j : ℕ) → j < length after → command_wrong after j ≡ None) → (k : ℕ) → k < length lines → wrong_at lines k ≡ None
+pub sound_lane : (lines after : List (List ℕ)) (opening : Records) (end : ℕ) → IsOpened lines opening end → end < length lines → after ≡ drop (end + 1) lines → ((j : ℕ) → j < length after → command_wrong after j ≡ None) → (k : ℕ) → k < length lines → wrong_at lines k ≡ None
 sound_lane lines after opening end h lt is sound k below =
     let n : length after ≡ length (drop (end + 1) lines) = ap length is in
     let m : length (drop (end + 1) lines) ≡ length lines - (end + 1) = length-drop (end + 1) lines in
     before_place lines after opening end (length after) h lt is (omega arith) sound k (omega arith)
 
-pub fault_lane : (lines after : List (List ℕ)) (opening : Table) (end : ℕ) (f : TextFault) → IsOpened lines opening end → end < length lines → after ≡ drop (end + 1) lines → IsFirstWrong (command_wrong after) (length after) (end + 2) f → IsFirstWrong (wrong_at lines) (length lines) 1 f
+pub fault_lane : (lines after : List (List ℕ)) (opening : Records) (end : ℕ) (f : TextFault) → IsOpened lines opening end → end < length lines → after ≡ drop (end + 1) lines → IsFirstWrong (command_wrong after) (length after) (end + 2) f → IsFirstWrong (wrong_at lines) (length lines) 1 f
 fault_lane lines after opening end f h lt is first =
     let n : length after ≡ length (drop (end + 1) lines) = ap length is in
     let m : length (drop (end + 1) lines) ≡ length lines - (end + 1) = length-drop (end + 1) lines in

@@ -1,5 +1,5 @@
 -- What holds of the fields of a session, and what they show.
-use Rattle.std.specs.Prelude.{ℕ, ◌≤◌}
+use Rattle.std.specs.Prelude.{◌≤◌}
 use Rattle.rev_history.specs.Timeline.{last_of}
 use Rattle.rebug.specs.declared.session.Session.TheInside.{Inside}
 use Rattle.rebug.specs.Session.{Session, entry_limit}

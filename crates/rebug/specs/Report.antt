@@ -5,7 +5,7 @@ use Rattle.std.specs.FinMap as map
 use Rattle.rev_cells.specs.declared.cell.Cell.{Cell}
 use Rattle.rev_cells.specs.declared.cell.Cell.TheVariants as cell
 use Rattle.rev_cells.specs.State.{State, stamp_of}
-use Rattle.rev_cells.specs.Table.{Table}
+use Rattle.rev_cells.specs.Table.{Records}
 use Rattle.rev_history.specs.declared.event.Event.{Event}
 use Rattle.rev_history.specs.declared.event.Event.TheVariants.{Touch}
 use Rattle.rev_history.specs.Timeline.{Timeline, opened, event_at, state_at}
@@ -38,9 +38,10 @@ kept_text t = flat_map (λ number. kept_line number (event_at t number)) t.kept
 
 -- The word `stamps`: a line for each path whose file is not missing, in byte order of the paths.
 
--- the path whose stamp a cell holds
+-- the path whose stamp a cell holds, if it holds one
 abbrev pub stamped_path : Cell → List (List ℕ)
 stamped_path (cell.Stamp path) = path ∷ []
+stamped_path _ = []
 
 abbrev pub is_there : State → List ℕ → Bool
 is_there state path = not (stamp_of state path == 0)
@@ -102,7 +103,7 @@ script_text lane s left [] = []
 script_text lane s left (w ∷ words) = word_text lane s left w ++ script_text lane (after_word s left w) (left_after left w) words
 
 -- a session that has just been opened
-abbrev pub opened_session : Table → Session
+abbrev pub opened_session : Records → Session
 opened_session opening = record { history = opened opening.jobs opening.state; entries = 0 }
 
 -- the commands of the trace's lane 0, none where the trace does not open it
@@ -116,7 +117,7 @@ script_lane [] = 0
 script_lane (commands ∷ lanes) = 1
 
 -- what the words of a script write, for a trace with this opening and these lanes
-abbrev pub session_text : Table → List (List Command) → List Word → List ℕ
+abbrev pub session_text : Records → List (List Command) → List Word → List ℕ
 session_text opening lanes words = script_text (script_lane lanes) (opened_session opening) (lane_commands lanes) words
 
 -- Faults: one line, with the line and the number of the fault.
@@ -146,7 +147,7 @@ unless_fault None line report = report
 unless_fault (Some f) line report = record { text = line f; status = Fault }
 
 -- the report of a script, where the trace has been read
-abbrev pub script_report : Table → List (List Command) → List ℕ → Report
+abbrev pub script_report : Records → List (List Command) → List ℕ → Report
 script_report opening lanes script =
     unless_fault (script_fault script) (text_fault_line (codes "script")) (record { text = session_text opening lanes (script_of script); status = Success })
 

@@ -4,9 +4,9 @@ use Rattle.std.specs.Result.{result_err}
 use Rattle.std.specs.List.{list_any, slice_index_or, before_first, after_first}
 use Rattle.std.specs.FinMap as map
 use Rattle.rev_cells.specs.declared.cell.Cell.TheVariants as cell
-use Rattle.rev_cells.specs.declared.cell.Value.TheVariants as value
+use Rattle.rev_cells.specs.declared.value.Value.TheVariants as value
 use Rattle.rev_cells.specs.State.{State, set}
-use Rattle.rev_cells.specs.Table.{Table}
+use Rattle.rev_cells.specs.Table.{Records}
 use Rattle.rebug.specs.declared.lines.faults.FaultKind.{FaultKind}
 use Rattle.rebug.specs.declared.lines.faults.FaultKind.TheVariants.{DoubleRecord, Header}
 use Rattle.rebug.specs.declared.lines.faults.TextFault.{TextFault}
@@ -89,7 +89,7 @@ abbrev pub state_of_records : List Record → State
 state_of_records records = fold (λ state r. set state (cell.Stamp r.0) (value.Stamp r.1)) map.empty records
 
 -- the opening with one job and these records, each of which has a place
-abbrev pub opening_of : List Record → Table
+abbrev pub opening_of : List Record → Records
 opening_of records = record { jobs = 1; state = state_of_records records; places = map (λ r. cell.Stamp r.0) records }
 
 -- what is wrong with the line at a place of those after the first
@@ -97,14 +97,14 @@ abbrev pub wrong_at : List (List ℕ) → ℕ → Option FaultKind
 wrong_at lines place = wrong_in (take place lines) (slice_index_or lines place [])
 
 -- an opening to which a line has added the record that it is
-pub record IsRecordAdded (records : List Record) (said : Result Record FaultKind) (opening : Table) : Type 0 where
+pub record IsRecordAdded (records : List Record) (said : Result Record FaultKind) (opening : Records) : Type 0 where
   pub added : Record
   pub said_is : said ≡ Ok added
   pub new : has_path records added.0 ≡ false
   pub opening_is : opening ≡ opening_of (records ++ added ∷ [])
 
 -- an opening that has the records of so many lines after the first, which have no fault, up to the line that opens the lane or the end
-pub record IsOpened (lines : List (List ℕ)) (opening : Table) (count : ℕ) : Type 0 where
+pub record IsOpened (lines : List (List ℕ)) (opening : Records) (count : ℕ) : Type 0 where
   pub within : count ≤ length lines
   pub no_lane : (k : ℕ) → k < count → opens_lane (slice_index_or lines k []) ≡ false
   pub ends : count < length lines → opens_lane (slice_index_or lines count []) ≡ true

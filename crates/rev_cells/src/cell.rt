@@ -1,7 +1,9 @@
-//! Cells and their values.
+//! Cells.
 ghost use Rattle.std.specs.Prelude.{◌≡◌, IfOk};
-ghost use Rattle.rev_cells.specs.State.{default_of};
+ghost use Rattle.rev_cells.specs.Values.{default_of};
 
+use crate::mark::Mark;
+use crate::value::Value;
 use rev_paths::Name;
 use std::alloc::AllocError;
 
@@ -10,13 +12,18 @@ use std::alloc::AllocError;
 pub enum Cell {
     /// The stamp of a file, which is at first 0: the file is missing.
     Stamp(Name),
-}
-
-/// What a cell holds.
-#[derive(Debug, Drop, PartialEq, Eq)]
-pub enum Value {
-    /// The time at which a file was last changed, 0 where it is missing.
-    Stamp(u64),
+    /// The mark of an edge, which is at first Idle.
+    Mark(u32),
+    /// The edge whose command a job runs, at first none.
+    Job(u32),
+    /// The edge that has a place in a pool, by the pool's number and the place, at first none.
+    Slot(u32, u32),
+    /// The build log's record of an output, at first none.
+    Built(Name),
+    /// The deps log's record of an output, at first none.
+    Deps(Name),
+    /// Whether the build was interrupted, at first not.
+    Halted,
 }
 
 impl Cell {
@@ -26,6 +33,12 @@ impl Cell {
     {
         match self {
             Cell::Stamp(_) => Value::Stamp(0),
+            Cell::Mark(_) => Value::Mark(Mark::Idle),
+            Cell::Job(_) => Value::Job(None),
+            Cell::Slot(_, _) => Value::Slot(None),
+            Cell::Built(_) => Value::Built(None),
+            Cell::Deps(_) => Value::Deps(None),
+            Cell::Halted => Value::Halted(false),
         }
     }
 
@@ -42,17 +55,30 @@ impl Clone for Cell {
 
     fn clone(&self) -> Result<Cell, AllocError> {
         match self {
-            Cell::Stamp(path) => Ok(Cell::Stamp(path.clone()?)),
+            Cell::Stamp(path) => Ok(Cell::Stamp(path.copy()?)),
+            Cell::Mark(edge) => Ok(Cell::Mark(*edge)),
+            Cell::Job(job) => Ok(Cell::Job(*job)),
+            Cell::Slot(pool, place) => Ok(Cell::Slot(*pool, *place)),
+            Cell::Built(path) => Ok(Cell::Built(path.copy()?)),
+            Cell::Deps(path) => Ok(Cell::Deps(path.copy()?)),
+            Cell::Halted => Ok(Cell::Halted),
         }
     }
 }
 
-impl Clone for Value {
-    ghost is_clone = { λ value copy. copy ≡ value };
+#[cfg(test)]
+mod tests {
+    use super::*;
+    use std::test::Fail;
 
-    fn clone(&self) -> Result<Value, AllocError> {
-        match self {
-            Value::Stamp(stamp) => Ok(Value::Stamp(*stamp)),
-        }
+    #[test]
+    fn cells_are_told_apart(rt: HostRuntime) -> Result<(), Fail> {
+        let name = Name::new(rt.alloc(), b"a.o")?;
+        let built = Cell::Built(name.copy()?);
+        assert_eq!(rt; built.copy()?, built);
+        assert!(rt; built != Cell::Deps(name));
+        assert!(rt; Cell::Slot(1, 2) != Cell::Slot(2, 1));
+        assert_eq!(rt; Cell::Halted.default_value(), Value::Halted(false));
+        Ok(())
     }
 }

@@ -4,9 +4,15 @@
 mod cell;
 mod cells;
 mod fault;
+mod lists;
+mod mark;
 mod opening;
+mod value;
 
-pub use cell::{Cell, Value};
+pub use cell::Cell;
 pub use cells::Cells;
 pub use fault::OpeningFault;
+pub use lists::{Names, Positions, Text};
+pub use mark::Mark;
 pub use opening::Opening;
+pub use value::{BuiltRecord, DepsRecord, Value};

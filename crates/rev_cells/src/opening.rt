@@ -1,14 +1,15 @@
 //! The records that a session opens with.
-ghost use Rattle.std.specs.Prelude.{◌≡◌, ◌↔◌, ◌++◌, ◌∷◌, [], ◌<◌, Contains, IfOk, OnOk, OnErr, IsErrOf, ◌⊎◌, ◌≢◌, Err};
-ghost use Rattle.std.specs.FinMap as map;
+ghost use Rattle.std.specs.Prelude.{◌≡◌, ◌↔◌, ◌<◌, Contains, IfOk, OnOk, OnErr, IsErrOf, ◌⊎◌, ◌≢◌, Err, Some};
 ghost use Rattle.rev_cells.specs.declared.cell.Cell.TheVariants as cell;
-ghost use Rattle.rev_cells.specs.declared.cell.Value.TheVariants as value;
-ghost use Rattle.rev_cells.specs.State.{set};
-ghost use Rattle.rev_cells.specs.Table.{Table};
+ghost use Rattle.rev_cells.specs.declared.value.Value.TheVariants as value;
+ghost use Rattle.rev_cells.specs.Table.{no_records, opened, with_record};
+ghost use Rattle.rev_cells.specs.Values.{Fits};
 
-use crate::cell::{Cell, Value};
+use crate::cell::Cell;
 use crate::cells::Cells;
 use crate::fault::OpeningFault;
+use crate::lists::{Names, Text};
+use crate::value::{BuiltRecord, DepsRecord, Value};
 use rev_paths::Name;
 use std::alloc::{AllocError, Global};
 use std::marker::Model;
@@ -20,13 +21,15 @@ pub struct Opening {
 }
 
 impl Model for Opening {
-    ghost use Rattle.rev_cells.specs.Table.{Table, table_code};
+    ghost use Rattle.rev_cells.specs.Table.{Records, records_code};
 
-    ghost Value = { Table };
+    ghost Value = { Records };
 
-    ghost coded = { table_code };
+    ghost coded = { records_code };
 
-    ghost view = { λ a. a.cells };
+    ghost use Rattle.rev_cells.specs.Opened.{records_of};
+
+    ghost view = { records_of };
 }
 
 impl Opening {
@@ -35,7 +38,7 @@ impl Opening {
 
     /// An opening with no records. The number of jobs is from 1 to 1,024. It takes no memory.
     pub fn new(alloc: Global, jobs: u32) -> Result<Opening, OpeningFault>
-        ensures ok { IfOk result (λ opening. opening ≡ record { jobs = jobs; state = map.empty; places = [] }) }
+        ensures ok { IfOk result (λ opening. opening ≡ no_records jobs) }
         ensures bad_jobs { IsErrOf result OpeningFault.BadJobs ↔ ((jobs ≡ 0) ⊎ (1024 < jobs)) }
         ensures only { OnErr result (IsErrOf result OpeningFault.BadJobs) }
     {
@@ -50,18 +53,52 @@ impl Opening {
     /// Adds the record of a path's stamp, which is 0 where the file is missing. A path is given at most one,
     /// also where it is 0.
     pub fn add_stamp(&mut self, path: Name, stamp: u64) -> Result<(), OpeningFault>
-        ensures ok { OnOk result (self.new ≡ record self.old { state = set self.old.state (cell.Stamp path) (value.Stamp stamp); places = self.old.places ++ cell.Stamp path ∷ [] }) }
+        ensures ok { OnOk result (self.new ≡ with_record self.old (cell.Stamp path) (value.Stamp stamp)) }
         ensures double { IsErrOf result OpeningFault.DoubleRecord ↔ Contains self.old.places (cell.Stamp path) }
         ensures no_jobs { result ≢ Err OpeningFault.BadJobs }
         ensures err { OnErr result (self.new ≡ self.old) }
     {
-        let cell = Cell::Stamp(path);
-        if self.cells.has(&cell) {
-            return Err(OpeningFault::DoubleRecord);
-        }
-        self.cells.reserve(&cell)?;
-        self.cells.swap(&cell, Value::Stamp(stamp));
-        Ok(())
+        self.add(Cell::Stamp(path), Value::Stamp(stamp))
+    }
+
+    /// Adds the build log's record of a path: the stamp that it was given and the command that made it. A path is
+    /// given at most one.
+    pub fn add_built(
+        &mut self,
+        path: Name,
+        stamp: u64,
+        command: Vec<u8>,
+    ) -> Result<(), OpeningFault>
+        ensures ok { OnOk result (self.new ≡ with_record self.old (cell.Built path) (value.Built (Some (record { command = command.items; stamp = stamp })))) }
+        ensures double { IsErrOf result OpeningFault.DoubleRecord ↔ Contains self.old.places (cell.Built path) }
+        ensures no_jobs { result ≢ Err OpeningFault.BadJobs }
+        ensures err { OnErr result (self.new ≡ self.old) }
+    {
+        let command = Text::new(command);
+        self.add(
+            Cell::Built(path),
+            Value::Built(Some(BuiltRecord { command, stamp })),
+        )
+    }
+
+    /// Adds the deps log's record of a path: the stamp that it had and the prerequisites that were listed for it, in
+    /// that order and with repeated ones. A path is given at most one.
+    pub fn add_deps(
+        &mut self,
+        path: Name,
+        stamp: u64,
+        prerequisites: Vec<Name>,
+    ) -> Result<(), OpeningFault>
+        ensures ok { OnOk result (self.new ≡ with_record self.old (cell.Deps path) (value.Deps (Some (record { stamp = stamp; paths = prerequisites.items })))) }
+        ensures double { IsErrOf result OpeningFault.DoubleRecord ↔ Contains self.old.places (cell.Deps path) }
+        ensures no_jobs { result ≢ Err OpeningFault.BadJobs }
+        ensures err { OnErr result (self.new ≡ self.old) }
+    {
+        let paths = Names::new(prerequisites);
+        self.add(
+            Cell::Deps(path),
+            Value::Deps(Some(DepsRecord { stamp, paths })),
+        )
     }
 
     /// An equal opening.
@@ -73,9 +110,25 @@ impl Opening {
         })
     }
 
+    // Adds a record of any kind.
+    fn add(&mut self, cell: Cell, value: Value) -> Result<(), OpeningFault>
+        requires { Fits cell value }
+        ensures ok { OnOk result (self.new ≡ with_record self.old cell value) }
+        ensures double { IsErrOf result OpeningFault.DoubleRecord ↔ Contains self.old.places cell }
+        ensures no_jobs { result ≢ Err OpeningFault.BadJobs }
+        ensures err { OnErr result (self.new ≡ self.old) }
+    {
+        if self.cells.has(&cell) {
+            return Err(OpeningFault::DoubleRecord);
+        }
+        self.cells.reserve(&cell)?;
+        self.cells.swap(&cell, value);
+        Ok(())
+    }
+
     // The cells that the opening has.
     pub(crate) fn cells(&self) -> &Cells
-        ensures { result.now ≡ self.now }
+        ensures { opened self.now ≡ record result.now { writes = 0 } }
     {
         &self.cells
     }
@@ -110,6 +163,37 @@ mod tests {
             Err(OpeningFault::DoubleRecord)
         );
         assert_eq!(rt; OpeningFault::DoubleRecord.code(), Some(103));
+        Ok(())
+    }
+
+    #[test]
+    fn the_build_log_is_read(rt: HostRuntime) -> Result<(), Fail> {
+        let alloc = rt.alloc();
+        let mut opening = Opening::new(alloc, 1)?;
+        let path = Name::new(alloc, b"a.o")?;
+        opening.add_built(path.copy()?, 10, vec![in alloc; b'c', b'c']?)?;
+        let command = Text::new(vec![in alloc; b'c', b'c']?);
+        let value = Value::Built(Some(BuiltRecord { command, stamp: 10 }));
+        let cells = Cells::new(alloc, &opening)?;
+        assert_eq!(rt; cells.get(&Cell::Built(path)), Some(&value));
+        assert_eq!(rt; cells.writes(), 0);
+        Ok(())
+    }
+
+    #[test]
+    fn the_deps_log_is_read(rt: HostRuntime) -> Result<(), Fail> {
+        let alloc = rt.alloc();
+        let mut opening = Opening::new(alloc, 1)?;
+        let path = Name::new(alloc, b"a.o")?;
+        let header = Name::new(alloc, b"a.h")?;
+        let twice = Vec::from_array(alloc, [header.copy()?, header])?;
+        let paths = Names::new(twice.clone()?);
+        opening.add_deps(path.copy()?, 10, twice)?;
+        let again = opening.add_deps(path.copy()?, 10, Vec::new(alloc));
+        assert_eq!(rt; again, Err(OpeningFault::DoubleRecord));
+        let value = Value::Deps(Some(DepsRecord { stamp: 10, paths }));
+        let cells = Cells::new(alloc, &opening)?;
+        assert_eq!(rt; cells.get(&Cell::Deps(path)), Some(&value));
         Ok(())
     }
 

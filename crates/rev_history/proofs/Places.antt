@@ -8,7 +8,8 @@ use Rattle.rev_causal.specs.Entries.{Entry, entries, clash}
 use Rattle.rev_causal.specs.History as causal
 use Rattle.rev_causal.specs.Store.{Footprint, conflict}
 use Rattle.rev_cells.specs.declared.cell.Cell.{Cell}
-use Rattle.rev_cells.specs.State.{State, cell_cmp}
+use Rattle.rev_cells.specs.Keys.{cell_cmp}
+use Rattle.rev_cells.specs.State.{State}
 use Rattle.rev_history.specs.declared.event.Event.{Event}
 use Rattle.rev_history.specs.Machine.{machine, footprint, after}
 use Rattle.rev_history.specs.Nearest.{nearest_in}

@@ -3,7 +3,7 @@ use Rattle.std.specs.Prelude.{◌≡◌, Bool, true, false, List, [], refl}
 use Rattle.std.specs.Coded.{Coded, code_by, coded×, coded_list, coded_bool}
 use Rattle.rev_causal.specs.Store.{Footprint, Footprint.Whole, Footprint.Cells}
 use Rattle.rev_cells.specs.declared.cell.Cell.{Cell}
-use Rattle.rev_cells.specs.State.{coded_cell}
+use Rattle.rev_cells.specs.Keys.{coded_cell}
 
 abbrev pub footprint_of : Bool → List Cell → List Cell → Footprint Cell
 footprint_of true reads writes = Whole

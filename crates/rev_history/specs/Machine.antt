@@ -4,9 +4,11 @@ use Rattle.rev_causal.specs.Machine.{Machine}
 use Rattle.rev_causal.specs.Store.{Footprint, Footprint.Cells, Table, machine_of, set_cells}
 use Rattle.rev_cells.specs.declared.cell.Cell.{Cell}
 use Rattle.rev_cells.specs.declared.cell.Cell.TheVariants as cell
-use Rattle.rev_cells.specs.declared.cell.Value.{Value}
-use Rattle.rev_cells.specs.declared.cell.Value.TheVariants as value
-use Rattle.rev_cells.specs.State.{State, cell_cmp, unless_default}
+use Rattle.rev_cells.specs.declared.value.Value.{Value}
+use Rattle.rev_cells.specs.declared.value.Value.TheVariants as value
+use Rattle.rev_cells.specs.Keys.{cell_cmp}
+use Rattle.rev_cells.specs.State.{State}
+use Rattle.rev_cells.specs.Values.{unless_default}
 use Rattle.rev_history.specs.declared.event.Event.{Event}
 use Rattle.rev_history.specs.declared.event.Event.TheVariants.{Touch}
 use Rattle.rev_history.specs.declared.refusal.Refusal.{Refusal}

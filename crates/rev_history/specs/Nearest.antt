@@ -2,7 +2,7 @@
 use Rattle.std.specs.Prelude.{ℕ, cond, List, [], ◌∷◌, Option, Some, None, nat_lt}
 use Rattle.rev_causal.specs.Store.{Footprint, conflict}
 use Rattle.rev_cells.specs.declared.cell.Cell.{Cell}
-use Rattle.rev_cells.specs.State.{cell_cmp}
+use Rattle.rev_cells.specs.Keys.{cell_cmp}
 
 -- the first number above n whose footprint conflicts with f
 abbrev pub nearest_in : ℕ → Footprint Cell → List ℕ → List (Footprint Cell) → Option ℕ

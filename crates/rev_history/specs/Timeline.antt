@@ -6,7 +6,9 @@ use Rattle.std.specs.FinMap as map
 use Rattle.rev_causal.specs.Machine.{Legal, run}
 use Rattle.rev_causal.specs.Entries.{Entry, entries}
 use Rattle.rev_causal.specs.History as causal
-use Rattle.rev_cells.specs.State.{State, coded_cell, coded_value}
+use Rattle.rev_cells.specs.Codes.{coded_value}
+use Rattle.rev_cells.specs.Keys.{coded_cell}
+use Rattle.rev_cells.specs.State.{State}
 use Rattle.rev_history.specs.declared.event.Event.{Event}
 use Rattle.rev_history.specs.declared.refusal.Refusal.{Refusal}
 use Rattle.rev_history.specs.declared.refusal.Refusal.TheVariants.{NoSuchEvent, NotKept, DependedOn, AlreadyKept, Overtaken, NothingKept}

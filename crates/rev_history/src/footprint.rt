@@ -2,7 +2,7 @@
 ghost use Rattle.std.specs.Prelude.{◌≡◌};
 ghost use Rattle.std.specs.List.{list_any};
 ghost use Rattle.rev_causal.specs.Store.{among, is_touched, conflict as are_conflicting};
-ghost use Rattle.rev_cells.specs.State.{cell_cmp};
+ghost use Rattle.rev_cells.specs.Keys.{cell_cmp};
 
 use rev_cells::Cell;
 use std::marker::Model;

@@ -253,7 +253,7 @@ mod tests {
     fn stamp_of(cells: &Cells, path: Name) -> u64 {
         match cells.get(&Cell::Stamp(path)) {
             Some(Value::Stamp(stamp)) => *stamp,
-            None => 0,
+            _ => 0,
         }
     }
 

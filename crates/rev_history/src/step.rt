@@ -3,8 +3,9 @@ ghost use Rattle.std.specs.Prelude.{◌≡◌, None, IfOk, OnOk, OnErr};
 ghost use Rattle.rev_history.specs.Machine.{after, footprint, refusal as refusal_in};
 ghost use Rattle.rev_causal.specs.Store.{set_cell};
 ghost use Rattle.rev_cells.specs.declared.cell.Cell.TheVariants as cell;
-ghost use Rattle.rev_cells.specs.declared.cell.Value.TheVariants as value;
-ghost use Rattle.rev_cells.specs.State.{cell_cmp, unless_default};
+ghost use Rattle.rev_cells.specs.declared.value.Value.TheVariants as value;
+ghost use Rattle.rev_cells.specs.Keys.{cell_cmp};
+ghost use Rattle.rev_cells.specs.Values.{unless_default};
 
 use crate::event::Event;
 use crate::footprint::Footprint;

@@ -1,10 +1,10 @@
-use Rattle.std.proofs.Common.{◌≡◌, ◌-◌, length, map, take}
-use Rattle.rebug.specs.Listing.{stamped}
+use Rattle.std.proofs.Common.{◌≡◌, ◌-◌, length, take}
+use Rattle.rebug.proofs.ListingLemmas.{stamped_files}
 use Rattle.rebug.proofs.listing.all_files.Given as goal
 
--- the places so far
-abbrev pub invariant-loop-cell : goal.invariant-loop-cell
-invariant-loop-cell l = l.files.items ≡ map (stamped l.cells.state) (take (length l.files.items) l.cells.places)
+-- the files of the places so far
+abbrev pub invariant-loop-place : goal.invariant-loop-place
+invariant-loop-place l = l.files.items ≡ stamped_files l.cells.state (take l.place l.cells.places)
 
-abbrev pub decreases-loop-cell : goal.decreases-loop-cell
-decreases-loop-cell l = length l.cells.places - length l.files.items
+abbrev pub decreases-loop-place : goal.decreases-loop-place
+decreases-loop-place l = length l.cells.places - l.place

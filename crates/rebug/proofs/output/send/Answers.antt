@@ -1,4 +1,3 @@
-use Rattle.std.proofs.Common.{rules, arith, ◌≡◌, ℕ, ◌+◌, ◌≤◌, length, zero}
 use Rattle.rebug.proofs.OutputLemmas.{appends-more, appends-kept, within_rest, stopped}
 use Rattle.rebug.proofs.output.send.Goals as goal
 

@@ -1,4 +1,4 @@
-use Rattle.std.proofs.Common.{◌+◌, drop, sym, refl, ◌∙◌, ap}
+use Rattle.std.proofs.Common.{◌+◌, drop, sym, refl}
 use Rattle.rebug.specs.Report.{script_text}
 use Rattle.rebug.proofs.OutputLemmas.{leads-to, goes-on, stops-in, writes-err}
 use Rattle.rebug.proofs.ReportLemmas.{script_next}

@@ -1,4 +1,4 @@
-use Rattle.std.proofs.Common.{sym, refl, ◌∙◌, ap}
+use Rattle.std.proofs.Common.{◌∙◌, ap}
 use Rattle.rebug.specs.Report.{kept_line}
 use Rattle.rebug.proofs.OutputLemmas.{goes-on, stops-in, writes-err}
 use Rattle.rebug.proofs.ReportLemmas.{flat_next_number}

@@ -1,6 +1,6 @@
-use Rattle.std.proofs.Common.{sym, refl, ◌∙◌, ap}
+use Rattle.std.proofs.Common.{sym, ◌∙◌, ap}
 use Rattle.std.specs.List.{flat_map}
-use Rattle.rebug.proofs.OutputLemmas.{Leads, leads-start, leads-to, goes-on, stops-in, writes-err}
+use Rattle.rebug.proofs.OutputLemmas.{leads-start, leads-to, goes-on, stops-in, writes-err}
 use Rattle.rebug.proofs.ReportLemmas.{flat_next, file_line, file_lines}
 use Rattle.rebug.proofs.report.write_stamps.Goals as goal
 

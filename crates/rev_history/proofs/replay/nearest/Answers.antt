@@ -2,7 +2,7 @@ use Rattle.std.proofs.Common.{◌≡◌, ℕ, ◌+◌, ◌<◌, ◌≤◌, Bool,
 use Rattle.std.specs.Prelude.{nat_lt}
 use Rattle.rev_causal.specs.Store.{Footprint, conflict}
 use Rattle.rev_cells.specs.declared.cell.Cell.{Cell}
-use Rattle.rev_cells.specs.State.{cell_cmp}
+use Rattle.rev_cells.specs.Keys.{cell_cmp}
 use Rattle.rev_history.specs.Nearest.{nearest_in}
 use Rattle.rev_history.proofs.Places.{nearest_in-next}
 use Rattle.rev_history.proofs.replay.nearest.Goals as goal

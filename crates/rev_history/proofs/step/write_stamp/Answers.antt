@@ -3,9 +3,11 @@ use Rattle.std.specs.FinMap as map
 use Rattle.rev_causal.specs.Store.{set_cell}
 use Rattle.rev_cells.specs.declared.cell.Cell.{Cell}
 use Rattle.rev_cells.specs.declared.cell.Cell.TheVariants as cell
-use Rattle.rev_cells.specs.declared.cell.Value.{Value}
-use Rattle.rev_cells.specs.declared.cell.Value.TheVariants as value
-use Rattle.rev_cells.specs.State.{State, cell_cmp, is_default, unless_default, set}
+use Rattle.rev_cells.specs.declared.value.Value.{Value}
+use Rattle.rev_cells.specs.declared.value.Value.TheVariants as value
+use Rattle.rev_cells.specs.Keys.{cell_cmp}
+use Rattle.rev_cells.specs.State.{State, set}
+use Rattle.rev_cells.specs.Values.{is_default, unless_default}
 use Rattle.rev_history.proofs.step.write_stamp.Goals as goal
 
 -- a default is written by taking the cell out

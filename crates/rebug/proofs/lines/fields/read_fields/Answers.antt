@@ -1,9 +1,8 @@
-use Rattle.std.proofs.Common.{◌≡◌, ◌++◌, ◌+◌, ◌∷◌, [], List, ℕ, rules, ap, drop, get_or, Some, None, Ok, Err, ◌∙◌, sym, refl, Bor}
+use Rattle.std.proofs.Common.{◌≡◌, ◌++◌, ◌+◌, ◌∷◌, [], rules, ap, drop, get_or, Some, Err, ◌∙◌, sym}
 use Rattle.std.specs.Option.{ok_or}
 use Rattle.std.specs.Bool.{◌==◌}
 use Rattle.std.specs.List.{slice_split}
 use Rattle.std.proofs.lemmas.Result.{err_from_is_err_and}
-use Rattle.rebug.specs.declared.lines.faults.FaultKind.{FaultKind}
 use Rattle.rebug.specs.declared.lines.faults.FaultKind.TheVariants.{Syntax}
 use Rattle.rebug.specs.Fields.{text_of, all_texts, texts_of}
 use Rattle.rebug.specs.Parts.{slices_of, vectors_of}

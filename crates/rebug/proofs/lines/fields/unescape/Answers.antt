@@ -1,9 +1,9 @@
-use Rattle.std.proofs.Common.{◌≡◌, ◌==◌, ◌++◌, ◌+◌, ◌∷◌, [], true, false, rules, ap, drop, get_or, Some, None, ◌∙◌, sym, refl}
+use Rattle.std.proofs.Common.{◌≡◌, ◌==◌, ◌++◌, ◌+◌, ◌∷◌, [], true, false, rules, ap, get_or, Some, None, ◌∙◌, sym, refl}
 use Rattle.std.specs.Option.{ok_or, is_some}
 use Rattle.std.proofs.lemmas.Bool.{ne_eqb}
 use Rattle.rebug.specs.declared.lines.faults.FaultKind.TheVariants.{Syntax}
 use Rattle.rebug.specs.Fields.{unescaped, byte_of, letter_of}
-use Rattle.rebug.proofs.FieldLemmas.{joined, rest_of, joined-empty, plain_step, bare_step, backslash_step, escaped_step, unknown_step, same_read, read_all, cut_short}
+use Rattle.rebug.proofs.FieldLemmas.{joined, joined-empty, plain_step, bare_step, backslash_step, escaped_step, unknown_step, same_read, read_all, cut_short}
 use Rattle.rebug.proofs.lines.fields.unescape.Goals as goal
 use Rattle.rebug.proofs.lines.fields.unescape.Goals.{then-after_backslash+in-Some+in_ok-push, else-after_backslash+then-byte-eq92, else-after_backslash+else-byte-eq92+else-is_some+in_ok-push-2}
 

@@ -1,5 +1,4 @@
 use Rattle.std.proofs.Common.{◌≡◌, true, rules}
-use Rattle.std.proofs.lemmas.Bool.{not-false}
 use Rattle.rebug.specs.Numbers.{is_decimal}
 use Rattle.rebug.proofs.NumberLemmas.{utf8_from_decimal, number_below-above, above_from_parse}
 use Rattle.rebug.proofs.lines.numbers.wide_number.Goals as goal

@@ -1,4 +1,4 @@
-use Rattle.std.proofs.Common.{◌≡◌, ◌<◌, ◌+◌, ◌∷◌, [], ℕ, List, get_or, length, Some, None, true, false, rules, arith, refl, sym, ap, ◌∙◌}
+use Rattle.std.proofs.Common.{◌≡◌, [], get_or, length, Some, None, true, false, arith, refl, sym, ap, ◌∙◌}
 use borrow.Author.Count.{below_more}
 use Rattle.rebug.specs.declared.lines.faults.FaultKind.TheVariants.{Syntax}
 use Rattle.rebug.specs.declared.lines.faults.ReadFault.TheVariants as text

@@ -1,4 +1,4 @@
-use Rattle.std.proofs.Common.{◌≡◌, ◌<◌, ◌+◌, ◌∷◌, [], ℕ, List, get_or, length, Some, None, true, false, rules, arith, refl, sym, ap, ◌∙◌}
+use Rattle.std.proofs.Common.{◌≡◌, ◌+◌, [], get_or, None, true, false, arith, refl, sym, ap, ◌∙◌}
 use borrow.Author.Count.{below_more}
 use Rattle.rebug.specs.declared.lines.faults.FaultKind.TheVariants.{Syntax}
 use Rattle.rebug.specs.declared.lines.faults.ReadFault.TheVariants as text
@@ -7,7 +7,7 @@ use Rattle.rebug.specs.Parts.{slices_of}
 use Rattle.rebug.specs.Traces.{command_wrong}
 use Rattle.rebug.proofs.FaultLemmas.{line_at_fault}
 use Rattle.rebug.proofs.SaidLemmas.{is_blank-length, said-blank, said_all, said_step, unsaid_step, wrong_by-blank, wrong_by-err, wrong_by-ok}
-use Rattle.rebug.proofs.SliceLemmas.{at-slices_of, past-slices_of, within-slices_of, length-slices_of}
+use Rattle.rebug.proofs.SliceLemmas.{at-slices_of, past-slices_of, within-slices_of}
 use Rattle.rebug.proofs.lines.traces.read_commands.Goals as goal
 
 pub loop-place-init : goal.loop-place-init

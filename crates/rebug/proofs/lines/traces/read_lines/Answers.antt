@@ -1,9 +1,9 @@
-use Rattle.std.proofs.Common.{◌≡◌, ◌<◌, ◌+◌, ◌-◌, ◌∷◌, ◌++◌, [], ℕ, List, get_or, length, drop, Some, None, Ok, Err, true, false, rules, arith, refl, sym, ap, ◌∙◌, subst, take}
+use Rattle.std.proofs.Common.{◌≡◌, ◌+◌, ◌-◌, ◌∷◌, ◌++◌, [], ℕ, length, drop, Err, arith, sym, ap, ◌∙◌, subst, take}
 use Rattle.std.proofs.lemmas.Result.{err_from_is_err_and}
 use Rattle.rebug.specs.declared.lines.faults.ReadFault.TheVariants as text
 use Rattle.rebug.specs.Faults.{IsFirstWrong}
 use Rattle.rebug.specs.Parts.{slices_of, lanes_of}
-use Rattle.rebug.specs.Traces.{command_wrong, commands_in, opening_of, value_of}
+use Rattle.rebug.specs.Traces.{command_wrong}
 use Rattle.rebug.proofs.SliceLemmas.{length-slices_of, past-slices_of, within-slices_of, slices_of-tail}
 use Rattle.rebug.proofs.TraceLemmas.{fault_lane, sound_lane, sound_no_lane, value_lane, value_no_lane, value_records, IsFirstWrong-length}
 use Rattle.rebug.proofs.lines.traces.read_lines.Goals as goal

@@ -1,9 +1,8 @@
-use Rattle.std.proofs.Common.{◌≡◌, ◌<◌, ◌+◌, [], ℕ, List, get_or, length, Some, None, Ok, Err, true, false, rules, arith, refl, sym, ap, ◌∙◌, subst, take}
-use Rattle.rebug.specs.declared.lines.faults.LineFault.TheVariants as line
+use Rattle.std.proofs.Common.{◌≡◌, ◌+◌, [], ℕ, List, get_or, length, Err, true, false, arith, sym, ap, ◌∙◌, subst, take}
 use Rattle.rebug.specs.declared.lines.faults.ReadFault.TheVariants as text
 use Rattle.rebug.specs.Lines.{is_blank, record_line}
 use Rattle.rebug.specs.Parts.{slices_of}
-use Rattle.rebug.specs.Traces.{opens_lane, opening_of, records_in, record_wrong, IsRecordAdded}
+use Rattle.rebug.specs.Traces.{opens_lane, records_in, record_wrong, IsRecordAdded}
 use Rattle.rebug.proofs.FaultLemmas.{kind_of_fault}
 use Rattle.rebug.proofs.SaidLemmas.{is_blank-length}
 use Rattle.rebug.proofs.SliceLemmas.{at-slices_of, length-slices_of, within-slices_of}

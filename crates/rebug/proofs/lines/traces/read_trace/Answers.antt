@@ -1,17 +1,15 @@
-use Rattle.std.proofs.Common.{◌≡◌, ◌==◌, ◌<◌, ◌+◌, ◌-◌, ◌∷◌, [], ℕ, List, get_or, length, drop, Some, None, Ok, Err, true, false, not, rules, arith, refl, sym, ap, ◌∙◌, subst, take}
-use Rattle.std.proofs.lemmas.Bool.{not-false, not-true}
+use Rattle.std.proofs.Common.{◌≡◌, ◌==◌, ◌∷◌, ℕ, length, true, arith, sym, ap, ◌∙◌, subst}
+use Rattle.std.proofs.lemmas.Bool.{not-false}
 use Rattle.std.proofs.lemmas.List.Splits.{length-slice_split}
 use Rattle.std.specs.Prelude.{codes}
 use Rattle.std.specs.Str.{bytes_eq}
-use Rattle.rebug.specs.declared.lines.faults.FaultKind.TheVariants.{Header}
-use Rattle.rebug.specs.declared.lines.faults.ReadFault.TheVariants as text
 use Rattle.rebug.specs.Faults.{IsFirstWrong, first_fault}
 use Rattle.rebug.specs.Lines.{lines_of}
 use Rattle.rebug.specs.Parts.{slices_of}
-use Rattle.rebug.specs.Traces.{trace_fault, wrong_at}
+use Rattle.rebug.specs.Traces.{wrong_at}
 use Rattle.rebug.proofs.AnswerLemmas.{on_ok}
 use Rattle.rebug.proofs.SliceLemmas.{length-slices_of}
-use Rattle.rebug.proofs.TraceLemmas.{trace_first, trace_header, trace_sound, whole_wrong}
+use Rattle.rebug.proofs.TraceLemmas.{trace_first, trace_sound, whole_wrong}
 use Rattle.rebug.proofs.lines.traces.read_trace.Goals as goal
 
 pub returns-in_default-clause-fault : goal.returns-in_default-clause-fault

@@ -2,7 +2,7 @@ use Rattle.std.proofs.Common.{IsSome, Contains, slice_get, ap, sym, ◌∙◌, s
 use Rattle.std.proofs.lemmas.Option.{slice_get-map}
 use Rattle.std.specs.FinMap as map
 use Rattle.rev_cells.specs.declared.cell.Cell.{Cell}
-use Rattle.rev_cells.specs.declared.cell.Value.{Value}
+use Rattle.rev_cells.specs.declared.value.Value.{Value}
 use Rattle.rev_cells.specs.Table.{Table}
 use Rattle.rev_cells.proofs.EntryLemmas.{placed}
 use Rattle.rev_cells.proofs.cells.Cells.place.Goals as goal
@@ -19,4 +19,8 @@ returns-clause-place c =
 
 pub returns-clause-all : goal.returns-clause-all
 returns-clause-all c =
+    subst (λ (t : Table). (k : Cell) → IsSome (map.get t.state k) → Contains t.places k) c.self.view_is (placed c.self.inside.entries.entries)
+
+pub returns-then-index-len-clause-all : goal.returns-then-index-len-clause-all
+returns-then-index-len-clause-all c =
     subst (λ (t : Table). (k : Cell) → IsSome (map.get t.state k) → Contains t.places k) c.self.view_is (placed c.self.inside.entries.entries)

@@ -1,0 +1,247 @@
+//! Lists that values hold.
+ghost use Rattle.std.specs.Prelude.{◌≡◌, IfOk, bytes_eq};
+ghost use Rattle.std.specs.Cmp.{partial_equiv_from_equiv};
+ghost use Rattle.std.specs.Cmp.Lexicographic.{pointwise, nat_list_eq_equiv, lists_equiv};
+
+use rev_paths::Name;
+use std::alloc::AllocError;
+use std::marker::Model;
+
+/// Positions of an edge's outputs, which count from 0.
+#[derive(Debug, Drop)]
+pub struct Positions {
+    items: Vec<u64>,
+}
+
+impl Model for Positions {
+    ghost use Rattle.std.specs.Prelude.{List, ℕ};
+
+    ghost Value = { List ℕ };
+
+    ghost view = { λ p. p.items.items };
+}
+
+impl Positions {
+    /// The positions of a vector, which is taken over with its memory.
+    pub fn new(items: Vec<u64>) -> Positions
+        ensures { result ≡ items.items }
+    {
+        Positions { items }
+    }
+
+    /// The positions in their order.
+    pub fn as_slice(&self) -> &[u64]
+        ensures { result.now ≡ self.now }
+    {
+        self.items.as_slice()
+    }
+
+    /// The vector that holds the positions, with its memory.
+    pub fn into_vec(self) -> Vec<u64>
+        ensures { result.items ≡ self }
+    {
+        self.items
+    }
+
+    /// Equal positions.
+    pub fn copy(&self) -> Result<Positions, AllocError>
+        ensures { IfOk result (λ copy. copy ≡ self.now) }
+    {
+        self.clone()
+    }
+}
+
+impl Clone for Positions {
+    ghost is_clone = { λ positions copy. copy ≡ positions };
+
+    fn clone(&self) -> Result<Positions, AllocError> {
+        Ok(Positions {
+            items: self.items.clone()?,
+        })
+    }
+}
+
+impl PartialEq for Positions {
+    ghost eq = { bytes_eq };
+
+    ghost laws = { partial_equiv_from_equiv nat_list_eq_equiv };
+
+    fn eq(&self, other: &Positions) -> bool {
+        self.items == other.items
+    }
+}
+
+impl Eq for Positions {
+    ghost laws = { nat_list_eq_equiv };
+}
+
+/// The bytes of a text, as a command.
+#[derive(Debug, Drop)]
+pub struct Text {
+    bytes: Vec<u8>,
+}
+
+impl Model for Text {
+    ghost use Rattle.std.specs.Prelude.{List, ℕ};
+
+    ghost Value = { List ℕ };
+
+    ghost view = { λ t. t.bytes.items };
+}
+
+impl Text {
+    /// The text of a vector's bytes, which is taken over with its memory.
+    pub fn new(bytes: Vec<u8>) -> Text
+        ensures { result ≡ bytes.items }
+    {
+        Text { bytes }
+    }
+
+    /// The bytes in their order.
+    pub fn as_slice(&self) -> &[u8]
+        ensures { result.now ≡ self.now }
+    {
+        self.bytes.as_slice()
+    }
+
+    /// The vector that holds the bytes, with its memory.
+    pub fn into_vec(self) -> Vec<u8>
+        ensures { result.items ≡ self }
+    {
+        self.bytes
+    }
+
+    /// An equal text.
+    pub fn copy(&self) -> Result<Text, AllocError>
+        ensures { IfOk result (λ copy. copy ≡ self.now) }
+    {
+        self.clone()
+    }
+}
+
+impl Clone for Text {
+    ghost is_clone = { λ text copy. copy ≡ text };
+
+    fn clone(&self) -> Result<Text, AllocError> {
+        Ok(Text {
+            bytes: self.bytes.clone()?,
+        })
+    }
+}
+
+impl PartialEq for Text {
+    ghost eq = { bytes_eq };
+
+    ghost laws = { partial_equiv_from_equiv nat_list_eq_equiv };
+
+    fn eq(&self, other: &Text) -> bool {
+        self.bytes == other.bytes
+    }
+}
+
+impl Eq for Text {
+    ghost laws = { nat_list_eq_equiv };
+}
+
+/// Paths in a given order, in which one may stand more than once.
+#[derive(Debug, Drop)]
+pub struct Names {
+    paths: Vec<Name>,
+}
+
+impl Model for Names {
+    ghost use Rattle.std.specs.Prelude.{List, ℕ};
+
+    ghost Value = { List (List ℕ) };
+
+    ghost view = { λ n. n.paths.items };
+}
+
+impl Names {
+    /// The paths of a vector, which is taken over with its memory.
+    pub fn new(paths: Vec<Name>) -> Names
+        ensures { result ≡ paths.items }
+    {
+        Names { paths }
+    }
+
+    /// The paths in their order.
+    pub fn as_slice(&self) -> &[Name]
+        ensures { result.now ≡ self.now }
+    {
+        self.paths.as_slice()
+    }
+
+    /// The vector that holds the paths, with its memory.
+    pub fn into_vec(self) -> Vec<Name>
+        ensures { result.items ≡ self }
+    {
+        self.paths
+    }
+
+    /// Equal paths in the same order.
+    pub fn copy(&self) -> Result<Names, AllocError>
+        ensures { IfOk result (λ copy. copy ≡ self.now) }
+    {
+        self.clone()
+    }
+}
+
+impl Clone for Names {
+    ghost is_clone = { λ names copy. copy ≡ names };
+
+    fn clone(&self) -> Result<Names, AllocError> {
+        Ok(Names {
+            paths: self.paths.clone()?,
+        })
+    }
+}
+
+impl PartialEq for Names {
+    ghost eq = { pointwise bytes_eq };
+
+    ghost laws = { partial_equiv_from_equiv (lists_equiv nat_list_eq_equiv) };
+
+    fn eq(&self, other: &Names) -> bool {
+        self.paths == other.paths
+    }
+}
+
+impl Eq for Names {
+    ghost laws = { lists_equiv nat_list_eq_equiv };
+}
+
+#[cfg(test)]
+mod tests {
+    use super::*;
+    use std::test::Fail;
+
+    #[test]
+    fn positions_are_given_back(rt: HostRuntime) -> Result<(), Fail> {
+        let positions = Positions::new(vec![in rt.alloc(); 0, 2]?);
+        assert_eq!(rt; positions.as_slice(), [0, 2].as_slice());
+        assert_eq!(rt; positions.copy()?, positions);
+        assert_eq!(rt; positions.into_vec().as_slice(), [0, 2].as_slice());
+        Ok(())
+    }
+
+    #[test]
+    fn a_text_is_given_back(rt: HostRuntime) -> Result<(), Fail> {
+        let text = Text::new(vec![in rt.alloc(); b'c', b'c']?);
+        assert_eq!(rt; text.as_slice(), b"cc".as_slice());
+        assert_eq!(rt; text.copy()?, text);
+        assert_eq!(rt; text.into_vec().as_slice(), b"cc".as_slice());
+        Ok(())
+    }
+
+    #[test]
+    fn repeated_names_are_given_back(rt: HostRuntime) -> Result<(), Fail> {
+        let alloc = rt.alloc();
+        let name = Name::new(alloc, b"a.h")?;
+        let names = Names::new(Vec::from_array(alloc, [name.copy()?, name.copy()?])?);
+        assert_eq!(rt; names.as_slice().len(), 2);
+        assert_eq!(rt; names.copy()?, names);
+        assert_eq!(rt; names.into_vec().pop(), Some(name));
+        Ok(())
+    }
+}

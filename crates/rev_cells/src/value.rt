@@ -1,0 +1,131 @@
+//! What cells hold.
+ghost use Rattle.std.specs.Prelude.{◌≡◌, IfOk};
+
+use crate::lists::{Names, Text};
+use crate::mark::Mark;
+use std::alloc::AllocError;
+
+/// What the build log has of an output.
+#[derive(Debug, Drop, PartialEq, Eq)]
+pub struct BuiltRecord {
+    /// The command that made it.
+    pub command: Text,
+    /// The stamp that it was given then.
+    pub stamp: u64,
+}
+
+impl BuiltRecord {
+    /// An equal record.
+    pub fn copy(&self) -> Result<BuiltRecord, AllocError>
+        ensures { IfOk result (λ copy. copy ≡ self.now) }
+    {
+        self.clone()
+    }
+}
+
+impl Clone for BuiltRecord {
+    ghost is_clone = { λ built copy. copy ≡ built };
+
+    fn clone(&self) -> Result<BuiltRecord, AllocError> {
+        Ok(BuiltRecord {
+            command: self.command.copy()?,
+            stamp: self.stamp,
+        })
+    }
+}
+
+/// What the deps log has of an output.
+#[derive(Debug, Drop, PartialEq, Eq)]
+pub struct DepsRecord {
+    /// The stamp that the output had when its prerequisites were listed.
+    pub stamp: u64,
+    /// The prerequisites as they were listed, repeated ones too.
+    pub paths: Names,
+}
+
+impl DepsRecord {
+    /// An equal record.
+    pub fn copy(&self) -> Result<DepsRecord, AllocError>
+        ensures { IfOk result (λ copy. copy ≡ self.now) }
+    {
+        self.clone()
+    }
+}
+
+impl Clone for DepsRecord {
+    ghost is_clone = { λ deps copy. copy ≡ deps };
+
+    fn clone(&self) -> Result<DepsRecord, AllocError> {
+        Ok(DepsRecord {
+            stamp: self.stamp,
+            paths: self.paths.copy()?,
+        })
+    }
+}
+
+/// What a cell holds.
+#[derive(Debug, Drop, PartialEq, Eq)]
+pub enum Value {
+    /// The time at which a file was last changed, 0 where it is missing.
+    Stamp(u64),
+    /// How far an edge has come.
+    Mark(Mark),
+    /// The edge whose command a job runs.
+    Job(Option<u32>),
+    /// The edge that has a place in a pool.
+    Slot(Option<u32>),
+    /// What the build log has of an output.
+    Built(Option<BuiltRecord>),
+    /// What the deps log has of an output.
+    Deps(Option<DepsRecord>),
+    /// Whether the build was interrupted.
+    Halted(bool),
+}
+
+impl Value {
+    /// An equal value.
+    pub fn copy(&self) -> Result<Value, AllocError>
+        ensures { IfOk result (λ copy. copy ≡ self.now) }
+    {
+        self.clone()
+    }
+}
+
+impl Clone for Value {
+    ghost is_clone = { λ value copy. copy ≡ value };
+
+    fn clone(&self) -> Result<Value, AllocError> {
+        match self {
+            Value::Stamp(stamp) => Ok(Value::Stamp(*stamp)),
+            Value::Mark(mark) => Ok(Value::Mark(mark.copy()?)),
+            Value::Job(holder) => Ok(Value::Job(*holder)),
+            Value::Slot(holder) => Ok(Value::Slot(*holder)),
+            Value::Built(None) => Ok(Value::Built(None)),
+            Value::Built(Some(built)) => Ok(Value::Built(Some(built.copy()?))),
+            Value::Deps(None) => Ok(Value::Deps(None)),
+            Value::Deps(Some(deps)) => Ok(Value::Deps(Some(deps.copy()?))),
+            Value::Halted(halted) => Ok(Value::Halted(*halted)),
+        }
+    }
+}
+
+#[cfg(test)]
+mod tests {
+    use super::*;
+    use rev_paths::Name;
+    use std::test::Fail;
+
+    #[test]
+    fn records_are_copied(rt: HostRuntime) -> Result<(), Fail> {
+        let alloc = rt.alloc();
+        let command = Text::new(vec![in alloc; b'c', b'c']?);
+        let built = BuiltRecord { command, stamp: 10 };
+        assert_eq!(rt; built.copy()?, built);
+        let paths = Names::new(Vec::from_array(alloc, [Name::new(alloc, b"a.h")?])?);
+        let deps = DepsRecord { stamp: 10, paths };
+        assert_eq!(rt; deps.copy()?, deps);
+        let value = Value::Deps(Some(deps));
+        assert_eq!(rt; value.copy()?, value);
+        Ok(())
+    }
+}
