@@ -103,7 +103,7 @@ by-entry None false = refl
 by-entry (Some x) other = refl
 
 -- what the table of all paths has of the producer of a path
-produced-by : (es : List (List ℕ × Option ℕ)) (builds : List BuildValue) (path : List ℕ) → entry es path ≡ (if is_known builds path then Some (producer_of builds path) else None)
+pub produced-by : (es : List (List ℕ × Option ℕ)) (builds : List BuildValue) (path : List ℕ) → entry es path ≡ (if is_known builds path then Some (producer_of builds path) else None)
     → produced_by es path ≡ producer_of builds path
 produced-by es builds path h = ap (λ o. unwrap_or o None) h ∙ by-entry (producer_of builds path) (list_any (needs path) builds)
 

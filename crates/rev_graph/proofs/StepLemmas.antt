@@ -24,7 +24,7 @@ successors-by all (b ∷ bs) = (λ i. filter_map-map (producer_of all) (inputs_o
 pub successors-are : (builds : List BuildValue) (lists : List (List (Option ℕ))) → lists ≡ map (input_producers builds) builds → map (filter_map (λ producer. producer)) lists ≡ successor_lists builds
 successors-are builds lists h = ap (map (filter_map (λ producer. producer))) h ∙ successors-by builds builds
 
-only : {X : Type 0} (z y : X) → Contains (z ∷ []) y → z ≡ y
+pub only : {X : Type 0} (z y : X) → Contains (z ∷ []) y → z ≡ y
 only z y h = elim (Contains-push_cases [] z y h) [ inl (k, within, at) ↦ absurd (omega (arith, within)) | inr e ↦ e ]
 
 -- an item that is kept comes from one
@@ -152,7 +152,7 @@ later-is n p rest true e above =
 later-is n p rest false e above = e
 
 -- a producer has the path among its outputs
-produced-output : (n : ℕ) (path : List ℕ) (builds : List BuildValue) (p k : ℕ) → producer_from n path builds ≡ Some p → p ≡ n + k → has_path (outputs_of (get_or builds k no_build)) path ≡ true
+pub produced-output : (n : ℕ) (path : List ℕ) (builds : List BuildValue) (p k : ℕ) → producer_from n path builds ≡ Some p → p ≡ n + k → has_path (outputs_of (get_or builds k no_build)) path ≡ true
 produced-output n path [] p k h e =
     let no : None ≡ Some p = h in
     cc
@@ -171,3 +171,11 @@ pub reached-outputs : {builds : List BuildValue} {edge other : ℕ} → EdgeReac
 reached-outputs {builds} {edge} {other} (one_edge_step s) =
     some-output (outputs_of (build_at builds other)) s.path (produced-output 0 s.path builds other other s.produced (omega arith))
 reached-outputs {builds} {edge} {other} (then_on_edges s w) = reached-outputs w
+
+reaches-falls : (builds : List BuildValue) (ranks : List ℕ) → IsRanked builds ranks → {edge other : ℕ} → EdgeReaches builds edge other → rank_at ranks other < rank_at ranks edge
+reaches-falls builds ranks ranked {edge} {other} (one_edge_step s) = ranked.falls edge other s
+reaches-falls builds ranks ranked {edge} {other} (then_on_edges {middle = middle} s w) = omega (arith, ranked.falls edge middle s, reaches-falls builds ranks ranked w)
+
+-- where ranks fall along each step no edge reaches itself
+pub ranked-acyclic : (builds : List BuildValue) (ranks : List ℕ) → IsRanked builds ranks → (edge : ℕ) → EdgeReaches builds edge edge → ⊥
+ranked-acyclic builds ranks ranked edge way = omega (arith, reaches-falls builds ranks ranked way)

@@ -47,6 +47,10 @@ has_path paths path = list_any (bytes_eq path) paths
 abbrev pub needs : List ℕ → BuildValue → Bool
 needs path build = has_path (inputs_of build ++ build.validations) path
 
+-- An edge has the path among its outputs.
+abbrev pub Produces : List BuildValue → ℕ → List ℕ → Type 0
+Produces builds edge path = Contains (outputs_of (build_at builds edge)) path
+
 -- the first edge that has the path among its outputs, where the first of the list has the number `edge`
 abbrev pub producer_from : ℕ → List ℕ → List BuildValue → Option ℕ
 producer_from edge path [] = None

@@ -1,5 +1,6 @@
 pub mod Entries
 pub mod Fault
 pub mod Graph
+pub mod Laws
 pub mod Lists
 pub mod Sound

@@ -1,9 +1,8 @@
 //! Graphs of edges.
-ghost use Rattle.std.specs.Prelude.{◌≡◌, ◌<◌, ◌↔◌, map, length, IsTrue, IfOk, IfErr, IsErrOf, OnOk};
+ghost use Rattle.std.specs.Prelude.{◌≡◌, ℕ, ◌<◌, ◌↔◌, length, Some, IfSome, IfOk, IfErr, IsErrOf, OnOk};
 ghost use Rattle.rev_manifest.specs.Seen.{contents};
-ghost use Rattle.rev_graph.specs.Entries.{entry};
 ghost use Rattle.rev_graph.specs.Fault.{Explains, IsFaultless};
-ghost use Rattle.rev_graph.specs.Graph.{build_at, is_known, producer_of, pool_of, input_producers, rank_at, IsGraph};
+ghost use Rattle.rev_graph.specs.Graph.{build_at, is_known, producer_of, pool_of, input_producers, rank_at, IsGraph, Produces};
 ghost use Rattle.rev_graph.specs.Lists.{seen_pools};
 
 use crate::edge::{Edge, edges_of, names_copy};
@@ -121,7 +120,9 @@ impl Graph {
 
     /// The edge that has the path among its outputs, if one has.
     pub fn producer(&self, path: &Name) -> Option<u32>
-        ensures { result ≡ producer_of self.now.manifest.builds path.now }
+        ensures value { result ≡ producer_of self.now.manifest.builds path.now }
+        ensures has { IfSome result (λ edge. Produces self.now.manifest.builds edge path.now) }
+        ensures only { (edge : ℕ) → Produces self.now.manifest.builds edge path.now → result ≡ Some edge }
     {
         producer(&self.table, path)
     }
@@ -255,3 +256,6 @@ impl Graph {
         self.ranks[edge as usize]
     }
 }
+
+#[cfg(test)]
+mod tests;

@@ -6,6 +6,7 @@
 mod edge;
 mod fault;
 mod graph;
+pub mod laws;
 mod steps;
 mod table;
 

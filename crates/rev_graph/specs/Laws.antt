@@ -1,0 +1,16 @@
+-- What the definitions of a graph come to.
+use Rattle.std.specs.Prelude.{◌≡◌, ℕ, ◌<◌, List, Some, None}
+use Rattle.rev_manifest.specs.Manifest.{BuildValue}
+use Rattle.rev_graph.specs.Graph.{Produces, EdgeReaches, IsRanked, first_double}
+
+-- where no output has an earlier edge, no path is an output of two edges
+abbrev pub OneProducer : Type 0
+OneProducer = (builds : List BuildValue) → first_double builds ≡ None → (path : List ℕ) (a b : ℕ) → Produces builds a path → Produces builds b path → a ≡ b
+
+-- the first output that an earlier edge has is an output of two edges
+abbrev pub DoublesAreReal : Type 0
+DoublesAreReal = (builds : List BuildValue) (path : List ℕ) → first_double builds ≡ Some path → (a : ℕ) × (b : ℕ) × (a < b) × Produces builds a path × Produces builds b path
+
+-- where edges have ranks that fall along each step, none reaches itself
+abbrev pub RankedIsAcyclic : Type 0
+RankedIsAcyclic = (builds : List BuildValue) (ranks : List ℕ) → IsRanked builds ranks → (edge : ℕ) → EdgeReaches builds edge edge → ⊥

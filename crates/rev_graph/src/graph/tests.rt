@@ -1,0 +1,131 @@
+use super::*;
+use rev_manifest::read;
+use std::test::Fail;
+
+const CHAIN: &[u8; 69] =
+    b"rule cc\n  command = cc $in -o $out\nbuild b.o: cc b.c\nbuild b: cc b.o\n";
+
+const TWO_PRODUCERS: &[u8; 51] = b"rule r\n  command = r\nbuild x y: r\nbuild z y x: r a\n";
+
+const CYCLE: &[u8; 47] = b"rule r\n  command = r\nbuild x: r y\nbuild y: r x\n";
+
+const BELOW_A_CYCLE: &[u8; 62] =
+    b"rule r\n  command = r\nbuild w: r x\nbuild y x: r z\nbuild z: r y\n";
+
+fn built(alloc: Global, content: &[u8]) -> Result<Graph, GraphFault> {
+    let name = Vec::from_slice(alloc, b"build.ninja")?;
+    let content = Vec::from_slice(alloc, content)?;
+    let files = vec![in alloc; (name, content)]?;
+    match read(alloc, &files) {
+        Ok(manifest) => Graph::build(alloc, &manifest),
+        Err(_) => Err(GraphFault::Memory),
+    }
+}
+
+fn named(alloc: Global, path: &[u8]) -> Result<Name, GraphFault> {
+    match Name::new(alloc, path) {
+        Ok(name) => Ok(name),
+        Err(_) => Err(GraphFault::Memory),
+    }
+}
+
+// The number of a fault and the path that it names.
+fn fault_of(alloc: Global, content: &[u8]) -> Result<(u16, Name), AllocError> {
+    match built(alloc, content) {
+        Err(GraphFault::MultipleProducers(path)) => Ok((40, path)),
+        Err(GraphFault::Cycle(path)) => Ok((41, path)),
+        _ => Err(AllocError),
+    }
+}
+
+#[test]
+fn paths_have_producers(rt: HostRuntime) -> Result<(), Fail> {
+    let alloc = rt.alloc();
+    let graph = built(alloc, CHAIN)?;
+    assert_eq!(rt; graph.edges(), 2);
+    assert_eq!(rt; graph.producer(&named(alloc, b"b.o")?), Some(0));
+    assert_eq!(rt; graph.producer(&named(alloc, b"b.c")?), None);
+    Ok(())
+}
+
+#[test]
+fn paths_are_known(rt: HostRuntime) -> Result<(), Fail> {
+    let alloc = rt.alloc();
+    let graph = built(alloc, CHAIN)?;
+    assert!(rt; graph.known(&named(alloc, b"b.c")?));
+    assert!(rt; !graph.known(&named(alloc, b"cc")?));
+    Ok(())
+}
+
+#[test]
+fn edges_have_inputs(rt: HostRuntime) -> Result<(), Fail> {
+    let alloc = rt.alloc();
+    let graph = built(alloc, CHAIN)?;
+    if graph.edges() == 2 {
+        let inputs = graph.inputs(1);
+        assert_eq!(rt; inputs.explicit.first(), Some(&named(alloc, b"b.o")?));
+        assert_eq!(rt; inputs.implicit.len() + inputs.order_only.len(), 0);
+        assert_eq!(rt; graph.producers(1), [Some(0)].as_slice());
+    }
+    Ok(())
+}
+
+#[test]
+fn edges_have_outputs(rt: HostRuntime) -> Result<(), Fail> {
+    let alloc = rt.alloc();
+    let graph = built(alloc, CHAIN)?;
+    if graph.edges() == 2 {
+        let outputs = graph.outputs(0);
+        assert_eq!(rt; outputs.explicit.first(), Some(&named(alloc, b"b.o")?));
+        assert_eq!(rt; outputs.implicit.len(), 0);
+        assert!(rt; graph.rank(0) < graph.rank(1));
+    }
+    Ok(())
+}
+
+#[test]
+fn edges_have_commands(rt: HostRuntime) -> Result<(), Fail> {
+    let alloc = rt.alloc();
+    let graph = built(alloc, CHAIN)?;
+    if graph.edges() == 2 {
+        assert_eq!(rt; graph.command(0), b"cc b.c -o b.o".as_slice());
+        assert_eq!(rt; graph.pool(0), None);
+        assert!(rt; graph.validations(0).is_empty());
+    }
+    Ok(())
+}
+
+#[test]
+fn edges_have_no_flags_by_themselves(rt: HostRuntime) -> Result<(), Fail> {
+    let graph = built(rt.alloc(), CHAIN)?;
+    if graph.edges() == 2 {
+        assert!(rt; !graph.is_phony(0));
+        assert!(rt; !graph.keeps_deps(0));
+        assert!(rt; !graph.restat(0));
+        assert!(rt; !graph.generator(0));
+    }
+    Ok(())
+}
+
+#[test]
+fn last_outputs_are_defaults(rt: HostRuntime) -> Result<(), Fail> {
+    let alloc = rt.alloc();
+    let graph = built(alloc, CHAIN)?;
+    assert_eq!(rt; graph.defaults(), [named(alloc, b"b")?].as_slice());
+    Ok(())
+}
+
+#[test]
+fn first_second_producer_is_named(rt: HostRuntime) -> Result<(), Fail> {
+    let alloc = rt.alloc();
+    assert_eq!(rt; fault_of(alloc, TWO_PRODUCERS)?, (40, named(alloc, b"y")?));
+    Ok(())
+}
+
+#[test]
+fn least_edge_on_a_cycle_is_named(rt: HostRuntime) -> Result<(), Fail> {
+    let alloc = rt.alloc();
+    assert_eq!(rt; fault_of(alloc, CYCLE)?, (41, named(alloc, b"x")?));
+    assert_eq!(rt; fault_of(alloc, BELOW_A_CYCLE)?, (41, named(alloc, b"y")?));
+    Ok(())
+}

@@ -1,0 +1,17 @@
+//! Laws of all graphs.
+ghost use Rattle.rev_graph.specs.Laws.{OneProducer, DoublesAreReal, RankedIsAcyclic};
+
+/// Where no output has an earlier edge, no path is an output of two edges.
+pub fn one_producer()
+    ensures { OneProducer }
+{}
+
+/// The path that a fault of two producers names is an output of two edges.
+pub fn doubles_are_real()
+    ensures { DoublesAreReal }
+{}
+
+/// Where ranks fall along each step, no edge reaches itself.
+pub fn ranked_is_acyclic()
+    ensures { RankedIsAcyclic }
+{}
