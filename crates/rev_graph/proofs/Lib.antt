@@ -1,3 +1,4 @@
+pub mod DecidedLemmas
 pub mod EntryLemmas
 pub mod GraphLemmas
 pub mod ProducerLemmas

@@ -106,6 +106,9 @@ all-within builds vectors h = λ k d within j e inside.
     subst (λ l. Contains l (get_or list j e)) (sym same ∙ ap (λ g. get_or g k []) h) (Contains-get_or list j e inside) in
     omega (arith, step-within builds k (get_or list j e) step, length-successors builds vectors h)
 
+pub length-lists : (builds : List BuildValue) → length (successor_lists builds) ≡ length builds
+length-lists builds = length-map builds (λ build. filter_map (producer_of builds) (inputs_of build))
+
 -- ranks of nodes are ranks of edges
 pub ranked-edges : (builds : List BuildValue) (ranks : List ℕ) → AreRanks (successor_lists builds) ranks → IsRanked builds ranks
 ranked-edges builds ranks r =

@@ -1,6 +1,10 @@
 -- What the definitions of a graph come to.
-use Rattle.std.specs.Prelude.{◌≡◌, ℕ, ◌<◌, List, Some, None}
+use Rattle.std.specs.Prelude.{◌≡◌, ◌≢◌, ℕ, ◌<◌, List, Some, None}
 use Rattle.rev_manifest.specs.Manifest.{BuildValue}
+use Rattle.rev_graph.specs.declared.fault.GraphFault.{GraphFault}
+use Rattle.rev_graph.specs.declared.fault.GraphFault.TheVariants.{Memory}
+use Rattle.rev_graph.specs.Decided.{graph_fault}
+use Rattle.rev_graph.specs.Fault.{Explains, IsFaultless}
 use Rattle.rev_graph.specs.Graph.{Produces, EdgeReaches, IsRanked, first_double}
 
 -- where no output has an earlier edge, no path is an output of two edges
@@ -14,3 +18,9 @@ DoublesAreReal = (builds : List BuildValue) (path : List ℕ) → first_double b
 -- where edges have ranks that fall along each step, none reaches itself
 abbrev pub RankedIsAcyclic : Type 0
 RankedIsAcyclic = (builds : List BuildValue) (ranks : List ℕ) → IsRanked builds ranks → (edge : ℕ) → EdgeReaches builds edge edge → ⊥
+
+-- the fault as a function is the fault that explains why edges make no graph, and none where they have none
+abbrev pub FaultIsDecided : Type 0
+FaultIsDecided =
+    ((builds : List BuildValue) (fault : GraphFault) → fault ≢ Memory → Explains fault builds → graph_fault builds ≡ Some fault)
+    × ((builds : List BuildValue) → IsFaultless builds → graph_fault builds ≡ None)

@@ -1,5 +1,5 @@
 //! Laws of all graphs.
-ghost use Rattle.rev_graph.specs.Laws.{OneProducer, DoublesAreReal, RankedIsAcyclic};
+ghost use Rattle.rev_graph.specs.Laws.{OneProducer, DoublesAreReal, RankedIsAcyclic, FaultIsDecided};
 
 /// Where no output has an earlier edge, no path is an output of two edges.
 pub fn one_producer()
@@ -14,4 +14,9 @@ pub fn doubles_are_real()
 /// Where ranks fall along each step, no edge reaches itself.
 pub fn ranked_is_acyclic()
     ensures { RankedIsAcyclic }
+{}
+
+/// The fault that a function of the edges gives is the one that explains why they make no graph.
+pub fn fault_is_decided()
+    ensures { FaultIsDecided }
 {}

@@ -1,0 +1,39 @@
+-- The fault of edges as a function, for reports. That it is the fault which the field means is a law.
+use Rattle.std.specs.Prelude.{ℕ, zero, suc, ◌==◌, Bool, ◌||◌, List, length, find, Option, Some, None, slice_get, nat_lt, if◌then◌else◌}
+use Rattle.std.specs.List.{list_any, range_with_len}
+use Rattle.std.specs.Option.{option_map}
+use Rattle.rev_manifest.specs.Manifest.{BuildValue}
+use Rattle.rev_ranks.specs.Graph.{successors_of}
+use Rattle.rev_graph.specs.declared.fault.GraphFault.{GraphFault}
+use Rattle.rev_graph.specs.declared.fault.GraphFault.TheVariants.{Memory, TooManyEdges, MultipleProducers, Cycle}
+use Rattle.rev_graph.specs.Graph.{build_at, outputs_of, first_double, successor_lists}
+
+-- whether a step leads from a node to another
+abbrev pub steps_to : List (List ℕ) → ℕ → ℕ → Bool
+steps_to graph node other = list_any (λ next. next == other) (successors_of graph node)
+
+-- whether a way leads from a node to another which goes through at most so many nodes between them
+abbrev pub reaches_through : List (List ℕ) → ℕ → ℕ → ℕ → Bool
+reaches_through graph other zero node = steps_to graph node other
+reaches_through graph other (suc most) node = steps_to graph node other || list_any (reaches_through graph other most) (successors_of graph node)
+
+-- whether a node reaches itself: a way need not go through more nodes than there are
+abbrev pub reaches_itself : List (List ℕ) → ℕ → Bool
+reaches_itself graph node = reaches_through graph node (length graph) node
+
+-- the least node that reaches itself
+abbrev pub least_on_cycle : List (List ℕ) → Option ℕ
+least_on_cycle graph = find (reaches_itself graph) (range_with_len 0 (length graph))
+
+-- the fault of a cycle on which the edge is the least
+abbrev pub cycle_at : List BuildValue → Option ℕ → Option GraphFault
+cycle_at builds None = None
+cycle_at builds (Some edge) = option_map Cycle (slice_get (outputs_of (build_at builds edge)) 0)
+
+abbrev pub double_or : Option (List ℕ) → Option GraphFault → Option GraphFault
+double_or None fault = fault
+double_or (Some path) fault = Some (MultipleProducers path)
+
+-- the first fault of edges
+abbrev pub graph_fault : List BuildValue → Option GraphFault
+graph_fault builds = if nat_lt 262144 (length builds) then Some TooManyEdges else double_or (first_double builds) (cycle_at builds (least_on_cycle (successor_lists builds)))
