@@ -118,7 +118,7 @@ is_none-pieces (b ∷ bs) f = ne_eqb (suc (length bs)) 0 (λ e. cc) ∙ sym (som
     some [] h = absurd (h refl)
     some (p ∷ ps) h = refl
 
-drop-more : (n x : ℕ) (xs rest : List ℕ) → drop n xs ≡ x ∷ rest → drop (suc n) xs ≡ rest
+pub drop-more : (n x : ℕ) (xs rest : List ℕ) → drop n xs ≡ x ∷ rest → drop (suc n) xs ≡ rest
 drop-more zero x [] rest h = cc
 drop-more (suc n) x [] rest h = cc
 drop-more zero x (y ∷ ys) rest h = cc

@@ -2,7 +2,9 @@ pub mod Bytes
 pub mod Ends
 pub mod Fault
 pub mod Faults
+pub mod Grammar
 pub mod Joining
+pub mod Laws
 pub mod Lines
 pub mod Paths
 pub mod Pieces

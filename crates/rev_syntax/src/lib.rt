@@ -8,10 +8,13 @@
 mod bytes;
 mod fault;
 mod forms;
+pub mod laws;
 mod lines;
 mod paths;
 mod reader;
 mod statement;
+#[cfg(test)]
+mod tests;
 mod text;
 
 pub use fault::{ReadFault, SyntaxFault, SyntaxKind};
