@@ -1,11 +1,12 @@
 -- Numbers that never rise along a step.
-use Rattle.std.proofs.Common.{◌≡◌, ℕ, ◌+◌, ◌<◌, ◌≤◌, List, length, get_or, take, subst, arith}
+use Rattle.std.proofs.Common.{◌≡◌, ℕ, ◌+◌, ◌<◌, ◌≤◌, List, [], ◌∷◌, ◌++◌, length, get_or, take, subst, sym, ◌∙◌, arith}
 use Rattle.std.specs.Global.{Vec}
-use Rattle.std.specs.List.{All}
-use Rattle.std.proofs.lemmas.List.Elements.{All-more, All-weaker}
-use Rattle.rev_ranks.specs.Graph.{IsLeastOnCycle, Reaches, Reaches.step, Reaches.further, graph_of}
-use Rattle.rev_ranks.specs.Certificate.{FallsBelow, IsCertificate}
-use Rattle.rev_ranks.proofs.Ways.{nodes_are, reaches_from_node}
+use Rattle.std.specs.List.{All, Contains}
+use Rattle.std.proofs.lemmas.List.{take_more, get_or_append_left, length_push}
+use Rattle.std.proofs.lemmas.List.Elements.{All-more, All-weaker, All-contains, Contains-push, Contains-get_or}
+use Rattle.rev_ranks.specs.Graph.{IsLeastOnCycle, Reaches, Reaches.step, Reaches.further, Steps, graph_of}
+use Rattle.rev_ranks.specs.Certificate.{FallsBelow, IsCertificate, IsFirstLevel}
+use Rattle.rev_ranks.proofs.Ways.{nodes_are, reaches_from_node, successors_are}
 
 -- one more number below a bound that may have grown
 pub bounded_more : (numbers nodes : List ℕ) (i bound grown : ℕ) → i < length nodes → All (λ s. get_or numbers s 0 < bound) (take i nodes) → bound ≤ grown → get_or numbers (get_or nodes i 0) 0 < grown → All (λ s. get_or numbers s 0 < grown) (take (i + 1) nodes)
@@ -13,6 +14,23 @@ bounded_more numbers nodes i bound grown h was more here =
     All-more (λ s. get_or numbers s 0 < grown) nodes i 0 h
     (All-weaker (λ s. get_or numbers s 0 < bound) (λ s. get_or numbers s 0 < grown) (λ s below. omega arith) (take i nodes) was)
     here
+
+-- what bounds the numbers of a longer front bounds those of the shorter, and the one more
+pub front_bounded : (numbers nodes : List ℕ) (i bound : ℕ) → i < length nodes → All (λ s. get_or numbers s 0 < bound) (take (i + 1) nodes) → All (λ s. get_or numbers s 0 < bound) (take i nodes) × (get_or numbers (get_or nodes i 0) 0 < bound)
+front_bounded numbers nodes i bound h all =
+    let e : take (i + 1) nodes ≡ take i nodes ++ get_or nodes i 0 ∷ [] = take_more nodes i 0 h in
+    let joined : All (λ s. get_or numbers s 0 < bound) (take i nodes ++ get_or nodes i 0 ∷ []) = subst (All (λ s. get_or numbers s 0 < bound)) e all in (
+      λ k d l. subst (λ (y : ℕ). get_or numbers y 0 < bound) (get_or_append_left (take i nodes) (get_or nodes i 0 ∷ []) d k l) (joined k d (omega (arith, l, length_push (take i nodes) (get_or nodes i 0)))),
+      All-contains (λ s. get_or numbers s 0 < bound) (take i nodes ++ get_or nodes i 0 ∷ []) (get_or nodes i 0) joined (Contains-push (take i nodes) (get_or nodes i 0)),
+    )
+
+-- THE STEPS OF A NODE BY ITS LIST
+module _ (xs : List (Vec ℕ)) (n : ℕ) (v : Vec ℕ) (nodes : List ℕ) (within : n < length xs) (read : v ≡ get_or xs n v) (list : nodes ≡ v.items) (P : ℕ → Type 0) where
+  pub of_each_step : All P nodes → (s : ℕ) → Steps (graph_of xs) n s → P s
+  of_each_step all s st = All-contains P nodes s all (subst (λ (l : List ℕ). Contains l s) (successors_are xs n v within read ∙ sym list) st)
+
+  pub of_each_node : ((s : ℕ) → Steps (graph_of xs) n s → P s) → All P nodes
+  of_each_node each k d h = each (get_or nodes k d) (subst (λ (l : List ℕ). Contains l (get_or nodes k d)) (list ∙ sym (successors_are xs n v within read)) (Contains-get_or nodes k d h))
 
 module _ (graph : List (List ℕ)) (numbers : List ℕ) (certificate : IsCertificate graph numbers) where
   -- along a way numbers never rise
@@ -32,9 +50,9 @@ acyclic_by xs certified levelled e certificate falls n way =
     (omega (arith, nodes_are xs, reaches_from_node way)) way
 
 -- and the least node of which a step does not fall is the least that reaches itself, if it does
-pub least_by : (xs : List (Vec ℕ)) (m : ℕ) (certified levelled : List ℕ) → levelled ≡ certified → IsCertificate (graph_of xs) certified → (m < length xs) × FallsBelow (graph_of xs) levelled m → Reaches (graph_of xs) m m → IsLeastOnCycle (graph_of xs) m
-least_by xs m certified levelled e certificate falls way = record {
-  is_node = omega (arith, falls.0, nodes_are xs);
+pub least_by : (xs : List (Vec ℕ)) (m : ℕ) (certified levelled : List ℕ) → levelled ≡ certified → IsCertificate (graph_of xs) certified → m < length xs → IsFirstLevel (graph_of xs) levelled m → Reaches (graph_of xs) m m → IsLeastOnCycle (graph_of xs) m
+least_by xs m certified levelled e certificate within first way = record {
+  is_node = omega (arith, within, nodes_are xs);
   on_cycle = way;
-  least = λ k below r. acyclic_below (graph_of xs) certified certificate m (subst (λ (ns : List ℕ). FallsBelow (graph_of xs) ns m) e falls.1) k below r;
+  least = λ k below r. acyclic_below (graph_of xs) certified certificate m (subst (λ (ns : List ℕ). FallsBelow (graph_of xs) ns m) e first.falls_below) k below r;
 }
