@@ -10,11 +10,11 @@ use Rattle.rev_syntax.specs.Grammar.{is_run, is_name, ends_name, ReadsAs, Nothin
 use Rattle.rev_syntax.proofs.PieceLemmas.{text_fault-drop, pieces_from-drop, drop-more}
 
 -- tests of bytes
-both : (a b : Bool) → (a && b) ≡ true → (a ≡ true) × (b ≡ true)
+pub both : (a b : Bool) → (a && b) ≡ true → (a ≡ true) × (b ≡ true)
 both true b h = (refl, h)
 both false b h = cc
 
-not_true : (b : Bool) → not b ≡ true → b ≡ false
+pub not_true : (b : Bool) → not b ≡ true → b ≡ false
 not_true true h = cc
 not_true false h = refl
 
@@ -36,11 +36,11 @@ run-len test (b ∷ bs) text h stops =
     let parts = both (test b) (is_run test bs) h in
     ap (λ t. cond t (1 + prefix_len test (bs ++ text)) 0) parts.0 ∙ ap (λ n. 1 + n) (run-len test bs text parts.1 stops) ∙ one-more (length bs)
 
-take-front : (name text : List ℕ) → take (length name) (name ++ text) ≡ name
+pub take-front : (name text : List ℕ) → take (length name) (name ++ text) ≡ name
 take-front [] text = refl
 take-front (b ∷ bs) text = ap (λ t. b ∷ t) (take-front bs text)
 
-drop-front : (name text : List ℕ) → drop (length name) (name ++ text) ≡ text
+pub drop-front : (name text : List ℕ) → drop (length name) (name ++ text) ≡ text
 drop-front [] text = refl
 drop-front (b ∷ bs) text = drop-front bs text
 
@@ -111,7 +111,7 @@ given (Braced name {text} {pieces} h r) =
     (ap (λ n. drop n (123 ∷ name ++ 125 ∷ text)) (plus-two (length name)) ∙ drop-more (length name) 125 (name ++ 125 ∷ text) text (drop-front name (125 ∷ text))) (given r)
 
 -- what has no fault is what the grammar reads
-take_drop : (n : ℕ) (xs : List ℕ) → take n xs ++ drop n xs ≡ xs
+pub take_drop : (n : ℕ) (xs : List ℕ) → take n xs ++ drop n xs ≡ xs
 take_drop zero xs = refl
 take_drop (suc n) [] = refl
 take_drop (suc n) (x ∷ xs) = ap (λ t. x ∷ t) (take_drop n xs)

@@ -4,5 +4,6 @@ pub mod ByteLemmas
 pub mod GrammarLemmas
 pub mod GroupLemmas
 pub mod LineLemmas
+pub mod ListLemmas
 pub mod PathLemmas
 pub mod PieceLemmas

@@ -6,6 +6,7 @@ pub mod Grammar
 pub mod Joining
 pub mod Laws
 pub mod Lines
+pub mod Lists
 pub mod Paths
 pub mod Pieces
 pub mod Seen
