@@ -2,3 +2,4 @@ pub mod BindingLemmas
 pub mod ExpansionLemmas
 pub mod RuleLemmas
 pub mod ScopeLemmas
+pub mod SlotLemmas

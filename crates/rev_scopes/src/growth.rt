@@ -1,6 +1,6 @@
 //! Values that grow, up to a limit.
-ghost use Rattle.std.specs.Prelude.{◌≡◌, [], Some, OnOk, option_map};
-ghost use Rattle.rev_scopes.specs.Expansion.{appended};
+ghost use Rattle.std.specs.Prelude.{◌≡◌, [], Some, OnOk, option_map, List, ℕ};
+ghost use Rattle.rev_scopes.specs.Expansion.{limited, appended};
 
 use std::alloc::{AllocError, Global};
 use std::marker::Model;
@@ -38,7 +38,8 @@ impl Growth {
 
     /// Adds bytes.
     pub(crate) fn push(&mut self, bytes: &[u8]) -> Result<(), AllocError>
-        ensures { OnOk result (self.new ≡ appended self.old bytes.now) }
+        ensures appended { OnOk result (self.new ≡ appended self.old bytes.now) }
+        ensures within { appended self.new [] ≡ self.new }
     {
         if self.is_over {
             return Ok(());
@@ -48,6 +49,19 @@ impl Growth {
             return Ok(());
         }
         self.bytes.extend_from_slice(bytes)?;
+        Ok(())
+    }
+
+    /// Adds a value.
+    pub(crate) fn push_value(&mut self, other: &Growth) -> Result<(), AllocError>
+        ensures appended { OnOk result ((value : List ℕ) → other.now ≡ limited value → self.new ≡ appended self.old value) }
+        ensures within { appended self.new [] ≡ self.new }
+    {
+        if other.is_over {
+            self.is_over = true;
+            return Ok(());
+        }
+        self.push(&other.bytes)?;
         Ok(())
     }
 

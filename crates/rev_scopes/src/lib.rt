@@ -2,14 +2,18 @@
 #![tactic(auto)]
 
 mod bindings;
+mod edge;
+mod edge_values;
 mod expansion;
 mod fault;
 mod growth;
 mod rule;
 mod rule_variable;
 mod scopes;
+mod slots;
 
 pub use bindings::Bindings;
+pub use edge::{Edge, EdgeVariables};
 pub use expansion::{expand, expand_in_block};
 pub use fault::{RuleFault, ValueFault};
 pub use growth::MAX_VALUE_BYTES;

@@ -109,6 +109,13 @@ impl Rule {
         }
     }
 
+    // Its texts.
+    pub(crate) fn texts(&self) -> &[RuleText]
+        ensures { seen_texts result.now ≡ self.now }
+    {
+        self.texts.as_slice()
+    }
+
     /// An equal rule, which shares the texts of this one.
     ///
     /// # Errors
