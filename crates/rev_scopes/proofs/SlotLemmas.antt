@@ -1,14 +1,16 @@
 -- The texts of a rule with their values so far.
-use Rattle.std.proofs.Common.{◌≡◌, ℕ, zero, suc, ◌+◌, ◌<◌, Bool, true, false, List, [], ◌∷◌, ◌++◌, length, get_or, map, Option, Some, None, option_map, bytes_eq, if◌then◌else◌, refl, sym, ap, ◌∙◌, subst, inl, inr, arith}
+use Rattle.std.proofs.Common.{◌≡◌, ℕ, zero, suc, ◌+◌, ◌<◌, Bool, true, false, List, [], ◌∷◌, ◌++◌, ◌≤◌, length, slice_get, map, Option, Some, None, is_some, cond, option_map, bytes_eq, if◌then◌else◌, refl, sym, ap, ◌∙◌, subst, inl, inr, arith}
+use Rattle.std.proofs.lemmas.List.{append-nil}
+use Rattle.std.proofs.lemmas.Bool.{ltb-true, ltb-false}
 use Rattle.std.proofs.Math.ListN.{set}
 use Rattle.rev_syntax.specs.Texts.{PieceValue, Byte, Variable}
 use Rattle.rev_scopes.specs.declared.slots.Slot.{Slot}
 use Rattle.rev_scopes.specs.Bindings.{value_of}
 use Rattle.rev_scopes.specs.RuleNames.{name_of}
 use Rattle.rev_scopes.specs.Scopes.{RuleValue, variable_in}
-use Rattle.rev_scopes.specs.Expansion.{limited, appended}
+use Rattle.rev_scopes.specs.Expansion.{is_too_large, limited, appended}
 use Rattle.rev_scopes.specs.Edges.{EdgeValue, paths_named, first_source, source, Source, Known, Needs, HasValue, Given, Expanded, IsExpanded, Nothing, Plain, Named}
-use Rattle.rev_scopes.specs.Slots.{SlotValue, seen_slot, seen_slots, unknown_slot, rule_of, IsRight, AreRight, AreOf, IsWaiting, Waits, AreStuck, IsAdded, IsTried}
+use Rattle.rev_scopes.specs.Slots.{SlotValue, seen_slots, unknown_slot, rule_of, IsRight, AreRight, AreOf, IsWaiting, Waits, AreStuck, IsAdded}
 
 -- the rule has the text that the slot of that name has
 pub value_of-rule : (name : List ℕ) (slots : List (List ℕ × SlotValue)) → value_of name (rule_of slots) ≡ option_map (λ slot. slot.text) (value_of name slots)
@@ -122,3 +124,94 @@ known_name edge slots name are known = by (source edge name) refl
     by (Needs text) is =
         let rule : value_of name edge.rule ≡ Some text = needs-rule (paths_named edge name) (value_of name edge.block) (value_of name edge.rule) (variable_in edge.scopes edge.scope name) text is in
         slot text is (value_of name slots) refl (sym (value_of-edge edge name slots (value_of name slots) are.rule refl) ∙ rule)
+
+-- the value of a name by itself
+no_bytes : (edge : EdgeValue) {value : List ℕ} → IsExpanded edge [] value → value ≡ []
+no_bytes edge Nothing = refl
+
+one_name : (edge : EdgeValue) {name value : List ℕ} → IsExpanded edge (Variable name ∷ []) value → HasValue edge name value
+one_name edge (Named {name} {value} {others} has rest) =
+    subst (λ (v : List ℕ). HasValue edge name v) (sym (ap (λ t. value ++ t) (no_bytes edge rest) ∙ append-nil value)) has
+
+-- a name that does not wait has been added
+pub known_added : (edge : EdgeValue) (slots : List (List ℕ × SlotValue)) (name : List ℕ) (new : Option (List ℕ)) (b : Bool) → (IsWaiting edge slots name → ⊥) → IsAdded edge slots (Variable name ∷ []) (Some []) b new
+    → (value : List ℕ) × HasValue edge name value × (new ≡ limited value)
+known_added edge slots name new false known (inl waits) = absurd (known waits)
+known_added edge slots name new false known (inr none) = absurd none
+known_added edge slots name new true known (value, given, is, within) =
+    (value, subst (λ (v : List ℕ). HasValue edge name v) (append-nil value) (one_name edge (given [] [] Nothing)), is)
+
+pub limited-some : (value v : List ℕ) → limited value ≡ Some v → (value ≡ v) × (length v ≤ 1048576)
+limited-some value v e = by (is_too_large value) refl e
+  where
+    by : (b : Bool) → is_too_large value ≡ b → (if b then None else Some value) ≡ Some v → (value ≡ v) × (length v ≤ 1048576)
+    by true h e = cc
+    by false h e =
+        let same : value ≡ v = cc in
+        (same, omega (arith, ltb-false 1048576 (length value) h, ap length same))
+
+pub limited-none : (value : List ℕ) → limited value ≡ None → 1048576 < length value
+limited-none value e = by (is_too_large value) refl e
+  where
+    by : (b : Bool) → is_too_large value ≡ b → (if b then None else Some value) ≡ None → 1048576 < length value
+    by true h e = ltb-true 1048576 (length value) h
+    by false h e = cc
+
+-- what is known where nothing more can be found out
+abbrev pub Stuck : (List ℕ → Type 0) → List (List ℕ × SlotValue) → Type 0
+Stuck waiting [] = Unit {0}
+Stuck waiting (slot ∷ slots) = (slot.1.value ≡ None → Waits waiting slot.1.text) × Stuck waiting slots
+
+pub stuck-push : (waiting : List ℕ → Type 0) (slots : List Slot) (slot : Slot) → Stuck waiting (seen_slots slots) → (slot.value ≡ None → Waits waiting slot.bound.now.text) → Stuck waiting (seen_slots (slots ++ slot ∷ []))
+stuck-push waiting [] slot stuck here = (here, tt)
+stuck-push waiting (s ∷ slots) slot stuck here = (stuck.0, stuck-push waiting slots slot stuck.1 here)
+
+pub stuck-at : (waiting : List ℕ → Type 0) (slots : List (List ℕ × SlotValue)) → Stuck waiting slots → (name : List ℕ) (text : List PieceValue) → value_of name slots ≡ Some (record { text = text; value = None }) → Waits waiting text
+stuck-at waiting [] stuck name text e = cc
+stuck-at waiting (s ∷ slots) stuck name text e = by (stuck-at waiting slots stuck.1 name text) (bytes_eq name s.0) e
+  where
+    by : (value_of name slots ≡ Some (record { text = text; value = None }) → Waits waiting text) → (b : Bool) → (if b then Some s.1 else value_of name slots) ≡ Some (record { text = text; value = None }) → Waits waiting text
+    by later true e =
+        let same : s.1 ≡ record { text = text; value = None } = cc in
+        subst (λ (t : List PieceValue). Waits waiting t) (ap (λ slot. slot.text) same) (stuck.0 (ap (λ slot. slot.value) same))
+    by later false e = later e
+
+-- how many values are not known
+abbrev pub unknown : List Slot → ℕ
+unknown [] = 0
+unknown (slot ∷ slots) = cond (is_some slot.value) 0 1 + unknown slots
+
+-- one more value is known
+pub settled-at : (edge : EdgeValue) (slots : List Slot) (i : ℕ) (slot : Slot) (v : Option (List ℕ)) → slice_get slots i ≡ Some slot → slot.value ≡ None → IsRight edge slot.bound.now.text (Some v) → AreRight edge (seen_slots slots)
+    → (rule_of (seen_slots (set slots i (record { bound = slot.bound; value = Some v }))) ≡ rule_of (seen_slots slots))
+    × AreRight edge (seen_slots (set slots i (record { bound = slot.bound; value = Some v })))
+    × (unknown (set slots i (record { bound = slot.bound; value = Some v })) < unknown slots)
+settled-at edge [] zero slot v e none right are = cc
+settled-at edge [] (suc i) slot v e none right are = cc
+settled-at edge (s ∷ slots) zero slot v e none right are =
+    let same : s ≡ slot = cc in
+    let one : cond {A = ℕ} (is_some s.value) 0 1 ≡ 1 = ap (λ (t : Slot). cond {A = ℕ} (is_some t.value) 0 1) same ∙ ap (λ (o : Option (Option (List ℕ))). cond {A = ℕ} (is_some o) 0 1) none in (
+      ap (λ (t : Slot). (name_of t.bound.now.variable, t.bound.now.text) ∷ rule_of (seen_slots slots)) (sym same),
+      (right, are.1),
+      omega (arith, one),
+    )
+settled-at edge (s ∷ slots) (suc i) slot v e none right are =
+    let later = settled-at edge slots i slot v e none right are.1 in
+    let fewer : unknown (set slots i (record { bound = slot.bound; value = Some v })) < unknown slots = later.2 in (
+      ap (λ t. (name_of s.bound.now.variable, s.bound.now.text) ∷ t) later.0,
+      (are.0, later.1),
+      omega arith,
+    )
+
+rule_of-unknown : (rule : RuleValue) → rule_of (map unknown_slot rule) ≡ rule
+rule_of-unknown [] = refl
+rule_of-unknown (bound ∷ rule) = ap (λ t. bound ∷ t) (rule_of-unknown rule)
+
+right-unknown : (edge : EdgeValue) (rule : RuleValue) → AreRight edge (map unknown_slot rule)
+right-unknown edge [] = tt
+right-unknown edge (bound ∷ rule) = (tt, right-unknown edge rule)
+
+-- nothing is known at first, and that is right
+pub unknown-are : (edge : EdgeValue) (slots : List (List ℕ × SlotValue)) → slots ≡ map unknown_slot edge.rule → AreOf edge slots
+unknown-are edge slots is =
+    subst (AreOf edge) (sym is) (record { rule = rule_of-unknown edge.rule; right = right-unknown edge edge.rule })

@@ -1,5 +1,5 @@
 -- Expansion at the end: what a name stands for at an edge, once all files are read.
-use Rattle.std.specs.Prelude.{◌≡◌, ℕ, ◌<◌, ◌≤◌, Bool, true, false, IsTrue, List, [], ◌∷◌, ◌++◌, length, Option, None, Some, bytes_eq, codes, if◌then◌else◌}
+use Rattle.std.specs.Prelude.{◌≡◌, ℕ, ◌<◌, IsTrue, List, [], ◌∷◌, ◌++◌, length, Option, None, Some, bytes_eq, codes, if◌then◌else◌}
 use Rattle.std.specs.List.{flat_map}
 use Rattle.rev_paths.specs.Quoting.{quote}
 use Rattle.rev_syntax.specs.Texts.{PieceValue, Byte, Variable}
@@ -8,7 +8,7 @@ use Rattle.rev_scopes.specs.declared.rule_variable.RuleVariable.TheVariants.{Com
 use Rattle.rev_scopes.specs.declared.edge.Edge.{Edge}
 use Rattle.rev_scopes.specs.declared.edge.EdgeVariables.{EdgeVariables}
 use Rattle.rev_scopes.specs.Bindings.{value_of}
-use Rattle.rev_scopes.specs.RuleNames.{name_of}
+use Rattle.rev_scopes.specs.RuleNames.{name_of, is_needed}
 use Rattle.rev_scopes.specs.Scopes.{ScopeValue, RuleValue, variable_in}
 
 -- what a look-up at an edge goes by: its explicit inputs and outputs, its block with values that are expanded already,
@@ -60,20 +60,7 @@ mutual
     Plain : {b : ℕ} {text : List PieceValue} {others : List ℕ} → IsExpanded edge text others → IsExpanded edge (Byte b ∷ text) (b ∷ others)
     Named : {name value others : List ℕ} {text : List PieceValue} → HasValue edge name value → IsExpanded edge text others → IsExpanded edge (Variable name ∷ text) (value ++ others)
 
--- the variables that are expanded for each edge
-abbrev pub is_needed : RuleVariable → Bool
-is_needed Command = true
-is_needed Depfile = true
-is_needed Deps = true
-is_needed MsvcDepsPrefix = false
-is_needed Description = false
-is_needed Generator = true
-is_needed Restat = true
-is_needed Rspfile = false
-is_needed RspfileContent = true
-is_needed Pool = true
-
--- each of them has a value
+-- each variable that is expanded for each edge has a value
 abbrev pub AllHaveValues : EdgeValue → Type 0
 AllHaveValues edge = (variable : RuleVariable) → IsTrue (is_needed variable) → (value : List ℕ) × HasValue edge (name_of variable) value
 

@@ -1,8 +1,9 @@
 -- The texts of an edge's rule with their values so far.
-use Rattle.std.specs.Prelude.{◌≡◌, ℕ, Bool, true, false, List, [], ◌∷◌, ◌++◌, ◌⊎◌, map, Option, None, Some}
+use Rattle.std.specs.Prelude.{◌≡◌, ℕ, Bool, true, false, IsTrue, List, [], ◌∷◌, ◌++◌, ◌⊎◌, map, slice_get, Option, None, Some}
 use Rattle.rev_syntax.specs.Texts.{PieceValue, Byte, Variable}
 use Rattle.rev_scopes.specs.declared.slots.Slot.{Slot}
-use Rattle.rev_scopes.specs.RuleNames.{name_of}
+use Rattle.rev_scopes.specs.declared.rule_variable.RuleVariable.{RuleVariable}
+use Rattle.rev_scopes.specs.RuleNames.{name_of, is_needed}
 use Rattle.rev_scopes.specs.Bindings.{value_of}
 use Rattle.rev_scopes.specs.Scopes.{RuleValue}
 use Rattle.rev_scopes.specs.Expansion.{limited, appended}
@@ -76,3 +77,15 @@ IsAdded edge slots piece old true new =
 abbrev pub IsTried : EdgeValue → List (List ℕ × SlotValue) → List PieceValue → Option (Option (List ℕ)) → Type 0
 IsTried edge slots text None = Waits (IsWaiting edge slots) text
 IsTried edge slots text (Some known) = IsRight edge text (Some known)
+
+-- a place at which a value was found out that was not known
+abbrev pub IsKnowable : EdgeValue → List Slot → ℕ → Option (List ℕ) → Type 0
+IsKnowable edge slots place known =
+    (slot : Slot) × (slice_get slots place ≡ Some slot) × (slot.value ≡ None) × IsRight edge slot.bound.now.text (Some known)
+
+-- of the variables that an edge needs none waits, or one does
+abbrev pub NoneWaits : EdgeValue → List (List ℕ × SlotValue) → Type 0
+NoneWaits edge slots = (variable : RuleVariable) → IsTrue (is_needed variable) → IsWaiting edge slots (name_of variable) → ⊥
+
+abbrev pub SomeWaits : EdgeValue → List (List ℕ × SlotValue) → Type 0
+SomeWaits edge slots = (variable : RuleVariable) × IsTrue (is_needed variable) × IsWaiting edge slots (name_of variable)

@@ -1,14 +1,17 @@
 //! Expansion at the end, edge by edge.
-ghost use Rattle.std.specs.Prelude.{◌≡◌, ◌≢◌, ◌<◌, ◌≤◌, [], List, ℕ, IsTrue, length, IfOk, OnOk, IsErrOf, MatchOption, option_map};
+ghost use Rattle.std.specs.Prelude.{◌≡◌, ◌≢◌, ◌<◌, ◌≤◌, [], List, ℕ, IsTrue, length, IfOk, OnOk, IsErrOf, IfSome, IfNone, not, false, ◌↔◌, None, Some, option_map};
 ghost use Rattle.rev_paths.specs.Quoting.{quote};
 ghost use Rattle.rev_syntax.specs.Pieces.{seen_piece};
 ghost use Rattle.rev_scopes.specs.Expansion.{limited, appended};
-ghost use Rattle.rev_scopes.specs.Edges.{joined, paths_named, seen_edge};
-ghost use Rattle.rev_scopes.specs.Slots.{seen_slots, AreOf, IsFound, IsAdded, IsTried};
+ghost use Rattle.rev_scopes.specs.declared.rule_variable.RuleVariable.{RuleVariable};
+ghost use Rattle.rev_scopes.specs.RuleNames.{name_of, is_needed};
+ghost use Rattle.rev_scopes.specs.Edges.{joined, paths_named, seen_edge, HasValue, AllHaveValues, SomeNeedsItself, SomeIsTooLarge, given_for};
+ghost use Rattle.rev_scopes.specs.Slots.{seen_slots, AreOf, IsFound, IsAdded, IsTried, IsRight, IsWaiting, Waits, IsKnowable, AreStuck, NoneWaits, SomeWaits};
 
 use crate::edge::{Edge, EdgeVariables};
 use crate::fault::ValueFault;
 use crate::growth::Growth;
+use crate::rule_variable::RuleVariable;
 use crate::slots::{Slot, slot_named, slots_of};
 use rev_paths::{Name, quoted};
 use rev_syntax::{Piece, Text};
@@ -59,6 +62,7 @@ fn paths_named<'e>(edge: &Edge<'e>, name: &[u8]) -> Option<(&'e [Name], u8)>
 }
 
 /// What a name leads to.
+#[derive(Clone, Copy)]
 pub(crate) enum Found<'e> {
     /// Paths, with a byte between each two.
     Paths(&'e [Name], u8),
@@ -148,4 +152,190 @@ fn text_value(
         rest = after;
     }
     Ok(Some(value))
+}
+
+// The value of a text, if it can be found out by now. With `needed_only` no text is tried but those of variables that each edge needs.
+fn try_slot(
+    alloc: Global,
+    edge: &Edge<'_>,
+    slots: &[Slot<'_>],
+    slot: &Slot<'_>,
+    needed_only: bool,
+) -> Result<Option<Growth>, AllocError>
+    requires scope { edge.now.scope < length edge.now.scopes.now }
+    requires slots { AreOf (seen_edge edge.now) (seen_slots slots.now) }
+    ensures known { IfOk result (λ tried. IfSome tried (λ value. (slot.now.value ≡ None) × IsRight (seen_edge edge.now) slot.now.bound.now.text (Some value))) }
+    ensures waits { IfOk result (λ tried. IfNone tried (needed_only ≡ false → slot.now.value ≡ None → Waits (IsWaiting (seen_edge edge.now) (seen_slots slots.now)) slot.now.bound.now.text)) }
+{
+    if needed_only && !slot.bound.variable.is_needed() {
+        return Ok(None);
+    }
+    match &slot.value {
+        Some(_) => Ok(None),
+        None => text_value(alloc, edge, slots, slot.bound.text.text()),
+    }
+}
+
+// A value that can be found out by now, with its place, if there is one.
+fn next_value(
+    alloc: Global,
+    edge: &Edge<'_>,
+    slots: &[Slot<'_>],
+    needed_only: bool,
+) -> Result<Option<(usize, Growth)>, AllocError>
+    requires scope { edge.now.scope < length edge.now.scopes.now }
+    requires slots { AreOf (seen_edge edge.now) (seen_slots slots.now) }
+    ensures known { IfOk result (λ next. IfSome next (λ found. IsKnowable (seen_edge edge.now) slots.now found.0 found.1)) }
+    ensures stuck { IfOk result (λ next. IfNone next (needed_only ≡ false → AreStuck (seen_edge edge.now) (seen_slots slots.now))) }
+{
+    for (place, slot) in slots.iter().enumerate() {
+        if let Some(value) = try_slot(alloc, edge, slots, slot, needed_only)? {
+            return Ok(Some((place, value)));
+        }
+    }
+    Ok(None)
+}
+
+// The slots with the values of all texts that can be found out.
+fn settled<'e>(
+    alloc: Global,
+    edge: &Edge<'_>,
+    slots: Vec<Slot<'e>>,
+    needed_only: bool,
+) -> Result<Vec<Slot<'e>>, AllocError>
+    requires scope { edge.now.scope < length edge.now.scopes.now }
+    requires slots { AreOf (seen_edge edge.now) (seen_slots slots.items) }
+    ensures slots { IfOk result (λ settled. AreOf (seen_edge edge.now) (seen_slots settled.items)) }
+    ensures stuck { IfOk result (λ settled. needed_only ≡ false → AreStuck (seen_edge edge.now) (seen_slots settled.items)) }
+{
+    let mut settled = slots;
+    while let Some((place, value)) = next_value(alloc, edge, &settled, needed_only)? {
+        settled[place].value = Some(value);
+    }
+    Ok(settled)
+}
+
+// Whether a variable waits for a value.
+fn is_waiting(edge: &Edge<'_>, slots: &[Slot<'_>], variable: RuleVariable) -> bool
+    requires scope { edge.now.scope < length edge.now.scopes.now }
+    requires slots { AreOf (seen_edge edge.now) (seen_slots slots.now) }
+    ensures { IsTrue result ↔ IsWaiting (seen_edge edge.now) (seen_slots slots.now) (name_of variable) }
+{
+    matches!(look_up(edge, slots, variable.name()), Found::Waiting)
+}
+
+// Whether one of the variables that each edge needs waits for a value.
+fn waits(edge: &Edge<'_>, slots: &[Slot<'_>]) -> bool
+    requires scope { edge.now.scope < length edge.now.scopes.now }
+    requires slots { AreOf (seen_edge edge.now) (seen_slots slots.now) }
+    ensures some { IsTrue result → SomeWaits (seen_edge edge.now) (seen_slots slots.now) }
+    ensures none { IsTrue (not result) → NoneWaits (seen_edge edge.now) (seen_slots slots.now) }
+{
+    if is_waiting(edge, slots, RuleVariable::Command) {
+        return true;
+    }
+    if is_waiting(edge, slots, RuleVariable::Depfile) {
+        return true;
+    }
+    if is_waiting(edge, slots, RuleVariable::Deps) {
+        return true;
+    }
+    if is_waiting(edge, slots, RuleVariable::Generator) {
+        return true;
+    }
+    if is_waiting(edge, slots, RuleVariable::Restat) {
+        return true;
+    }
+    if is_waiting(edge, slots, RuleVariable::RspfileContent) {
+        return true;
+    }
+    is_waiting(edge, slots, RuleVariable::Pool)
+}
+
+// The texts of an edge's rule, with the values of all that the edge needs.
+fn settled_slots<'e>(alloc: Global, edge: &Edge<'e>) -> Result<Vec<Slot<'e>>, ValueFault>
+    requires { edge.now.scope < length edge.now.scopes.now }
+    ensures slots { IfOk result (λ slots. AreOf (seen_edge edge.now) (seen_slots slots.items)) }
+    ensures known { IfOk result (λ slots. NoneWaits (seen_edge edge.now) (seen_slots slots.items)) }
+    ensures needs_itself { IsErrOf result ValueFault.NeedsItself → SomeNeedsItself (seen_edge edge.now) }
+    ensures size { result ≢ Err ValueFault.TooLarge }
+{
+    let slots = slots_of(alloc, edge.rule)?;
+    let slots = settled(alloc, edge, slots, true)?;
+    if !waits(edge, &slots) {
+        return Ok(slots);
+    }
+    let slots = settled(alloc, edge, slots, false)?;
+    if waits(edge, &slots) {
+        return Err(ValueFault::NeedsItself);
+    }
+    Ok(slots)
+}
+
+// The value of a variable that does not wait.
+fn known_value(
+    alloc: Global,
+    edge: &Edge<'_>,
+    slots: &[Slot<'_>],
+    variable: RuleVariable,
+) -> Result<Vec<u8>, ValueFault>
+    requires scope { edge.now.scope < length edge.now.scopes.now }
+    requires slots { AreOf (seen_edge edge.now) (seen_slots slots.now) }
+    requires known { NoneWaits (seen_edge edge.now) (seen_slots slots.now) }
+    requires needed { IsTrue (is_needed variable) }
+    ensures value { IfOk result (λ value. HasValue (seen_edge edge.now) (name_of variable) value.items) }
+    ensures within { IfOk result (λ value. length value.items ≤ 1048576) }
+    ensures too_large { IsErrOf result ValueFault.TooLarge → SomeIsTooLarge (seen_edge edge.now) }
+    ensures all { IsErrOf result ValueFault.TooLarge → AllHaveValues (seen_edge edge.now) }
+    ensures finite { result ≢ Err ValueFault.NeedsItself }
+{
+    let mut value = Growth::new(alloc);
+    let _is_known = push_piece(
+        alloc,
+        &mut value,
+        edge,
+        slots,
+        Piece::Variable(variable.name()),
+    )?;
+    match value.into_value() {
+        Some(bytes) => Ok(bytes),
+        None => Err(ValueFault::TooLarge),
+    }
+}
+
+/// The values of the variables that are expanded for an edge that is not phony. A name is looked up as `in`, `in_newline` and
+/// `out`, in the block, in the rule, whose texts are expanded by this same look-up, and then in the scopes. Each text of the
+/// rule is expanded at most once, and those that the edge does not need only where one that it needs leads to them.
+///
+/// # Errors
+/// [`ValueFault::NeedsItself`] where one of the variables has no value, since it needs itself. Where all have one,
+/// [`ValueFault::TooLarge`] where one has more than [`MAX_VALUE_BYTES`](crate::MAX_VALUE_BYTES) bytes.
+/// [`ValueFault::Memory`] only where an allocation was refused.
+pub fn edge_variables(alloc: Global, edge: &Edge<'_>) -> Result<EdgeVariables, ValueFault>
+    requires { edge.now.scope < length edge.now.scopes.now }
+    // What is given for each variable is its value, and no larger than a value may be.
+    ensures values { IfOk result (λ values. (variable : RuleVariable) → IsTrue (is_needed variable) → HasValue (seen_edge edge.now) (name_of variable) (given_for variable values)) }
+    ensures within { IfOk result (λ values. (variable : RuleVariable) → length (given_for variable values) ≤ 1048576) }
+    // That a variable has no value comes before that one is too large.
+    ensures needs_itself { IsErrOf result ValueFault.NeedsItself → SomeNeedsItself (seen_edge edge.now) }
+    ensures all { IsErrOf result ValueFault.TooLarge → AllHaveValues (seen_edge edge.now) }
+    ensures too_large { IsErrOf result ValueFault.TooLarge → SomeIsTooLarge (seen_edge edge.now) }
+{
+    let slots = settled_slots(alloc, edge)?;
+    let command = known_value(alloc, edge, &slots, RuleVariable::Command)?;
+    let depfile = known_value(alloc, edge, &slots, RuleVariable::Depfile)?;
+    let deps = known_value(alloc, edge, &slots, RuleVariable::Deps)?;
+    let generator = known_value(alloc, edge, &slots, RuleVariable::Generator)?;
+    let restat = known_value(alloc, edge, &slots, RuleVariable::Restat)?;
+    let rspfile_content = known_value(alloc, edge, &slots, RuleVariable::RspfileContent)?;
+    let pool = known_value(alloc, edge, &slots, RuleVariable::Pool)?;
+    Ok(EdgeVariables {
+        command,
+        depfile,
+        deps,
+        generator,
+        restat,
+        rspfile_content,
+        pool,
+    })
 }

@@ -7,6 +7,7 @@ mod edge_values;
 mod expansion;
 mod fault;
 mod growth;
+pub mod laws;
 mod rule;
 mod rule_variable;
 mod scopes;
@@ -14,6 +15,7 @@ mod slots;
 
 pub use bindings::Bindings;
 pub use edge::{Edge, EdgeVariables};
+pub use edge_values::edge_variables;
 pub use expansion::{expand, expand_in_block};
 pub use fault::{RuleFault, ValueFault};
 pub use growth::MAX_VALUE_BYTES;

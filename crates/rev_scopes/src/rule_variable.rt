@@ -1,6 +1,6 @@
 //! The variables that a rule has.
 ghost use Rattle.std.specs.Prelude.{◌≡◌};
-ghost use Rattle.rev_scopes.specs.RuleNames.{name_of, variable_named};
+ghost use Rattle.rev_scopes.specs.RuleNames.{name_of, is_needed, variable_named};
 
 /// A variable that a rule may bind (Ninja manual, rule variables).
 #[derive(Clone, Copy, Debug, PartialEq, Eq)]
@@ -44,6 +44,16 @@ impl RuleVariable {
             RuleVariable::RspfileContent => b"rspfile_content",
             RuleVariable::Pool => b"pool",
         }
+    }
+
+    /// Whether it is one of those that are expanded for each edge.
+    pub(crate) fn is_needed(self) -> bool
+        ensures { result ≡ is_needed self }
+    {
+        !matches!(
+            self,
+            RuleVariable::MsvcDepsPrefix | RuleVariable::Description | RuleVariable::Rspfile
+        )
     }
 
     /// The variable that is written so, if there is one.

@@ -1,5 +1,5 @@
 use Rattle.std.proofs.Common.{Some, ap, sym, ◌∙◌}
-use Rattle.rev_scopes.specs.Slots.{SlotValue, seen_slots}
+use Rattle.rev_scopes.specs.Slots.{seen_slots}
 use Rattle.rev_scopes.specs.Scopes.{variable_in}
 use Rattle.rev_scopes.specs.Edges.{seen_edge, first_source, Known}
 use Rattle.rev_scopes.proofs.SlotLemmas.{value_of-edge}

@@ -1,7 +1,7 @@
 use Rattle.std.proofs.Common.{ap}
 use Rattle.rev_syntax.specs.Pieces.{seen_piece}
 use Rattle.rev_scopes.specs.Edges.{joined, seen_edge, Given, Expanded}
-use Rattle.rev_scopes.specs.Slots.{SlotValue, seen_slots}
+use Rattle.rev_scopes.specs.Slots.{seen_slots}
 use Rattle.rev_scopes.proofs.SlotLemmas.{right-at, added-bytes, added-name}
 use Rattle.rev_scopes.proofs.edge_values.push_piece.Goals as goal
 

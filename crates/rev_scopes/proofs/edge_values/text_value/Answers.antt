@@ -1,4 +1,4 @@
-use Rattle.std.proofs.Common.{ap, sym, ◌∙◌, ◌++◌, [], List, ℕ, subst}
+use Rattle.std.proofs.Common.{ap, sym, ◌∙◌, ◌++◌, [], List, subst}
 use Rattle.rev_syntax.specs.Texts.{PieceValue}
 use Rattle.rev_syntax.specs.Pieces.{seen_piece}
 use Rattle.rev_scopes.specs.Expansion.{appended}
@@ -25,11 +25,11 @@ loop-piece-preserved c =
     let after = c.in-Some.after in
     let added = was_added edge slots first c.loop-piece.value _ c.in_ok-push_piece.field-0 c.if-not-branch.false c.in_ok-push_piece.ensures in (
       (λ waits. c.loop-piece.invariant.0
-      (subst (λ (text : List PieceValue). Waits (IsWaiting edge slots) text) (sym c.in-Some.ensures.pieces) (waits-after (IsWaiting edge slots) first after waits))),
+          (subst (λ (text : List PieceValue). Waits (IsWaiting edge slots) text) (sym c.in-Some.ensures.pieces) (waits-after (IsWaiting edge slots) first after waits))),
       (λ others given.
-      let whole = c.loop-piece.invariant.1 (added.0 ++ others)
-      (subst (λ (text : List PieceValue). IsExpanded edge text (added.0 ++ others)) (sym c.in-Some.ensures.pieces) (added.1 after others given)) in
-      (whole.0, whole.1, whole.2 ∙ sym (appended-both c.loop-piece.value added.0 others) ∙ ap (λ value. appended value others) (sym added.2))),
+          let whole = c.loop-piece.invariant.1 (added.0 ++ others)
+          (subst (λ (text : List PieceValue). IsExpanded edge text (added.0 ++ others)) (sym c.in-Some.ensures.pieces) (added.1 after others given)) in
+          (whole.0, whole.1, whole.2 ∙ sym (appended-both c.loop-piece.value added.0 others) ∙ ap (λ value. appended value others) (sym added.2))),
       added.3,
     )
 

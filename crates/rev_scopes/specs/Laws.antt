@@ -1,0 +1,40 @@
+-- What holds of values at every edge.
+use Rattle.std.specs.Prelude.{◌≡◌, ℕ, ◌<◌, List, [], length, Option, None, Some}
+use Rattle.rev_scopes.specs.Bindings.{value_of}
+use Rattle.rev_scopes.specs.Scopes.{ScopeValue, scope_at, AreNested, variable_in}
+use Rattle.rev_scopes.specs.Edges.{EdgeValue, HasValue}
+
+-- a name has at most one value at an edge
+abbrev pub OneValue : Type 0
+OneValue = (edge : EdgeValue) (name first second : List ℕ) → HasValue edge name first → HasValue edge name second → first ≡ second
+
+-- the value in the parent, where there is one
+abbrev pub parent_variable : List ScopeValue → Option ℕ → List ℕ → List ℕ
+parent_variable scopes None name = []
+parent_variable scopes (Some parent) name = variable_in scopes parent name
+
+-- the scope's own value, where it has one, and else another
+abbrev pub own_or : Option (List ℕ) → List ℕ → List ℕ
+own_or None other = other
+own_or (Some value) other = value
+
+-- a variable has the value that its scope gives it, else the one that it has in the parent, and is empty where there is none
+abbrev pub ScopesHideTheirParents : Type 0
+ScopesHideTheirParents =
+    (scopes : List ScopeValue) (scope : ℕ) (name : List ℕ) → AreNested scopes → scope < length scopes
+    → variable_in scopes scope name ≡ own_or (value_of name (scope_at scopes scope).variables) (parent_variable scopes (scope_at scopes scope).parent name)
+
+-- the scopes that a look-up from a scope goes through: itself, its parent and so on
+pub data IsOnTheWay (scopes : List ScopeValue) : ℕ → ℕ → Type 0 where
+  Here : {scope : ℕ} → IsOnTheWay scopes scope scope
+  Above : {scope parent above : ℕ} → (scope_at scopes scope).parent ≡ Some parent → IsOnTheWay scopes parent above → IsOnTheWay scopes scope above
+
+-- scopes that differ in none that a look-up from that scope goes through
+abbrev pub AreSameFrom : ℕ → List ScopeValue → List ScopeValue → Type 0
+AreSameFrom scope scopes others = (above : ℕ) → IsOnTheWay scopes scope above → scope_at scopes above ≡ scope_at others above
+
+-- a statement that changes another scope changes no value at an edge
+abbrev pub OtherScopesChangeNothing : Type 0
+OtherScopesChangeNothing =
+    (edge : EdgeValue) (others : List ScopeValue) → AreSameFrom edge.scope edge.scopes others
+    → (name value : List ℕ) → HasValue edge name value → HasValue (record edge { scopes = others }) name value
