@@ -237,6 +237,14 @@ value_at-set s c v fits =
 pub value_at-set-other : (s : State) (c : Cell) (v : Value) (q : Cell) → eq_by_cmp cell_cmp q c ≡ false → value_at (set s c v) q ≡ value_at s q
 value_at-set-other s c v q other = ap (default_or q) (get-set s c v q ∙ ap (λ b. cond b (unless_default v) (get s q)) other)
 
+-- cells that are not one do not tie
+pub other_cell : (q c : Cell) → (q ≡ c → ⊥) → eq_by_cmp cell_cmp q c ≡ false
+other_cell q c other = by (eq_by_cmp cell_cmp q c) refl
+  where
+    by : (b : Bool) → eq_by_cmp cell_cmp q c ≡ b → b ≡ false
+    by true e = absurd (other (cells_exact q c ((Equal-is (cell_cmp q c)).0 e)))
+    by false e = refl
+
 -- equal cells with equal values
 pub same_entries : (es fs : List (Cell × Value)) → AllZip (λ p q. (q.0 ≡ p.0) × (q.1 ≡ p.1)) es fs → fs ≡ es
 same_entries es fs h = same_from_all_zip _ es fs h (λ x y r. λ i. (r.0 i, r.1 i))

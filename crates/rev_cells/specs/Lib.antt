@@ -1,6 +1,7 @@
 pub mod Codes
 pub mod Fault
 pub mod Keys
+pub mod Laws
 pub mod Opened
 pub mod Sound
 pub mod State

@@ -4,6 +4,7 @@
 mod cell;
 mod cells;
 mod fault;
+pub mod laws;
 mod lists;
 mod mark;
 mod opening;
