@@ -7,7 +7,7 @@ ghost use Rattle.std.specs.FinMap as map;
 ghost use Rattle.rev_cells.specs.declared.cell.Cell.{Cell};
 ghost use Rattle.rev_cells.specs.Keys.{cell_cmp};
 ghost use Rattle.rev_cells.specs.State.{default_or, value_at};
-ghost use Rattle.rev_cells.specs.Table.{Table, no_records, opened, written};
+ghost use Rattle.rev_cells.specs.Table.{Table, no_records, opened, raised, written};
 ghost use Rattle.rev_cells.specs.Values.{Fits};
 
 use crate::cell::Cell;
@@ -39,6 +39,13 @@ impl Model for Cells {
     ghost view = { table_of };
 
     ghost invariant = { IsSound };
+}
+
+// The count of writes after one more.
+fn one_write_more(writes: u64) -> u64
+    ensures { result ≡ raised writes }
+{
+    writes.saturating_add(1)
 }
 
 impl Cells {
@@ -146,7 +153,7 @@ impl Cells {
             unreachable!()
         };
         let former = mem::replace(slot, value);
-        self.writes = self.writes.saturating_add(1);
+        self.writes = one_write_more(self.writes);
         former
     }
 }

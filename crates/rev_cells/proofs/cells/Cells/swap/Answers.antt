@@ -32,7 +32,7 @@ returns-clause-after c =
     table-write c.self.inside.jobs c.self.inside.writes _ c.self.inside.entries.entries (c.get_mut.follows.lender c.replace-former.new.dest).entries c.args.cell.now c.args.value
     c.args.self.now c.self.view_is held.1
     (λ q. (held.3 there).0 q ∙ ap (λ v. cond (cell_eq c.args.cell.now q) (Some v) (lookup (cell_eq q) c.self.inside.entries.entries)) c.replace-former.ensures.after)
-    c.saturating_add-self-inside.ensures
+    c.one_write_more-self-inside.ensures
 
 -- a cell that has a place has an entry
 pub unreachable-requires : goal.unreachable-requires
