@@ -29,21 +29,21 @@ impl Model for Line {
 
 impl Line {
     /// The number of its first line in the file, from 1.
-    pub fn number(&self) -> u64
+    pub(crate) fn number(&self) -> u64
         ensures { result ≡ self.now.number }
     {
         self.number
     }
 
     /// Its bytes, without the `$` of those that go on in the next.
-    pub fn text(&self) -> &[u8]
+    pub(crate) fn text(&self) -> &[u8]
         ensures { result.now ≡ self.now.text }
     {
         self.text.as_slice()
     }
 
     /// Whether it ends: the last line of a file does not where it has a `$` alone at its end.
-    pub fn is_ended(&self) -> bool
+    pub(crate) fn is_ended(&self) -> bool
         ensures { result ≡ self.now.ended }
     {
         self.ended
