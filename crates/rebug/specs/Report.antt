@@ -1,5 +1,5 @@
 -- The report: what a run writes for files, a trace and a script, and its status.
-use Rattle.std.specs.Prelude.{ℕ, ◌==◌, Bool, not, List, [], ◌∷◌, ◌++◌, filter, take, drop, Option, Some, None, codes, decimal, slice_get}
+use Rattle.std.specs.Prelude.{ℕ, ◌==◌, Bool, not, List, [], ◌∷◌, ◌++◌, filter, take, drop, Option, Some, None, Result, Ok, Err, codes, decimal, slice_get}
 use Rattle.std.specs.List.{flat_map}
 use Rattle.std.specs.FinMap as map
 use Rattle.rev_cells.specs.declared.cell.Cell.{Cell}
@@ -12,6 +12,10 @@ use Rattle.rev_history.specs.Timeline.{Timeline, opened, event_at, state_at}
 use Rattle.rev_manifest.specs.declared.fault.ManifestFault.{ManifestFault}
 use Rattle.rev_manifest.specs.Fault as manifest_faults
 use Rattle.rev_manifest.specs.Manifest as manifest
+use Rattle.rev_manifest.specs.Manifest.{BuildValue, ManifestValue}
+use Rattle.rev_graph.specs.declared.fault.GraphFault.{GraphFault}
+use Rattle.rev_graph.specs.Decided.{graph_fault}
+use Rattle.rev_graph.specs.Fault as graph_faults
 use Rattle.rebug.specs.declared.lines.commands.Command.{Command}
 use Rattle.rebug.specs.declared.lines.commands.Word.{Word}
 use Rattle.rebug.specs.declared.lines.commands.Word.TheVariants as word
@@ -136,6 +140,22 @@ manifest_fault_line files f = fault_line (codes "manifest " ++ name_text (slice_
 abbrev pub text_fault_line : List ℕ → TextFault → List ℕ
 text_fault_line what f = fault_line what f.line (code_of f.kind)
 
+-- the path that a fault of a graph names
+abbrev pub path_text : Option (List ℕ) → List ℕ
+path_text None = []
+path_text (Some path) = codes " " ++ field_text path
+
+abbrev pub graph_fault_line : ℕ → Option (List ℕ) → List ℕ
+graph_fault_line code path = codes "fault graph " ++ decimal code ++ path_text path ++ codes "\n"
+
+-- the line of a fault about edges; want of memory is none
+abbrev pub numbered_line : Option (List ℕ) → Option ℕ → List ℕ
+numbered_line path None = []
+numbered_line path (Some code) = graph_fault_line code path
+
+abbrev pub edges_fault_line : GraphFault → List ℕ
+edges_fault_line f = numbered_line (graph_faults.path_of f) (graph_faults.code_of f)
+
 -- what is written, and the status
 pub record Report : Type 0 where
   pub text : List ℕ
@@ -155,6 +175,15 @@ script_report opening lanes script =
 abbrev pub trace_report : List ℕ → List ℕ → Report
 trace_report trace script = unless_fault (trace_fault trace) (text_fault_line (codes "trace")) (script_report (opening_of (trace_of trace).records) (trace_of trace).lanes script)
 
--- the report of files, a trace and a script, which are looked at in that order
+-- the report of a trace and a script, for the edges of a manifest that has been read
+abbrev pub edges_report : List BuildValue → List ℕ → List ℕ → Report
+edges_report builds trace script = unless_fault (graph_fault builds) edges_fault_line (trace_report trace script)
+
+-- the edges of a manifest that has been read
+abbrev pub edges_of : Result ManifestValue ManifestFault → List BuildValue
+edges_of (Ok manifest) = manifest.builds
+edges_of (Err fault) = []
+
+-- the report of files, their edges, a trace and a script, which are looked at in that order
 abbrev pub report : List (List ℕ × List ℕ) → List ℕ → List ℕ → Report
-report files trace script = unless_fault (manifest.first_fault files) (manifest_fault_line files) (trace_report trace script)
+report files trace script = unless_fault (manifest.first_fault files) (manifest_fault_line files) (edges_report (edges_of (manifest.manifest_of files)) trace script)

@@ -49,6 +49,12 @@ impl From<AllocError> for ProgramFault<'_> {
     }
 }
 
+impl<T: Drop> From<AllocFailed<T>> for ProgramFault<'_> {
+    fn from(_e: AllocFailed<T>) -> Self {
+        ProgramFault::Run(RunFault::Memory)
+    }
+}
+
 impl From<RunFault> for ProgramFault<'_> {
     fn from(fault: RunFault) -> Self {
         ProgramFault::Run(fault)

@@ -16,7 +16,7 @@ mod text;
 use clap::error::ErrorKind;
 use fault::{ProgramFault, RunFault};
 use input::{InputFault, read_whole};
-use options::{Options, matches_of, options_of};
+use options::{Options, files_of, matches_of, options_of};
 use report::{Status, run_serial};
 use std::alloc::Global;
 use std::io::{BufWriter, Write};
@@ -44,14 +44,27 @@ fn read_file<'a, R: Files + AllocGlobal>(
     }
 }
 
+// The name of a file and all its bytes.
+fn named_file<'a, R: Files + AllocGlobal>(
+    rt: &R,
+    name: &'a str,
+) -> Result<(Vec<u8>, Vec<u8>), ProgramFault<'a>> {
+    let bytes = read_file(rt, name)?;
+    Ok((Vec::from_slice(rt.alloc(), name.as_bytes())?, bytes))
+}
+
 // Reads the files and writes the report to the standard output.
 fn run<'a, R: Files + Print + AllocGlobal>(
     rt: &R,
     options: &Options<'a>,
+    others: &[&'a str],
 ) -> Result<Status, ProgramFault<'a>> {
     let alloc = rt.alloc();
-    let name = Vec::from_slice(alloc, options.manifest.as_bytes())?;
-    let files = [(name, read_file(rt, options.manifest)?)];
+    let mut files = Vec::new(alloc);
+    files.push(named_file(rt, options.manifest)?)?;
+    for name in others {
+        files.push(named_file(rt, name)?)?;
+    }
     let trace = read_file(rt, options.trace)?;
     let script = read_file(rt, options.script)?;
     let Ok(mut writer) = BufWriter::new(alloc, io::writer(rt)) else {
@@ -97,7 +110,10 @@ fn main(rt: HostRuntime) -> ExitCode {
     let Some(options) = options_of(&matches) else {
         return ExitCode::from(USAGE);
     };
-    match run(&rt, &options) {
+    let Ok(others) = files_of(rt.alloc(), &matches) else {
+        return fail(&rt, ProgramFault::Run(RunFault::Memory));
+    };
+    match run(&rt, &options, &others) {
         Ok(Status::Success) => ExitCode::SUCCESS,
         Ok(Status::Fault) => ExitCode::FAILURE,
         Err(fault) => fail(&rt, fault),

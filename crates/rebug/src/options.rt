@@ -3,7 +3,7 @@
 use clap::{Arg, ArgAction, ArgMatches, Command, Error};
 use std::alloc::{AllocError, Global};
 
-/// The files that the program reads.
+/// The files that the program reads in any case.
 #[derive(Clone, Copy, Debug)]
 pub struct Options<'a> {
     /// The manifest.
@@ -30,7 +30,13 @@ fn command<'a>(alloc: Global) -> Result<Command<'a>, AllocError> {
         .about("Replays a recorded Ninja build, and undoes and redoes its events")
         .arg(file_option(alloc, "manifest", "the manifest, as build.ninja"))?
         .arg(file_option(alloc, "trace", "the record of the build"))?
-        .arg(file_option(alloc, "script", "the commands to do"))
+        .arg(file_option(alloc, "script", "the commands to do"))?
+        .arg(
+            Arg::new(alloc, "FILE")
+                .help("files that the manifest may include")
+                .num_args(0..)
+                .action(ArgAction::Append),
+        )
 }
 
 /// What the words of a command line say, or why they are wrong. The first word is the program's name.
@@ -45,4 +51,18 @@ pub(crate) fn options_of<'a>(matches: &ArgMatches<'a>) -> Option<Options<'a>> {
         trace: matches.get_str("trace")?,
         script: matches.get_str("script")?,
     })
+}
+
+/// The files that the manifest may include, in the order in which they were named.
+pub(crate) fn files_of<'a>(
+    alloc: Global,
+    matches: &ArgMatches<'a>,
+) -> Result<Vec<&'a str>, AllocError> {
+    let mut files = Vec::new(alloc);
+    if let Some(names) = matches.get_strs("FILE") {
+        for name in names {
+            files.push(*name)?;
+        }
+    }
+    Ok(files)
 }

@@ -1,11 +1,12 @@
 //! The report of a run: what is written for files, a trace and a script.
-ghost use Rattle.std.specs.Prelude.{◌≡◌, ◌++◌, IfOk, OnOk, slice_get};
+ghost use Rattle.std.specs.Prelude.{◌≡◌, ◌≢◌, ◌++◌, ℕ, List, IfOk, OnOk, slice_get};
 ghost use Rattle.rebug.specs.Output.{Writes};
-ghost use Rattle.rebug.specs.Report.{after_commands, after_word, kept_text, left_after, manifest_fault_line, name_text, replies_text, report, script_report, script_text, session_text, stamps_text, taken, text_fault_line, trace_report, untaken, word_text};
+ghost use Rattle.rebug.specs.Report.{after_commands, after_word, edges_fault_line, edges_report, kept_text, left_after, manifest_fault_line, name_text, replies_text, report, script_report, script_text, session_text, stamps_text, taken, text_fault_line, trace_report, untaken, word_text};
 ghost use Rattle.rebug.specs.Session.{after_command, reply_line, reply_to};
 ghost use Rattle.rev_history.specs.Timeline.{state_at};
 ghost use Rattle.rebug.specs.Parts.{lanes_of};
-ghost use Rattle.rev_manifest.specs.Seen.{seen_files};
+ghost use Rattle.rev_manifest.specs.Seen.{contents, seen_files};
+ghost use Rattle.rebug.specs.declared.report.Status.{Status};
 
 use crate::fault::RunFault;
 use crate::lines::{
@@ -14,10 +15,11 @@ use crate::lines::{
 use crate::listing::files_there;
 use crate::output::send;
 use crate::session::Session;
-use crate::text::{fault_line, kept_line, reply_line, stamp_line};
+use crate::text::{fault_line, graph_fault_line, kept_line, reply_line, stamp_line};
 use rev_cells::Cells;
+use rev_graph::{Graph, GraphFault};
 use rev_history::History;
-use rev_manifest::{ManifestFault, read};
+use rev_manifest::{Manifest, ManifestFault, read};
 use std::alloc::{AllocError, Global};
 use std::io::Write;
 
@@ -26,7 +28,7 @@ use std::io::Write;
 pub enum Status {
     /// 0: the script was run.
     Success,
-    /// 1: the manifest, the trace or the script has a fault, and its line is the report.
+    /// 1: the manifest, its graph, the trace or the script has a fault, and its line is the report.
     Fault,
 }
 
@@ -203,7 +205,7 @@ fn report_script<W: Write>(
     }
 }
 
-// Reports on a trace and a script, for a manifest that has been read.
+// Reports on a trace and a script, where nothing before them has a fault.
 fn report_trace<W: Write>(
     alloc: Global,
     trace: &[u8],
@@ -217,6 +219,40 @@ fn report_trace<W: Write>(
         Ok(trace) => report_script(alloc, &trace, script, writer),
         Err(ReadFault::Numbered(fault)) => report_fault(alloc, b"trace", fault, writer),
         Err(ReadFault::Memory) => Err(RunFault::Memory),
+    }
+}
+
+// Writes the line of a fault of a manifest's edges. Want of memory is no fault of theirs.
+fn report_graph_fault<W: Write>(
+    alloc: Global,
+    fault: &GraphFault,
+    writer: &mut W,
+) -> Result<Status, RunFault>
+    ensures text { (text : List ℕ) → (fault.now ≢ GraphFault.Memory → text ≡ edges_fault_line fault.now) → Writes result (W.contents writer.old) (W.contents writer.new) text }
+    ensures status { (wanted : Status) → (fault.now ≢ GraphFault.Memory → wanted ≡ Status.Fault) → IfOk result (λ status. status ≡ wanted) }
+{
+    let Some(code) = fault.code() else {
+        return Err(RunFault::Memory);
+    };
+    let line = graph_fault_line(alloc, code, fault.path())?;
+    send(writer, &line)?;
+    Ok(Status::Fault)
+}
+
+// Reports on a trace and a script, for a manifest that has been read.
+fn report_edges<W: Write>(
+    alloc: Global,
+    manifest: &Manifest,
+    trace: &[u8],
+    script: &[u8],
+    writer: &mut W,
+) -> Result<Status, RunFault>
+    ensures text { Writes result (W.contents writer.old) (W.contents writer.new) (edges_report (contents manifest.now).builds trace.now script.now).text }
+    ensures status { IfOk result (λ status. status ≡ (edges_report (contents manifest.now).builds trace.now script.now).status) }
+{
+    match Graph::build(alloc, manifest) {
+        Ok(_graph) => report_trace(alloc, trace, script, writer),
+        Err(fault) => report_graph_fault(alloc, &fault, writer),
     }
 }
 
@@ -263,8 +299,8 @@ fn report_manifest_fault<W: Write>(
     Ok(Status::Fault)
 }
 
-/// Reads a manifest, a trace and a script, runs the script, and writes the report, which ends at the first fault of
-/// the three. `files` are pairs of a name and a content, and the first is the manifest itself.
+/// Reads a manifest, builds its graph, reads a trace and a script, runs the script, and writes the report, which ends at
+/// the first fault of the four. `files` are pairs of a name and a content, and the first is the manifest itself.
 ///
 /// Answers `Write` where the writer fails in any way or takes no byte, and `Memory` where the system refused memory.
 /// After either a front of the report was written.
@@ -278,12 +314,12 @@ pub fn run_serial<W: Write>(
     ensures text { Writes result (W.contents writer.old) (W.contents writer.new) (report (seen_files files.now) trace.now script.now).text }
     ensures status { IfOk result (λ status. status ≡ (report (seen_files files.now) trace.now script.now).status) }
 {
-    let _manifest = match read(alloc, files) {
+    let manifest = match read(alloc, files) {
         Ok(manifest) => manifest,
         Err(rev_manifest::ReadFault::Manifest(fault)) => {
             return report_manifest_fault(alloc, files, fault, writer);
         }
         Err(rev_manifest::ReadFault::Memory) => return Err(RunFault::Memory),
     };
-    report_trace(alloc, trace, script, writer)
+    report_edges(alloc, &manifest, trace, script, writer)
 }

@@ -62,6 +62,22 @@ const BAD_MANIFEST: Row = Row {
     status: Status::Fault,
 };
 
+const TWO_PRODUCERS: Row = Row {
+    manifest: "rule r\n  command = r\nbuild x: r\nbuild x: r\n",
+    trace: "",
+    script: "jump\n",
+    report: "fault graph 40 x\n",
+    status: Status::Fault,
+};
+
+const CYCLE: Row = Row {
+    manifest: "rule r\n  command = r\nbuild x: r y\nbuild y: r x\n",
+    trace: "rebug-trace 1\n",
+    script: "run\n",
+    report: "fault graph 41 x\n",
+    status: Status::Fault,
+};
+
 const BAD_SCRIPT: Row = Row {
     manifest: "",
     trace: "rebug-trace 1\n",
@@ -98,7 +114,16 @@ impl Write for Failing {
 #[test]
 fn rows(rt: HostRuntime) -> Result<(), Fail> {
     let alloc = rt.alloc();
-    let rows = [EMPTY, OVERTAKEN, TOUCHES, KEPT, BAD_MANIFEST, BAD_SCRIPT];
+    let rows = [
+        EMPTY,
+        OVERTAKEN,
+        TOUCHES,
+        KEPT,
+        BAD_MANIFEST,
+        TWO_PRODUCERS,
+        CYCLE,
+        BAD_SCRIPT,
+    ];
     for row in &rows {
         let name = Vec::from_slice(alloc, b"build.ninja")?;
         let manifest = Vec::from_slice(alloc, row.manifest.as_bytes())?;

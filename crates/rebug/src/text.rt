@@ -1,6 +1,7 @@
 //! The lines of a report.
 ghost use Rattle.std.specs.Prelude.{◌≡◌, ◌++◌, IfOk, OnOk, Some, decimal};
-ghost use Rattle.rebug.specs.Report.{event_text, fault_line, kept_line, stamp_line};
+ghost use Rattle.std.specs.Option.{option_copied};
+ghost use Rattle.rebug.specs.Report.{event_text, fault_line, graph_fault_line, kept_line, path_text, stamp_line};
 ghost use Rattle.rebug.specs.Session.{number_text, reply_line};
 
 use crate::lines::push_field;
@@ -124,6 +125,32 @@ pub(crate) fn fault_line(
     push_number(&mut text, line)?;
     text.extend_from_slice(b" ")?;
     push_number(&mut text, u64::from(code))?;
+    text.extend_from_slice(b"\n")?;
+    Ok(text)
+}
+
+// Adds a path behind a space, if there is one.
+fn push_path(alloc: Global, line: &mut Vec<u8>, path: Option<&Name>) -> Result<(), AllocError>
+    ensures { OnOk result (line.new.items ≡ line.old.items ++ path_text (option_copied path.entry)) }
+{
+    let Some(path) = path else {
+        return Ok(());
+    };
+    line.extend_from_slice(b" ")?;
+    push_field(alloc, line, path.as_bytes())
+}
+
+/// The line of a fault of a graph, which may name a path.
+pub(crate) fn graph_fault_line(
+    alloc: Global,
+    code: u16,
+    path: Option<&Name>,
+) -> Result<Vec<u8>, AllocError>
+    ensures { IfOk result (λ text. text.items ≡ graph_fault_line code (option_copied path.entry)) }
+{
+    let mut text = Vec::from_slice(alloc, b"fault graph ")?;
+    push_number(&mut text, u64::from(code))?;
+    push_path(alloc, &mut text, path)?;
     text.extend_from_slice(b"\n")?;
     Ok(text)
 }

@@ -271,6 +271,7 @@ few-not n h = le-ltb 262144 n h
 
 -- edges without faults have none
 pub faultless-decided : (builds : List BuildValue) → IsFaultless builds → graph_fault builds ≡ None
+unfolding graph_fault
 faultless-decided builds h =
     ap (λ b. if b then Some TooManyEdges else double_or (first_double builds) (cycle_at builds (least_on_cycle (successor_lists builds)))) (few-not (length builds) h.few)
     ∙ ap (λ o. double_or o (cycle_at builds (least_on_cycle (successor_lists builds)))) h.single
@@ -278,6 +279,7 @@ faultless-decided builds h =
 
 -- a fault that explains why there is no graph is the one that is found
 pub fault-decided : (builds : List BuildValue) (fault : GraphFault) → fault ≢ Memory → Explains fault builds → graph_fault builds ≡ Some fault
+unfolding graph_fault
 fault-decided builds Memory other h = absurd (other refl)
 fault-decided builds TooManyEdges other h =
     ap (λ b. if b then Some TooManyEdges else double_or (first_double builds) (cycle_at builds (least_on_cycle (successor_lists builds)))) (lt-ltb 262144 (length builds) h)

@@ -35,5 +35,5 @@ double_or None fault = fault
 double_or (Some path) fault = Some (MultipleProducers path)
 
 -- the first fault of edges
-abbrev pub graph_fault : List BuildValue → Option GraphFault
+unfoldable pub graph_fault : List BuildValue → Option GraphFault
 graph_fault builds = if nat_lt 262144 (length builds) then Some TooManyEdges else double_or (first_double builds) (cycle_at builds (least_on_cycle (successor_lists builds)))

@@ -12,6 +12,13 @@ code_of TooManyEdges = Some 42
 code_of (MultipleProducers path) = Some 40
 code_of (Cycle path) = Some 41
 
+-- the path that a fault names
+abbrev pub path_of : GraphFault → Option (List ℕ)
+path_of Memory = None
+path_of TooManyEdges = None
+path_of (MultipleProducers path) = Some path
+path_of (Cycle path) = Some path
+
 -- what each fault says of the edges; they are asked for in this order
 abbrev pub Explains : GraphFault → List BuildValue → Type 0
 Explains Memory builds = Unit {0}

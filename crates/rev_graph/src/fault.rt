@@ -1,7 +1,8 @@
 //! Why a manifest has no graph.
 ghost use Rattle.std.specs.Prelude.{◌≡◌};
+ghost use Rattle.std.specs.Option.{option_copied};
 ghost use Rattle.rev_graph.specs.declared.fault.GraphFault.TheVariants.{Memory};
-ghost use Rattle.rev_graph.specs.Fault.{code_of};
+ghost use Rattle.rev_graph.specs.Fault.{code_of, path_of};
 
 use rev_paths::Name;
 use std::alloc::{AllocError, AllocFailed};
@@ -35,6 +36,16 @@ impl GraphFault {
             GraphFault::Cycle(_) => Some(41),
         }
     }
+
+    /// The path that the fault names, if it names one.
+    pub fn path(&self) -> Option<&Name>
+        ensures { option_copied result ≡ path_of self.now }
+    {
+        match self {
+            GraphFault::Memory | GraphFault::TooManyEdges => None,
+            GraphFault::MultipleProducers(path) | GraphFault::Cycle(path) => Some(path),
+        }
+    }
 }
 
 impl From<AllocError> for GraphFault {
@@ -61,5 +72,6 @@ mod tests {
     fn codes(rt: HostRuntime) {
         assert_eq!(rt; GraphFault::TooManyEdges.code(), Some(42));
         assert_eq!(rt; GraphFault::Memory.code(), None);
+        assert_eq!(rt; GraphFault::TooManyEdges.path(), None);
     }
 }
