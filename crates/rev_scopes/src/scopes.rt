@@ -133,7 +133,7 @@ impl Scopes {
         ensures added { OnOk result (self.new ≡ self.old ++ empty_scope parent ∷ []) }
         ensures err { OnErr result (self.new ≡ self.old) }
     {
-        let number = self.scopes.len();
+        let number = self.len();
         self.scopes.push(Scope::new(alloc, parent))?;
         Ok(number)
     }
