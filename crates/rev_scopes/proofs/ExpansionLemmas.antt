@@ -24,3 +24,8 @@ appended-both (Some value) first rest = by (is_too_large (value ++ first)) refl
         let large : is_too_large (value ++ (first ++ rest)) ≡ true = ap is_too_large (sym (append_assoc value first rest)) ∙ larger (value ++ first) rest e in
         sym (ap (λ b. if b then None else Some (value ++ (first ++ rest))) large)
     by false e = ap limited (append_assoc value first rest)
+
+-- what is too large by now stays so
+pub over-stays : (value : Option (List ℕ)) → value ≡ None → (more : List ℕ) → appended value more ≡ value
+over-stays None is more = refl
+over-stays (Some value) is more = cc

@@ -116,6 +116,9 @@ fn push_piece(
     };
     match look_up(edge, slots, name) {
         Found::Paths(paths, by) => {
+            if value.is_over() {
+                return Ok(true);
+            }
             let text = joined(alloc, paths, by)?;
             value.push_value(&text)?;
             Ok(true)

@@ -1,5 +1,5 @@
 //! Values that grow, up to a limit.
-ghost use Rattle.std.specs.Prelude.{◌≡◌, [], Some, OnOk, option_map, List, ℕ};
+ghost use Rattle.std.specs.Prelude.{◌≡◌, [], None, Some, OnOk, IsTrue, option_map, List, ℕ};
 ghost use Rattle.rev_scopes.specs.Expansion.{limited, appended};
 
 use std::alloc::{AllocError, Global};
@@ -63,6 +63,13 @@ impl Growth {
         }
         self.push(&other.bytes)?;
         Ok(())
+    }
+
+    /// Whether it is too large by now, so that more bytes make no difference.
+    pub(crate) fn is_over(&self) -> bool
+        ensures { IsTrue result → self.now ≡ None }
+    {
+        self.is_over
     }
 
     /// The value, unless it is too large.
