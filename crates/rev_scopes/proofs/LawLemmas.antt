@@ -1,10 +1,12 @@
 -- Values at edges.
-use Rattle.std.proofs.Common.{◌≡◌, ℕ, zero, suc, ◌<◌, List, ◌∷◌, ◌++◌, length, Option, Some, None, refl, sym, ap, ◌∙◌, subst}
-use Rattle.rev_syntax.specs.Texts.{PieceValue}
+use Rattle.std.proofs.Common.{◌≡◌, ℕ, zero, suc, ◌<◌, List, [], ◌∷◌, ◌++◌, length, Option, Some, None, refl, sym, ap, ◌∙◌, subst, inl, inr}
+use Rattle.rev_syntax.specs.Texts.{PieceValue, Byte, Variable}
 use Rattle.rev_scopes.specs.Bindings.{value_of}
 use Rattle.rev_scopes.specs.Scopes.{ScopeValue, scope_at, AreNested, or_else, or_empty, find_up, variable_in}
 use Rattle.rev_scopes.specs.Edges.{EdgeValue, paths_named, first_source, source, Known, Needs, HasValue, Given, Expanded, IsExpanded, Nothing, Plain, Named}
-use Rattle.rev_scopes.specs.Laws.{parent_variable, own_or, Here, Above, AreSameFrom}
+use Rattle.rev_scopes.specs.Laws.{parent_variable, own_or, Here, Above, AreSameFrom, Names, LeadsTo, AtOnce, Through}
+use Rattle.rev_scopes.specs.Slots.{Waits}
+use Rattle.rev_scopes.proofs.SlotLemmas.{no_value}
 use Rattle.rev_scopes.proofs.ScopeLemmas.{above, found_in-step}
 
 module _ (edge : EdgeValue) where
@@ -74,3 +76,17 @@ variable-step scopes scope name nested within =
     by (Some value) parent = refl
     by None None = refl
     by None (Some parent) = refl
+
+module _ (edge : EdgeValue) (name : List ℕ) where
+  waits_there : (text : List PieceValue) (between : List ℕ) → Names between text → LeadsTo edge between name → Waits (λ n. LeadsTo edge n name) text
+  waits_there [] between names leads = absurd names
+  waits_there (Byte b ∷ text) between names leads = waits_there text between names leads
+  waits_there (Variable other ∷ text) between (inl same) leads = inl (subst (λ (n : List ℕ). LeadsTo edge n name) same leads)
+  waits_there (Variable other ∷ text) between (inr names) leads = inr (waits_there text between names leads)
+
+  leads_on : LeadsTo edge name name → (other : List ℕ) → LeadsTo edge other name → (text : List PieceValue) × (source edge other ≡ Needs text) × Waits (λ n. LeadsTo edge n name) text
+  leads_on itself other (AtOnce {text} is names) = (text, is, waits_there text name names itself)
+  leads_on itself other (Through {between} {text} is names leads) = (text, is, waits_there text between names leads)
+
+  pub needs_itself : (value : List ℕ) → LeadsTo edge name name → HasValue edge name value → ⊥
+  needs_itself value itself has = no_value edge (λ n. LeadsTo edge n name) (leads_on itself) has itself

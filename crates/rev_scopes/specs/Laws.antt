@@ -1,8 +1,9 @@
 -- What holds of values at every edge.
-use Rattle.std.specs.Prelude.{◌≡◌, ℕ, ◌<◌, List, [], length, Option, None, Some}
+use Rattle.std.specs.Prelude.{◌≡◌, ℕ, ◌<◌, ◌⊎◌, List, [], ◌∷◌, length, Option, None, Some}
+use Rattle.rev_syntax.specs.Texts.{PieceValue, Byte, Variable}
 use Rattle.rev_scopes.specs.Bindings.{value_of}
 use Rattle.rev_scopes.specs.Scopes.{ScopeValue, scope_at, AreNested, variable_in}
-use Rattle.rev_scopes.specs.Edges.{EdgeValue, HasValue}
+use Rattle.rev_scopes.specs.Edges.{EdgeValue, source, Needs, HasValue}
 
 -- a name has at most one value at an edge
 abbrev pub OneValue : Type 0
@@ -38,3 +39,18 @@ abbrev pub OtherScopesChangeNothing : Type 0
 OtherScopesChangeNothing =
     (edge : EdgeValue) (others : List ScopeValue) → AreSameFrom edge.scope edge.scopes others
     → (name value : List ℕ) → HasValue edge name value → HasValue (record edge { scopes = others }) name value
+
+-- a text names a variable
+abbrev pub Names : List ℕ → List PieceValue → Type 0
+Names name [] = ⊥
+Names name (Byte b ∷ text) = Names name text
+Names name (Variable other ∷ text) = (name ≡ other) ⊎ Names name text
+
+-- a name leads to another at an edge: through a text of the rule that names it, or that names what leads to it
+pub data LeadsTo (edge : EdgeValue) : List ℕ → List ℕ → Type 0 where
+  AtOnce : {name other : List ℕ} {text : List PieceValue} → source edge name ≡ Needs text → Names other text → LeadsTo edge name other
+  Through : {name between other : List ℕ} {text : List PieceValue} → source edge name ≡ Needs text → Names between text → LeadsTo edge between other → LeadsTo edge name other
+
+-- what needs itself, at once or through others, has no value
+abbrev pub WhatNeedsItselfHasNoValue : Type 0
+WhatNeedsItselfHasNoValue = (edge : EdgeValue) (name value : List ℕ) → LeadsTo edge name name → HasValue edge name value → ⊥

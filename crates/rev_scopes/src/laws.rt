@@ -1,5 +1,5 @@
 //! Laws of scopes and values.
-ghost use Rattle.rev_scopes.specs.Laws.{OneValue, ScopesHideTheirParents, OtherScopesChangeNothing};
+ghost use Rattle.rev_scopes.specs.Laws.{OneValue, ScopesHideTheirParents, OtherScopesChangeNothing, WhatNeedsItselfHasNoValue};
 
 /// A name has at most one value at an edge.
 pub fn one_value()
@@ -14,4 +14,9 @@ pub fn scopes_hide_their_parents()
 /// What is bound in scopes that a look-up does not go through changes no value at an edge.
 pub fn other_scopes_change_nothing()
     ensures { OtherScopesChangeNothing }
+{}
+
+/// What needs itself, at once or through others, has no value.
+pub fn what_needs_itself_has_no_value()
+    ensures { WhatNeedsItselfHasNoValue }
 {}
