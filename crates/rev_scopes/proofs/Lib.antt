@@ -1,5 +1,6 @@
 pub mod BindingLemmas
 pub mod ExpansionLemmas
+pub mod ItselfLemmas
 pub mod LawLemmas
 pub mod RuleLemmas
 pub mod ScopeLemmas

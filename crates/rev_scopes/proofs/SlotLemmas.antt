@@ -96,7 +96,7 @@ stuck_name edge slots stuck name waits value has =
     no_value edge (IsWaiting edge slots) (λ other w. (w.text, w.needs, stuck other w.text w.unknown)) has waits
 
 -- a rule's text that is needed is there
-needs-rule : (p b : Option (List ℕ)) (r : Option (List PieceValue)) (l : List ℕ) (text : List PieceValue) → first_source p b r l ≡ Needs text → r ≡ Some text
+pub needs-rule : (p b : Option (List ℕ)) (r : Option (List PieceValue)) (l : List ℕ) (text : List PieceValue) → first_source p b r l ≡ Needs text → r ≡ Some text
 needs-rule (Some x) b r l text e = cc
 needs-rule None (Some x) r l text e = cc
 needs-rule None None (Some t) l text e = cc

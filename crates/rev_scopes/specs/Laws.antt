@@ -54,3 +54,11 @@ pub data LeadsTo (edge : EdgeValue) : List ℕ → List ℕ → Type 0 where
 -- what needs itself, at once or through others, has no value
 abbrev pub WhatNeedsItselfHasNoValue : Type 0
 WhatNeedsItselfHasNoValue = (edge : EdgeValue) (name value : List ℕ) → LeadsTo edge name name → HasValue edge name value → ⊥
+
+-- a name is one that leads to itself, or leads to one
+abbrev pub LeadsToALoop : EdgeValue → List ℕ → Type 0
+LeadsToALoop edge name = (other : List ℕ) × ((name ≡ other) ⊎ LeadsTo edge name other) × LeadsTo edge other other
+
+-- a name that has no value leads to one that needs itself, so there is no other reason
+abbrev pub NoValueMeansALoop : Type 0
+NoValueMeansALoop = (edge : EdgeValue) (name : List ℕ) → ((value : List ℕ) → HasValue edge name value → ⊥) → LeadsToALoop edge name

@@ -1,5 +1,5 @@
 //! Laws of scopes and values.
-ghost use Rattle.rev_scopes.specs.Laws.{OneValue, ScopesHideTheirParents, OtherScopesChangeNothing, WhatNeedsItselfHasNoValue};
+ghost use Rattle.rev_scopes.specs.Laws.{OneValue, ScopesHideTheirParents, OtherScopesChangeNothing, WhatNeedsItselfHasNoValue, NoValueMeansALoop};
 
 /// A name has at most one value at an edge.
 pub fn one_value()
@@ -19,4 +19,9 @@ pub fn other_scopes_change_nothing()
 /// What needs itself, at once or through others, has no value.
 pub fn what_needs_itself_has_no_value()
     ensures { WhatNeedsItselfHasNoValue }
+{}
+
+/// A name that has no value leads to one that needs itself, so there is no other reason.
+pub fn no_value_means_a_loop()
+    ensures { NoValueMeansALoop }
 {}
