@@ -1,5 +1,5 @@
 -- The search for cycles finds what there is.
-use Rattle.std.proofs.Common.{◌≡◌, ◌≢◌, ℕ, ◌+◌, ◌-◌, ◌<◌, ◌≤◌, zero, suc, Bool, true, false, cond, ◌||◌, ◌==◌, List, [], ◌∷◌, length, get_or, Option, Some, None, option_map, find, slice_get, nat_lt, Contains, ◌⊎◌, inl, inr, refl, sym, ap, subst, ◌∙◌, arith, if◌then◌else◌, eqb-true, eq-eqb}
+use Rattle.std.proofs.Common.{◌≡◌, ◌≢◌, ℕ, ◌+◌, ◌-◌, ◌<◌, ◌≤◌, zero, suc, Bool, true, false, cond, ◌||◌, ◌==◌, List, [], ◌∷◌, length, Some, None, option_map, find, nat_lt, Contains, ◌⊎◌, inl, inr, refl, sym, ap, subst, ◌∙◌, arith, if◌then◌else◌, eqb-true, eq-eqb}
 use Rattle.std.specs.List.{list_any, range_with_len}
 use Rattle.std.proofs.lemmas.Bool.{lt-ltb, le-ltb, cases_lt, cases_eq}
 use Rattle.std.proofs.lemmas.List.{get_or_past}
@@ -11,7 +11,7 @@ use Rattle.rev_graph.specs.declared.fault.GraphFault.{GraphFault}
 use Rattle.rev_graph.specs.declared.fault.GraphFault.TheVariants.{Memory, TooManyEdges, MultipleProducers, Cycle}
 use Rattle.rev_graph.specs.Decided.{steps_to, reaches_through, reaches_itself, least_on_cycle, cycle_at, double_or, graph_fault}
 use Rattle.rev_graph.specs.Fault.{Explains, IsFaultless}
-use Rattle.rev_graph.specs.Graph.{build_at, outputs_of, first_double, successor_lists, EdgeReaches, NamesCycle, IsLeastOnCycle}
+use Rattle.rev_graph.specs.Graph.{first_double, successor_lists, EdgeReaches, IsLeastOnCycle}
 use Rattle.rev_graph.proofs.StepLemmas.{node_way, edge_way, length-lists}
 
 or-cases : (a b : Bool) → (a || b) ≡ true → (a ≡ true) ⊎ (b ≡ true)

@@ -1,5 +1,5 @@
 -- Producers, doubles and steps.
-use Rattle.std.proofs.Common.{◌≡◌, ℕ, ◌+◌, ◌<◌, ◌≤◌, zero, suc, Bool, true, false, cond, ◌||◌, List, [], ◌∷◌, ◌++◌, length, get_or, take, drop, Option, Some, None, is_some, find, option_map, unwrap_or, map, refl, sym, ap, ◌∙◌, arith, if◌then◌else◌, add-zero, add-one, drop-cons, length-take-le}
+use Rattle.std.proofs.Common.{◌≡◌, ℕ, ◌+◌, ◌<◌, zero, suc, Bool, true, false, ◌||◌, List, [], ◌∷◌, ◌++◌, length, get_or, take, drop, Option, Some, None, is_some, find, option_map, unwrap_or, map, refl, sym, ap, ◌∙◌, arith, if◌then◌else◌, add-zero, add-one, drop-cons, length-take-le}
 use Rattle.std.proofs.lemmas.List.{take_more}
 use Rattle.std.specs.List.{list_any}
 use Rattle.rev_manifest.specs.Manifest.{BuildValue}

@@ -1,10 +1,10 @@
 -- Steps of edges and of nodes.
-use Rattle.std.proofs.Common.{◌≡◌, ℕ, ◌+◌, ◌<◌, ◌≤◌, suc, zero, Bool, true, false, cond, List, [], ◌∷◌, ◌++◌, length, get_or, map, Option, Some, None, refl, sym, ap, subst, ◌∙◌, arith, if◌then◌else◌, Contains, ◌⊎◌, inl, inr, add-zero}
+use Rattle.std.proofs.Common.{◌≡◌, ℕ, ◌+◌, ◌<◌, ◌≤◌, suc, zero, Bool, true, false, List, [], ◌∷◌, length, get_or, map, Option, Some, None, refl, sym, ap, subst, ◌∙◌, arith, if◌then◌else◌, Contains, ◌⊎◌, inl, inr, add-zero}
 use Rattle.std.specs.List.{All, filter_map, cons_option}
 use Rattle.std.specs.Global.{Vec}
 use Rattle.std.proofs.Math.ListN.{get_or-map}
 use Rattle.std.proofs.lemmas.List.{get_or-map as at-map, length-map}
-use Rattle.std.proofs.lemmas.List.Elements.{Contains-get_or, Contains-append_left, Contains-append_right, Contains-append_cases, Contains-push_cases}
+use Rattle.std.proofs.lemmas.List.Elements.{Contains-get_or, Contains-append_right, Contains-append_cases, Contains-push_cases}
 use Rattle.rev_manifest.specs.Manifest.{BuildValue}
 use Rattle.rev_ranks.specs.Graph.{graph_of, successors_of, Steps, Reaches, Reaches.step as one_step, Reaches.further as then_on, AreRanks}
 use Rattle.rev_ranks.specs.Graph as nodes

@@ -5,7 +5,7 @@ use Rattle.std.specs.Option.{option_map}
 use Rattle.rev_manifest.specs.Manifest.{BuildValue}
 use Rattle.rev_ranks.specs.Graph.{successors_of}
 use Rattle.rev_graph.specs.declared.fault.GraphFault.{GraphFault}
-use Rattle.rev_graph.specs.declared.fault.GraphFault.TheVariants.{Memory, TooManyEdges, MultipleProducers, Cycle}
+use Rattle.rev_graph.specs.declared.fault.GraphFault.TheVariants.{TooManyEdges, MultipleProducers, Cycle}
 use Rattle.rev_graph.specs.Graph.{build_at, outputs_of, first_double, successor_lists}
 
 -- whether a step leads from a node to another

@@ -1,4 +1,4 @@
-use Rattle.std.proofs.Common.{◌≡◌, ap, sym, subst, ◌∙◌, ℕ, Err}
+use Rattle.std.proofs.Common.{ap, subst, ◌∙◌, ℕ, Err}
 use Rattle.rev_ranks.specs.Graph.{AreRanks, Reaches}
 use Rattle.rev_ranks.specs.Graph as nodes
 use Rattle.rev_graph.proofs.StepLemmas.{all-within, ranked-edges, least-edge, node_way}

@@ -1,4 +1,4 @@
-use Rattle.std.proofs.Common.{◌≡◌, ap, sym, ◌∙◌}
+use Rattle.std.proofs.Common.{ap, ◌∙◌}
 use Rattle.rev_ranks.specs.Graph.{graph_of}
 use Rattle.rev_graph.specs.Lists.{lists_of}
 use Rattle.rev_graph.proofs.StepLemmas.{successors-are}

@@ -1,4 +1,4 @@
-use Rattle.std.proofs.Common.{◌≡◌, ap, sym, ◌∙◌, false, true}
+use Rattle.std.proofs.Common.{◌≡◌, ap, ◌∙◌, false, true}
 use Rattle.rev_graph.specs.Entries.{entry, has_entry}
 use Rattle.rev_graph.proofs.EntryLemmas.{kept_more, new_more}
 use Rattle.rev_graph.proofs.table.add.Goals as goal

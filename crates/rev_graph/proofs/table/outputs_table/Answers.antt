@@ -1,6 +1,5 @@
-use Rattle.std.proofs.Common.{◌≡◌, Some, ap, sym, ◌∙◌}
+use Rattle.std.proofs.Common.{Some, ap, sym, ◌∙◌}
 use Rattle.rev_graph.specs.Entries.{entry}
-use Rattle.rev_graph.specs.Graph.{first_double}
 use Rattle.rev_graph.proofs.GraphLemmas.{double-found, double-none, producers-more}
 use Rattle.rev_graph.proofs.table.outputs_table.Goals as goal
 
