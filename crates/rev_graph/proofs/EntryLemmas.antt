@@ -1,26 +1,20 @@
 -- What a table has after names were added to it.
-use Rattle.std.proofs.Common.{◌≡◌, ℕ, ◌+◌, ◌<◌, length, get_or, take, Bool, true, false, cond, ◌||◌, List, [], ◌∷◌, ◌++◌, Option, Some, None, is_some, bytes_eq, find, refl, sym, ap, ◌∙◌}
+use Rattle.std.proofs.Common.{◌≡◌, ℕ, ◌+◌, ◌<◌, length, get_or, take, unwrap_or, map, Bool, true, false, cond, ◌||◌, List, [], ◌∷◌, ◌++◌, Option, Some, None, bytes_eq, find, refl, sym, ap, ◌∙◌}
 use Rattle.std.proofs.lemmas.List.{take_more}
 use Rattle.std.proofs.lemmas.List.Folds.{list_any-append}
 use Rattle.std.proofs.lemmas.Slice.Eq.{bytes_eq-Decides}
-use Rattle.rev_graph.specs.Entries.{entry, has_entry, given}
-use Rattle.rev_graph.specs.Graph.{has_path, or_else}
+use Rattle.rev_graph.specs.Entries.{entry, produced_by, given}
+use Rattle.std.specs.Global.{Vec}
+use Rattle.std.specs.List.{list_any}
+use Rattle.rev_manifest.specs.Manifest.{BuildValue}
+use Rattle.rev_graph.specs.Graph.{has_path, or_else, inputs_of, needs}
+use Rattle.rev_graph.specs.Lists.{lists_of}
 
 pub same_bytes : (a b : List ℕ) → bytes_eq a b ≡ true → a ≡ b
 same_bytes a b h = (bytes_eq-Decides a b).0 h
 
 pub own_bytes : (a : List ℕ) → bytes_eq a a ≡ true
 own_bytes a = (bytes_eq-Decides a a).1 refl
-
--- equality of bytes goes both ways
-pub bytes_eq-turned : (a b : List ℕ) → bytes_eq a b ≡ bytes_eq b a
-bytes_eq-turned a b = by (bytes_eq a b) (bytes_eq b a) refl refl
-  where
-    by : (x y : Bool) → bytes_eq a b ≡ x → bytes_eq b a ≡ y → x ≡ y
-    by true true p q = refl
-    by false false p q = refl
-    by true false p q = sym (own_bytes a) ∙ ap (bytes_eq a) (same_bytes a b p) ∙ p ∙ sym p ∙ ap (λ z. bytes_eq z b) (same_bytes a b p) ∙ ap (bytes_eq b) (sym (same_bytes a b p)) ∙ q
-    by false true p q = sym p ∙ ap (λ z. bytes_eq z b) (sym (same_bytes b a q)) ∙ own_bytes b
 
 or_false : (b : Bool) → (b || false) ≡ b
 or_false true = refl
@@ -29,31 +23,6 @@ or_false false = refl
 -- one more path
 pub has_path-push : (paths : List (List ℕ)) (x y : List ℕ) → has_path (paths ++ x ∷ []) y ≡ (has_path paths y || bytes_eq y x)
 has_path-push paths x y = list_any-append (bytes_eq y) paths (x ∷ []) ∙ ap (λ b. has_path paths y || b) (or_false (bytes_eq y x))
-
--- a name that is there already changes nothing
-pub kept-entry : {A : Type 0} (o e : Option A) (a b : Bool) (v : A) → (b ≡ true → is_some e ≡ true) → e ≡ or_else o (given a v) → e ≡ or_else o (given (a || b) v)
-kept-entry (Some w) e a b v there h = h
-kept-entry None e true b v there h = h
-kept-entry None e false false v there h = h
-kept-entry None e false true v there h =
-    let no : false ≡ true = sym (ap is_some h) ∙ there refl in
-    cc
-
-none-left : {A : Type 0} (o p : Option A) → or_else o p ≡ None → o ≡ None
-none-left None p h = refl
-none-left (Some x) p h = h
-
-none-right : {A : Type 0} (a : Bool) (v : A) (o : Option A) → or_else o (given a v) ≡ None → a ≡ false
-none-right true v None h = cc
-none-right true v (Some x) h = cc
-none-right false v o h = refl
-
--- a name that is new has the value from then on
-pub new-entry : {A : Type 0} (o e f : Option A) (a b : Bool) (v : A) → (b ≡ true → e ≡ None) → e ≡ or_else o (given a v) → f ≡ cond b (Some v) e → f ≡ or_else o (given (a || b) v)
-new-entry o e f a false v absent h g = g ∙ h ∙ ap (λ c. or_else o (given c v)) (sym (or_false a))
-new-entry o e f a true v absent h g =
-    let none : or_else o (given a v) ≡ None = sym h ∙ absent refl in
-    g ∙ sym ((λ i. or_else (none-left o (given a v) none i) (given (none-right a v o none i || true) v)))
 
 -- names added twice over
 pub or_else-given : {A : Type 0} (o : Option A) (a b : Bool) (v : A) → or_else (or_else o (given a v)) (given b v) ≡ or_else o (given (a || b) v)
@@ -81,10 +50,6 @@ pub find-same : (p q : List ℕ → Bool) → ((x : List ℕ) → p x ≡ q x) �
 find-same p q same [] = refl
 find-same p q same (x ∷ xs) = (λ i. cond (same x i) (Some x) (find-same p q same xs i))
 
-pub absent-by : {A : Type 0} (o : Option A) → is_some o ≡ false → o ≡ None
-absent-by None h = refl
-absent-by (Some x) h = cc
-
 pub first-or : {A : Type 0} (o p : Option A) (x : A) → Some x ≡ o → Some x ≡ or_else o p
 first-or None p x h = cc
 first-or (Some y) p x h = h
@@ -99,18 +64,60 @@ has_path-more names i x path is within =
     ap (λ ns. has_path ns path) (take_more names i x within) ∙ has_path-push (take i names) (get_or names i x) path
     ∙ ap (λ y. has_path (take i names) path || bytes_eq path y) (sym is)
 
--- a name that the table has
-pub kept_more : (es : List (List ℕ × Option ℕ)) (o : Option (Option ℕ)) (names : List (List ℕ)) (i : ℕ) (x path : List ℕ) (v : Option ℕ) → has_entry es x ≡ true → x ≡ get_or names i x → i < length names
-    → entry es path ≡ or_else o (given (has_path (take i names) path) v) → entry es path ≡ or_else o (given (has_path (take (i + 1) names) path) v)
-kept_more es o names i x path v there is within h =
-    kept-entry o (entry es path) (has_path (take i names) path) (bytes_eq path x) v (λ e. ap (has_entry es) (same_bytes path x e) ∙ there) h
+-- the table with one more name of a list
+pub added_more : (e f o : Option (Option ℕ)) (names : List (List ℕ)) (i : ℕ) (x path : List ℕ) (v : Option ℕ) → x ≡ get_or names i x → i < length names
+    → e ≡ or_else o (given (has_path (take i names) path) v) → f ≡ or_else e (given (bytes_eq path x) v) → f ≡ or_else o (given (has_path (take (i + 1) names) path) v)
+added_more e f o names i x path v is within before more =
+    more ∙ ap (λ a. or_else a (given (bytes_eq path x) v)) before ∙ or_else-given o (has_path (take i names) path) (bytes_eq path x) v
     ∙ ap (λ b. or_else o (given b v)) (sym (has_path-more names i x path is within))
 
--- a name that is new to the table
-pub new_more : (es fs : List (List ℕ × Option ℕ)) (o : Option (Option ℕ)) (names : List (List ℕ)) (i : ℕ) (x key path : List ℕ) (v : Option ℕ) → has_entry es x ≡ false → x ≡ get_or names i x → i < length names → key ≡ x
-    → entry fs path ≡ cond (bytes_eq key path) (Some v) (entry es path)
-    → entry es path ≡ or_else o (given (has_path (take i names) path) v) → entry fs path ≡ or_else o (given (has_path (take (i + 1) names) path) v)
-new_more es fs o names i x key path v absent is within same at h =
-    new-entry o (entry es path) (entry fs path) (has_path (take i names) path) (bytes_eq path x) v (λ e. absent-by _ (ap (has_entry es) (same_bytes path x e) ∙ absent)) h
-    (at ∙ ap (λ b. cond b (Some v) (entry es path)) (ap (λ k. bytes_eq k path) same ∙ bytes_eq-turned x path))
-    ∙ ap (λ b. or_else o (given b v)) (sym (has_path-more names i x path is within))
+producer-kept : (o : Option (Option ℕ)) (b : Bool) → unwrap_or (or_else o (given b None)) None ≡ unwrap_or o None
+producer-kept None true = refl
+producer-kept None false = refl
+producer-kept (Some x) b = refl
+
+-- names that are added have no producer
+pub produced-kept : (es fs : List (List ℕ × Option ℕ)) (path : List ℕ) (b : Bool) → entry fs path ≡ or_else (entry es path) (given b None) → produced_by fs path ≡ produced_by es path
+produced-kept es fs path b h = ap (λ o. unwrap_or o None) h ∙ producer-kept (entry es path) b
+
+produced-all : (es fs : List (List ℕ × Option ℕ)) (b : List ℕ → Bool) → ((path : List ℕ) → entry fs path ≡ or_else (entry es path) (given (b path) None))
+    → (paths : List (List ℕ)) → map (produced_by fs) paths ≡ map (produced_by es) paths
+produced-all es fs b h [] = refl
+produced-all es fs b h (path ∷ paths) = (λ i. produced-kept es fs path (b path) (h path) i ∷ produced-all es fs b h paths i)
+
+mapped-append : {X Y : Type 0} (f : X → Y) (xs ys : List X) → map f (xs ++ ys) ≡ map f xs ++ map f ys
+mapped-append f [] ys = refl
+mapped-append f (x ∷ xs) ys = ap (λ zs. f x ∷ zs) (mapped-append f xs ys)
+
+-- the producers of three lists of names, each by the table that the lists before it leave
+pub three_lists : (es fs gs : List (List ℕ × Option ℕ)) (p0 p1 p2 p3 : List (Option ℕ)) (xs ys zs : List (List ℕ)) → p0 ≡ [] → p1 ≡ p0 ++ map (produced_by es) xs
+    → ((path : List ℕ) → entry fs path ≡ or_else (entry es path) (given (has_path xs path) None)) → p2 ≡ p1 ++ map (produced_by fs) ys
+    → ((path : List ℕ) → entry gs path ≡ or_else (entry fs path) (given (has_path ys path) None)) → p3 ≡ p2 ++ map (produced_by gs) zs
+    → p3 ≡ map (produced_by es) (xs ++ ys ++ zs)
+three_lists es fs gs p0 p1 p2 p3 xs ys zs none first f second g third =
+    let before : p1 ≡ map (produced_by es) xs = first ∙ ap (λ p. p ++ map (produced_by es) xs) none in
+    let third_same : map (produced_by gs) zs ≡ map (produced_by es) zs = produced-all fs gs (has_path ys) g zs ∙ produced-all es fs (has_path xs) f zs in
+    third ∙ (λ i. second i ++ third_same i)
+    ∙ (λ i. (before i ++ produced-all es fs (has_path xs) f ys i) ++ map (produced_by es) zs)
+    ∙ ap (λ p. p ++ map (produced_by es) zs) (sym (mapped-append (produced_by es) xs ys)) ∙ sym (mapped-append (produced_by es) (xs ++ ys) zs)
+
+-- one more list of producers
+pub lists_more : (es fs : List (List ℕ × Option ℕ)) (b : List ℕ → Bool) (all new : List (Vec (Option ℕ))) (list : Vec (Option ℕ)) (builds : List BuildValue) (i : ℕ) (build : BuildValue)
+    → build ≡ get_or builds i build → i < length builds → new ≡ all ++ list ∷ [] → ((path : List ℕ) → entry fs path ≡ or_else (entry es path) (given (b path) None))
+    → lists_of all ≡ map (λ other. map (produced_by es) (inputs_of other)) (take i builds) → list.items ≡ map (produced_by fs) (inputs_of build)
+    → lists_of new ≡ map (λ other. map (produced_by es) (inputs_of other)) (take (i + 1) builds)
+lists_more es fs b all new list builds i build is within more h before added =
+    let F : BuildValue → List (Option ℕ) = λ other. map (produced_by es) (inputs_of other) in
+    ap lists_of more ∙ mapped-append (λ (v : Vec (Option ℕ)). v.items) all (list ∷ [])
+    ∙ (λ k. before k ++ (added ∙ produced-all es fs b h (inputs_of build)) k ∷ [])
+    ∙ sym (mapped-append F (take i builds) (build ∷ []))
+    ∙ ap (map F) (ap (λ x. take i builds ++ x ∷ []) is ∙ sym (take_more builds i build within))
+
+-- the table with what one more build line needs
+pub needs_more : (e f o : Option (Option ℕ)) (builds : List BuildValue) (i : ℕ) (build : BuildValue) (path : List ℕ) → build ≡ get_or builds i build → i < length builds
+    → e ≡ or_else o (given (list_any (needs path) (take i builds)) None) → f ≡ or_else e (given (needs path build) None) → f ≡ or_else o (given (list_any (needs path) (take (i + 1) builds)) None)
+needs_more e f o builds i build path is within before more =
+    more ∙ ap (λ a. or_else a (given (needs path build) None)) before ∙ or_else-given o (list_any (needs path) (take i builds)) (needs path build) None
+    ∙ ap (λ b. or_else o (given b None))
+    (sym (ap (list_any (needs path)) (take_more builds i build within ∙ ap (λ x. take i builds ++ x ∷ []) (sym is)) ∙ list_any-append (needs path) (take i builds) (build ∷ [])
+    ∙ ap (λ b. list_any (needs path) (take i builds) || b) (or_false (needs path build))))

@@ -116,3 +116,20 @@ pub producers-are : (es : List (List ℕ × Option ℕ)) (builds : List BuildVal
     → map (λ build. map (produced_by es) (inputs_of build)) builds ≡ map (input_producers builds) builds
 producers-are es builds h =
     map-same (λ (build : BuildValue). map (produced_by es) (inputs_of build)) (input_producers builds) (λ build. map-same (produced_by es) (producer_of builds) (λ path. produced-by es builds path (h path)) (inputs_of build)) builds
+
+-- a path's entry in the table of all paths, by that in the table of outputs
+pub known-entry : (p : Option ℕ) (b : Bool) → or_else (option_map Some p) (given b None) ≡ (if is_some p || b then Some p else None)
+known-entry None true = refl
+known-entry None false = refl
+known-entry (Some x) b = refl
+
+by-outputs : (p : Option ℕ) → unwrap_or (option_map Some p) None ≡ p
+by-outputs None = refl
+by-outputs (Some x) = refl
+
+-- the producers of inputs, by the table of outputs
+pub outputs-producers : (es : List (List ℕ × Option ℕ)) (builds : List BuildValue) → ((path : List ℕ) → entry es path ≡ option_map Some (producer_of builds path))
+    → map (λ build. map (produced_by es) (inputs_of build)) builds ≡ map (input_producers builds) builds
+outputs-producers es builds h =
+    map-same (λ (build : BuildValue). map (produced_by es) (inputs_of build)) (input_producers builds)
+    (λ build. map-same (produced_by es) (producer_of builds) (λ path. ap (λ o. unwrap_or o None) (h path) ∙ by-outputs (producer_of builds path)) (inputs_of build)) builds

@@ -8,7 +8,7 @@ ghost use Rattle.rev_graph.specs.Lists.{seen_pools};
 use crate::edge::{Edge, edges_of, names_copy};
 use crate::fault::GraphFault;
 use crate::steps::{all_producers, ranks_of};
-use crate::table::{Table, producer, table_of};
+use crate::table::{Table, outputs_table, producer};
 use rev_manifest::Manifest;
 use rev_paths::Name;
 use std::alloc::{AllocError, Global};
@@ -95,8 +95,8 @@ impl Graph {
             return Err(GraphFault::TooManyEdges);
         }
         let edges = edges_of(alloc, &manifest.builds)?;
-        let table = table_of(alloc, &edges)?;
-        let producers = all_producers(alloc, &table, &edges)?;
+        let mut table = outputs_table(alloc, &edges)?;
+        let producers = all_producers(alloc, &mut table, &edges)?;
         let ranks = ranks_of(alloc, &edges, &producers)?;
         let pools = pools_copy(alloc, &manifest.pools)?;
         let defaults = names_copy(alloc, &manifest.defaults)?;

@@ -1,52 +1,60 @@
 //! Which edges each edge steps to, and the ranks of edges.
-ghost use Rattle.std.specs.Prelude.{◌≡◌, ◌<◌, ◌≤◌, ◌++◌, ℕ, map, length, slice_get, None, Some, IfOk, IfErr, OnOk};
+ghost use Rattle.std.specs.Prelude.{◌≡◌, ◌<◌, ◌≤◌, ◌++◌, ℕ, List, map, length, slice_get, None, Some, IfOk, IfErr, OnOk};
 ghost use Rattle.std.specs.Option.{option_copied};
-ghost use Rattle.std.specs.List.{filter_map};
+ghost use Rattle.std.specs.List.{filter_map, list_any};
 ghost use Rattle.rev_ranks.specs.Graph.{graph_of};
-ghost use Rattle.rev_graph.specs.Entries.{produced_by};
+ghost use Rattle.rev_graph.specs.Entries.{entry, given, produced_by};
 ghost use Rattle.rev_graph.specs.Fault.{Explains};
-ghost use Rattle.rev_graph.specs.Graph.{outputs_of, inputs_of, input_producers, successor_lists, EdgeReaches, IsLeastOnCycle, IsRanked, build_at, first_double};
+ghost use Rattle.rev_graph.specs.Graph.{outputs_of, inputs_of, has_path, needs, or_else, input_producers, successor_lists, EdgeReaches, IsLeastOnCycle, IsRanked, build_at, first_double};
 ghost use Rattle.rev_graph.specs.Lists.{lists_of};
 
 use crate::edge::Edge;
 use crate::fault::GraphFault;
-use crate::table::{Table, producer};
+use crate::table::{Table, add, value_or_add};
 use rev_paths::Name;
 use rev_ranks::{RankFault, ranks};
 use std::alloc::{AllocError, Global};
 
-// Adds the producers of names.
+// Adds the producers of names. The table has the names from then on.
 fn push_producers(
     producers: &mut Vec<Option<u32>>,
-    table: &Table,
+    table: &mut Table,
     names: &[Name],
 ) -> Result<(), AllocError>
-    ensures { OnOk result (producers.new.items ≡ producers.old.items ++ map (produced_by table.now.entries) names.now) }
+    ensures producers { OnOk result (producers.new.items ≡ producers.old.items ++ map (produced_by table.old.entries) names.now) }
+    ensures entries { OnOk result ((path : List ℕ) → entry table.new.entries path ≡ or_else (entry table.old.entries path) (given (has_path names.now path) None)) }
 {
     for name in names {
-        producers.push(producer(table, name))?;
+        producers.push(value_or_add(table, name, None)?)?;
     }
     Ok(())
 }
 
-// The producers of an edge's inputs.
-fn producers_of(alloc: Global, table: &Table, edge: &Edge) -> Result<Vec<Option<u32>>, AllocError>
-    ensures { IfOk result (λ producers. producers.items ≡ map (produced_by table.now.entries) (inputs_of edge.now)) }
+// The producers of an edge's inputs. The table has all of its build line from then on.
+fn producers_of(
+    alloc: Global,
+    table: &mut Table,
+    edge: &Edge,
+) -> Result<Vec<Option<u32>>, AllocError>
+    ensures producers { IfOk result (λ producers. producers.items ≡ map (produced_by table.old.entries) (inputs_of edge.now)) }
+    ensures entries { OnOk result ((path : List ℕ) → entry table.new.entries path ≡ or_else (entry table.old.entries path) (given (needs path edge.now) None)) }
 {
     let mut producers = Vec::new(alloc);
     push_producers(&mut producers, table, edge.explicit())?;
     push_producers(&mut producers, table, edge.implicit())?;
     push_producers(&mut producers, table, edge.order_only())?;
+    add(table, edge.validations(), None)?;
     Ok(producers)
 }
 
-/// For each edge the producers of its inputs, in order.
+/// For each edge the producers of its inputs, in order, where the table has all outputs. It has all of the build lines from then on.
 pub(crate) fn all_producers(
     alloc: Global,
-    table: &Table,
+    table: &mut Table,
     edges: &[Edge],
 ) -> Result<Vec<Vec<Option<u32>>>, AllocError>
-    ensures { IfOk result (λ all. lists_of all.items ≡ map (λ build. map (produced_by table.now.entries) (inputs_of build)) edges.now) }
+    ensures producers { IfOk result (λ all. lists_of all.items ≡ map (λ build. map (produced_by table.old.entries) (inputs_of build)) edges.now) }
+    ensures entries { OnOk result ((path : List ℕ) → entry table.new.entries path ≡ or_else (entry table.old.entries path) (given (list_any (needs path) edges.now) None)) }
 {
     let mut all = Vec::with_capacity(alloc, edges.len())?;
     for edge in edges {

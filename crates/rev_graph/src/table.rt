@@ -1,5 +1,5 @@
 //! Which edge produces each path.
-ghost use Rattle.std.specs.Prelude.{◌≡◌, ◌≤◌, ◌++◌, List, ℕ, [], map, find, length, Option, Some, None, IfOk, IfErr, OnOk, if◌then◌else◌};
+ghost use Rattle.std.specs.Prelude.{◌≡◌, bytes_eq, ◌≤◌, ◌++◌, List, ℕ, [], map, find, length, Option, Some, None, unwrap_or, IfOk, IfErr, OnOk, if◌then◌else◌};
 ghost use Rattle.std.specs.Option.{option_copied, option_map};
 ghost use Rattle.std.specs.List.{list_any};
 ghost use Rattle.rev_graph.specs.Entries.{entry, has_entry, produced_by, given};
@@ -15,14 +15,25 @@ use std::alloc::{AllocError, Global};
 /// Each known path, with its producer if it has one.
 pub(crate) type Table = IndexMap<Name, Option<u32>>;
 
-// Adds the names that the table does not have, each with that value.
-fn add(table: &mut Table, names: &[Name], value: Option<u32>) -> Result<(), AllocError>
+/// What the table has for a name; a name that it does not have gets that value. It looks the name up once.
+pub(crate) fn value_or_add(
+    table: &mut Table,
+    name: &Name,
+    value: Option<u32>,
+) -> Result<Option<u32>, AllocError>
+    ensures value { IfOk result (λ had. had ≡ unwrap_or (entry table.old.entries name.now) value) }
+    ensures entries { OnOk result ((path : List ℕ) → entry table.new.entries path ≡ or_else (entry table.old.entries path) (given (bytes_eq path name.now) value)) }
+{
+    let value = *table.entry(name.copy()?)?.or_insert(value);
+    Ok(value)
+}
+
+/// Adds the names that the table does not have, each with that value.
+pub(crate) fn add(table: &mut Table, names: &[Name], value: Option<u32>) -> Result<(), AllocError>
     ensures { OnOk result ((path : List ℕ) → entry table.new.entries path ≡ or_else (entry table.old.entries path) (given (has_path names.now path) value)) }
 {
     for name in names {
-        if !table.contains_key(name) {
-            table.insert(name.copy()?, value)?;
-        }
+        value_or_add(table, name, value)?;
     }
     Ok(())
 }
@@ -62,7 +73,7 @@ fn add_outputs(table: &mut Table, edge: &Edge, number: u32) -> Result<(), AllocE
 ///
 /// # Errors
 /// [`GraphFault::MultipleProducers`] with the first output that an earlier edge has, and [`GraphFault::Memory`].
-fn outputs_table(alloc: Global, edges: &[Edge]) -> Result<Table, GraphFault>
+pub(crate) fn outputs_table(alloc: Global, edges: &[Edge]) -> Result<Table, GraphFault>
     requires { length edges.now ≤ 262144 }
     ensures entries { IfOk result (λ table. (path : List ℕ) → entry table.entries path ≡ option_map Some (producer_of edges.now path)) }
     ensures single { OnOk result (first_double edges.now ≡ None) }
@@ -78,27 +89,6 @@ fn outputs_table(alloc: Global, edges: &[Edge]) -> Result<Table, GraphFault>
     Ok(table)
 }
 
-// Adds what an edge's build line has besides outputs.
-fn add_needs(table: &mut Table, edge: &Edge) -> Result<(), AllocError>
-    ensures { OnOk result ((path : List ℕ) → entry table.new.entries path ≡ or_else (entry table.old.entries path) (given (needs path edge.now) None)) }
-{
-    add(table, edge.explicit(), None)?;
-    add(table, edge.implicit(), None)?;
-    add(table, edge.order_only(), None)?;
-    add(table, edge.validations(), None)?;
-    Ok(())
-}
-
-/// Adds what build lines have besides outputs.
-fn add_all_needs(table: &mut Table, edges: &[Edge]) -> Result<(), AllocError>
-    ensures { OnOk result ((path : List ℕ) → entry table.new.entries path ≡ or_else (entry table.old.entries path) (given (list_any (needs path) edges.now) None)) }
-{
-    for edge in edges {
-        add_needs(table, edge)?;
-    }
-    Ok(())
-}
-
 /// The producer of a name, by the table.
 pub(crate) fn producer(table: &Table, name: &Name) -> Option<u32>
     ensures { result ≡ produced_by table.now.entries name.now }
@@ -107,19 +97,4 @@ pub(crate) fn producer(table: &Table, name: &Name) -> Option<u32>
         Some(producer) => *producer,
         None => None,
     }
-}
-
-/// The table of all that stands on build lines.
-///
-/// # Errors
-/// [`GraphFault::MultipleProducers`] with the first output that an earlier edge has, and [`GraphFault::Memory`].
-pub(crate) fn table_of(alloc: Global, edges: &[Edge]) -> Result<Table, GraphFault>
-    requires { length edges.now ≤ 262144 }
-    ensures entries { IfOk result (λ table. (path : List ℕ) → entry table.entries path ≡ (if is_known edges.now path then Some (producer_of edges.now path) else None)) }
-    ensures single { OnOk result (first_double edges.now ≡ None) }
-    ensures fault { IfErr result (λ fault. Explains fault edges.now) }
-{
-    let mut table = outputs_table(alloc, edges)?;
-    add_all_needs(&mut table, edges)?;
-    Ok(table)
 }
