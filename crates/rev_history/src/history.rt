@@ -151,12 +151,19 @@ impl History {
         ensures ok { IfOk result (λ n. self.new ≡ undone n self.old) }
         ensures err { OnErr result (self.new ≡ self.old) }
     {
-        let Some(number) = self.kept.last().copied() else {
+        let Some(number) = self.greatest() else {
             return Err(Fault::Refused(Refusal::NothingKept));
         };
         let kept = all_but(self.alloc, &self.kept, number)?;
         self.keep(kept)?;
         Ok(number)
+    }
+
+    // The greatest kept number.
+    fn greatest(&self) -> Option<u32>
+        ensures { result ≡ greatest_kept self.now }
+    {
+        self.kept.last().copied()
     }
 
     // Why an undo is refused.
