@@ -89,3 +89,8 @@ given_for Restat values = values.restat.items
 given_for Rspfile values = []
 given_for RspfileContent values = values.rspfile_content.items
 given_for Pool values = values.pool.items
+
+-- the command that is compared with the recorded one: behind the command stands the content of its response file, where there is any
+abbrev pub compared : List ℕ → List ℕ → List ℕ
+compared command [] = command
+compared command (b ∷ content) = command ++ (codes ";rspfile=" ++ (b ∷ content))

@@ -5,7 +5,7 @@ ghost use Rattle.rev_syntax.specs.Pieces.{seen_piece};
 ghost use Rattle.rev_scopes.specs.Expansion.{limited, appended};
 ghost use Rattle.rev_scopes.specs.declared.rule_variable.RuleVariable.{RuleVariable};
 ghost use Rattle.rev_scopes.specs.RuleNames.{name_of, is_needed};
-ghost use Rattle.rev_scopes.specs.Edges.{joined, paths_named, seen_edge, HasValue, AllHaveValues, SomeNeedsItself, SomeIsTooLarge, given_for};
+ghost use Rattle.rev_scopes.specs.Edges.{joined, paths_named, seen_edge, HasValue, AllHaveValues, SomeNeedsItself, SomeIsTooLarge, given_for, compared};
 ghost use Rattle.rev_scopes.specs.Slots.{seen_slots, AreOf, IsFound, IsAdded, IsTried, IsRight, IsWaiting, Waits, IsKnowable, AreStuck, NoneWaits, SomeWaits};
 
 use crate::edge::{Edge, EdgeVariables};
@@ -341,4 +341,21 @@ pub fn edge_variables(alloc: Global, edge: &Edge<'_>) -> Result<EdgeVariables, V
         rspfile_content,
         pool,
     })
+}
+
+/// The command that is compared with the recorded one: the command and, where the content of its response file is not empty,
+/// that content behind `;rspfile=`.
+///
+/// # Errors
+/// [`AllocError`] where an allocation was refused.
+pub fn compared_command(command: Vec<u8>, rspfile_content: &[u8]) -> Result<Vec<u8>, AllocError>
+    ensures { IfOk result (λ text. text.items ≡ compared command.items rspfile_content.now) }
+{
+    let mut text = command;
+    if rspfile_content.is_empty() {
+        return Ok(text);
+    }
+    text.extend_from_slice(b";rspfile=")?;
+    text.extend_from_slice(rspfile_content)?;
+    Ok(text)
 }

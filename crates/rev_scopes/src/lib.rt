@@ -15,7 +15,7 @@ mod slots;
 
 pub use bindings::Bindings;
 pub use edge::{Edge, EdgeVariables};
-pub use edge_values::edge_variables;
+pub use edge_values::{compared_command, edge_variables};
 pub use expansion::{expand, expand_in_block};
 pub use fault::{RuleFault, ValueFault};
 pub use growth::MAX_VALUE_BYTES;

@@ -320,3 +320,13 @@ fn rule_variables_are_found_by_their_names(rt: HostRuntime) {
         b"msvc_deps_prefix".as_slice()
     );
 }
+
+#[test]
+fn content_of_a_response_file_is_compared(rt: HostRuntime) -> Result<(), Fail> {
+    let alloc = rt.alloc();
+    let without = compared_command(bytes(alloc, b"cc")?, b"")?;
+    assert_eq!(rt; without.as_slice(), b"cc".as_slice());
+    let with = compared_command(bytes(alloc, b"cc")?, b"a b")?;
+    assert_eq!(rt; with.as_slice(), b"cc;rspfile=a b".as_slice());
+    Ok(())
+}
