@@ -1,0 +1,8 @@
+use Rattle.std.proofs.Common.{◌≡◌, ◌++◌, map, take}
+use Rattle.rev_dirty.specs.Inputs.{an}
+use Rattle.rev_dirty.specs.Reasons.{is_rebuilt}
+use Rattle.rev_dirty.proofs.change.push_changes.Given as goal
+
+abbrev pub invariant-loop-path : goal.invariant-loop-path
+invariant-loop-path l =
+    l.changes.items ≡ l.initial.changes.items ++ map (is_rebuilt l.graph.manifest.builds l.cells.state) (map (an l.kind) (take l.path-index l.paths))

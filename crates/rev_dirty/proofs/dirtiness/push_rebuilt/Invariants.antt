@@ -1,0 +1,10 @@
+use Rattle.std.proofs.Common.{◌≡◌, ◌++◌, map}
+use Rattle.std.specs.Prelude.{filter}
+use Rattle.std.specs.List.{range_with_len}
+use Rattle.rev_dirty.specs.declared.reason.Reason.TheVariants as reason
+use Rattle.rev_dirty.specs.Reasons.{holds_at}
+use Rattle.rev_dirty.proofs.dirtiness.push_rebuilt.Given as goal
+
+abbrev pub invariant-loop-position : goal.invariant-loop-position
+invariant-loop-position l =
+    l.reasons.items ≡ l.initial.reasons.items ++ map reason.Rebuilt (filter (holds_at (λ changed. changed) l.changes) (range_with_len 0 l.position))

@@ -1,0 +1,119 @@
+//! Which inputs of an edge were changed by the edges that produce them.
+ghost use Rattle.std.specs.Prelude.{◌≡◌, ◌<◌, ◌++◌, map, length, slice_get, bytes_eq, IfOk, OnOk};
+ghost use Rattle.std.specs.Option.{option_copied};
+ghost use Rattle.std.specs.List.{filter_map};
+ghost use Rattle.rev_graph.specs.Graph.{build_at, outputs_of, has_path};
+ghost use Rattle.rev_cells.specs.State.{mark_of};
+ghost use Rattle.rev_dirty.specs.Inputs.{an, inputs, paths_in, deps_record};
+ghost use Rattle.rev_dirty.specs.Reasons.{changed_positions as changed_positions_of, was_changed as was_changed_in, is_rebuilt};
+
+use crate::input::InputKind;
+use rev_cells::{Cell, Cells, Mark, Value};
+use rev_graph::Graph;
+use rev_paths::Name;
+use std::alloc::{AllocError, Global};
+
+// The output at a position.
+fn output_at<'a>(explicit: &'a [Name], implicit: &'a [Name], position: u64) -> Option<&'a Name>
+    ensures { option_copied result ≡ slice_get (explicit.now ++ implicit.now) position }
+{
+    let first_implicit = explicit.len() as u64;
+    if position < first_implicit {
+        return explicit.get(position as usize);
+    }
+    implicit.get((position - first_implicit) as usize)
+}
+
+// Whether a path is among the outputs at positions.
+fn is_among(explicit: &[Name], implicit: &[Name], positions: &[u64], path: &Name) -> bool
+    ensures { result ≡ has_path (filter_map (slice_get (explicit.now ++ implicit.now)) positions.now) path.now }
+{
+    for position in positions {
+        if let Some(output) = output_at(explicit, implicit, *position) {
+            if path == output {
+                return true;
+            }
+        }
+    }
+    false
+}
+
+// The positions of the outputs that an edge changed, where it is done.
+fn changed_positions(cells: &Cells, edge: u32) -> &[u64]
+    ensures { result.now ≡ changed_positions_of (mark_of cells.now.state edge) }
+{
+    match cells.get(&Cell::Mark(edge)) {
+        Some(Value::Mark(Mark::Done(changed))) => changed.as_slice(),
+        _ => &[],
+    }
+}
+
+// Whether the edge that produces a path is done and changed it.
+fn was_changed(graph: &Graph, cells: &Cells, path: &Name) -> bool
+    ensures { result ≡ was_changed_in graph.now.manifest.builds cells.now.state path.now }
+{
+    match graph.producer(path) {
+        Some(producer) => {
+            let outputs = graph.outputs(producer);
+            let changed = changed_positions(cells, producer);
+            is_among(outputs.explicit, outputs.implicit, changed, path)
+        }
+        None => false,
+    }
+}
+
+// Adds which inputs that stand in one place were changed; no order-only input counts.
+fn push_changes(
+    changes: &mut Vec<bool>,
+    graph: &Graph,
+    cells: &Cells,
+    kind: InputKind,
+    paths: &[Name],
+) -> Result<(), AllocError>
+    ensures { OnOk result (changes.new.items ≡ changes.old.items ++ map (is_rebuilt graph.now.manifest.builds cells.now.state) (map (an kind) paths.now)) }
+{
+    for path in paths {
+        let changed = kind != InputKind::OrderOnly && was_changed(graph, cells, path);
+        changes.push(changed)?;
+    }
+    Ok(())
+}
+
+/// For each input of an edge whether the edge that produces it changed it, where `listed` are those that its deps record lists.
+pub(crate) fn changes_of(
+    alloc: Global,
+    graph: &Graph,
+    cells: &Cells,
+    edge: u32,
+    listed: &[Name],
+) -> Result<Vec<bool>, AllocError>
+    requires edge { edge < length graph.now.manifest.builds }
+    requires listed { listed.now ≡ paths_in (deps_record cells.now.state (build_at graph.now.manifest.builds edge)) }
+    ensures { IfOk result (λ changes. changes.items ≡ map (is_rebuilt graph.now.manifest.builds cells.now.state) (inputs cells.now.state (build_at graph.now.manifest.builds edge))) }
+{
+    let on_line = graph.inputs(edge);
+    let mut changes = Vec::new(alloc);
+    push_changes(
+        &mut changes,
+        graph,
+        cells,
+        InputKind::OnLine,
+        on_line.explicit,
+    )?;
+    push_changes(
+        &mut changes,
+        graph,
+        cells,
+        InputKind::OnLine,
+        on_line.implicit,
+    )?;
+    push_changes(
+        &mut changes,
+        graph,
+        cells,
+        InputKind::OrderOnly,
+        on_line.order_only,
+    )?;
+    push_changes(&mut changes, graph, cells, InputKind::Listed, listed)?;
+    Ok(changes)
+}

@@ -1,0 +1,152 @@
+//! What is asked of an edge's inputs.
+ghost use Rattle.std.specs.Prelude.{◌≡◌, ◌<◌, ◌++◌, ℕ, map, length, IfOk, OnOk};
+ghost use Rattle.rev_graph.specs.Graph.{build_at, producer_of};
+ghost use Rattle.rev_dirty.specs.Facts.{phony_only, input_facts, facts_of_input};
+ghost use Rattle.rev_dirty.specs.Inputs.{inputs, paths_in, deps_record};
+ghost use Rattle.rev_dirty.specs.Visible.{line_inputs};
+ghost use Rattle.rev_dirty.specs.declared.input.InputKind.TheVariants.{OnLine};
+
+use crate::records::stamp;
+use rev_cells::Cells;
+use rev_graph::Graph;
+use rev_paths::Name;
+use std::alloc::{AllocError, Global};
+
+/// Where an input of an edge stands.
+#[derive(Clone, Copy, Debug, PartialEq, Eq)]
+pub enum InputKind {
+    /// On the build line before `||`, as an explicit or an implicit input.
+    OnLine,
+    /// On the build line after `||`.
+    OrderOnly,
+    /// In the deps record of the edge's first output.
+    Listed,
+}
+
+/// What is asked of an input; of an order-only one nothing.
+#[derive(Clone, Copy)]
+pub(crate) struct Input {
+    pub(crate) kind: InputKind,
+    /// Its stamp, 0 where it is missing.
+    pub(crate) stamp: u64,
+    /// Whether an edge produces it.
+    pub(crate) produced: bool,
+    /// The phony edge through which it is seen, which is the one that produces it where it is missing.
+    pub(crate) through: Option<u32>,
+}
+
+// The edge that produces a path, where it is phony.
+fn phony_producer(graph: &Graph, path: &Name) -> Option<u32>
+    ensures { result ≡ phony_only graph.now.manifest.builds (producer_of graph.now.manifest.builds path.now) }
+{
+    match graph.producer(path) {
+        Some(edge) => {
+            if graph.is_phony(edge) {
+                Some(edge)
+            } else {
+                None
+            }
+        }
+        None => None,
+    }
+}
+
+// What is asked of an input.
+fn input_of(graph: &Graph, cells: &Cells, kind: InputKind, path: &Name) -> Result<Input, AllocError>
+    ensures { IfOk result (λ input. input ≡ input_facts graph.now.manifest.builds cells.now.state kind path.now) }
+{
+    if kind == InputKind::OrderOnly {
+        return Ok(Input {
+            kind,
+            stamp: 0,
+            produced: false,
+            through: None,
+        });
+    }
+    let stamp = stamp(cells, path)?;
+    let produced = graph.producer(path).is_some();
+    if stamp != 0 {
+        return Ok(Input {
+            kind,
+            stamp,
+            produced,
+            through: None,
+        });
+    }
+    let through = phony_producer(graph, path);
+    Ok(Input {
+        kind,
+        stamp,
+        produced,
+        through,
+    })
+}
+
+// Adds what is asked of inputs that stand in one place.
+fn push_inputs(
+    inputs: &mut Vec<Input>,
+    graph: &Graph,
+    cells: &Cells,
+    kind: InputKind,
+    paths: &[Name],
+) -> Result<(), AllocError>
+    ensures { OnOk result (inputs.new.items ≡ inputs.old.items ++ map (input_facts graph.now.manifest.builds cells.now.state kind) paths.now) }
+{
+    for path in paths {
+        inputs.push(input_of(graph, cells, kind, path)?)?;
+    }
+    Ok(())
+}
+
+/// What is asked of the inputs on an edge's build line that count.
+pub(crate) fn counted_on_line(
+    alloc: Global,
+    graph: &Graph,
+    cells: &Cells,
+    edge: u32,
+) -> Result<Vec<Input>, AllocError>
+    requires { edge < length graph.now.manifest.builds }
+    ensures { IfOk result (λ inputs. inputs.items ≡ map (input_facts graph.now.manifest.builds cells.now.state OnLine) (line_inputs (build_at graph.now.manifest.builds edge))) }
+{
+    let on_line = graph.inputs(edge);
+    let mut inputs = Vec::new(alloc);
+    push_inputs(
+        &mut inputs,
+        graph,
+        cells,
+        InputKind::OnLine,
+        on_line.explicit,
+    )?;
+    push_inputs(
+        &mut inputs,
+        graph,
+        cells,
+        InputKind::OnLine,
+        on_line.implicit,
+    )?;
+    Ok(inputs)
+}
+
+/// What is asked of all inputs of an edge, of which `listed` are those that its deps record lists.
+pub(crate) fn all_inputs(
+    alloc: Global,
+    graph: &Graph,
+    cells: &Cells,
+    edge: u32,
+    listed: &[Name],
+) -> Result<Vec<Input>, AllocError>
+    requires edge { edge < length graph.now.manifest.builds }
+    requires listed { listed.now ≡ paths_in (deps_record cells.now.state (build_at graph.now.manifest.builds edge)) }
+    ensures { IfOk result (λ all. all.items ≡ map (facts_of_input graph.now.manifest.builds cells.now.state) (inputs cells.now.state (build_at graph.now.manifest.builds edge))) }
+{
+    let mut all = counted_on_line(alloc, graph, cells, edge)?;
+    push_inputs(
+        &mut all,
+        graph,
+        cells,
+        InputKind::OrderOnly,
+        graph.inputs(edge).order_only,
+    )?;
+    push_inputs(&mut all, graph, cells, InputKind::Listed, listed)?;
+    Ok(all)
+}

@@ -1,0 +1,113 @@
+//! What is asked of an edge's outputs.
+ghost use Rattle.std.specs.Prelude.{◌≡◌, ◌<◌, ◌++◌, map, max, length, IfOk, OnOk, if◌then◌else◌};
+ghost use Rattle.std.specs.Option.{option_copied};
+ghost use Rattle.rev_graph.specs.Graph.{build_at, outputs_of as outputs_on};
+ghost use Rattle.rev_dirty.specs.Facts.{output_facts};
+ghost use Rattle.rev_dirty.specs.Reasons.{recorded_stamp};
+
+use crate::records::{built, stamp};
+use rev_cells::{BuiltRecord, Cells};
+use rev_graph::Graph;
+use rev_paths::Name;
+use std::alloc::{AllocError, Global};
+
+/// What is asked of an output.
+#[derive(Clone, Copy)]
+pub(crate) struct Output {
+    /// Its stamp, 0 where it is missing.
+    pub(crate) stamp: u64,
+    /// The stamp that it counts with against those of the inputs.
+    pub(crate) effective: u64,
+    /// Whether it has no record in the build log where one is asked for.
+    pub(crate) unrecorded: bool,
+    /// Whether it was made by another command than the edge's where that is asked.
+    pub(crate) recommanded: bool,
+}
+
+// The stamp that an output counts with.
+fn effective(restat: bool, stamp: u64, built: Option<&BuiltRecord>) -> u64
+    ensures { result ≡ (if restat then max stamp (recorded_stamp (option_copied built.entry)) else stamp) }
+{
+    if !restat {
+        return stamp;
+    }
+    match built {
+        Some(built) => {
+            if built.stamp > stamp {
+                built.stamp
+            } else {
+                stamp
+            }
+        }
+        None => stamp,
+    }
+}
+
+// What is asked of an output of an edge.
+fn output_of(graph: &Graph, cells: &Cells, edge: u32, path: &Name) -> Result<Output, AllocError>
+    requires { edge < length graph.now.manifest.builds }
+    ensures { IfOk result (λ output. output ≡ output_facts cells.now.state (build_at graph.now.manifest.builds edge) path.now) }
+{
+    let stamp = stamp(cells, path)?;
+    let built = built(cells, path)?;
+    let effective = effective(graph.restat(edge), stamp, built);
+    if graph.generator(edge) {
+        return Ok(Output {
+            stamp,
+            effective,
+            unrecorded: false,
+            recommanded: false,
+        });
+    }
+    match built {
+        Some(built) => {
+            let recommanded = built.command.as_slice() != graph.command(edge);
+            Ok(Output {
+                stamp,
+                effective,
+                unrecorded: false,
+                recommanded,
+            })
+        }
+        None => Ok(Output {
+            stamp,
+            effective,
+            unrecorded: true,
+            recommanded: false,
+        }),
+    }
+}
+
+// Adds what is asked of outputs.
+fn push_outputs(
+    outputs: &mut Vec<Output>,
+    graph: &Graph,
+    cells: &Cells,
+    edge: u32,
+    paths: &[Name],
+) -> Result<(), AllocError>
+    requires { edge < length graph.now.manifest.builds }
+    ensures { OnOk result (outputs.new.items ≡ outputs.old.items ++ map (output_facts cells.now.state (build_at graph.now.manifest.builds edge)) paths.now) }
+{
+    for path in paths {
+        outputs.push(output_of(graph, cells, edge, path)?)?;
+    }
+    Ok(())
+}
+
+/// What is asked of the outputs of an edge.
+pub(crate) fn outputs_of(
+    alloc: Global,
+    graph: &Graph,
+    cells: &Cells,
+    edge: u32,
+) -> Result<Vec<Output>, AllocError>
+    requires { edge < length graph.now.manifest.builds }
+    ensures { IfOk result (λ outputs. outputs.items ≡ map (output_facts cells.now.state (build_at graph.now.manifest.builds edge)) (outputs_on (build_at graph.now.manifest.builds edge))) }
+{
+    let paths = graph.outputs(edge);
+    let mut outputs = Vec::new(alloc);
+    push_outputs(&mut outputs, graph, cells, edge, paths.explicit)?;
+    push_outputs(&mut outputs, graph, cells, edge, paths.implicit)?;
+    Ok(outputs)
+}

@@ -1,0 +1,310 @@
+use crate::{Reason, reasons};
+use rev_cells::{Cell, Cells, Mark, Opening, Positions, Value};
+use rev_graph::Graph;
+use rev_manifest::{Manifest, read};
+use rev_paths::Name;
+use std::alloc::{AllocError, Global};
+use std::mem;
+use std::test::Fail;
+
+// Two objects and a program.
+const PROGRAM: &[u8; 131] =
+    b"rule cc\n  command = cc -c $in -o $out\nrule ld\n  command = ld $in -o $out\nbuild a.o: cc a.c\nbuild b.o: cc b.c\nbuild app: ld a.o b.o\n";
+
+const OBJECT: &[u8; 45] = b"rule cc\n  command = cc $in\nbuild a.o: cc a.c\n";
+
+const TWICE: &[u8; 53] = b"rule r\n  command = r $in\nbuild m: r a\nbuild x: r m m\n";
+
+const CHAIN: &[u8; 77] =
+    b"rule r\n  command = r $in\nbuild p: r a\nbuild q: r p\nbuild s: r q\nbuild x: r s\n";
+
+const RESPONSES: &[u8; 43] = b"rule r\n  command = r @o.rsp\nbuild o: r a b\n";
+
+const BARE: &[u8; 32] = b"rule r\n  command = r\nbuild x: r\n";
+
+fn manifest_of(alloc: Global, content: &[u8]) -> Result<Manifest, AllocError> {
+    let name = Vec::from_slice(alloc, b"build.ninja")?;
+    let content = Vec::from_slice(alloc, content)?;
+    let files = vec![in alloc; (name, content)]?;
+    match read(alloc, &files) {
+        Ok(manifest) => Ok(manifest),
+        Err(_) => Err(AllocError),
+    }
+}
+
+fn graph_of(alloc: Global, manifest: &Manifest) -> Result<Graph, AllocError> {
+    match Graph::build(alloc, manifest) {
+        Ok(graph) => Ok(graph),
+        Err(_) => Err(AllocError),
+    }
+}
+
+fn named(alloc: Global, path: &[u8]) -> Result<Name, AllocError> {
+    match Name::new(alloc, path) {
+        Ok(name) => Ok(name),
+        Err(_) => Err(AllocError),
+    }
+}
+
+fn opening_of(alloc: Global, stamps: &[(&[u8], u64)]) -> Result<Opening, AllocError> {
+    let Ok(mut opening) = Opening::new(alloc, 1) else {
+        return Err(AllocError);
+    };
+    for (path, stamp) in stamps {
+        if opening.add_stamp(named(alloc, path)?, *stamp).is_err() {
+            return Err(AllocError);
+        }
+    }
+    Ok(opening)
+}
+
+fn add_built(
+    alloc: Global,
+    opening: &mut Opening,
+    path: &[u8],
+    stamp: u64,
+    command: &[u8],
+) -> Result<(), AllocError> {
+    let command = Vec::from_slice(alloc, command)?;
+    match opening.add_built(named(alloc, path)?, stamp, command) {
+        Ok(()) => Ok(()),
+        Err(_) => Err(AllocError),
+    }
+}
+
+// The deps of a.o: a.c and h.h.
+fn add_deps(alloc: Global, opening: &mut Opening, stamp: u64) -> Result<(), AllocError> {
+    let paths = vec![in alloc; named(alloc, b"a.c")?, named(alloc, b"h.h")?]?;
+    match opening.add_deps(named(alloc, b"a.o")?, stamp, paths) {
+        Ok(()) => Ok(()),
+        Err(_) => Err(AllocError),
+    }
+}
+
+// Makes an edge done, with its first output changed.
+fn finish(alloc: Global, cells: &mut Cells, edge: u32) -> Result<(), AllocError> {
+    let cell = Cell::Mark(edge);
+    cells.reserve(&cell)?;
+    let changed = Positions::new(vec![in alloc; 0]?);
+    cells.swap(&cell, Value::Mark(Mark::Done(changed)));
+    Ok(())
+}
+
+fn explained(
+    alloc: Global,
+    manifest: &Manifest,
+    cells: &Cells,
+    edge: u32,
+) -> Result<Vec<Reason>, AllocError> {
+    let graph = graph_of(alloc, manifest)?;
+    if edge >= graph.edges() {
+        return Err(AllocError);
+    }
+    reasons(alloc, &graph, cells, edge)
+}
+
+#[test]
+fn a_missing_object_is_dirty(rt: HostRuntime) -> Result<(), Fail> {
+    let alloc = rt.alloc();
+    let manifest = manifest_of(alloc, PROGRAM)?;
+    let opening = opening_of(
+        alloc,
+        &[(b"a.c", 10), (b"b.c", 20), (b"b.o", 110), (b"app", 120)],
+    )?;
+    let cells = Cells::new(alloc, &opening)?;
+    let found = explained(alloc, &manifest, &cells, 0)?;
+    assert_eq!(rt;
+        found.as_slice(),
+        [Reason::Missing(0), Reason::Older(0, 0), Reason::NoRecord(0)].as_slice()
+    );
+    Ok(())
+}
+
+#[test]
+fn another_response_file_is_another_command(rt: HostRuntime) -> Result<(), Fail> {
+    let alloc = rt.alloc();
+    let manifest = manifest_of(alloc, RESPONSES)?;
+    let mut opening = opening_of(alloc, &[(b"a", 1), (b"b", 1), (b"o", 5)])?;
+    add_built(alloc, &mut opening, b"o", 5, b"r @o.rsp;rspfile=x")?;
+    let cells = Cells::new(alloc, &opening)?;
+    let found = explained(alloc, &manifest, &cells, 0)?;
+    assert_eq!(rt; found.as_slice(), [Reason::Command(0)].as_slice());
+    Ok(())
+}
+
+#[test]
+fn a_generator_asks_no_command(rt: HostRuntime) -> Result<(), Fail> {
+    let alloc = rt.alloc();
+    let mut manifest = manifest_of(alloc, RESPONSES)?;
+    for build in &mut manifest.builds {
+        build.generator = true;
+    }
+    let mut opening = opening_of(alloc, &[(b"a", 1), (b"b", 1), (b"o", 5)])?;
+    add_built(alloc, &mut opening, b"o", 5, b"r @o.rsp;rspfile=x")?;
+    let cells = Cells::new(alloc, &opening)?;
+    let found = explained(alloc, &manifest, &cells, 0)?;
+    assert!(rt; found.is_empty());
+    Ok(())
+}
+
+// An object that keeps deps.
+fn with_deps(alloc: Global) -> Result<Manifest, AllocError> {
+    let mut manifest = manifest_of(alloc, OBJECT)?;
+    for build in &mut manifest.builds {
+        build.keeps_deps = true;
+    }
+    Ok(manifest)
+}
+
+#[test]
+fn deps_without_a_record_are_unknown(rt: HostRuntime) -> Result<(), Fail> {
+    let alloc = rt.alloc();
+    let manifest = with_deps(alloc)?;
+    let opening = opening_of(alloc, &[(b"a.c", 10), (b"h.h", 5)])?;
+    let cells = Cells::new(alloc, &opening)?;
+    let found = explained(alloc, &manifest, &cells, 0)?;
+    let wanted = [
+        Reason::Missing(0),
+        Reason::NoDeps,
+        Reason::Older(0, 0),
+        Reason::NoRecord(0),
+    ];
+    assert_eq!(rt; found.as_slice(), wanted.as_slice());
+    Ok(())
+}
+
+#[test]
+fn deps_listed_before_the_object_are_old(rt: HostRuntime) -> Result<(), Fail> {
+    let alloc = rt.alloc();
+    let manifest = with_deps(alloc)?;
+    let mut opening = opening_of(alloc, &[(b"a.c", 10), (b"h.h", 5), (b"a.o", 100)])?;
+    add_built(alloc, &mut opening, b"a.o", 100, b"cc a.c")?;
+    add_deps(alloc, &mut opening, 50)?;
+    let cells = Cells::new(alloc, &opening)?;
+    let found = explained(alloc, &manifest, &cells, 0)?;
+    assert_eq!(rt; found.as_slice(), [Reason::DepsOld].as_slice());
+    Ok(())
+}
+
+#[test]
+fn a_listed_header_is_missing(rt: HostRuntime) -> Result<(), Fail> {
+    let alloc = rt.alloc();
+    let manifest = with_deps(alloc)?;
+    let mut opening = opening_of(alloc, &[(b"a.c", 10), (b"a.o", 100)])?;
+    add_built(alloc, &mut opening, b"a.o", 100, b"cc a.c")?;
+    add_deps(alloc, &mut opening, 100)?;
+    let cells = Cells::new(alloc, &opening)?;
+    let found = explained(alloc, &manifest, &cells, 0)?;
+    assert_eq!(rt; found.as_slice(), [Reason::MissingDep(2)].as_slice());
+    Ok(())
+}
+
+#[test]
+fn an_input_that_stands_twice_is_rebuilt_twice(rt: HostRuntime) -> Result<(), Fail> {
+    let alloc = rt.alloc();
+    let manifest = manifest_of(alloc, TWICE)?;
+    let mut opening = opening_of(alloc, &[(b"a", 1), (b"m", 5), (b"x", 9)])?;
+    add_built(alloc, &mut opening, b"x", 9, b"r m m")?;
+    let mut cells = Cells::new(alloc, &opening)?;
+    finish(alloc, &mut cells, 0)?;
+    let found = explained(alloc, &manifest, &cells, 1)?;
+    assert_eq!(rt;
+        found.as_slice(),
+        [Reason::Rebuilt(0), Reason::Rebuilt(1)].as_slice()
+    );
+    Ok(())
+}
+
+#[test]
+fn an_input_that_stands_twice_is_newest_once(rt: HostRuntime) -> Result<(), Fail> {
+    let alloc = rt.alloc();
+    let manifest = manifest_of(alloc, TWICE)?;
+    let mut opening = opening_of(alloc, &[(b"m", 9), (b"x", 5)])?;
+    add_built(alloc, &mut opening, b"x", 5, b"r m m")?;
+    let cells = Cells::new(alloc, &opening)?;
+    let found = explained(alloc, &manifest, &cells, 1)?;
+    assert_eq!(rt; found.as_slice(), [Reason::Older(0, 0)].as_slice());
+    Ok(())
+}
+
+// Where the only output of x has stamp 20, and its record that stamp.
+fn explained_at_20(
+    alloc: Global,
+    manifest: &Manifest,
+    source: u64,
+    recorded: u64,
+    edge: u32,
+) -> Result<Vec<Reason>, AllocError> {
+    let mut opening = opening_of(alloc, &[(b"a", source), (b"m", source), (b"x", 20)])?;
+    add_built(alloc, &mut opening, b"x", recorded, b"r m m")?;
+    let cells = Cells::new(alloc, &opening)?;
+    explained(alloc, manifest, &cells, edge)
+}
+
+#[test]
+fn restat_takes_the_greater_stamp(rt: HostRuntime) -> Result<(), Fail> {
+    let alloc = rt.alloc();
+    let mut manifest = manifest_of(alloc, TWICE)?;
+    for build in &mut manifest.builds {
+        build.restat = true;
+    }
+    assert!(rt; explained_at_20(alloc, &manifest, 30, 40, 1)?.is_empty());
+    assert!(rt; explained_at_20(alloc, &manifest, 15, 10, 1)?.is_empty());
+    let found = explained_at_20(alloc, &manifest, 30, 10, 1)?;
+    assert_eq!(rt; found.as_slice(), [Reason::Older(0, 0)].as_slice());
+    Ok(())
+}
+
+#[test]
+fn order_only_inputs_are_no_reason(rt: HostRuntime) -> Result<(), Fail> {
+    let alloc = rt.alloc();
+    let mut manifest = manifest_of(alloc, TWICE)?;
+    for build in &mut manifest.builds {
+        mem::swap(&mut build.explicit, &mut build.order_only);
+    }
+    assert!(rt; explained_at_20(alloc, &manifest, 30, 20, 1)?.is_empty());
+    Ok(())
+}
+
+// A chain of three phony edges and an edge that runs.
+fn phony_chain(alloc: Global) -> Result<Manifest, AllocError> {
+    let mut manifest = manifest_of(alloc, CHAIN)?;
+    for (edge, build) in manifest.builds.iter_mut().enumerate() {
+        build.phony = edge < 3;
+    }
+    Ok(manifest)
+}
+
+#[test]
+fn a_stamp_shows_through_a_phony_chain(rt: HostRuntime) -> Result<(), Fail> {
+    let alloc = rt.alloc();
+    let manifest = phony_chain(alloc)?;
+    let mut opening = opening_of(alloc, &[(b"a", 30), (b"x", 20)])?;
+    add_built(alloc, &mut opening, b"x", 20, b"r s")?;
+    let cells = Cells::new(alloc, &opening)?;
+    let found = explained(alloc, &manifest, &cells, 3)?;
+    assert_eq!(rt; found.as_slice(), [Reason::Older(0, 0)].as_slice());
+    let phony = explained(alloc, &manifest, &cells, 2)?;
+    assert!(rt; phony.is_empty());
+    Ok(())
+}
+
+#[test]
+fn a_phony_edge_without_inputs_is_dirty(rt: HostRuntime) -> Result<(), Fail> {
+    let alloc = rt.alloc();
+    let mut manifest = manifest_of(alloc, BARE)?;
+    for build in &mut manifest.builds {
+        build.phony = true;
+    }
+    let cells = Cells::new(alloc, &opening_of(alloc, &[])?)?;
+    let found = explained(alloc, &manifest, &cells, 0)?;
+    assert_eq!(rt; found.as_slice(), [Reason::Missing(0)].as_slice());
+    Ok(())
+}
+
+#[test]
+fn kinds_have_numbers(rt: HostRuntime) {
+    assert_eq!(rt; Reason::Missing(7).kind(), 1);
+    assert_eq!(rt; Reason::Older(0, 0).kind(), 6);
+    assert_eq!(rt; Reason::Command(0).kind(), 8);
+}
