@@ -2,12 +2,12 @@
 ghost use Rattle.std.specs.Prelude.{◌≡◌, ◌<◌, ◌++◌, map, length, slice_get, bytes_eq, IfOk, OnOk};
 ghost use Rattle.std.specs.Option.{option_copied};
 ghost use Rattle.std.specs.List.{filter_map};
-ghost use Rattle.rev_graph.specs.Graph.{build_at, outputs_of, has_path};
+ghost use Rattle.rev_graph.specs.Graph.{build_at, outputs_of, has_path, producer_of};
 ghost use Rattle.rev_cells.specs.State.{mark_of};
 ghost use Rattle.rev_dirty.specs.Inputs.{an, inputs, paths_in, deps_record};
 ghost use Rattle.rev_dirty.specs.Reasons.{changed_positions as changed_positions_of, was_changed as was_changed_in, is_rebuilt};
 
-use crate::input::InputKind;
+use crate::input::{InputKind, line_producers};
 use rev_cells::{Cell, Cells, Mark, Value};
 use rev_graph::Graph;
 use rev_paths::Name;
@@ -49,10 +49,11 @@ fn changed_positions(cells: &Cells, edge: u32) -> &[u64]
 }
 
 // Whether the edge that produces a path is done and changed it.
-fn was_changed(graph: &Graph, cells: &Cells, path: &Name) -> bool
+fn was_changed(graph: &Graph, cells: &Cells, path: &Name, producer: Option<u32>) -> bool
+    requires { producer ≡ producer_of graph.now.manifest.builds path.now }
     ensures { result ≡ was_changed_in graph.now.manifest.builds cells.now.state path.now }
 {
-    match graph.producer(path) {
+    match producer {
         Some(producer) => {
             let outputs = graph.outputs(producer);
             let changed = changed_positions(cells, producer);
@@ -69,29 +70,36 @@ fn push_changes(
     cells: &Cells,
     kind: InputKind,
     paths: &[Name],
+    producers: &[Option<u32>],
 ) -> Result<(), AllocError>
+    requires { producers.now ≡ map (producer_of graph.now.manifest.builds) paths.now }
     ensures { OnOk result (changes.new.items ≡ changes.old.items ++ map (is_rebuilt graph.now.manifest.builds cells.now.state) (map (an kind) paths.now)) }
 {
-    for path in paths {
-        let changed = kind != InputKind::OrderOnly && was_changed(graph, cells, path);
+    for (place, path) in paths.iter().enumerate() {
+        let producer = producers[place];
+        let changed = kind != InputKind::OrderOnly && was_changed(graph, cells, path, producer);
         changes.push(changed)?;
     }
     Ok(())
 }
 
-/// For each input of an edge whether the edge that produces it changed it, where `listed` are those that its deps record lists.
+/// For each input of an edge whether the edge that produces it changed it, where `listed` are those
+/// that its deps record lists, and `producers` the edges that produce those.
 pub(crate) fn changes_of(
     alloc: Global,
     graph: &Graph,
     cells: &Cells,
     edge: u32,
     listed: &[Name],
+    producers: &[Option<u32>],
 ) -> Result<Vec<bool>, AllocError>
     requires edge { edge < length graph.now.manifest.builds }
+    requires producers { producers.now ≡ map (producer_of graph.now.manifest.builds) listed.now }
     requires listed { listed.now ≡ paths_in (deps_record cells.now.state (build_at graph.now.manifest.builds edge)) }
     ensures { IfOk result (λ changes. changes.items ≡ map (is_rebuilt graph.now.manifest.builds cells.now.state) (inputs cells.now.state (build_at graph.now.manifest.builds edge))) }
 {
     let on_line = graph.inputs(edge);
+    let line = line_producers(graph, edge);
     let mut changes = Vec::new(alloc);
     push_changes(
         &mut changes,
@@ -99,6 +107,7 @@ pub(crate) fn changes_of(
         cells,
         InputKind::OnLine,
         on_line.explicit,
+        line.explicit,
     )?;
     push_changes(
         &mut changes,
@@ -106,6 +115,7 @@ pub(crate) fn changes_of(
         cells,
         InputKind::OnLine,
         on_line.implicit,
+        line.implicit,
     )?;
     push_changes(
         &mut changes,
@@ -113,7 +123,15 @@ pub(crate) fn changes_of(
         cells,
         InputKind::OrderOnly,
         on_line.order_only,
+        line.order_only,
     )?;
-    push_changes(&mut changes, graph, cells, InputKind::Listed, listed)?;
+    push_changes(
+        &mut changes,
+        graph,
+        cells,
+        InputKind::Listed,
+        listed,
+        producers,
+    )?;
     Ok(changes)
 }

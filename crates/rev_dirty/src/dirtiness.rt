@@ -14,7 +14,7 @@ ghost use Rattle.rev_dirty.specs.Inputs.{deps_record, paths_in};
 ghost use Rattle.rev_dirty.specs.Reasons.{reasons_of, holds};
 
 use crate::change::changes_of;
-use crate::input::{Input, InputKind, all_inputs};
+use crate::input::{Input, InputKind, all_inputs, producers_of};
 use crate::output::{Output, outputs_of};
 use crate::reason::Reason;
 use crate::records::deps;
@@ -270,8 +270,9 @@ fn command_reasons(
     let deps = deps_of(graph, cells, edge)?;
     let listed = listed_in(deps);
     let outputs = outputs_of(alloc, graph, cells, edge)?;
-    let inputs = all_inputs(alloc, graph, cells, edge, listed)?;
-    let changes = changes_of(alloc, graph, cells, edge, listed)?;
+    let producers = producers_of(alloc, graph, listed)?;
+    let inputs = all_inputs(alloc, graph, cells, edge, listed, &producers)?;
+    let changes = changes_of(alloc, graph, cells, edge, listed, &producers)?;
     let known = know(alloc, graph, cells, &inputs)?;
     let lacks_deps = lacks_deps(graph.keeps_deps(edge), deps);
     let has_old_deps = are_old(deps, &outputs);

@@ -1,5 +1,5 @@
 //! What is asked of an edge's inputs.
-ghost use Rattle.std.specs.Prelude.{◌≡◌, ◌<◌, ◌++◌, ℕ, map, length, IfOk, OnOk};
+ghost use Rattle.std.specs.Prelude.{◌≡◌, ◌<◌, ◌++◌, ℕ, map, length, IfOk, IfSome, OnOk};
 ghost use Rattle.rev_graph.specs.Graph.{build_at, producer_of};
 ghost use Rattle.rev_dirty.specs.Facts.{phony_only, input_facts, facts_of_input};
 ghost use Rattle.rev_dirty.specs.Inputs.{inputs, paths_in, deps_record};
@@ -35,11 +35,52 @@ pub(crate) struct Input {
     pub(crate) through: Option<u32>,
 }
 
-// The edge that produces a path, where it is phony.
-fn phony_producer(graph: &Graph, path: &Name) -> Option<u32>
-    ensures { result ≡ phony_only graph.now.manifest.builds (producer_of graph.now.manifest.builds path.now) }
+/// For the explicit, the implicit and the order-only inputs of an edge, the edges that produce them.
+#[derive(Clone, Copy)]
+pub(crate) struct Producers<'a> {
+    pub(crate) explicit: &'a [Option<u32>],
+    pub(crate) implicit: &'a [Option<u32>],
+    pub(crate) order_only: &'a [Option<u32>],
+}
+
+/// The edges that produce the inputs on an edge's build line.
+pub(crate) fn line_producers(graph: &Graph, edge: u32) -> Producers<'_>
+    requires { edge < length graph.now.manifest.builds }
+    ensures explicit { result.explicit.now ≡ map (producer_of graph.now.manifest.builds) (build_at graph.now.manifest.builds edge).explicit }
+    ensures implicit { result.implicit.now ≡ map (producer_of graph.now.manifest.builds) (build_at graph.now.manifest.builds edge).implicit }
+    ensures order_only { result.order_only.now ≡ map (producer_of graph.now.manifest.builds) (build_at graph.now.manifest.builds edge).order_only }
 {
-    match graph.producer(path) {
+    let inputs = graph.inputs(edge);
+    let (explicit, others) = graph.producers(edge).split_at(inputs.explicit.len());
+    let (implicit, order_only) = others.split_at(inputs.implicit.len());
+    Producers {
+        explicit,
+        implicit,
+        order_only,
+    }
+}
+
+/// The edges that produce paths.
+pub(crate) fn producers_of(
+    alloc: Global,
+    graph: &Graph,
+    paths: &[Name],
+) -> Result<Vec<Option<u32>>, AllocError>
+    ensures { IfOk result (λ producers. producers.items ≡ map (producer_of graph.now.manifest.builds) paths.now) }
+{
+    let mut producers = Vec::with_capacity(alloc, paths.len())?;
+    for path in paths {
+        producers.push(graph.producer(path))?;
+    }
+    Ok(producers)
+}
+
+// The edge that produces a path, where it is phony.
+fn phony_producer(graph: &Graph, producer: Option<u32>) -> Option<u32>
+    requires { IfSome producer (λ edge. edge < length graph.now.manifest.builds) }
+    ensures { result ≡ phony_only graph.now.manifest.builds producer }
+{
+    match producer {
         Some(edge) => {
             if graph.is_phony(edge) {
                 Some(edge)
@@ -52,7 +93,14 @@ fn phony_producer(graph: &Graph, path: &Name) -> Option<u32>
 }
 
 // What is asked of an input.
-fn input_of(graph: &Graph, cells: &Cells, kind: InputKind, path: &Name) -> Result<Input, AllocError>
+fn input_of(
+    graph: &Graph,
+    cells: &Cells,
+    kind: InputKind,
+    path: &Name,
+    producer: Option<u32>,
+) -> Result<Input, AllocError>
+    requires { producer ≡ producer_of graph.now.manifest.builds path.now }
     ensures { IfOk result (λ input. input ≡ input_facts graph.now.manifest.builds cells.now.state kind path.now) }
 {
     if kind == InputKind::OrderOnly {
@@ -64,7 +112,7 @@ fn input_of(graph: &Graph, cells: &Cells, kind: InputKind, path: &Name) -> Resul
         });
     }
     let stamp = stamp(cells, path)?;
-    let produced = graph.producer(path).is_some();
+    let produced = producer.is_some();
     if stamp != 0 {
         return Ok(Input {
             kind,
@@ -73,7 +121,7 @@ fn input_of(graph: &Graph, cells: &Cells, kind: InputKind, path: &Name) -> Resul
             through: None,
         });
     }
-    let through = phony_producer(graph, path);
+    let through = phony_producer(graph, producer);
     Ok(Input {
         kind,
         stamp,
@@ -89,11 +137,13 @@ fn push_inputs(
     cells: &Cells,
     kind: InputKind,
     paths: &[Name],
+    producers: &[Option<u32>],
 ) -> Result<(), AllocError>
+    requires { producers.now ≡ map (producer_of graph.now.manifest.builds) paths.now }
     ensures { OnOk result (inputs.new.items ≡ inputs.old.items ++ map (input_facts graph.now.manifest.builds cells.now.state kind) paths.now) }
 {
-    for path in paths {
-        inputs.push(input_of(graph, cells, kind, path)?)?;
+    for (place, path) in paths.iter().enumerate() {
+        inputs.push(input_of(graph, cells, kind, path, producers[place])?)?;
     }
     Ok(())
 }
@@ -109,6 +159,7 @@ pub(crate) fn counted_on_line(
     ensures { IfOk result (λ inputs. inputs.items ≡ map (input_facts graph.now.manifest.builds cells.now.state OnLine) (line_inputs (build_at graph.now.manifest.builds edge))) }
 {
     let on_line = graph.inputs(edge);
+    let producers = line_producers(graph, edge);
     let mut inputs = Vec::new(alloc);
     push_inputs(
         &mut inputs,
@@ -116,6 +167,7 @@ pub(crate) fn counted_on_line(
         cells,
         InputKind::OnLine,
         on_line.explicit,
+        producers.explicit,
     )?;
     push_inputs(
         &mut inputs,
@@ -123,19 +175,23 @@ pub(crate) fn counted_on_line(
         cells,
         InputKind::OnLine,
         on_line.implicit,
+        producers.implicit,
     )?;
     Ok(inputs)
 }
 
-/// What is asked of all inputs of an edge, of which `listed` are those that its deps record lists.
+/// What is asked of all inputs of an edge, of which `listed` are those that its deps record lists, and
+/// `producers` the edges that produce those.
 pub(crate) fn all_inputs(
     alloc: Global,
     graph: &Graph,
     cells: &Cells,
     edge: u32,
     listed: &[Name],
+    producers: &[Option<u32>],
 ) -> Result<Vec<Input>, AllocError>
     requires edge { edge < length graph.now.manifest.builds }
+    requires producers { producers.now ≡ map (producer_of graph.now.manifest.builds) listed.now }
     requires listed { listed.now ≡ paths_in (deps_record cells.now.state (build_at graph.now.manifest.builds edge)) }
     ensures { IfOk result (λ all. all.items ≡ map (facts_of_input graph.now.manifest.builds cells.now.state) (inputs cells.now.state (build_at graph.now.manifest.builds edge))) }
 {
@@ -146,7 +202,8 @@ pub(crate) fn all_inputs(
         cells,
         InputKind::OrderOnly,
         graph.inputs(edge).order_only,
+        line_producers(graph, edge).order_only,
     )?;
-    push_inputs(&mut all, graph, cells, InputKind::Listed, listed)?;
+    push_inputs(&mut all, graph, cells, InputKind::Listed, listed, producers)?;
     Ok(all)
 }

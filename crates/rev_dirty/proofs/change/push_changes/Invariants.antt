@@ -3,6 +3,6 @@ use Rattle.rev_dirty.specs.Inputs.{an}
 use Rattle.rev_dirty.specs.Reasons.{is_rebuilt}
 use Rattle.rev_dirty.proofs.change.push_changes.Given as goal
 
-abbrev pub invariant-loop-path : goal.invariant-loop-path
-invariant-loop-path l =
-    l.changes.items ≡ l.initial.changes.items ++ map (is_rebuilt l.graph.manifest.builds l.cells.state) (map (an l.kind) (take l.path-index l.paths))
+abbrev pub invariant-loop-place : goal.invariant-loop-place
+invariant-loop-place l =
+    l.changes.items ≡ l.initial.changes.items ++ map (is_rebuilt l.graph.manifest.builds l.cells.state) (map (an l.kind) (take l.place l.paths))
