@@ -174,6 +174,13 @@ impl<'a> Text<'a> {
         Some((piece, Text { raw }))
     }
 
+    /// The same text, lent once more.
+    pub fn copy(&self) -> Text<'a>
+        ensures { result ≡ self.now }
+    {
+        Text { raw: self.raw }
+    }
+
     /// The same text with its own memory.
     ///
     /// # Errors
