@@ -3,8 +3,7 @@ use Rattle.std.proofs.Common.{◌≡◌, List, [], ◌∷◌, ◌++◌, Result, 
 use Rattle.rev_manifest.specs.declared.fault.ManifestFault.{ManifestFault}
 use Rattle.rev_manifest.specs.declared.fault.ReadFault.{ReadFault}
 use Rattle.rev_manifest.specs.declared.fault.ReadFault.TheVariants.{Memory, Manifest}
-use Rattle.rev_manifest.specs.Values.{IsFault}
-use Rattle.rev_manifest.specs.Statements.{and_then}
+use Rattle.rev_manifest.specs.Answers.{and_then, IsFault}
 
 -- elements before the others
 abbrev pub onto_list : {A : Type 0} → List A → Result (List A) ManifestFault → Result (List A) ManifestFault

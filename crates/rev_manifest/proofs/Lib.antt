@@ -1,8 +1,9 @@
-pub mod ByteLemmas
-pub mod LineLemmas
-pub mod ValueLemmas
-pub mod FormLemmas
 pub mod AnswerLemmas
+pub mod BlockLemmas
+pub mod DepthLemmas
+pub mod EdgeLemmas
+pub mod EndLemmas
+pub mod FileLemmas
 pub mod NameLemmas
-pub mod StatementLemmas
-pub mod TextLemmas
+pub mod PoolLemmas
+pub mod ReadingLemmas

@@ -4,7 +4,7 @@ use Rattle.std.specs.List.{list_any}
 use Rattle.std.proofs.lemmas.List.Folds.{list_any-append}
 use Rattle.std.proofs.lemmas.Slice.Eq.{bytes_eq-Decides}
 use Rattle.indexmap.specs.IndexSet.{insert_key}
-use Rattle.rev_manifest.specs.Manifest.{is_among, distinct}
+use Rattle.rev_manifest.specs.Names.{is_among, distinct}
 
 pub distinct-short : (xs : List (List ℕ)) → length xs < 2 → distinct xs ≡ xs
 distinct-short [] h = refl

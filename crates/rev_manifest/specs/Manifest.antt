@@ -1,92 +1,17 @@
 -- What files say as a manifest: its value, or its first fault.
-use Rattle.std.specs.Prelude.{ℕ, Bool, false, not, ◌||◌, List, [], ◌∷◌, ◌++◌, map, filter, length, Option, Some, None, is_some, Result, Ok, Err, bytes_eq, codes, nat_lt, if◌then◌else◌}
-use Rattle.std.specs.List.{take_while, list_any, flat_map}
-use Rattle.rev_paths.specs.Canonical.{canonical}
-use Rattle.rev_manifest.specs.declared.fault.FaultKind.{FaultKind}
-use Rattle.rev_manifest.specs.declared.fault.FaultKind.TheVariants.{EmptyPath, LongPath, UnknownRule, DoubleRule, NoCommand, NoFile}
+use Rattle.std.specs.Prelude.{ℕ, Bool, true, false, not, ◌||◌, List, [], ◌∷◌, ◌++◌, Option, Some, None, Result, Ok, Err, codes, if◌then◌else◌}
+use Rattle.std.specs.List.{flat_map}
+use Rattle.rev_scopes.specs.Scopes.{ScopeValue, RuleValue}
+use Rattle.rev_manifest.specs.declared.fault.FaultKind.TheVariants.{NoFile, TooLarge, UnknownPool}
 use Rattle.rev_manifest.specs.declared.fault.ManifestFault.{ManifestFault}
-use Rattle.rev_manifest.specs.declared.template.Piece.{Piece}
-use Rattle.rev_manifest.specs.Bytes.{is_none}
-use Rattle.rev_manifest.specs.Lines.{LineValue, lines_of}
-use Rattle.rev_manifest.specs.Values.{refused, expanded}
-use Rattle.rev_manifest.specs.Quoting.{quoted_list}
-use Rattle.rev_manifest.specs.Statements.{and_then, BuildLineValue, HeaderValue, RuleHeader, BuildHeader, header_of, is_indented, no_lines, command_in, Statement, statements_of}
-
--- a rule: its name and the text of its command
-pub record RuleValue : Type 0 where
-  pub name : List ℕ
-  pub command : List Piece
-
--- an edge before its command is expanded
-pub record EdgeValue : Type 0 where
-  pub outs : List (List ℕ)
-  pub ins : List (List ℕ)
-  pub command : List Piece
-  pub line : ℕ
-
--- what the statements above a place declare, in reading order
-pub record AboveValue : Type 0 where
-  pub rules : List RuleValue
-  pub edges : List EdgeValue
-
--- the command of the rule of that name
-abbrev pub find_rule : List ℕ → List RuleValue → Option (List Piece)
-find_rule name [] = None
-find_rule name (rule ∷ rules) = if bytes_eq name rule.name then Some rule.command else find_rule name rules
-
-abbrev pub is_among : List (List ℕ) → List ℕ → Bool
-is_among paths path = list_any (bytes_eq path) paths
-
--- each path once, at its first place
-abbrev pub distinct : List (List ℕ) → List (List ℕ)
-distinct [] = []
-distinct (path ∷ paths) = path ∷ filter (λ other. not (bytes_eq other path)) (distinct paths)
-
--- the fault of a path: it is empty, or has more than 4,096 bytes
-abbrev pub path_fault : List ℕ → Option FaultKind
-path_fault path = if is_none path then Some EmptyPath else (if nat_lt 4096 (length path) then Some LongPath else None)
-
-abbrev pub path_or_fault : LineValue → Option FaultKind → List ℕ → Result (List ℕ) ManifestFault
-path_or_fault line None path = Ok (canonical path)
-path_or_fault line (Some kind) path = refused line kind
-
--- the canonical paths, or the fault of the leftmost path that has one
-abbrev pub paths_of : LineValue → List (List ℕ) → Result (List (List ℕ)) ManifestFault
-paths_of line [] = Ok []
-paths_of line (path ∷ paths) =
-    and_then (path_or_fault line (path_fault path) path) (λ first. and_then (paths_of line paths) (λ others. Ok (first ∷ others)))
-
--- a name that no further rule may have
-abbrev pub is_taken : AboveValue → List ℕ → Bool
-is_taken above name = bytes_eq name (codes "phony") || is_some (find_rule name above.rules)
-
--- a rule, which has a command
-abbrev pub with_rule : AboveValue → LineValue → List ℕ → Option (List Piece) → Result AboveValue ManifestFault
-with_rule above head name None = refused head (if is_taken above name then DoubleRule else NoCommand)
-with_rule above head name (Some command) =
-    if is_taken above name then refused head DoubleRule
-    else Ok (record above { rules = above.rules ++ record { name = name; command = command } ∷ [] })
-
--- an edge, whose rule stands above
-abbrev pub with_edge : AboveValue → LineValue → BuildLineValue → Option (List Piece) → Result AboveValue ManifestFault
-with_edge above head build None = refused head UnknownRule
-with_edge above head build (Some command) =
-    and_then (paths_of head build.outs) (λ outs. and_then (paths_of head build.ins) (λ ins.
-    Ok (record above { edges = above.edges ++ record { outs = distinct outs; ins = ins; command = command; line = head.number } ∷ [] })))
-
--- what a statement adds to what stands above: the faults of its lines come first, then those of the whole
-abbrev pub with_header : AboveValue → Statement → HeaderValue → Result AboveValue ManifestFault
-with_header above statement (RuleHeader name) = and_then (command_in statement.block) (with_rule above statement.head name)
-with_header above statement (BuildHeader build) =
-    and_then (no_lines statement.block) (λ _. with_edge above statement.head build (find_rule build.rule above.rules))
-
-abbrev pub with_statement : AboveValue → Statement → Result AboveValue ManifestFault
-with_statement above statement = and_then (header_of statement.head) (with_header above statement)
-
--- statements in reading order; the first fault is that of the first statement that has one
-abbrev pub with_statements : AboveValue → List Statement → Result AboveValue ManifestFault
-with_statements above [] = Ok above
-with_statements above (statement ∷ statements) = and_then (with_statement above statement) (λ more. with_statements more statements)
+use Rattle.rev_manifest.specs.declared.fault.Place.{Place}
+use Rattle.rev_manifest.specs.Answers.{and_then, refused, unless}
+use Rattle.rev_manifest.specs.Names.{is_none, without}
+use Rattle.rev_manifest.specs.Files.{FileValue, are_too_large}
+use Rattle.rev_manifest.specs.Pools.{PoolValue, pool_of}
+use Rattle.rev_manifest.specs.Above.{EdgeValue, AboveValue, nothing}
+use Rattle.rev_manifest.specs.Ends.{EndValues, at_end, fault_at_end, values_at_end}
+use Rattle.rev_manifest.specs.Reading.{reading}
 
 -- an edge as a manifest has it
 pub record BuildValue : Type 0 where
@@ -111,48 +36,108 @@ pub record ManifestValue : Type 0 where
   pub pools : List (List ℕ × ℕ)
   pub defaults : List (List ℕ)
 
--- expansion at the end: `$in` and `$out` stand for the quoted paths with a space between each two
-abbrev pub built : EdgeValue → BuildValue
-built edge =
+-- an edge without a rule's variables: a phony edge has no command, flags or pool, and its own outputs are none of its inputs
+abbrev pub phony_build : EdgeValue → BuildValue
+phony_build edge =
+    let own = edge.paths.outs ++ edge.paths.implicit_outs in
     record {
-      phony = false;
-      explicit_outs = edge.outs;
-      implicit_outs = [];
-      explicit = edge.ins;
-      implicit = [];
-      order_only = [];
-      validations = [];
-      command = expanded edge.command (quoted_list edge.ins) (quoted_list edge.outs);
+      phony = true;
+      explicit_outs = edge.paths.outs;
+      implicit_outs = edge.paths.implicit_outs;
+      explicit = without own edge.paths.ins;
+      implicit = without own edge.paths.implicit;
+      order_only = without own edge.paths.order_only;
+      validations = edge.paths.validations;
+      command = [];
       keeps_deps = false;
       restat = false;
       generator = false;
       pool = None;
-      file = 0;
-      line = edge.line;
+      file = edge.place.file;
+      line = edge.place.line;
     }
 
--- the outputs that are nowhere an input
-abbrev pub defaults_of : List EdgeValue → List (List ℕ)
-defaults_of edges = filter (λ path. not (is_among (flat_map (λ edge. edge.ins) edges) path)) (flat_map (λ edge. edge.outs) edges)
+-- the command that is compared: what stands in a response file counts too
+abbrev pub compared_command : List ℕ → List ℕ → List ℕ
+compared_command command content = if is_none content then command else command ++ codes ";rspfile=" ++ content
 
-abbrev pub manifest_value : List EdgeValue → ManifestValue
-manifest_value edges = record { builds = map built edges; pools = []; defaults = defaults_of edges }
+-- an edge with the values of its rule's variables and the number of its pool
+abbrev pub command_build : EdgeValue → EndValues → Option ℕ → BuildValue
+command_build edge values pool =
+    record {
+      phony = false;
+      explicit_outs = edge.paths.outs;
+      implicit_outs = edge.paths.implicit_outs;
+      explicit = edge.paths.ins;
+      implicit = edge.paths.implicit;
+      order_only = edge.paths.order_only;
+      validations = edge.paths.validations;
+      command = compared_command values.command values.rspfile_content;
+      keeps_deps = not (is_none values.depfile) || not (is_none values.deps);
+      restat = not (is_none values.restat);
+      generator = not (is_none values.generator);
+      pool = pool;
+      file = edge.place.file;
+      line = edge.place.line;
+    }
 
-abbrev pub nothing : AboveValue
-nothing = record { rules = []; edges = [] }
+abbrev pub pool_found : Place → Option ℕ → Result (Option ℕ) ManifestFault
+pool_found place None = refused place UnknownPool
+pool_found place (Some number) = Ok (Some number)
 
--- what the lines of a file declare; indented lines above the first statement are no statement of the grammar
-abbrev pub read_statements : List LineValue → Result AboveValue ManifestFault
-read_statements lines = and_then (no_lines (take_while is_indented lines)) (λ _. with_statements nothing (statements_of lines))
+-- the number of an edge's pool. The pool with the empty name is none.
+abbrev pub pool_number : Place → List PoolValue → List ℕ → Result (Option ℕ) ManifestFault
+pool_number place pools name = if is_none name then Ok None else pool_found place (pool_of name pools)
 
-abbrev pub read_lines : List LineValue → Result ManifestValue ManifestFault
-read_lines lines = and_then (read_statements lines) (λ above. Ok (manifest_value above.edges))
+-- the values of the variables that an edge needs, or why they are none
+abbrev pub variables_of : List ScopeValue → EdgeValue → RuleValue → Result EndValues ManifestFault
+variables_of scopes edge rule = unless edge.place (fault_at_end (at_end scopes edge rule)) (values_at_end (at_end scopes edge rule))
 
--- The value of files, each a name and its content, or their first fault. The first file is the manifest;
--- this grammar has no statement that reads another.
+-- an edge when all files are read, or its first fault
+abbrev pub built_with : List ScopeValue → List PoolValue → EdgeValue → Option RuleValue → Result BuildValue ManifestFault
+built_with scopes pools edge None = Ok (phony_build edge)
+built_with scopes pools edge (Some rule) =
+    and_then (variables_of scopes edge rule) (λ values. and_then (pool_number edge.place pools values.pool) (λ pool. Ok (command_build edge values pool)))
+
+abbrev pub built : List ScopeValue → List PoolValue → EdgeValue → Result BuildValue ManifestFault
+built scopes pools edge = built_with scopes pools edge edge.rule
+
+-- the edges in reading order, or the fault of the first that has one
+abbrev pub builds_of : List ScopeValue → List PoolValue → List EdgeValue → Result (List BuildValue) ManifestFault
+builds_of scopes pools [] = Ok []
+builds_of scopes pools (edge ∷ edges) =
+    and_then (built scopes pools edge) (λ build. and_then (builds_of scopes pools edges) (λ builds. Ok (build ∷ builds)))
+
+abbrev pub outputs : BuildValue → List (List ℕ)
+outputs build = build.explicit_outs ++ build.implicit_outs
+
+-- inputs of all kinds; a validation is none
+abbrev pub inputs : BuildValue → List (List ℕ)
+inputs build = build.explicit ++ build.implicit ++ build.order_only
+
+-- what is built where nothing is named: what `default` statements name, else the outputs that are nowhere an input
+abbrev pub defaults_of : Option (List (List ℕ)) → List BuildValue → List (List ℕ)
+defaults_of (Some names) builds = names
+defaults_of None builds = without (flat_map inputs builds) (flat_map outputs builds)
+
+-- the manifest when all files are read
+abbrev pub ended : AboveValue → Result ManifestValue ManifestFault
+ended above =
+    and_then (builds_of above.scopes above.pools above.edges) (λ builds. Ok (record { builds = builds; pools = above.pools; defaults = defaults_of above.defaults builds }))
+
+-- a place that is no line
+abbrev pub nowhere : Place
+nowhere = record { file = 0; line = 0 }
+
+-- what all files declare: the first is the manifest itself, and others are read where statements name them, at most 16 files deep below it
+abbrev pub declared_by : List FileValue → Result AboveValue ManifestFault
+declared_by files = reading files 17 nothing (record { file = 0; scope = 0; place = nowhere })
+
+-- The value of files, each a name and its content, or their first fault.
 unfoldable pub manifest_of : List (List ℕ × List ℕ) → Result ManifestValue ManifestFault
-manifest_of [] = Err (record { kind = NoFile; file = 0; line = 0 })
-manifest_of (file ∷ files) = read_lines (lines_of file.1)
+manifest_of files =
+    if are_too_large files then refused nowhere TooLarge
+    else (if is_none files then refused nowhere NoFile else and_then (declared_by files) ended)
 
 abbrev pub fault_of : Result ManifestValue ManifestFault → Option ManifestFault
 fault_of (Ok value) = None

@@ -1,122 +1,156 @@
--- The forms of lines, and the statements that they make.
-use Rattle.std.specs.Prelude.{ℕ, Bool, not, ◌&&◌, ◌||◌, ◌==◌, List, [], ◌∷◌, length, Option, Some, None, Result, Ok, Err, filter, bytes_eq, codes, if◌then◌else◌}
-use Rattle.std.specs.List.{take_while, slice_split}
+-- What each statement adds to what stands above it, or its first fault. Its syntax is read already.
+use Rattle.std.specs.Prelude.{ℕ, not, List, [], ◌∷◌, ◌++◌, length, Option, Some, None, is_some, Result, Ok, bytes_eq, codes, if◌then◌else◌}
+use Rattle.rev_syntax.specs.Texts.{PieceValue}
+use Rattle.rev_syntax.specs.Statements.{BindingValue, BuildLineValue, FormValue, RuleForm, BuildForm, PoolForm, DefaultForm, IncludeForm, SubninjaForm, VariableForm}
+use Rattle.rev_scopes.specs.Scopes.{RuleValue, scope_at, empty_scope, variable_in, rule_in, with_variable, with_rule, with_scope, is_taken}
+use Rattle.rev_scopes.specs.Expansion.{expanded, in_block, is_too_large}
 use Rattle.rev_manifest.specs.declared.fault.FaultKind.{FaultKind}
-use Rattle.rev_manifest.specs.declared.fault.FaultKind.TheVariants.{Syntax, Tab}
+use Rattle.rev_manifest.specs.declared.fault.FaultKind.TheVariants.{UnknownRule, DoubleRule, UnknownBinding, NoCommand, BadDepth, NoFile, Dyndep, TooLarge, DoublePool}
 use Rattle.rev_manifest.specs.declared.fault.ManifestFault.{ManifestFault}
-use Rattle.rev_manifest.specs.declared.template.Piece.{Piece}
-use Rattle.rev_manifest.specs.Bytes.{is_byte, is_in_name, is_in_paths, after, without_spaces, is_none, begins_with}
-use Rattle.rev_manifest.specs.Lines.{LineValue}
-use Rattle.rev_manifest.specs.Values.{refused, end_kind, finished, template_of}
+use Rattle.rev_manifest.specs.declared.fault.Place.{Place}
+use Rattle.rev_manifest.specs.declared.inclusion.Inclusion.{Inclusion}
+use Rattle.rev_manifest.specs.Answers.{and_then, refused, unless, unless_then}
+use Rattle.rev_manifest.specs.Names.{distinct, without, name_of, names_of}
+use Rattle.rev_manifest.specs.Files.{FileValue, file_of}
+use Rattle.rev_manifest.specs.Pools.{pool_of, depth_of}
+use Rattle.rev_manifest.specs.Blocks.{binds, are_rule_variables, are_depths, texts_of, last_text, values_of, has_large}
+use Rattle.rev_manifest.specs.Above.{PathsValue, EdgeValue, AboveValue, more_defaults}
 
--- an answer that goes on from another
-abbrev pub and_then : {A B : Type 0} → Result A ManifestFault → (A → Result B ManifestFault) → Result B ManifestFault
-and_then (Ok value) next = next value
-and_then (Err fault) next = Err fault
+-- where variables are looked up at a statement: in its scope as it then stands
+abbrev pub look_up : AboveValue → ℕ → List ℕ → List ℕ
+look_up above scope name = variable_in above.scopes scope name
 
--- the fault of a line that needs more, at what is left of it: nothing, or a byte that cannot stand there
-abbrev pub stuck_kind : Bool → List ℕ → FaultKind
-stuck_kind ended [] = end_kind ended
-stuck_kind ended (b ∷ bs) = Syntax
+-- why a rule is not declared
+abbrev pub rule_fault : AboveValue → ℕ → List ℕ → List BindingValue → Option FaultKind
+rule_fault above scope name bindings =
+    if binds (codes "dyndep") bindings then Some Dyndep
+    else (if not (are_rule_variables bindings) then Some UnknownBinding
+    else (if is_taken name (scope_at above.scopes scope) then Some DoubleRule
+    else (if not (binds (codes "command") bindings) then Some NoCommand else None)))
 
-abbrev pub stuck : {A : Type 0} → LineValue → List ℕ → Result A ManifestFault
-stuck line text = refused line (stuck_kind line.ended text)
+-- `rule NAME`: the scope has one more rule
+abbrev pub rule_declared : Place → ℕ → List ℕ → List BindingValue → AboveValue → Result AboveValue ManifestFault
+rule_declared place scope name bindings above =
+    unless_then place (rule_fault above scope name bindings) (Ok (record above { scopes = with_scope scope (with_rule name (texts_of bindings)) above.scopes }))
 
--- the name at the front of a text, and what follows it and its spaces
-abbrev pub name_of : List ℕ → List ℕ
-name_of text = take_while is_in_name text
+-- why a pool is not declared, before its depth is asked
+abbrev pub pool_fault : AboveValue → List ℕ → List BindingValue → Option FaultKind
+pool_fault above name bindings =
+    if binds (codes "dyndep") bindings then Some Dyndep
+    else (if not (are_depths bindings) then Some UnknownBinding
+    else (if is_some (pool_of name above.pools) then Some DoublePool else None))
 
-abbrev pub after_name : List ℕ → List ℕ
-after_name text = without_spaces (after is_in_name text)
+-- a depth's value; one that is too large can still have leading zeros alone before a depth
+abbrev pub depth_read : Place → List ℕ → Option ℕ → Result ℕ ManifestFault
+depth_read place value None = refused place BadDepth
+depth_read place value (Some depth) = if is_too_large value then refused place TooLarge else Ok depth
 
--- `rule NAME`, from the name on
-abbrev pub rule_line : LineValue → List ℕ → Result (List ℕ) ManifestFault
-rule_line line text =
-    if is_none (name_of text) || not (is_none (after_name text)) then stuck line (after_name text) else finished line (name_of text)
+-- the depth of a pool, which needs one
+abbrev pub depth_given : Place → (List ℕ → List ℕ) → Option (List PieceValue) → Result ℕ ManifestFault
+depth_given place look_up None = refused place BadDepth
+depth_given place look_up (Some text) = depth_read place (expanded look_up text) (depth_of (expanded look_up text))
 
--- what a build line says: its paths as they stand there, and its rule
-pub record BuildLineValue : Type 0 where
-  pub outs : List (List ℕ)
-  pub rule : List ℕ
-  pub ins : List (List ℕ)
+-- `pool NAME`: one more pool, known everywhere
+abbrev pub pool_declared : Place → ℕ → List ℕ → List BindingValue → AboveValue → Result AboveValue ManifestFault
+pool_declared place scope name bindings above =
+    unless_then place (pool_fault above name bindings)
+    (and_then (depth_given place (look_up above scope) (last_text bindings)) (λ depth. Ok (record above { pools = above.pools ++ (name, depth) ∷ [] })))
 
--- the words between the spaces of a text
-abbrev pub words : List ℕ → List (List ℕ)
-words text = filter (λ word. not (length word == 0)) (slice_split (is_byte 32) text)
+-- a value that is not too large
+abbrev pub value_limited : Place → List ℕ → Result (List ℕ) ManifestFault
+value_limited place value = unless place (if is_too_large value then Some TooLarge else None) value
 
--- `NAME PATHS`, to the line's end
-abbrev pub rule_and_inputs : LineValue → List (List ℕ) → List ℕ → Result BuildLineValue ManifestFault
-rule_and_inputs line outs text =
-    let paths = after is_in_name text in
-    if is_none (name_of text) then stuck line text
-    else (if is_none (after is_in_paths paths) then finished line (record { outs = outs; rule = name_of text; ins = words paths }) else refused line Syntax)
+-- `NAME = value`: the scope has that value for the name
+abbrev pub variable_bound : Place → ℕ → BindingValue → AboveValue → Result AboveValue ManifestFault
+variable_bound place scope binding above =
+    unless_then place (if bytes_eq binding.name (codes "dyndep") then Some Dyndep else None)
+    (and_then (value_limited place (expanded (look_up above scope) binding.value)) (λ value.
+    Ok (record above { scopes = with_scope scope (with_variable binding.name value) above.scopes })))
 
--- `: NAME PATHS`, after the outputs, of which there is at least one
-abbrev pub after_outputs : LineValue → List (List ℕ) → List ℕ → Result BuildLineValue ManifestFault
-after_outputs line outs [] = stuck line []
-after_outputs line outs (b ∷ bs) =
-    if b == 58 && not (is_none outs) then rule_and_inputs line outs (without_spaces bs) else refused line Syntax
+-- `default PATHS`
+abbrev pub defaults_named : Place → ℕ → List (List PieceValue) → AboveValue → Result AboveValue ManifestFault
+defaults_named place scope paths above =
+    and_then (names_of place (look_up above scope) paths) (λ names. Ok (record above { defaults = Some (more_defaults above.defaults names) }))
 
--- `build PATHS: NAME PATHS`, from the outputs on
-abbrev pub build_line : LineValue → List ℕ → Result BuildLineValue ManifestFault
-build_line line text = after_outputs line (words (take_while is_in_paths text)) (after is_in_paths text)
+abbrev pub rule_found : Place → Option RuleValue → Result (Option RuleValue) ManifestFault
+rule_found place None = refused place UnknownRule
+rule_found place (Some rule) = Ok (Some rule)
 
--- what a line that is not indented declares
-pub data HeaderValue : Type 0 where
-  RuleHeader : List ℕ → HeaderValue
-  BuildHeader : BuildLineValue → HeaderValue
+-- the rule of a build line: one that stands in the scopes above the line, or `phony`, which has no text
+abbrev pub rule_of : Place → AboveValue → ℕ → List ℕ → Result (Option RuleValue) ManifestFault
+rule_of place above scope name =
+    if bytes_eq name (codes "phony") then Ok None else rule_found place (rule_in above.scopes scope name)
 
-abbrev pub rule_header : Result (List ℕ) ManifestFault → Result HeaderValue ManifestFault
-rule_header (Ok name) = Ok (RuleHeader name)
-rule_header (Err fault) = Err fault
+-- The paths of a build line, or the fault of the leftmost that has one. Of the outputs each counts once, at its first place.
+abbrev pub paths_of : Place → (List ℕ → List ℕ) → BuildLineValue → Result PathsValue ManifestFault
+paths_of place look_up build =
+    and_then (names_of place look_up build.outs) (λ outs. and_then (names_of place look_up build.implicit_outs) (λ implicit_outs.
+    and_then (names_of place look_up build.ins) (λ ins. and_then (names_of place look_up build.implicit) (λ implicit.
+    and_then (names_of place look_up build.order_only) (λ order_only. and_then (names_of place look_up build.validations) (λ validations. Ok (record {
+      outs = distinct outs;
+      implicit_outs = without outs (distinct implicit_outs);
+      ins = ins;
+      implicit = implicit;
+      order_only = order_only;
+      validations = validations;
+    })))))))
 
-abbrev pub build_header : Result BuildLineValue ManifestFault → Result HeaderValue ManifestFault
-build_header (Ok build) = Ok (BuildHeader build)
-build_header (Err fault) = Err fault
+-- why an edge is not added for its block
+abbrev pub block_fault : List (List ℕ × List ℕ) → Option FaultKind
+block_fault block = if has_large block then Some TooLarge else None
 
--- the first name of such a line says what it declares
-abbrev pub header_of : LineValue → Result HeaderValue ManifestFault
-header_of line =
-    if bytes_eq (name_of line.text) (codes "rule")
-    then rule_header (rule_line line (after_name line.text))
-    else (if bytes_eq (name_of line.text) (codes "build") then build_header (build_line line (after_name line.text)) else stuck line (after_name line.text))
+-- An edge: its paths are looked up in its block and then in the scopes. A value of the block that is too large is a fault after those of the paths.
+abbrev pub edge_of : Place → AboveValue → ℕ → BuildLineValue → List (List ℕ × List ℕ) → Option RuleValue → Result EdgeValue ManifestFault
+edge_of place above scope build block rule =
+    and_then (paths_of place (in_block block (look_up above scope)) build) (λ paths.
+    unless_then place (block_fault block) (Ok (record { rule = rule; block = block; scope = scope; paths = paths; place = place })))
 
--- `= value`, after the name
-abbrev pub binding : LineValue → List ℕ → List ℕ → Result (List Piece) ManifestFault
-binding line name [] = stuck line []
-binding line name (b ∷ bs) =
-    if b == 61 && bytes_eq name (codes "command") then template_of line 0 (without_spaces bs) else refused line Syntax
+-- why a block is refused
+abbrev pub dyndep_fault : List BindingValue → Option FaultKind
+dyndep_fault bindings = if binds (codes "dyndep") bindings then Some Dyndep else None
 
--- a line that begins with a space or a tab belongs to the statement above it
-abbrev pub is_indented : LineValue → Bool
-is_indented line = begins_with 32 line.text || begins_with 9 line.text
+-- `build PATHS: NAME PATHS`: one more edge
+abbrev pub edge_added : Place → ℕ → BuildLineValue → List BindingValue → AboveValue → Result AboveValue ManifestFault
+edge_added place scope build bindings above =
+    unless_then place (dyndep_fault bindings)
+    (and_then (rule_of place above scope build.rule) (λ rule. and_then (edge_of place above scope build (values_of (look_up above scope) bindings) rule) (λ edge.
+    Ok (record above { edges = above.edges ++ edge ∷ [] }))))
 
--- the blanks at the front are spaces and a tab
-abbrev pub has_tab : LineValue → Bool
-has_tab line = begins_with 9 (without_spaces line.text)
+abbrev pub file_found : Place → Option ℕ → Result ℕ ManifestFault
+file_found place None = refused place NoFile
+file_found place (Some file) = Ok file
 
--- `command = value`
-abbrev pub command_line : LineValue → Result (List Piece) ManifestFault
-command_line line =
-    if has_tab line then refused line Tab else binding line (name_of (without_spaces line.text)) (after_name (without_spaces line.text))
+-- the file that a path names
+abbrev pub file_named : Place → List FileValue → (List ℕ → List ℕ) → List PieceValue → Result ℕ ManifestFault
+file_named place files look_up text = and_then (name_of place (expanded look_up text)) (λ name. file_found place (file_of name files))
 
--- no indented line may stand here
-abbrev pub no_lines : List LineValue → Result (Unit {0}) ManifestFault
-no_lines [] = Ok tt
-no_lines (line ∷ lines) = refused line (if has_tab line then Tab else Syntax)
+-- what stands above what follows a statement, and the file that it reads before
+pub record Step : Type 0 where
+  pub above : AboveValue
+  pub inclusion : Option Inclusion
 
--- the command in the lines under a rule, of which there is at most one
-abbrev pub command_in : List LineValue → Result (Option (List Piece)) ManifestFault
-command_in [] = Ok None
-command_in (line ∷ lines) = and_then (command_line line) (λ template. and_then (no_lines lines) (λ _. Ok (Some template)))
+abbrev pub alone : Result AboveValue ManifestFault → Result Step ManifestFault
+alone above = and_then above (λ above'. Ok (record { above = above'; inclusion = None }))
 
--- a line with the indented lines under it
-pub record Statement : Type 0 where
-  pub head : LineValue
-  pub block : List LineValue
+-- `include PATH`: the file is read in the same scope
+abbrev pub file_included : List FileValue → Place → ℕ → List PieceValue → AboveValue → Result Step ManifestFault
+file_included files place scope path above =
+    and_then (file_named place files (look_up above scope) path) (λ file. Ok (record { above = above; inclusion = Some (record { file = file; scope = scope; place = place }) }))
 
--- the statements of these lines, but for indented lines above the first
-abbrev pub statements_of : List LineValue → List Statement
-statements_of [] = []
-statements_of (line ∷ lines) =
-    if is_indented line then statements_of lines else record { head = line; block = take_while is_indented lines } ∷ statements_of lines
+-- `subninja PATH`: the file is read in a new scope, whose parent is this one
+abbrev pub file_nested : List FileValue → Place → ℕ → List PieceValue → AboveValue → Result Step ManifestFault
+file_nested files place scope path above =
+    and_then (file_named place files (look_up above scope) path) (λ file. Ok (record {
+      above = record above { scopes = above.scopes ++ empty_scope (Some scope) ∷ [] };
+      inclusion = Some (record { file = file; scope = length above.scopes; place = place });
+    }))
+
+-- what a statement adds
+abbrev pub with_form : List FileValue → Place → ℕ → FormValue → AboveValue → Result Step ManifestFault
+with_form files place scope (RuleForm name bindings) above = alone (rule_declared place scope name bindings above)
+with_form files place scope (BuildForm build bindings) above = alone (edge_added place scope build bindings above)
+with_form files place scope (PoolForm name bindings) above = alone (pool_declared place scope name bindings above)
+with_form files place scope (DefaultForm paths) above = alone (defaults_named place scope paths above)
+with_form files place scope (IncludeForm path) above = file_included files place scope path above
+with_form files place scope (SubninjaForm path) above = file_nested files place scope path above
+with_form files place scope (VariableForm binding) above = alone (variable_bound place scope binding above)

@@ -1,8 +1,10 @@
 //! Why a manifest is not read.
 ghost use Rattle.std.specs.Prelude.{◌≡◌};
 ghost use Rattle.rev_manifest.specs.declared.fault.ReadFault.TheVariants.{Memory};
+ghost use Rattle.rev_manifest.specs.Answers.{fault_at, syntax_kind};
 ghost use Rattle.rev_manifest.specs.Fault.{code_of};
 
+use rev_syntax::SyntaxKind;
 use std::alloc::{AllocError, AllocFailed};
 
 /// What a manifest's fault is. Each kind has a number of its own.
@@ -22,10 +24,26 @@ pub enum FaultKind {
     UnknownRule,
     /// 14: a rule is declared twice, or is named `phony`.
     DoubleRule,
+    /// 15: a binding under a rule is none of a rule's variables, or one under a pool is not `depth`.
+    UnknownBinding,
     /// 16: a rule has no command.
     NoCommand,
-    /// 20: no file was given.
+    /// 17: a variable that an edge needs has no value, since it needs itself.
+    NeedsItself,
+    /// 18: an edge is in a pool that is nowhere declared.
+    UnknownPool,
+    /// 19: a pool has no depth, or one that is no decimal number of at most 1,000,000.
+    BadDepth,
+    /// 20: no file was given, or a statement names none of those that were.
     NoFile,
+    /// 21: files lie more than 16 deep in one another.
+    TooDeep,
+    /// 22: something is bound to the name `dyndep`.
+    Dyndep,
+    /// 23: the files, or an expanded value, are too large.
+    TooLarge,
+    /// 24: a pool is declared twice, or is named `console`.
+    DoublePool,
 }
 
 impl FaultKind {
@@ -41,8 +59,16 @@ impl FaultKind {
             FaultKind::BadEscape => 12,
             FaultKind::UnknownRule => 13,
             FaultKind::DoubleRule => 14,
+            FaultKind::UnknownBinding => 15,
             FaultKind::NoCommand => 16,
+            FaultKind::NeedsItself => 17,
+            FaultKind::UnknownPool => 18,
+            FaultKind::BadDepth => 19,
             FaultKind::NoFile => 20,
+            FaultKind::TooDeep => 21,
+            FaultKind::Dyndep => 22,
+            FaultKind::TooLarge => 23,
+            FaultKind::DoublePool => 24,
         }
     }
 }
@@ -64,6 +90,40 @@ impl ManifestFault {
         ensures { result ≡ code_of self.kind }
     {
         self.kind.code()
+    }
+}
+
+/// Where a statement stands.
+#[derive(Clone, Copy, Debug, PartialEq, Eq)]
+pub(crate) struct Place {
+    /// The place of its file among those given, from 0.
+    pub(crate) file: u64,
+    /// The number of its first line, from 1.
+    pub(crate) line: u64,
+}
+
+impl Place {
+    /// The fault of that kind at this place.
+    pub(crate) fn fault(self, kind: FaultKind) -> ReadFault
+        ensures { result ≡ ReadFault.Manifest (fault_at self kind) }
+    {
+        ReadFault::Manifest(ManifestFault {
+            kind,
+            file: self.file,
+            line: self.line,
+        })
+    }
+}
+
+impl From<SyntaxKind> for FaultKind {
+    ghost from_gives = { λ kind given. given ≡ syntax_kind kind };
+
+    fn from(kind: SyntaxKind) -> FaultKind {
+        match kind {
+            SyntaxKind::Syntax => FaultKind::Syntax,
+            SyntaxKind::Tab => FaultKind::Tab,
+            SyntaxKind::BadEscape => FaultKind::BadEscape,
+        }
     }
 }
 

@@ -1,18 +1,19 @@
 //! Build manifests: from their bytes to their edges.
-//!
-//! The grammar is the first part of Ninja's: `rule` with its `command`, and `build`.
 #![tactic(auto)]
 
+mod above;
+mod blocks;
 mod bytes;
-mod expansion;
+mod depth;
+mod ends;
 mod fault;
-mod forms;
-pub mod laws;
-mod lines;
+mod files;
+mod inclusion;
 mod manifest;
 mod names;
+mod pools;
+mod reading;
 mod statements;
-mod template;
 
 pub use fault::{FaultKind, ManifestFault, ReadFault};
 pub use manifest::{Build, Manifest, read};

@@ -1,14 +1,17 @@
 //! Manifests, and how files are read as one.
-ghost use Rattle.std.specs.Prelude.{◌≡◌, Ok, None, Some, IfOk, OnOk, IsErrOf, MatchResult};
-ghost use Rattle.rev_manifest.specs.Lines.{lines_of};
-ghost use Rattle.rev_manifest.specs.Values.{IsFault};
-ghost use Rattle.rev_manifest.specs.Manifest.{read_lines, manifest_of, first_fault};
-ghost use Rattle.rev_manifest.specs.Seen.{contents, seen_files};
 
-use crate::expansion::manifest_of;
-use crate::fault::{FaultKind, ManifestFault, ReadFault};
-use crate::lines::lines_of;
-use crate::statements::read_statements;
+ghost use Rattle.std.specs.Prelude.{◌≡◌, Ok, None, Some, IfOk, OnOk, IsErrOf, MatchResult};
+ghost use Rattle.rev_manifest.specs.Answers.{IsFault, and_then};
+ghost use Rattle.rev_manifest.specs.Manifest.{manifest_of, first_fault, declared_by, ended};
+ghost use Rattle.rev_manifest.specs.Seen.{contents, seen_files};
+ghost use Rattle.rev_manifest.specs.Held.{seen_above};
+
+use crate::above::{Above, nothing};
+use crate::ends::ended;
+use crate::fault::{FaultKind, ManifestFault, Place, ReadFault};
+use crate::files::{Files, are_too_large};
+use crate::inclusion::Inclusion;
+use crate::reading::read_file;
 use rev_paths::Name;
 use std::alloc::Global;
 
@@ -58,19 +61,42 @@ pub struct Build {
     pub line: u64,
 }
 
-// Reads the manifest that is in a file.
-fn read_content(alloc: Global, content: &[u8]) -> Result<Manifest, ReadFault>
+/// How many files deep files may lie in one another, the manifest among them.
+const MOST_DEEP: u32 = 17;
+
+/// A place that is no line.
+const NOWHERE: Place = Place { file: 0, line: 0 };
+
+// What all files declare.
+fn declared_by(alloc: Global, files: &[(Vec<u8>, Vec<u8>)]) -> Result<Above, ReadFault>
     ensures { MatchResult result
-        (λ manifest. read_lines (lines_of content.now) ≡ Ok (contents manifest))
-        (λ fault. IsFault fault (read_lines (lines_of content.now))) }
+        (λ above. declared_by (seen_files files.now) ≡ Ok (seen_above above))
+        (λ fault. IsFault fault (declared_by (seen_files files.now))) }
 {
-    let lines = lines_of(alloc, content)?;
-    let above = read_statements(alloc, &lines)?;
-    let manifest = manifest_of(alloc, above.into_edges())?;
+    let given = Files::new(alloc, files)?;
+    let mut above = nothing(alloc)?;
+    let first = Inclusion {
+        file: 0,
+        scope: 0,
+        place: NOWHERE,
+    };
+    read_file(alloc, &given, MOST_DEEP, &mut above, Some(first))?;
+    Ok(above)
+}
+
+// Reads files of which there is one, and which are not too large.
+fn read_all(alloc: Global, files: &[(Vec<u8>, Vec<u8>)]) -> Result<Manifest, ReadFault>
+    ensures { MatchResult result
+        (λ manifest. and_then (declared_by (seen_files files.now)) ended ≡ Ok (contents manifest))
+        (λ fault. IsFault fault (and_then (declared_by (seen_files files.now)) ended)) }
+{
+    let above = declared_by(alloc, files)?;
+    let manifest = ended(alloc, above)?;
     Ok(manifest)
 }
 
-/// Reads files, each a name and its content, of which the first is the manifest itself.
+/// Reads files, each a name and its content. The first is the manifest itself; the others are those that `include` and `subninja`
+/// may name.
 ///
 /// # Errors
 /// [`ReadFault::Manifest`] with the first fault of the files, and [`ReadFault::Memory`] only where
@@ -84,17 +110,14 @@ pub fn read(alloc: Global, files: &[(Vec<u8>, Vec<u8>)]) -> Result<Manifest, Rea
     // A fault is their first.
     ensures fault { (fault : ManifestFault) → IsErrOf result (ReadFault.Manifest fault) → first_fault (seen_files files.now) ≡ Some fault }
 {
-    match files.first() {
-        None => Err(ReadFault::Manifest(ManifestFault {
-            kind: FaultKind::NoFile,
-            file: 0,
-            line: 0,
-        })),
-        Some((_, content)) => {
-            let manifest = read_content(alloc, content)?;
-            Ok(manifest)
-        }
+    if are_too_large(files) {
+        return Err(NOWHERE.fault(FaultKind::TooLarge));
     }
+    if files.is_empty() {
+        return Err(NOWHERE.fault(FaultKind::NoFile));
+    }
+    let manifest = read_all(alloc, files)?;
+    Ok(manifest)
 }
 
 #[cfg(test)]

@@ -1,41 +1,29 @@
-//! The paths of a build line.
-ghost use Rattle.std.specs.Prelude.{◌≡◌, Ok, MatchResult, IfOk};
-ghost use Rattle.rev_manifest.specs.Values.{IsFault};
-ghost use Rattle.rev_manifest.specs.Joining.{texts};
-ghost use Rattle.rev_manifest.specs.Manifest.{path_fault, path_or_fault, paths_of, distinct};
+//! The paths of a statement.
+ghost use Rattle.std.specs.Prelude.{◌≡◌, ◌<◌, ◌++◌, ◌||◌, not, filter, length, List, ℕ, Ok, MatchResult, IfOk, OnOk};
+ghost use Rattle.rev_scopes.specs.Scopes.{variable_in};
+ghost use Rattle.rev_scopes.specs.Expansion.{expanded, in_block};
+ghost use Rattle.rev_manifest.specs.Answers.{IsFault};
+ghost use Rattle.rev_manifest.specs.Names.{name_of, names_of, distinct, without, is_among};
 
-use crate::fault::{FaultKind, ReadFault};
-use crate::lines::Line;
+use crate::fault::{FaultKind, Place, ReadFault};
 use indexmap::IndexSet;
 use rev_paths::{Name, PathFault};
+use rev_scopes::{Bindings, Scopes, ValueFault, expand_in_block};
+use rev_syntax::Text;
 use std::alloc::{AllocError, Global};
 
-// The canonical path, or the fault of a path.
-fn name_at(alloc: Global, line: &Line, path: &[u8]) -> Result<Name, ReadFault>
+/// The canonical name of a path, or its fault.
+pub(crate) fn name_of(alloc: Global, place: Place, path: &[u8]) -> Result<Name, ReadFault>
     ensures { MatchResult result
-        (λ name. path_or_fault line.now (path_fault path.now) path.now ≡ Ok name)
-        (λ fault. IsFault fault (path_or_fault line.now (path_fault path.now) path.now)) }
+        (λ name. name_of place path.now ≡ Ok name)
+        (λ fault. IsFault fault (name_of place path.now)) }
 {
     match Name::new(alloc, path) {
         Ok(name) => Ok(name),
         Err(PathFault::Memory) => Err(ReadFault::Memory),
-        Err(PathFault::EmptyPath) => Err(line.fault(FaultKind::EmptyPath)),
-        Err(PathFault::LongPath) => Err(line.fault(FaultKind::LongPath)),
+        Err(PathFault::EmptyPath) => Err(place.fault(FaultKind::EmptyPath)),
+        Err(PathFault::LongPath) => Err(place.fault(FaultKind::LongPath)),
     }
-}
-
-/// The canonical paths, or the fault of the leftmost path that has one.
-pub(crate) fn names_at(alloc: Global, line: &Line, paths: &[&[u8]]) -> Result<Vec<Name>, ReadFault>
-    ensures { MatchResult result
-        (λ names. paths_of line.now (texts paths.now) ≡ Ok names.items)
-        (λ fault. IsFault fault (paths_of line.now (texts paths.now))) }
-{
-    let mut names = Vec::new(alloc);
-    for path in paths {
-        let name = name_at(alloc, line, path)?;
-        names.push(name)?;
-    }
-    Ok(names)
 }
 
 /// Each name once, at its first place.
@@ -53,4 +41,127 @@ pub(crate) fn distinct(alloc: Global, names: Vec<Name>) -> Result<Vec<Name>, All
         }
     }
     Ok(once)
+}
+
+/// Adds names to a set.
+pub(crate) fn add_names(set: &mut IndexSet<Name>, names: &[Name]) -> Result<(), AllocError>
+    ensures { OnOk result ((path : List ℕ) → is_among set.new.keys path ≡ (is_among set.old.keys path || is_among names.now path)) }
+{
+    for name in names {
+        set.insert(name.copy()?)?;
+    }
+    Ok(())
+}
+
+/// Adds the names that are not in a set.
+pub(crate) fn push_others(
+    others: &mut Vec<Name>,
+    set: &IndexSet<Name>,
+    names: &[Name],
+) -> Result<(), AllocError>
+    ensures { OnOk result (others.new.items ≡ others.old.items ++ filter (λ path. not (is_among set.now.keys path)) names.now) }
+{
+    for name in names {
+        if !set.contains(name) {
+            others.push(name.copy()?)?;
+        }
+    }
+    Ok(())
+}
+
+// The canonical name of a text, or its fault. Variables are looked up in a block and then in a scope.
+fn path_of(
+    alloc: Global,
+    place: Place,
+    text: &Text<'_>,
+    block: &Bindings,
+    scopes: &Scopes,
+    scope: usize,
+) -> Result<Name, ReadFault>
+    requires { scope < length scopes.now }
+    ensures { MatchResult result
+        (λ name. name_of place (expanded (in_block block.now (variable_in scopes.now scope)) text.now) ≡ Ok name)
+        (λ fault. IsFault fault (name_of place (expanded (in_block block.now (variable_in scopes.now scope)) text.now))) }
+{
+    match expand_in_block(alloc, text.copy(), block, scopes, scope) {
+        Ok(path) => name_of(alloc, place, &path),
+        Err(ValueFault::Memory) => Err(ReadFault::Memory),
+        Err(ValueFault::TooLarge) => Err(place.fault(FaultKind::LongPath)),
+        Err(ValueFault::NeedsItself) => unreachable!(),
+    }
+}
+
+/// The canonical names of texts, or the fault of the leftmost path that has one. Variables are looked up in a block and
+/// then in a scope.
+pub(crate) fn names_of(
+    alloc: Global,
+    place: Place,
+    texts: &[Text<'_>],
+    block: &Bindings,
+    scopes: &Scopes,
+    scope: usize,
+) -> Result<Vec<Name>, ReadFault>
+    requires { scope < length scopes.now }
+    ensures { MatchResult result
+        (λ names. names_of place (in_block block.now (variable_in scopes.now scope)) texts.now ≡ Ok names.items)
+        (λ fault. IsFault fault (names_of place (in_block block.now (variable_in scopes.now scope)) texts.now)) }
+{
+    let mut names = Vec::new(alloc);
+    for text in texts {
+        let name = path_of(alloc, place, text, block, scopes, scope)?;
+        names.push(name)?;
+    }
+    Ok(names)
+}
+
+/// The canonical name of a text, whose variables are looked up in a scope, or its fault.
+pub(crate) fn name_in_scope(
+    alloc: Global,
+    place: Place,
+    text: &Text<'_>,
+    scopes: &Scopes,
+    scope: usize,
+) -> Result<Name, ReadFault>
+    requires { scope < length scopes.now }
+    ensures { MatchResult result
+        (λ name. name_of place (expanded (variable_in scopes.now scope) text.now) ≡ Ok name)
+        (λ fault. IsFault fault (name_of place (expanded (variable_in scopes.now scope) text.now))) }
+{
+    let name = path_of(alloc, place, text, &Bindings::new(alloc), scopes, scope)?;
+    Ok(name)
+}
+
+/// The canonical names of texts, whose variables are looked up in a scope, or the fault of the leftmost path that has one.
+pub(crate) fn names_in_scope(
+    alloc: Global,
+    place: Place,
+    texts: &[Text<'_>],
+    scopes: &Scopes,
+    scope: usize,
+) -> Result<Vec<Name>, ReadFault>
+    requires { scope < length scopes.now }
+    ensures { MatchResult result
+        (λ names. names_of place (variable_in scopes.now scope) texts.now ≡ Ok names.items)
+        (λ fault. IsFault fault (names_of place (variable_in scopes.now scope) texts.now)) }
+{
+    let names = names_of(alloc, place, texts, &Bindings::new(alloc), scopes, scope)?;
+    Ok(names)
+}
+
+/// The names that are not among others.
+pub(crate) fn without(
+    alloc: Global,
+    others: &[Name],
+    names: Vec<Name>,
+) -> Result<Vec<Name>, AllocError>
+    ensures { IfOk result (λ left. left.items ≡ without others.now names.items) }
+{
+    if names.is_empty() {
+        return Ok(names);
+    }
+    let mut set = IndexSet::new(alloc);
+    add_names(&mut set, others)?;
+    let mut left = Vec::new(alloc);
+    push_others(&mut left, &set, &names)?;
+    Ok(left)
 }

@@ -1,241 +1,384 @@
-//! Statements, in reading order.
-ghost use Rattle.std.specs.Prelude.{◌≡◌, ◌∷◌, [], ◌++◌, Ok, None, Some, ◌≤◌, length, drop, option_map, option_copied, OnOk, IfOk, OnErr, MatchResult};
-ghost use Rattle.std.specs.List.{prefix_len, take_while};
-ghost use Rattle.std.specs.Arc.{arc_slice_items};
-ghost use Rattle.rev_manifest.specs.Values.{IsFault};
-ghost use Rattle.rev_manifest.specs.Forms.{seen_build_line};
-ghost use Rattle.rev_manifest.specs.Statements.{and_then, is_indented, no_lines, command_in, statements_of};
-ghost use Rattle.rev_manifest.specs.Manifest.{find_rule, nothing, with_rule, with_edge, with_statement, with_statements, read_statements};
-ghost use Rattle.rev_manifest.specs.Scope.{seen_edge, seen_rules};
+//! What each statement adds to what stands above it.
+ghost use Rattle.std.specs.Prelude.{◌≡◌, ◌<◌, ◌≤◌, length, map, Ok, Some, IfOk, OnOk, MatchResult, option_map};
+ghost use Rattle.std.specs.Option.{ForSome};
+ghost use Rattle.rev_syntax.specs.Seen.{seen_binding, seen_build_line, seen_form};
+ghost use Rattle.rev_scopes.specs.Scopes.{variable_in};
+ghost use Rattle.rev_scopes.specs.Expansion.{expanded, in_block};
+ghost use Rattle.rev_manifest.specs.Answers.{IsFault};
+ghost use Rattle.rev_manifest.specs.Blocks.{last_text};
+ghost use Rattle.rev_manifest.specs.Above.{more_defaults};
+ghost use Rattle.rev_manifest.specs.Statements.{rule_declared, pool_declared, depth_given, value_limited, variable_bound, defaults_named, rule_of, paths_of, edge_added, file_named, file_included, file_nested, with_form};
+ghost use Rattle.rev_manifest.specs.Held.{seen_paths, seen_above};
 
-use crate::fault::{FaultKind, ReadFault};
-use crate::forms::{BuildLine, Header, command_line, has_tab, header_of, is_indented};
-use crate::lines::Line;
-use crate::names::{distinct, names_at};
-use crate::template::Piece;
-use indexmap::IndexMap;
+use crate::above::{Above, Edge, EdgePaths};
+use crate::blocks::{are_depths, binds, block_of, rule_with};
+use crate::bytes::is_none;
+use crate::depth::depth_of_text;
+use crate::fault::{FaultKind, Place, ReadFault};
+use crate::files::Files;
+use crate::inclusion::Inclusion;
+use crate::names::{distinct, name_in_scope, names_in_scope, names_of, without};
 use rev_paths::Name;
+use rev_scopes::{Bindings, Rule, RuleFault, Scopes, ValueFault, expand};
+use rev_syntax::{Binding, BuildLine, Form, Text};
 use std::alloc::{AllocError, Global};
-use std::marker::Model;
-use std::sync::ArcSlice;
 
-/// An edge before its command is expanded.
-#[derive(Debug, Drop)]
-pub(crate) struct Edge {
-    /// The explicit outputs, each once.
-    pub(crate) outs: Vec<Name>,
-    /// The explicit inputs.
-    pub(crate) ins: Vec<Name>,
-    /// The text of its rule's command, which edges share.
-    pub(crate) command: ArcSlice<Piece>,
-    /// The number of its statement's first line.
-    pub(crate) line: u64,
-}
-
-/// What the statements so far declare.
-#[derive(Drop)]
-pub(crate) struct Above {
-    rules: IndexMap<Vec<u8>, ArcSlice<Piece>>,
-    edges: Vec<Edge>,
-}
-
-impl Model for Above {
-    ghost use Rattle.std.specs.Prelude.{map};
-    ghost use Rattle.rev_manifest.specs.Manifest.{AboveValue};
-    ghost use Rattle.rev_manifest.specs.Scope.{seen_edge, seen_rules};
-
-    ghost Value = { AboveValue };
-
-    ghost view = { λ above. record { rules = seen_rules above.rules.entries; edges = map seen_edge above.edges.items } };
-}
-
-impl Above {
-    ghost use Rattle.std.specs.Prelude.{map};
-
-    // Nothing, before the first statement.
-    fn new(alloc: Global) -> Above
-        ensures { result ≡ nothing }
-    {
-        Above {
-            rules: IndexMap::new(alloc),
-            edges: Vec::new(alloc),
-        }
-    }
-
-    // The command of the rule of that name.
-    fn find(&self, name: &[u8]) -> Option<&ArcSlice<Piece>>
-        ensures { option_map arc_slice_items (option_copied result) ≡ find_rule name.now self.now.rules }
-    {
-        self.rules.get(name)
-    }
-
-    // Adds a rule whose name is new.
-    fn add_rule(&mut self, name: Vec<u8>, command: ArcSlice<Piece>) -> Result<(), ReadFault>
-        requires { find_rule name.items self.old.rules ≡ None }
-        ensures added { OnOk result (self.new ≡ record self.old { rules = self.old.rules ++ record { name = name.items; command = arc_slice_items command } ∷ [] }) }
-        ensures fault { OnErr result (result ≡ Err ReadFault.Memory) }
-    {
-        self.rules.insert(name, command)?;
-        Ok(())
-    }
-
-    // Adds an edge.
-    fn add_edge(&mut self, edge: Edge) -> Result<(), ReadFault>
-        ensures added { OnOk result (self.new ≡ record self.old { edges = self.old.edges ++ seen_edge edge ∷ [] }) }
-        ensures fault { OnErr result (result ≡ Err ReadFault.Memory) }
-    {
-        self.edges.push(edge)?;
-        Ok(())
-    }
-
-    /// The edges, in reading order.
-    pub(crate) fn into_edges(self) -> Vec<Edge>
-        ensures { map seen_edge result.items ≡ self.edges }
-    {
-        self.edges
-    }
-}
-
-// Refuses indented lines where none may stand.
-fn no_lines(block: &[Line]) -> Result<(), ReadFault>
-    ensures { MatchResult result (λ _. no_lines block.now ≡ Ok tt) (λ fault. IsFault fault (no_lines block.now)) }
-{
-    match block.first() {
-        None => Ok(()),
-        Some(line) => {
-            if has_tab(line) {
-                return Err(line.fault(FaultKind::Tab));
-            }
-            Err(line.fault(FaultKind::Syntax))
-        }
-    }
-}
-
-// The command in the lines under a rule.
-fn command_in(alloc: Global, block: &[Line]) -> Result<Option<Vec<Piece>>, ReadFault>
-    ensures { MatchResult result
-        (λ command. command_in block.now ≡ Ok (option_map (λ pieces. pieces.items) command))
-        (λ fault. IsFault fault (command_in block.now)) }
-{
-    match block.split_first() {
-        None => Ok(None),
-        Some((line, others)) => {
-            let command = command_line(alloc, line)?;
-            no_lines(others)?;
-            Ok(Some(command))
-        }
-    }
-}
-
-// Adds the rule of a statement.
-fn add_rule(
+// `rule NAME`.
+fn declare_rule(
     alloc: Global,
     above: &mut Above,
-    head: &Line,
+    place: Place,
+    scope: usize,
     name: &[u8],
-    block: &[Line],
+    bindings: &[Binding<'_>],
 ) -> Result<(), ReadFault>
-    ensures { MatchResult result
-        (λ _. and_then (command_in block.now) (with_rule above.old head.now name.now) ≡ Ok above.new)
-        (λ fault. IsFault fault (and_then (command_in block.now) (with_rule above.old head.now name.now))) }
+    requires { scope < length above.old.scopes }
+    ensures meant { MatchResult result
+        (λ _. rule_declared place scope name.now (map seen_binding bindings.now) (seen_above above.old) ≡ Ok (seen_above above.new))
+        (λ fault. IsFault fault (rule_declared place scope name.now (map seen_binding bindings.now) (seen_above above.old))) }
+    ensures grows { OnOk result (length above.old.scopes ≤ length above.new.scopes) }
 {
-    let command = command_in(alloc, block)?;
-    if name == b"phony".as_slice() || above.find(name).is_some() {
-        return Err(head.fault(FaultKind::DoubleRule));
+    if binds(b"dyndep", bindings) {
+        return Err(place.fault(FaultKind::Dyndep));
     }
-    match command {
-        None => Err(head.fault(FaultKind::NoCommand)),
-        Some(pieces) => {
-            let shared = ArcSlice::from_vec(pieces)?;
-            let owned = Vec::from_slice(alloc, name)?;
-            above.add_rule(owned, shared)?;
-            Ok(())
-        }
+    let Some(rule) = rule_with(alloc, bindings)? else {
+        return Err(place.fault(FaultKind::UnknownBinding));
+    };
+    match above.scopes.add_rule(alloc, scope, name, rule) {
+        Ok(()) => {}
+        Err(RuleFault::Memory) => return Err(ReadFault::Memory),
+        Err(RuleFault::DoubleRule) => return Err(place.fault(FaultKind::DoubleRule)),
+    }
+    if !binds(b"command", bindings) {
+        return Err(place.fault(FaultKind::NoCommand));
+    }
+    Ok(())
+}
+
+// The value of a text, unless it is too large.
+fn value_of(
+    alloc: Global,
+    place: Place,
+    text: &Text<'_>,
+    scopes: &Scopes,
+    scope: usize,
+) -> Result<Vec<u8>, ReadFault>
+    requires { scope < length scopes.now }
+    ensures { MatchResult result
+        (λ value. value_limited place (expanded (variable_in scopes.now scope) text.now) ≡ Ok value.items)
+        (λ fault. IsFault fault (value_limited place (expanded (variable_in scopes.now scope) text.now))) }
+{
+    match expand(alloc, text.copy(), scopes, scope) {
+        Ok(value) => Ok(value),
+        Err(ValueFault::Memory) => Err(ReadFault::Memory),
+        Err(ValueFault::TooLarge) => Err(place.fault(FaultKind::TooLarge)),
+        Err(ValueFault::NeedsItself) => unreachable!(),
     }
 }
 
-// Adds the edge of a statement.
+// The depth that the last of these bindings says.
+fn depth_given(
+    alloc: Global,
+    place: Place,
+    bindings: &[Binding<'_>],
+    scopes: &Scopes,
+    scope: usize,
+) -> Result<u32, ReadFault>
+    requires { scope < length scopes.now }
+    ensures { MatchResult result
+        (λ depth. depth_given place (variable_in scopes.now scope) (last_text (map seen_binding bindings.now)) ≡ Ok depth)
+        (λ fault. IsFault fault (depth_given place (variable_in scopes.now scope) (last_text (map seen_binding bindings.now)))) }
+{
+    let Some((binding, _)) = bindings.split_last() else {
+        return Err(place.fault(FaultKind::BadDepth));
+    };
+    let Some(depth) = depth_of_text(&binding.value, scopes, scope) else {
+        return Err(place.fault(FaultKind::BadDepth));
+    };
+    let value = value_of(alloc, place, &binding.value, scopes, scope)?;
+    if is_none(&value) {
+        return Err(place.fault(FaultKind::BadDepth));
+    }
+    Ok(depth)
+}
+
+// `pool NAME`.
+fn declare_pool(
+    alloc: Global,
+    above: &mut Above,
+    place: Place,
+    scope: usize,
+    name: &[u8],
+    bindings: &[Binding<'_>],
+) -> Result<(), ReadFault>
+    requires { scope < length above.old.scopes }
+    ensures meant { MatchResult result
+        (λ _. pool_declared place scope name.now (map seen_binding bindings.now) (seen_above above.old) ≡ Ok (seen_above above.new))
+        (λ fault. IsFault fault (pool_declared place scope name.now (map seen_binding bindings.now) (seen_above above.old))) }
+    ensures grows { OnOk result (length above.old.scopes ≤ length above.new.scopes) }
+{
+    if binds(b"dyndep", bindings) {
+        return Err(place.fault(FaultKind::Dyndep));
+    }
+    if !are_depths(bindings) {
+        return Err(place.fault(FaultKind::UnknownBinding));
+    }
+    if above.pools.number(name).is_some() {
+        return Err(place.fault(FaultKind::DoublePool));
+    }
+    let depth = depth_given(alloc, place, bindings, &above.scopes, scope)?;
+    above.pools.add(alloc, name, depth)?;
+    Ok(())
+}
+
+// `NAME = value`.
+fn bind_variable(
+    alloc: Global,
+    above: &mut Above,
+    place: Place,
+    scope: usize,
+    binding: &Binding<'_>,
+) -> Result<(), ReadFault>
+    requires { scope < length above.old.scopes }
+    ensures meant { MatchResult result
+        (λ _. variable_bound place scope (seen_binding binding.now) (seen_above above.old) ≡ Ok (seen_above above.new))
+        (λ fault. IsFault fault (variable_bound place scope (seen_binding binding.now) (seen_above above.old))) }
+    ensures grows { OnOk result (length above.old.scopes ≤ length above.new.scopes) }
+{
+    if binding.name == b"dyndep".as_slice() {
+        return Err(place.fault(FaultKind::Dyndep));
+    }
+    let value = value_of(alloc, place, &binding.value, &above.scopes, scope)?;
+    above.scopes.bind(alloc, scope, binding.name, value)?;
+    Ok(())
+}
+
+// The paths of a further `default` statement after those of earlier ones.
+fn more_defaults(earlier: Option<Vec<Name>>, names: Vec<Name>) -> Result<Vec<Name>, AllocError>
+    ensures { IfOk result (λ all. all.items ≡ more_defaults (option_map (λ paths. paths.items) earlier) names.items) }
+{
+    let Some(mut all) = earlier else {
+        return Ok(names);
+    };
+    for name in names {
+        all.push(name)?;
+    }
+    Ok(all)
+}
+
+// `default PATHS`.
+fn name_defaults(
+    alloc: Global,
+    above: &mut Above,
+    place: Place,
+    scope: usize,
+    paths: &[Text<'_>],
+) -> Result<(), ReadFault>
+    requires { scope < length above.old.scopes }
+    ensures meant { MatchResult result
+        (λ _. defaults_named place scope paths.now (seen_above above.old) ≡ Ok (seen_above above.new))
+        (λ fault. IsFault fault (defaults_named place scope paths.now (seen_above above.old))) }
+    ensures grows { OnOk result (length above.old.scopes ≤ length above.new.scopes) }
+{
+    let names = names_in_scope(alloc, place, paths, &above.scopes, scope)?;
+    let all = more_defaults(above.defaults.take(), names)?;
+    above.defaults = Some(all);
+    Ok(())
+}
+
+// The rule of a build line.
+fn rule_of(
+    above: &Above,
+    place: Place,
+    scope: usize,
+    name: &[u8],
+) -> Result<Option<Rule>, ReadFault>
+    requires { scope < length above.now.scopes }
+    ensures { MatchResult result
+        (λ rule. rule_of place (seen_above above.now) scope name.now ≡ Ok rule)
+        (λ fault. IsFault fault (rule_of place (seen_above above.now) scope name.now)) }
+{
+    if name == b"phony".as_slice() {
+        return Ok(None);
+    }
+    match above.scopes.rule(scope, name) {
+        None => Err(place.fault(FaultKind::UnknownRule)),
+        Some(rule) => Ok(Some(rule.copy()?)),
+    }
+}
+
+// The paths of a build line.
+fn paths_of(
+    alloc: Global,
+    place: Place,
+    build: &BuildLine<'_>,
+    block: &Bindings,
+    scopes: &Scopes,
+    scope: usize,
+) -> Result<EdgePaths, ReadFault>
+    requires { scope < length scopes.now }
+    ensures { MatchResult result
+        (λ paths. paths_of place (in_block block.now (variable_in scopes.now scope)) (seen_build_line build.now) ≡ Ok (seen_paths paths))
+        (λ fault. IsFault fault (paths_of place (in_block block.now (variable_in scopes.now scope)) (seen_build_line build.now))) }
+{
+    let outs = names_of(alloc, place, &build.outs, block, scopes, scope)?;
+    let implicit_outs = names_of(alloc, place, &build.implicit_outs, block, scopes, scope)?;
+    let ins = names_of(alloc, place, &build.ins, block, scopes, scope)?;
+    let implicit = names_of(alloc, place, &build.implicit, block, scopes, scope)?;
+    let order_only = names_of(alloc, place, &build.order_only, block, scopes, scope)?;
+    let validations = names_of(alloc, place, &build.validations, block, scopes, scope)?;
+    let implicit_outs = distinct(alloc, implicit_outs)?;
+    let implicit_outs = without(alloc, &outs, implicit_outs)?;
+    let outs = distinct(alloc, outs)?;
+    Ok(EdgePaths {
+        outs,
+        implicit_outs,
+        ins,
+        implicit,
+        order_only,
+        validations,
+    })
+}
+
+// `build PATHS: NAME PATHS`.
 fn add_edge(
     alloc: Global,
     above: &mut Above,
-    head: &Line,
+    place: Place,
+    scope: usize,
     build: &BuildLine<'_>,
-    block: &[Line],
+    bindings: &[Binding<'_>],
 ) -> Result<(), ReadFault>
-    ensures { MatchResult result
-        (λ _. and_then (no_lines block.now) (λ _. with_edge above.old head.now (seen_build_line build.now) (find_rule build.now.rule.now above.old.rules)) ≡ Ok above.new)
-        (λ fault. IsFault fault (and_then (no_lines block.now) (λ _. with_edge above.old head.now (seen_build_line build.now) (find_rule build.now.rule.now above.old.rules)))) }
+    requires { scope < length above.old.scopes }
+    ensures meant { MatchResult result
+        (λ _. edge_added place scope (seen_build_line build.now) (map seen_binding bindings.now) (seen_above above.old) ≡ Ok (seen_above above.new))
+        (λ fault. IsFault fault (edge_added place scope (seen_build_line build.now) (map seen_binding bindings.now) (seen_above above.old))) }
+    ensures grows { OnOk result (length above.old.scopes ≤ length above.new.scopes) }
 {
-    no_lines(block)?;
-    match above.find(build.rule) {
-        None => Err(head.fault(FaultKind::UnknownRule)),
-        Some(found) => {
-            let command = found.clone()?;
-            let outs = names_at(alloc, head, &build.outs)?;
-            let ins = names_at(alloc, head, &build.ins)?;
-            let outs = distinct(alloc, outs)?;
-            above.add_edge(Edge {
-                outs,
-                ins,
-                command,
-                line: head.number(),
-            })?;
-            Ok(())
-        }
+    if binds(b"dyndep", bindings) {
+        return Err(place.fault(FaultKind::Dyndep));
     }
+    let rule = rule_of(above, place, scope, build.rule)?;
+    let block = block_of(alloc, bindings, &above.scopes, scope)?;
+    let paths = paths_of(alloc, place, build, &block.values, &above.scopes, scope)?;
+    if block.is_large {
+        return Err(place.fault(FaultKind::TooLarge));
+    }
+    above.edges.push(Edge {
+        rule,
+        block: block.values,
+        scope,
+        paths,
+        place,
+    })?;
+    Ok(())
 }
 
-// Adds what a statement declares.
-fn add_statement(
+// The place of the file that a path names.
+fn file_named(
     alloc: Global,
-    above: &mut Above,
-    head: &Line,
-    block: &[Line],
-) -> Result<(), ReadFault>
+    files: &Files<'_>,
+    place: Place,
+    path: &Text<'_>,
+    scopes: &Scopes,
+    scope: usize,
+) -> Result<usize, ReadFault>
+    requires { scope < length scopes.now }
     ensures { MatchResult result
-        (λ _. with_statement above.old (record { head = head.now; block = block.now }) ≡ Ok above.new)
-        (λ fault. IsFault fault (with_statement above.old (record { head = head.now; block = block.now }))) }
+        (λ file. file_named place files.now (variable_in scopes.now scope) path.now ≡ Ok file)
+        (λ fault. IsFault fault (file_named place files.now (variable_in scopes.now scope) path.now)) }
 {
-    match header_of(alloc, head)? {
-        Header::Rule(name) => add_rule(alloc, above, head, name, block),
-        Header::Build(build) => add_edge(alloc, above, head, &build, block),
+    let name = name_in_scope(alloc, place, path, scopes, scope)?;
+    match files.find(&name) {
+        None => Err(place.fault(FaultKind::NoFile)),
+        Some(file) => Ok(file),
     }
 }
 
-// How many indented lines stand at the front.
-fn block_len(lines: &[Line]) -> usize
-    ensures within { result ≤ length lines.now }
-    ensures block { result ≡ prefix_len is_indented lines.now }
+// `include PATH`.
+fn include_file(
+    alloc: Global,
+    files: &Files<'_>,
+    above: &Above,
+    place: Place,
+    scope: usize,
+    path: &Text<'_>,
+) -> Result<Inclusion, ReadFault>
+    requires { scope < length above.now.scopes }
+    ensures meant { MatchResult result
+        (λ inclusion. file_included files.now place scope path.now (seen_above above.now) ≡ Ok (record { above = seen_above above.now; inclusion = Some inclusion }))
+        (λ fault. IsFault fault (file_included files.now place scope path.now (seen_above above.now))) }
+    ensures within { IfOk result (λ inclusion. inclusion.scope < length above.now.scopes) }
 {
-    for (i, line) in lines.iter().enumerate() {
-        if !is_indented(line) {
-            return i;
+    let file = file_named(alloc, files, place, path, &above.scopes, scope)?;
+    Ok(Inclusion { file, scope, place })
+}
+
+// `subninja PATH`.
+fn nest_file(
+    alloc: Global,
+    files: &Files<'_>,
+    above: &mut Above,
+    place: Place,
+    scope: usize,
+    path: &Text<'_>,
+) -> Result<Inclusion, ReadFault>
+    requires { scope < length above.old.scopes }
+    ensures meant { MatchResult result
+        (λ inclusion. file_nested files.now place scope path.now (seen_above above.old) ≡ Ok (record { above = seen_above above.new; inclusion = Some inclusion }))
+        (λ fault. IsFault fault (file_nested files.now place scope path.now (seen_above above.old))) }
+    ensures grows { OnOk result (length above.old.scopes ≤ length above.new.scopes) }
+    ensures within { IfOk result (λ inclusion. inclusion.scope < length above.new.scopes) }
+{
+    let file = file_named(alloc, files, place, path, &above.scopes, scope)?;
+    let scope = above.scopes.add(alloc, Some(scope))?;
+    Ok(Inclusion { file, scope, place })
+}
+
+/// Adds what a statement declares, and gives the file that it names, if it names one.
+pub(crate) fn add_statement(
+    alloc: Global,
+    files: &Files<'_>,
+    above: &mut Above,
+    place: Place,
+    scope: usize,
+    form: &Form<'_>,
+) -> Result<Option<Inclusion>, ReadFault>
+    requires { scope < length above.old.scopes }
+    ensures meant { MatchResult result
+        (λ inclusion. with_form files.now place scope (seen_form form.now) (seen_above above.old) ≡ Ok (record { above = seen_above above.new; inclusion = inclusion }))
+        (λ fault. IsFault fault (with_form files.now place scope (seen_form form.now) (seen_above above.old))) }
+    ensures grows { OnOk result (length above.old.scopes ≤ length above.new.scopes) }
+    ensures within { IfOk result (λ found. ForSome found (λ inclusion. inclusion.scope < length above.new.scopes)) }
+{
+    match form {
+        Form::Rule(name, bindings) => {
+            declare_rule(alloc, above, place, scope, name, bindings)?;
+            Ok(None)
+        }
+        Form::Build(build, bindings) => {
+            add_edge(alloc, above, place, scope, build, bindings)?;
+            Ok(None)
+        }
+        Form::Pool(name, bindings) => {
+            declare_pool(alloc, above, place, scope, name, bindings)?;
+            Ok(None)
+        }
+        Form::Default(paths) => {
+            name_defaults(alloc, above, place, scope, paths)?;
+            Ok(None)
+        }
+        Form::Variable(binding) => {
+            bind_variable(alloc, above, place, scope, binding)?;
+            Ok(None)
+        }
+        Form::Include(path) => {
+            let inclusion = include_file(alloc, files, above, place, scope, path)?;
+            Ok(Some(inclusion))
+        }
+        Form::Subninja(path) => {
+            let inclusion = nest_file(alloc, files, above, place, scope, path)?;
+            Ok(Some(inclusion))
         }
     }
-    lines.len()
-}
-
-// The indented lines at the front, and what follows them.
-fn split_block(lines: &[Line]) -> (&[Line], &[Line])
-    ensures block { result.0.now ≡ take_while is_indented lines.now }
-    ensures rest { result.1.now ≡ drop (prefix_len is_indented lines.now) lines.now }
-{
-    lines.split_at(block_len(lines))
-}
-
-/// What the lines of a file declare.
-pub(crate) fn read_statements(alloc: Global, lines: &[Line]) -> Result<Above, ReadFault>
-    ensures { MatchResult result
-        (λ above. read_statements lines.now ≡ Ok above)
-        (λ fault. IsFault fault (read_statements lines.now)) }
-{
-    let (block, mut rest) = split_block(lines);
-    no_lines(block)?;
-    let mut above = Above::new(alloc);
-    while let Some((head, after)) = rest.split_first() {
-        let (block, others) = split_block(after);
-        add_statement(alloc, &mut above, head, block)?;
-        rest = others;
-    }
-    Ok(above)
 }

@@ -2,86 +2,113 @@ use super::*;
 use std::alloc::AllocError;
 use std::test::Fail;
 
-// What is read of a manifest: the number of its edges and of their inputs, or its fault and the fault's line.
+// What is read of files: the numbers of edges, pools and defaults, or the fault with its file's place and line.
 #[derive(Clone, Copy, Debug, PartialEq, Eq)]
 enum Answer {
-    Read(usize, usize),
-    Fault(u16, u64),
+    Read(usize, usize, usize),
+    Fault(u16, u64, u64),
     Memory,
 }
 
 use Answer::{Fault, Read};
 
-fn read_answer(alloc: Global, content: &[u8]) -> Result<Answer, AllocError> {
-    let name = Vec::from_slice(alloc, b"build.ninja")?;
-    let content = Vec::from_slice(alloc, content)?;
-    let files = vec![in alloc; (name, content)]?;
+fn given(
+    alloc: Global,
+    contents: &[(&[u8], &[u8])],
+) -> Result<Vec<(Vec<u8>, Vec<u8>)>, AllocError> {
+    let mut files = Vec::new(alloc);
+    for (name, content) in contents {
+        let name = Vec::from_slice(alloc, name)?;
+        let content = Vec::from_slice(alloc, content)?;
+        files.push((name, content))?;
+    }
+    Ok(files)
+}
+
+fn answer_to(alloc: Global, contents: &[(&[u8], &[u8])]) -> Result<Answer, AllocError> {
+    let files = given(alloc, contents)?;
     Ok(match read(alloc, &files) {
-        Ok(manifest) => {
-            let inputs = match manifest.builds.first() {
-                Some(build) => build.explicit.len(),
-                None => 0,
-            };
-            Read(manifest.builds.len(), inputs)
-        }
+        Ok(manifest) => Read(
+            manifest.builds.len(),
+            manifest.pools.len(),
+            manifest.defaults.len(),
+        ),
         Err(ReadFault::Memory) => Answer::Memory,
-        Err(ReadFault::Manifest(fault)) => Fault(fault.kind.code(), fault.line),
+        Err(ReadFault::Manifest(fault)) => Fault(fault.code(), fault.file, fault.line),
     })
+}
+
+// The command of the first edge, or nothing.
+fn first_command(alloc: Global, contents: &[(&[u8], &[u8])]) -> Result<Vec<u8>, AllocError> {
+    let files = given(alloc, contents)?;
+    if let Ok(manifest) = read(alloc, &files) {
+        for build in manifest.builds {
+            return Ok(build.command);
+        }
+    }
+    Ok(Vec::new(alloc))
 }
 
 const MANIFEST: &[u8; 38] = b"rule r\n  command = r $in\nbuild o: r a\n";
 
-// The answers to the manifest's first 0 to 38 bytes. At 23 bytes the command ends in `$i`, which names no
-// variable of this grammar.
-const CUTS: [Answer; 39] = [
-    Read(0, 0),
-    Fault(10, 1),
-    Fault(10, 1),
-    Fault(10, 1),
-    Fault(10, 1),
-    Fault(10, 1),
-    Fault(16, 1),
-    Fault(16, 1),
-    Fault(16, 1),
-    Fault(16, 1),
-    Fault(10, 2),
-    Fault(10, 2),
-    Fault(10, 2),
-    Fault(10, 2),
-    Fault(10, 2),
-    Fault(10, 2),
-    Fault(10, 2),
-    Fault(10, 2),
-    Read(0, 0),
-    Read(0, 0),
-    Read(0, 0),
-    Read(0, 0),
-    Fault(12, 2),
-    Fault(12, 2),
-    Read(0, 0),
-    Read(0, 0),
-    Fault(10, 3),
-    Fault(10, 3),
-    Fault(10, 3),
-    Fault(10, 3),
-    Fault(10, 3),
-    Fault(10, 3),
-    Fault(10, 3),
-    Fault(10, 3),
-    Fault(10, 3),
-    Read(1, 0),
-    Read(1, 0),
-    Read(1, 1),
-    Read(1, 1),
+// The lines and numbers of the faults of the manifest's first 0 to 38 bytes; a pair of zeros where there is none.
+const CUTS: [(u64, u16); 39] = [
+    (0, 0),
+    (1, 10),
+    (1, 10),
+    (1, 10),
+    (1, 10),
+    (1, 10),
+    (1, 16),
+    (1, 16),
+    (1, 16),
+    (1, 16),
+    (2, 10),
+    (2, 10),
+    (2, 10),
+    (2, 10),
+    (2, 10),
+    (2, 10),
+    (2, 10),
+    (2, 10),
+    (0, 0),
+    (0, 0),
+    (0, 0),
+    (0, 0),
+    (2, 12),
+    (0, 0),
+    (0, 0),
+    (0, 0),
+    (3, 10),
+    (3, 10),
+    (3, 10),
+    (3, 10),
+    (3, 10),
+    (3, 10),
+    (3, 10),
+    (3, 10),
+    (3, 10),
+    (0, 0),
+    (0, 0),
+    (0, 0),
+    (0, 0),
 ];
 
 #[test]
 fn a_manifest_cut_after_each_byte(rt: HostRuntime) -> Result<(), Fail> {
-    for (length, want) in CUTS.iter().enumerate() {
+    for (length, (line, code)) in CUTS.iter().enumerate() {
         let (text, _) = MANIFEST.as_slice().split_at(length);
+        let want = match code {
+            0 => Read(
+                if length > 34 { 1 } else { 0 },
+                1,
+                if length > 34 { 1 } else { 0 },
+            ),
+            _ => Fault(*code, 0, *line),
+        };
         assert_eq!(rt;
-            read_answer(rt.alloc(), text)?,
-            *want,
+            answer_to(rt.alloc(), &[(b"build.ninja", text)])?,
+            want,
             "after {length} bytes"
         );
     }
@@ -90,87 +117,99 @@ fn a_manifest_cut_after_each_byte(rt: HostRuntime) -> Result<(), Fail> {
 
 #[test]
 fn faults_and_their_lines(rt: HostRuntime) -> Result<(), Fail> {
-    let cases: [(&[u8], Answer); 28] = [
-        (b"\n# comment $\n \t\n", Fault(11, 3)),
-        (b"  command = r\n", Fault(10, 1)),
-        (b"\tcommand = r\n", Fault(11, 1)),
-        (b"rule r\r\n  command = x\r\n", Read(0, 0)),
-        (b"rule r\n  command = x\r", Fault(10, 2)),
-        (b"rule r\n  command = \0$%\n", Fault(10, 2)),
-        (b"rule r\n  command = $%\0\n", Fault(12, 2)),
-        (b"rule r\n  command = $in.d $out $$x\n", Read(0, 0)),
-        (b"rule r\n  command = $input\n", Fault(12, 2)),
-        (b"rule $", Fault(12, 1)),
-        (b"build x$", Fault(12, 1)),
-        (b"foo bar$", Fault(10, 1)),
-        (b"rule r\n  command = $\n", Fault(12, 2)),
-        (b"rule r\n  command = $\n\n", Read(0, 0)),
-        (b"rule r\n  command = a $\n   # b\nrule r\n", Fault(14, 4)),
+    let cases: [(&[u8], Answer); 26] = [
+        (b"build x: nope\n", Fault(13, 0, 1)),
+        (b"rule r\n\tcommand = r\n", Fault(11, 0, 2)),
+        (b"a = $%\n", Fault(12, 0, 1)),
+        (b"rule r\n  depfile = d\n", Fault(16, 0, 1)),
+        (b"rule r\n  dyndep = d\n", Fault(22, 0, 1)),
         (
-            b"rule r$\n2\n  command = a\nbuild $\n  o $\n : r$\n2 i$\n j k\n",
-            Read(1, 2),
+            b"rule r\n  command = $depfile\n  depfile = $command\nbuild x: r\n",
+            Fault(17, 0, 4),
+        ),
+        (b"include no.ninja\n", Fault(20, 0, 1)),
+        (b"pool p\n", Fault(19, 0, 1)),
+        (b"pool p\n  depth =\n", Fault(19, 0, 1)),
+        (b"pool p\n  depth = 1000001\n", Fault(19, 0, 1)),
+        (b"pool p\n  depth = 0001000000\n", Read(0, 2, 0)),
+        (b"pool p\n  depth = x\n  depth = 3\n", Read(0, 2, 0)),
+        (b"pool console\n  depth = 2\n", Fault(24, 0, 1)),
+        (b"pool p\n  depht = 2\n", Fault(15, 0, 1)),
+        (b"rule r\n  commando = x\n", Fault(15, 0, 1)),
+        (b"rule phony\n  dyndep = x\n", Fault(22, 0, 1)),
+        (b"rule phony\n", Fault(14, 0, 1)),
+        (b"dyndep = x\n", Fault(22, 0, 1)),
+        (b"include ./x/../build.ninja\n", Fault(21, 0, 1)),
+        (b"include $none\n", Fault(1, 0, 1)),
+        (b"default $none x\n", Fault(1, 0, 1)),
+        (b"build x: phony\n  dyndep = d\n", Fault(22, 0, 1)),
+        (b"build $none: nope\n", Fault(13, 0, 1)),
+        (
+            b"rule r\n  command = c\n  pool = p\nbuild x: r\n",
+            Fault(18, 0, 4),
         ),
         (
-            b"rule r\n  command = a\nbuild $\n  o $\n : r$\n3 i$\n j k\n",
-            Fault(13, 3),
+            b"rule r\n  command = c\nbuild x: r\n  pool =\n",
+            Read(1, 1, 1),
         ),
-        (b"rule r\n  description = a\n", Fault(10, 2)),
-        (b"rule r\n  command = a\n  command = b\n", Fault(10, 3)),
-        (b"rule r\nbuild x: nope\n", Fault(16, 1)),
-        (b"build x: nope\nrule r\n", Fault(13, 1)),
-        (b"build x: phony\n", Fault(13, 1)),
-        (b"rule phony\n  command = a\n", Fault(14, 1)),
-        (
-            b"rule r\n  command = a\nbuild x: r\n  a = b\n",
-            Fault(10, 4),
-        ),
-        (b"rule r\n  command = a\nbuild: r a\n", Fault(10, 3)),
-        (b"rule r\n  command = a\nbuild/x: r/y z\n", Read(1, 2)),
-        (b"rule r\n  command = a\nbuild x: r a | b\n", Fault(10, 3)),
-        (b"rule r\n  command = a\nbuild x: r a$ b\n", Fault(10, 3)),
+        (b"build x: phony x y |@ z\nbuild z: phony\n", Read(2, 1, 2)),
     ];
     for (content, want) in cases {
-        assert_eq!(rt; read_answer(rt.alloc(), content)?, want);
+        assert_eq!(rt; answer_to(rt.alloc(), &[(b"build.ninja", content)])?, want);
     }
     Ok(())
 }
 
 #[test]
-fn long_paths(rt: HostRuntime) -> Result<(), Fail> {
-    let alloc = rt.alloc();
-    for (length, want) in [(4096, Read(1, 1)), (4097, Fault(2, 3))] {
-        let mut content = Vec::from_slice(alloc, b"rule r\n  command = a\nbuild x: r ")?;
-        for _ in 0..length {
-            content.push(b'p')?;
-        }
-        assert_eq!(rt; read_answer(alloc, &content)?, want);
-    }
+fn files_and_their_scopes(rt: HostRuntime) -> Result<(), Fail> {
+    let main: &[u8] = b"f = 1\nrule r\n  command = r $f $in\nsubninja s.ninja\nbuild y: r b\n";
+    let nested: (&[u8], &[u8]) = (b"./s.ninja", b"f = 2\nbuild x: r a\n");
+    let command = first_command(rt.alloc(), &[(b"build.ninja", main), nested])?;
+    assert_eq!(rt; command.as_slice(), b"r 2 a".as_slice());
+    Ok(())
+}
+
+#[test]
+fn an_included_file_is_in_the_same_scope(rt: HostRuntime) -> Result<(), Fail> {
+    let main: &[u8] = b"rule r\n  command = $f\ninclude i\nbuild y: r\n  unused = $\n";
+    let included: (&[u8], &[u8]) = (b"i", b"f = 3\npool p\n");
+    assert_eq!(rt;
+        answer_to(rt.alloc(), &[(b"build.ninja", main), included])?,
+        Fault(19, 1, 2)
+    );
+    Ok(())
+}
+
+#[test]
+fn a_response_file_counts(rt: HostRuntime) -> Result<(), Fail> {
+    let main: &[u8] =
+        b"rule r\n  command = r @$out.rsp\n  rspfile = $out.rsp\n  rspfile_content = $in\nbuild o: r a$ b it's\n";
+    let command = first_command(rt.alloc(), &[(b"build.ninja", main)])?;
+    assert_eq!(rt;
+        command.as_slice(),
+        b"r @o.rsp;rspfile='a b' 'it'\\''s'".as_slice()
+    );
     Ok(())
 }
 
 #[test]
 fn an_edge(rt: HostRuntime) -> Result<(), Fail> {
-    let alloc = rt.alloc();
-    let name = Vec::from_slice(alloc, b"build.ninja")?;
-    let content = Vec::from_slice(
-        alloc,
-        b"rule r\n  command = c $$in $in > $out\n\nbuild d/../o ./o p: r p it's\n",
-    )?;
-    let files = vec![in alloc; (name, content)]?;
-    match read(alloc, &files) {
+    let main: &[u8] =
+        b"pool p\n  depth = 0\nrule r\n  command = c\n  deps = gcc\n  restat = $x\n  pool = $which\nbuild d/../o ./o | o q: r i | j || k |@ v\n  generator = 1\n  which = p\n";
+    let files = given(rt.alloc(), &[(b"build.ninja", main)])?;
+    match read(rt.alloc(), &files) {
         Ok(manifest) => {
             for build in &manifest.builds {
                 assert_eq!(rt;
-                    build.command.as_slice(),
-                    b"c $in p 'it'\\''s' > o p".as_slice()
+                    (build.explicit_outs.len(), build.implicit_outs.len()),
+                    (1, 1)
                 );
-                assert_eq!(rt; build.line, 4);
-                assert_eq!(rt; build.explicit_outs.len(), 2);
+                assert_eq!(rt;
+                    (build.keeps_deps, build.restat, build.generator),
+                    (true, false, true)
+                );
+                assert_eq!(rt; (build.pool, build.line), (Some(1), 8));
             }
-            for path in &manifest.defaults {
-                assert_eq!(rt; path.as_bytes(), b"o".as_slice());
-            }
-            assert_eq!(rt; (manifest.builds.len(), manifest.defaults.len()), (1, 1));
         }
         Err(_) => assert!(rt; false),
     }
@@ -179,15 +218,6 @@ fn an_edge(rt: HostRuntime) -> Result<(), Fail> {
 
 #[test]
 fn no_file(rt: HostRuntime) -> Result<(), Fail> {
-    let fault = ManifestFault {
-        kind: FaultKind::NoFile,
-        file: 0,
-        line: 0,
-    };
-    match read(rt.alloc(), &[]) {
-        Ok(_) => assert!(rt; false),
-        Err(found) => assert_eq!(rt; found, ReadFault::Manifest(fault)),
-    }
-    assert_eq!(rt; fault.kind.code(), 20);
+    assert_eq!(rt; answer_to(rt.alloc(), &[])?, Fault(20, 0, 0));
     Ok(())
 }

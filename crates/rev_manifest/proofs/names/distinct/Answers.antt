@@ -1,6 +1,6 @@
 use Rattle.std.proofs.Common.{◌≡◌, sym, ap, ◌∙◌, subst, ◌<◌, ◌+◌, ◌++◌, ◌∷◌, ℕ, List, [], filter, drop}
 use Rattle.std.proofs.lemmas.List.{at_drop_more, at_drop_all, append-nil}
-use Rattle.rev_manifest.specs.Manifest.{distinct}
+use Rattle.rev_manifest.specs.Names.{distinct}
 use Rattle.rev_manifest.proofs.NameLemmas.{distinct-short, distinct-new, distinct-old, insert-new, insert-old, is_left, filter-all}
 use Rattle.rev_manifest.proofs.names.distinct.Goals as goal
 use Rattle.rev_manifest.proofs.names.distinct.Goals.{then-branch+in_ok-copy-2+in_ok-push, else-branch}

@@ -1,5 +1,5 @@
 use Rattle.std.proofs.Common.{◌≡◌, ◌++◌, drop, filter}
-use Rattle.rev_manifest.specs.Manifest.{distinct}
+use Rattle.rev_manifest.specs.Names.{distinct}
 use Rattle.rev_manifest.proofs.NameLemmas.{is_left}
 use Rattle.rev_manifest.proofs.names.distinct.Given as goal
 

@@ -1,6 +1,0 @@
-use Rattle.std.proofs.Common.{◌≡◌, ◌++◌, not, filter, take}
-use Rattle.rev_manifest.specs.Manifest.{is_among}
-use Rattle.rev_manifest.proofs.expansion.push_others.Given as goal
-
-abbrev pub invariant-loop-name : goal.invariant-loop-name
-invariant-loop-name l = l.others.items ≡ l.initial.others.items ++ filter (λ path. not (is_among l.set.keys path)) (take l.name-index l.names)

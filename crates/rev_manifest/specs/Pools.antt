@@ -1,0 +1,24 @@
+-- Pools, each a name and its depth, in the order of their numbers.
+use Rattle.std.specs.Prelude.{ℕ, ◌+◌, ◌-◌, ◌*◌, ◌&&◌, List, [], ◌∷◌, position, Option, Some, None, bytes_eq, codes, nat_le, if◌then◌else◌}
+use Rattle.std.specs.Char.{is_ascii_digit}
+use Rattle.rev_manifest.specs.Names.{is_none}
+
+abbrev pub PoolValue : Type 0
+PoolValue = List ℕ × ℕ
+
+-- the pool that needs no declaration
+abbrev pub console : PoolValue
+console = (codes "console", 1)
+
+-- the number of the pool of a name
+abbrev pub pool_of : List ℕ → List PoolValue → Option ℕ
+pool_of name pools = position (λ pool. bytes_eq name pool.0) pools
+
+-- the number that decimal digits say after those that said a number, unless it is more than 1,000,000
+abbrev pub depth_from : ℕ → List ℕ → Option ℕ
+depth_from number [] = Some number
+depth_from number (b ∷ bs) = if is_ascii_digit b && nat_le (number * 10 + (b - 48)) 1000000 then depth_from (number * 10 + (b - 48)) bs else None
+
+-- a depth: decimal digits, leading zeros among them, that say at most 1,000,000
+abbrev pub depth_of : List ℕ → Option ℕ
+depth_of text = if is_none text then None else depth_from 0 text

@@ -1,0 +1,69 @@
+//! What the statements above a place declare.
+ghost use Rattle.std.specs.Prelude.{◌≡◌, IfOk};
+ghost use Rattle.rev_manifest.specs.Above.{nothing};
+ghost use Rattle.rev_manifest.specs.Held.{seen_above};
+
+use crate::fault::Place;
+use crate::pools::Pools;
+use rev_paths::Name;
+use rev_scopes::{Bindings, Rule, Scopes};
+use std::alloc::{AllocError, Global};
+
+/// The canonical paths of a build line.
+#[derive(Drop)]
+pub(crate) struct EdgePaths {
+    /// The outputs before `|`, each once.
+    pub(crate) outs: Vec<Name>,
+    /// The outputs after `|` that are none of those, each once.
+    pub(crate) implicit_outs: Vec<Name>,
+    /// The inputs before `|`.
+    pub(crate) ins: Vec<Name>,
+    /// The inputs after `|`.
+    pub(crate) implicit: Vec<Name>,
+    /// The inputs after `||`.
+    pub(crate) order_only: Vec<Name>,
+    /// The paths after `|@`.
+    pub(crate) validations: Vec<Name>,
+}
+
+/// An edge before all files are read.
+#[derive(Drop)]
+pub(crate) struct Edge {
+    /// Its rule as it stands in the scopes at the build line; `phony` is none.
+    pub(crate) rule: Option<Rule>,
+    /// The values of its block.
+    pub(crate) block: Bindings,
+    /// The scope of its build line.
+    pub(crate) scope: usize,
+    /// Its paths.
+    pub(crate) paths: EdgePaths,
+    /// Where its statement stands.
+    pub(crate) place: Place,
+}
+
+/// What the statements so far declare.
+#[derive(Drop)]
+pub(crate) struct Above {
+    /// The scopes of variables and rules.
+    pub(crate) scopes: Scopes,
+    /// The pools, which are known in all files.
+    pub(crate) pools: Pools,
+    /// The edges, in reading order.
+    pub(crate) edges: Vec<Edge>,
+    /// What `default` statements name, if there was one.
+    pub(crate) defaults: Option<Vec<Name>>,
+}
+
+/// What stands above the first statement: the manifest's scope and the pool `console`.
+pub(crate) fn nothing(alloc: Global) -> Result<Above, AllocError>
+    ensures { IfOk result (λ above. seen_above above ≡ nothing) }
+{
+    let mut scopes = Scopes::new(alloc);
+    scopes.add(alloc, None)?;
+    Ok(Above {
+        scopes,
+        pools: Pools::new(alloc)?,
+        edges: Vec::new(alloc),
+        defaults: None,
+    })
+}

@@ -1,0 +1,274 @@
+//! Expansion at the end: edge by edge, when all files are read.
+ghost use Rattle.std.specs.Prelude.{◌≡◌, ◌++◌, ◌||◌, not, filter, map, List, ℕ, Ok, IfOk, OnOk, MatchResult, option_map};
+ghost use Rattle.std.specs.List.{flat_map};
+ghost use Rattle.rev_manifest.specs.Answers.{IsFault};
+ghost use Rattle.rev_manifest.specs.Names.{is_among};
+ghost use Rattle.rev_manifest.specs.Manifest.{phony_build, compared_command, command_build, pool_number, variables_of, built, builds_of, inputs, outputs, defaults_of, ended};
+ghost use Rattle.rev_manifest.specs.Held.{seen_edge, seen_values, seen_above};
+ghost use Rattle.rev_manifest.specs.Seen.{seen_build, contents};
+
+use crate::above::{Above, Edge};
+use crate::bytes::is_none;
+use crate::fault::{FaultKind, Place, ReadFault};
+use crate::manifest::{Build, Manifest};
+use crate::names::{add_names, push_others};
+use crate::pools::Pools;
+use indexmap::IndexSet;
+use rev_paths::Name;
+use rev_scopes::{EdgeVariables, Rule, Scopes, ValueFault, edge_variables};
+use std::alloc::{AllocError, Global};
+
+// The names of two lists.
+fn set_of(alloc: Global, first: &[Name], second: &[Name]) -> Result<IndexSet<Name>, AllocError>
+    ensures { IfOk result (λ set. (path : List ℕ) → is_among set.keys path ≡ is_among (first.now ++ second.now) path) }
+{
+    let mut set = IndexSet::new(alloc);
+    add_names(&mut set, first)?;
+    add_names(&mut set, second)?;
+    Ok(set)
+}
+
+// The names that are not in a set.
+fn others(alloc: Global, set: &IndexSet<Name>, names: &[Name]) -> Result<Vec<Name>, AllocError>
+    ensures { IfOk result (λ left. left.items ≡ filter (λ path. not (is_among set.now.keys path)) names.now) }
+{
+    let mut left = Vec::new(alloc);
+    push_others(&mut left, set, names)?;
+    Ok(left)
+}
+
+// A phony edge, whose own outputs are none of its inputs.
+fn phony_build(alloc: Global, edge: Edge) -> Result<Build, AllocError>
+    ensures { IfOk result (λ build. seen_build build ≡ phony_build (seen_edge edge)) }
+{
+    let paths = edge.paths;
+    let own = set_of(alloc, &paths.outs, &paths.implicit_outs)?;
+    let explicit = others(alloc, &own, &paths.ins)?;
+    let implicit = others(alloc, &own, &paths.implicit)?;
+    let order_only = others(alloc, &own, &paths.order_only)?;
+    Ok(Build {
+        phony: true,
+        explicit_outs: paths.outs,
+        implicit_outs: paths.implicit_outs,
+        explicit,
+        implicit,
+        order_only,
+        validations: paths.validations,
+        command: Vec::new(alloc),
+        keeps_deps: false,
+        restat: false,
+        generator: false,
+        pool: None,
+        file: edge.place.file,
+        line: edge.place.line,
+    })
+}
+
+// The command that is compared: what stands in a response file counts too.
+fn compared_command(command: Vec<u8>, content: &[u8]) -> Result<Vec<u8>, AllocError>
+    ensures { IfOk result (λ whole. whole.items ≡ compared_command command.items content.now) }
+{
+    let mut whole = command;
+    if is_none(content) {
+        return Ok(whole);
+    }
+    whole.extend_from_slice(b";rspfile=")?;
+    whole.extend_from_slice(content)?;
+    Ok(whole)
+}
+
+// The number of an edge's pool.
+fn pool_number(place: Place, pools: &Pools, name: &[u8]) -> Result<Option<u32>, ReadFault>
+    ensures { MatchResult result
+        (λ number. pool_number place pools.now name.now ≡ Ok number)
+        (λ fault. IsFault fault (pool_number place pools.now name.now)) }
+{
+    if is_none(name) {
+        return Ok(None);
+    }
+    match pools.number(name) {
+        None => Err(place.fault(FaultKind::UnknownPool)),
+        Some(number) => match u32::try_from(number) {
+            Ok(number) => Ok(Some(number)),
+            // No files that are small enough declare so many pools.
+            Err(_) => Err(ReadFault::Memory),
+        },
+    }
+}
+
+// The values of the variables that an edge needs, or why they are none.
+fn variables_of(
+    alloc: Global,
+    scopes: &Scopes,
+    edge: &Edge,
+    rule: &Rule,
+) -> Result<EdgeVariables, ReadFault>
+    ensures { MatchResult result
+        (λ values. variables_of scopes.now (seen_edge edge.now) rule.now ≡ Ok (seen_values values))
+        (λ fault. IsFault fault (variables_of scopes.now (seen_edge edge.now) rule.now)) }
+{
+    if edge.scope >= scopes.len() {
+        // The scope of each edge is one of these.
+        return Err(ReadFault::Memory);
+    }
+    let at_end = rev_scopes::Edge {
+        ins: &edge.paths.ins,
+        outs: &edge.paths.outs,
+        block: &edge.block,
+        rule,
+        scopes,
+        scope: edge.scope,
+    };
+    match edge_variables(alloc, &at_end) {
+        Ok(values) => Ok(values),
+        Err(ValueFault::Memory) => Err(ReadFault::Memory),
+        Err(ValueFault::NeedsItself) => Err(edge.place.fault(FaultKind::NeedsItself)),
+        Err(ValueFault::TooLarge) => Err(edge.place.fault(FaultKind::TooLarge)),
+    }
+}
+
+// An edge with the values of its rule's variables.
+fn command_build(edge: Edge, values: EdgeVariables, pool: Option<u32>) -> Result<Build, AllocError>
+    ensures { IfOk result (λ build. seen_build build ≡ command_build (seen_edge edge) (seen_values values) pool) }
+{
+    let keeps_deps = !is_none(&values.depfile) || !is_none(&values.deps);
+    let restat = !is_none(&values.restat);
+    let generator = !is_none(&values.generator);
+    let command = compared_command(values.command, &values.rspfile_content)?;
+    let paths = edge.paths;
+    Ok(Build {
+        phony: false,
+        explicit_outs: paths.outs,
+        implicit_outs: paths.implicit_outs,
+        explicit: paths.ins,
+        implicit: paths.implicit,
+        order_only: paths.order_only,
+        validations: paths.validations,
+        command,
+        keeps_deps,
+        restat,
+        generator,
+        pool,
+        file: edge.place.file,
+        line: edge.place.line,
+    })
+}
+
+// An edge when all files are read.
+fn built(alloc: Global, scopes: &Scopes, pools: &Pools, edge: Edge) -> Result<Build, ReadFault>
+    ensures { MatchResult result
+        (λ build. built scopes.now pools.now (seen_edge edge) ≡ Ok (seen_build build))
+        (λ fault. IsFault fault (built scopes.now pools.now (seen_edge edge))) }
+{
+    let Some(rule) = &edge.rule else {
+        let build = phony_build(alloc, edge)?;
+        return Ok(build);
+    };
+    let values = variables_of(alloc, scopes, &edge, rule)?;
+    let pool = pool_number(edge.place, pools, &values.pool)?;
+    let build = command_build(edge, values, pool)?;
+    Ok(build)
+}
+
+// The edges in reading order.
+fn builds_of(
+    alloc: Global,
+    scopes: &Scopes,
+    pools: &Pools,
+    edges: Vec<Edge>,
+) -> Result<Vec<Build>, ReadFault>
+    ensures { MatchResult result
+        (λ builds. builds_of scopes.now pools.now (map seen_edge edges.items) ≡ Ok (map seen_build builds.items))
+        (λ fault. IsFault fault (builds_of scopes.now pools.now (map seen_edge edges.items))) }
+{
+    let mut builds = Vec::new(alloc);
+    let mut rest = edges.into_iter();
+    while let Some(edge) = rest.next() {
+        let build = built(alloc, scopes, pools, edge)?;
+        builds.push(build)?;
+    }
+    Ok(builds)
+}
+
+// Adds the inputs of an edge to a set.
+fn add_inputs(set: &mut IndexSet<Name>, build: &Build) -> Result<(), AllocError>
+    ensures { OnOk result ((path : List ℕ) → is_among set.new.keys path ≡ (is_among set.old.keys path || is_among (inputs (seen_build build.now)) path)) }
+{
+    add_names(set, &build.explicit)?;
+    add_names(set, &build.implicit)?;
+    add_names(set, &build.order_only)?;
+    Ok(())
+}
+
+// The inputs of all edges.
+fn inputs_of(alloc: Global, builds: &[Build]) -> Result<IndexSet<Name>, AllocError>
+    ensures { IfOk result (λ set. (path : List ℕ) → is_among set.keys path ≡ is_among (flat_map inputs (map seen_build builds.now)) path) }
+{
+    let mut set = IndexSet::new(alloc);
+    for build in builds {
+        add_inputs(&mut set, build)?;
+    }
+    Ok(set)
+}
+
+// Adds the outputs of an edge that are not in a set.
+fn push_outputs(left: &mut Vec<Name>, set: &IndexSet<Name>, build: &Build) -> Result<(), AllocError>
+    ensures { OnOk result (left.new.items ≡ left.old.items ++ filter (λ path. not (is_among set.now.keys path)) (outputs (seen_build build.now))) }
+{
+    push_others(left, set, &build.explicit_outs)?;
+    push_others(left, set, &build.implicit_outs)?;
+    Ok(())
+}
+
+// The outputs of all edges that are not in a set.
+fn other_outputs(
+    alloc: Global,
+    set: &IndexSet<Name>,
+    builds: &[Build],
+) -> Result<Vec<Name>, AllocError>
+    ensures { IfOk result (λ left. left.items ≡ filter (λ path. not (is_among set.now.keys path)) (flat_map outputs (map seen_build builds.now))) }
+{
+    let mut left = Vec::new(alloc);
+    for build in builds {
+        push_outputs(&mut left, set, build)?;
+    }
+    Ok(left)
+}
+
+// What is built where nothing is named.
+fn defaults_of(
+    alloc: Global,
+    named: Option<Vec<Name>>,
+    builds: &[Build],
+) -> Result<Vec<Name>, AllocError>
+    ensures { IfOk result (λ defaults. defaults.items ≡ defaults_of (option_map (λ names. names.items) named) (map seen_build builds.now)) }
+{
+    if let Some(names) = named {
+        return Ok(names);
+    }
+    let set = inputs_of(alloc, builds)?;
+    let left = other_outputs(alloc, &set, builds)?;
+    Ok(left)
+}
+
+/// The manifest when all files are read.
+pub(crate) fn ended(alloc: Global, above: Above) -> Result<Manifest, ReadFault>
+    ensures { MatchResult result
+        (λ manifest. ended (seen_above above) ≡ Ok (contents manifest))
+        (λ fault. IsFault fault (ended (seen_above above))) }
+{
+    let Above {
+        scopes,
+        pools,
+        edges,
+        defaults,
+    } = above;
+    let builds = builds_of(alloc, &scopes, &pools, edges)?;
+    let defaults = defaults_of(alloc, defaults, &builds)?;
+    let pools = pools.into_pairs(alloc)?;
+    Ok(Manifest {
+        builds,
+        pools,
+        defaults,
+    })
+}
