@@ -1,0 +1,93 @@
+//! Counts the edges and the outputs of manifests, to be put beside what `ninja -t targets all` lists.
+//!
+//! The words are files; `--` stands between one manifest's and the next's. The first file of each is the manifest itself.
+#![tactic(auto)]
+
+use rev_manifest::{Manifest, ReadFault, read};
+use std::fs;
+use std::io::Read;
+use std::process::ExitCode;
+use std::rt::{Env, Files};
+
+// Why no count is printed.
+#[derive(Debug, Drop)]
+enum CountFault {
+    // The words, a file, or the standard output.
+    Io(std::io::Error),
+    // The manifest.
+    Manifest(ReadFault),
+}
+
+impl From<std::io::Error> for CountFault {
+    fn from(error: std::io::Error) -> CountFault {
+        CountFault::Io(error)
+    }
+}
+
+impl From<std::alloc::AllocError> for CountFault {
+    fn from(_e: std::alloc::AllocError) -> CountFault {
+        CountFault::Manifest(ReadFault::Memory)
+    }
+}
+
+impl<T: Drop> From<std::alloc::AllocFailed<T>> for CountFault {
+    fn from(_e: std::alloc::AllocFailed<T>) -> CountFault {
+        CountFault::Manifest(ReadFault::Memory)
+    }
+}
+
+impl From<ReadFault> for CountFault {
+    fn from(fault: ReadFault) -> CountFault {
+        CountFault::Manifest(fault)
+    }
+}
+
+// How many outputs the edges have.
+fn outputs(manifest: &Manifest) -> usize {
+    let mut count = 0usize;
+    for build in &manifest.builds {
+        count = count
+            .saturating_add(build.explicit_outs.len())
+            .saturating_add(build.implicit_outs.len());
+    }
+    count
+}
+
+// Prints the counts of the manifest that these files are.
+fn count<R: Files + Print + AllocGlobal>(rt: &R, names: &[String]) -> Result<(), CountFault> {
+    let alloc = rt.alloc();
+    let mut files = Vec::new(alloc);
+    for name in names {
+        let mut content = Vec::new(alloc);
+        fs::open(rt, name.as_str())?.read_to_end(&mut content)?;
+        files.push((Vec::from_slice(alloc, name.as_bytes())?, content))?;
+    }
+    let manifest = read(alloc, &files)?;
+    println!(rt;
+        "edges {} outputs {} pools {} defaults {}",
+        manifest.builds.len(),
+        outputs(&manifest),
+        manifest.pools.len(),
+        manifest.defaults.len()
+    )?;
+    Ok(())
+}
+
+// Counts the manifests one after another.
+fn count_all<R: Files + Env + Print + AllocGlobal>(rt: &R) -> Result<(), CountFault> {
+    let words: Vec<String> = std::env::args(rt)?.collect(rt.alloc())?;
+    let Some((_program, files)) = words.split_first() else {
+        return Ok(());
+    };
+    for names in files.split(|word| word.as_str() == "--") {
+        count(rt, names)?;
+    }
+    Ok(())
+}
+
+fn main(rt: HostRuntime) -> ExitCode {
+    match count_all(&rt) {
+        Ok(()) => ExitCode::SUCCESS,
+        Err(_) => ExitCode::FAILURE,
+    }
+}
