@@ -10,7 +10,7 @@ use Rattle.rev_scopes.specs.Scopes.{RuleValue, variable_in}
 use Rattle.rev_scopes.specs.Expansion.{expanded, in_block, value_or, is_too_large}
 use Rattle.rev_manifest.specs.declared.fault.ManifestFault.{ManifestFault}
 use Rattle.rev_manifest.specs.declared.fault.FaultKind.{FaultKind}
-use Rattle.rev_manifest.specs.declared.fault.FaultKind.TheVariants.{LongPath, Dyndep, TooLarge}
+use Rattle.rev_manifest.specs.declared.fault.FaultKind.TheVariants.{LongPath, Unsupported, TooLarge}
 use Rattle.rev_manifest.specs.declared.fault.ReadFault.{ReadFault}
 use Rattle.rev_manifest.specs.declared.fault.ReadFault.TheVariants.{Memory, Manifest}
 use Rattle.rev_manifest.specs.declared.fault.Place.{Place}
@@ -189,7 +189,7 @@ module _ (place : Place) (above : AboveValue) (scope : ℕ) (build : BuildLineVa
   after_rule : false ≡ binds (codes "dyndep") bindings → rule_of place above scope build.rule ≡ Ok rule
       → edge_added place scope build bindings above ≡ and_then (edge_of place above scope build (values_of look bindings) rule) (λ edge. Ok (record above { edges = above.edges ++ edge ∷ [] }))
   after_rule no_dyndep is =
-      (λ i. unless_then place (if sym no_dyndep i then Some Dyndep else None)
+      (λ i. unless_then place (if sym no_dyndep i then Some Unsupported else None)
       (and_then (is i) (λ r. and_then (edge_of place above scope build (values_of look bindings) r) (λ edge. Ok (record above { edges = above.edges ++ edge ∷ [] })))))
 
   fault_of_block : (r : Result PathsValue ManifestFault) (s : Result PathsValue ManifestFault) (fault : ManifestFault) → Agree r s → r ≡ Err fault → s ≡ Err fault

@@ -12,7 +12,7 @@ use Rattle.rev_scopes.specs.declared.rule_variable.RuleVariable.{RuleVariable}
 use Rattle.rev_scopes.specs.declared.rule_variable.RuleVariable.TheVariants.{Command, Depfile, Deps, MsvcDepsPrefix, Description, Generator, Restat, Rspfile, RspfileContent, Pool}
 use Rattle.rev_scopes.specs.Expansion.{is_too_large}
 use Rattle.rev_scopes.specs.RuleNames.{name_of, is_needed}
-use Rattle.rev_manifest.specs.declared.fault.FaultKind.TheVariants.{NeedsItself, TooLarge}
+use Rattle.rev_manifest.specs.declared.fault.FaultKind.TheVariants.{VariableCycle, TooLarge}
 use Rattle.rev_manifest.specs.Held.{seen_values}
 use Rattle.rev_manifest.specs.Ends.{both, text_by, value_by, value_within, value_at, needed, or_empty, fault_at_end, values_at_end}
 
@@ -306,16 +306,16 @@ module _ (edge : EdgeValue) where
       λ variable h. ((all variable h).0, derived edge (name_of variable) ((all variable h).0) ((all variable h).1)) in
       (at Command refl, (at Depfile refl, (at Deps refl, (at Generator refl, (at Restat refl, (at RspfileContent refl, (at Pool refl, tt)))))))
 
-  pub fault_needs : SomeNeedsItself edge → fault_at_end edge ≡ Some NeedsItself
+  pub fault_needs : SomeNeedsItself edge → fault_at_end edge ≡ Some VariableCycle
   fault_needs h =
-      ap (λ b. if b then Some NeedsItself else (if list_any (λ name. is_too_large (or_empty (value_at edge name))) needed then Some TooLarge else None))
+      ap (λ b. if b then Some VariableCycle else (if list_any (λ name. is_too_large (or_empty (value_at edge name))) needed then Some TooLarge else None))
       (any_needed (λ name. not (is_some (value_at edge name))) h.0 h.1 (ap not (none_at edge (name_of h.0) h.2)))
 
   pub fault_large : AllHaveValues edge → SomeIsTooLarge edge → fault_at_end edge ≡ Some TooLarge
   fault_large all h =
       let found : value_at edge (name_of h.0) ≡ Some h.1 = derived edge (name_of h.0) h.1 h.3 in
       let large : is_too_large (or_empty (value_at edge (name_of h.0))) ≡ true = ap (λ o. is_too_large (or_empty o)) found ∙ lt-ltb 1048576 (length h.1) h.4 in
-      (λ i. if none_missing (value_at edge) needed (all_found all) i then Some NeedsItself
+      (λ i. if none_missing (value_at edge) needed (all_found all) i then Some VariableCycle
       else (if any_needed (λ name. is_too_large (or_empty (value_at edge name))) h.0 h.2 large i then Some TooLarge else None))
 
   -- what is given for each variable is its value
@@ -332,7 +332,7 @@ module _ (edge : EdgeValue) where
         let found : AllFound (value_at edge) needed = all_found (λ variable h. (given_for variable values, right variable h)) in
         let fit : AllSmall (value_at edge) needed =
         (small_at Command refl, (small_at Depfile refl, (small_at Deps refl, (small_at Generator refl, (small_at Restat refl, (small_at RspfileContent refl, (small_at Pool refl, tt))))))) in
-        (λ i. if none_missing (value_at edge) needed found i then Some NeedsItself else (if none_large (value_at edge) needed fit i then Some TooLarge else None))
+        (λ i. if none_missing (value_at edge) needed found i then Some VariableCycle else (if none_large (value_at edge) needed fit i then Some TooLarge else None))
 
     pub values_are : values_at_end edge ≡ seen_values values
     values_are =

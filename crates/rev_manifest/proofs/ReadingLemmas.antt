@@ -3,7 +3,7 @@ use Rattle.std.proofs.Common.{◌≡◌, ℕ, suc, ◌-◌, List, [], ◌∷◌,
 use Rattle.rev_syntax.specs.declared.fault.SyntaxFault.{SyntaxFault}
 use Rattle.rev_syntax.specs.Lines.{lines_of}
 use Rattle.rev_syntax.specs.Statements.{StatementValue, statements_of}
-use Rattle.rev_manifest.specs.declared.fault.FaultKind.TheVariants.{TooDeep}
+use Rattle.rev_manifest.specs.declared.fault.FaultKind.TheVariants.{IncludeDepth}
 use Rattle.rev_manifest.specs.declared.fault.ManifestFault.{ManifestFault}
 use Rattle.rev_manifest.specs.declared.fault.ReadFault.{ReadFault}
 use Rattle.rev_manifest.specs.declared.fault.ReadFault.TheVariants.{Memory, Manifest}
@@ -14,7 +14,7 @@ use Rattle.rev_manifest.specs.Above.{AboveValue}
 use Rattle.rev_manifest.specs.Statements.{Step}
 use Rattle.rev_manifest.specs.Reading.{Reader, reading, with_statement, with_statements, with_inclusion, IsNextFault}
 
-pub too_deep : (files : List FileValue) (left : ℕ) (above : AboveValue) (inclusion : Inclusion) → left ≡ 0 → reading files left above inclusion ≡ refused inclusion.place TooDeep
+pub too_deep : (files : List FileValue) (left : ℕ) (above : AboveValue) (inclusion : Inclusion) → left ≡ 0 → reading files left above inclusion ≡ refused inclusion.place IncludeDepth
 unfolding reading
 too_deep files left above inclusion e = ap (λ (n : ℕ). reading files n above inclusion) e
 

@@ -6,7 +6,7 @@ use Rattle.rev_scopes.specs.Edges.{EdgeValue, Source, Known, Needs, source}
 use Rattle.rev_scopes.specs.Expansion.{is_too_large}
 use Rattle.rev_scopes.specs.Scopes.{ScopeValue, RuleValue}
 use Rattle.rev_manifest.specs.declared.fault.FaultKind.{FaultKind}
-use Rattle.rev_manifest.specs.declared.fault.FaultKind.TheVariants.{NeedsItself, TooLarge}
+use Rattle.rev_manifest.specs.declared.fault.FaultKind.TheVariants.{VariableCycle, TooLarge}
 use Rattle.rev_manifest.specs.Above as above
 
 -- two values one after another, where there are both
@@ -58,7 +58,7 @@ at_end scopes edge rule = record { ins = edge.paths.ins; outs = edge.paths.outs;
 -- why an edge has no values: one that it needs needs itself, or, where none does, one is too large
 abbrev pub fault_at_end : EdgeValue → Option FaultKind
 fault_at_end edge =
-    if list_any (λ name. not (is_some (value_at edge name))) needed then Some NeedsItself
+    if list_any (λ name. not (is_some (value_at edge name))) needed then Some VariableCycle
     else (if list_any (λ name. is_too_large (or_empty (value_at edge name))) needed then Some TooLarge else None)
 
 abbrev pub values_at_end : EdgeValue → EndValues

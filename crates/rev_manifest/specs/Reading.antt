@@ -4,7 +4,7 @@ use Rattle.rev_syntax.specs.declared.fault.SyntaxFault.{SyntaxFault}
 use Rattle.std.specs.Borrow.{Bor}
 use Rattle.rev_syntax.specs.Lines.{LineValue, lines_of}
 use Rattle.rev_syntax.specs.Statements as syntax
-use Rattle.rev_manifest.specs.declared.fault.FaultKind.TheVariants.{TooDeep}
+use Rattle.rev_manifest.specs.declared.fault.FaultKind.TheVariants.{IncludeDepth}
 use Rattle.rev_manifest.specs.declared.fault.ManifestFault.{ManifestFault}
 use Rattle.rev_manifest.specs.declared.fault.ReadFault.{ReadFault}
 use Rattle.rev_manifest.specs.declared.fault.ReadFault.TheVariants.{Memory, Manifest}
@@ -49,6 +49,6 @@ IsAdded files file scope old new meant (Some found) =
 
 -- what a file declares, where so many files deep may still be read, itself among them
 unfoldable pub reading : List FileValue → ℕ → Reader
-reading files zero above inclusion = refused inclusion.place TooDeep
+reading files zero above inclusion = refused inclusion.place IncludeDepth
 reading files (suc left) above inclusion =
     with_statements files (reading files left) inclusion.file inclusion.scope above (syntax.statements_of (lines_of (content_at files inclusion.file)))

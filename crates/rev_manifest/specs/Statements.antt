@@ -5,7 +5,7 @@ use Rattle.rev_syntax.specs.Statements.{BindingValue, BuildLineValue, FormValue,
 use Rattle.rev_scopes.specs.Scopes.{RuleValue, scope_at, empty_scope, variable_in, rule_in, with_variable, with_rule, with_scope, is_taken}
 use Rattle.rev_scopes.specs.Expansion.{expanded, in_block, is_too_large}
 use Rattle.rev_manifest.specs.declared.fault.FaultKind.{FaultKind}
-use Rattle.rev_manifest.specs.declared.fault.FaultKind.TheVariants.{UnknownRule, DoubleRule, UnknownBinding, NoCommand, BadDepth, NoFile, Dyndep, TooLarge, DoublePool}
+use Rattle.rev_manifest.specs.declared.fault.FaultKind.TheVariants.{UnknownRule, DoubleRule, UnknownVariable, NoCommand, BadDepth, NoFile, Unsupported, TooLarge, DoublePool}
 use Rattle.rev_manifest.specs.declared.fault.ManifestFault.{ManifestFault}
 use Rattle.rev_manifest.specs.declared.fault.Place.{Place}
 use Rattle.rev_manifest.specs.declared.inclusion.Inclusion.{Inclusion}
@@ -23,8 +23,8 @@ look_up above scope name = variable_in above.scopes scope name
 -- why a rule is not declared
 abbrev pub rule_fault : AboveValue → ℕ → List ℕ → List BindingValue → Option FaultKind
 rule_fault above scope name bindings =
-    if binds (codes "dyndep") bindings then Some Dyndep
-    else (if not (are_rule_variables bindings) then Some UnknownBinding
+    if binds (codes "dyndep") bindings then Some Unsupported
+    else (if not (are_rule_variables bindings) then Some UnknownVariable
     else (if is_taken name (scope_at above.scopes scope) then Some DoubleRule
     else (if not (binds (codes "command") bindings) then Some NoCommand else None)))
 
@@ -36,8 +36,8 @@ rule_declared place scope name bindings above =
 -- why a pool is not declared, before its depth is asked
 abbrev pub pool_fault : AboveValue → List ℕ → List BindingValue → Option FaultKind
 pool_fault above name bindings =
-    if binds (codes "dyndep") bindings then Some Dyndep
-    else (if not (are_depths bindings) then Some UnknownBinding
+    if binds (codes "dyndep") bindings then Some Unsupported
+    else (if not (are_depths bindings) then Some UnknownVariable
     else (if is_some (pool_of name above.pools) then Some DoublePool else None))
 
 -- a depth's value; one that is too large can still have leading zeros alone before a depth
@@ -63,7 +63,7 @@ value_limited place value = unless place (if is_too_large value then Some TooLar
 -- `NAME = value`: the scope has that value for the name
 abbrev pub variable_bound : Place → ℕ → BindingValue → AboveValue → Result AboveValue ManifestFault
 variable_bound place scope binding above =
-    unless_then place (if bytes_eq binding.name (codes "dyndep") then Some Dyndep else None)
+    unless_then place (if bytes_eq binding.name (codes "dyndep") then Some Unsupported else None)
     (and_then (value_limited place (expanded (look_up above scope) binding.value)) (λ value.
     Ok (record above { scopes = with_scope scope (with_variable binding.name value) above.scopes })))
 
@@ -107,7 +107,7 @@ edge_of place above scope build block rule =
 
 -- why a block is refused
 abbrev pub dyndep_fault : List BindingValue → Option FaultKind
-dyndep_fault bindings = if binds (codes "dyndep") bindings then Some Dyndep else None
+dyndep_fault bindings = if binds (codes "dyndep") bindings then Some Unsupported else None
 
 -- `build PATHS: NAME PATHS`: one more edge
 abbrev pub edge_added : Place → ℕ → BuildLineValue → List BindingValue → AboveValue → Result AboveValue ManifestFault

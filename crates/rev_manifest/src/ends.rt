@@ -122,7 +122,7 @@ fn variables_of(
     match edge_variables(alloc, &at_end) {
         Ok(values) => Ok(values),
         Err(ValueFault::Memory) => Err(ReadFault::Memory),
-        Err(ValueFault::NeedsItself) => Err(edge.place.fault(FaultKind::NeedsItself)),
+        Err(ValueFault::NeedsItself) => Err(edge.place.fault(FaultKind::VariableCycle)),
         Err(ValueFault::TooLarge) => Err(edge.place.fault(FaultKind::TooLarge)),
     }
 }

@@ -25,11 +25,11 @@ pub enum FaultKind {
     /// 14: a rule is declared twice, or is named `phony`.
     DoubleRule,
     /// 15: a binding under a rule is none of a rule's variables, or one under a pool is not `depth`.
-    UnknownBinding,
+    UnknownVariable,
     /// 16: a rule has no command.
     NoCommand,
     /// 17: a variable that an edge needs has no value, since it needs itself.
-    NeedsItself,
+    VariableCycle,
     /// 18: an edge is in a pool that is nowhere declared.
     UnknownPool,
     /// 19: a pool has no depth, or one that is no decimal number of at most 1,000,000.
@@ -37,9 +37,9 @@ pub enum FaultKind {
     /// 20: no file was given, or a statement names none of those that were.
     NoFile,
     /// 21: files lie more than 16 deep in one another.
-    TooDeep,
+    IncludeDepth,
     /// 22: something is bound to the name `dyndep`.
-    Dyndep,
+    Unsupported,
     /// 23: the files, or an expanded value, are too large.
     TooLarge,
     /// 24: a pool is declared twice, or is named `console`.
@@ -59,14 +59,14 @@ impl FaultKind {
             FaultKind::BadEscape => 12,
             FaultKind::UnknownRule => 13,
             FaultKind::DoubleRule => 14,
-            FaultKind::UnknownBinding => 15,
+            FaultKind::UnknownVariable => 15,
             FaultKind::NoCommand => 16,
-            FaultKind::NeedsItself => 17,
+            FaultKind::VariableCycle => 17,
             FaultKind::UnknownPool => 18,
             FaultKind::BadDepth => 19,
             FaultKind::NoFile => 20,
-            FaultKind::TooDeep => 21,
-            FaultKind::Dyndep => 22,
+            FaultKind::IncludeDepth => 21,
+            FaultKind::Unsupported => 22,
             FaultKind::TooLarge => 23,
             FaultKind::DoublePool => 24,
         }

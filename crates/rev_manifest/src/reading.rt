@@ -105,7 +105,7 @@ pub(crate) fn read_file(
         return Ok(());
     };
     if left == 0 {
-        return Err(inclusion.place.fault(FaultKind::TooDeep));
+        return Err(inclusion.place.fault(FaultKind::IncludeDepth));
     }
     let file = inclusion.file as u64;
     let lines = lines_of(alloc, files.content(inclusion.file))?;

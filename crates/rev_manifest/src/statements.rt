@@ -39,10 +39,10 @@ fn declare_rule(
     ensures grows { OnOk result (length above.old.scopes ≤ length above.new.scopes) }
 {
     if binds(b"dyndep", bindings) {
-        return Err(place.fault(FaultKind::Dyndep));
+        return Err(place.fault(FaultKind::Unsupported));
     }
     let Some(rule) = rule_with(alloc, bindings)? else {
-        return Err(place.fault(FaultKind::UnknownBinding));
+        return Err(place.fault(FaultKind::UnknownVariable));
     };
     match above.scopes.add_rule(alloc, scope, name, rule) {
         Ok(()) => {}
@@ -118,10 +118,10 @@ fn declare_pool(
     ensures grows { OnOk result (length above.old.scopes ≤ length above.new.scopes) }
 {
     if binds(b"dyndep", bindings) {
-        return Err(place.fault(FaultKind::Dyndep));
+        return Err(place.fault(FaultKind::Unsupported));
     }
     if !are_depths(bindings) {
-        return Err(place.fault(FaultKind::UnknownBinding));
+        return Err(place.fault(FaultKind::UnknownVariable));
     }
     if above.pools.number(name).is_some() {
         return Err(place.fault(FaultKind::DoublePool));
@@ -146,7 +146,7 @@ fn bind_variable(
     ensures grows { OnOk result (length above.old.scopes ≤ length above.new.scopes) }
 {
     if binding.name == b"dyndep".as_slice() {
-        return Err(place.fault(FaultKind::Dyndep));
+        return Err(place.fault(FaultKind::Unsupported));
     }
     let value = value_of(alloc, place, &binding.value, &above.scopes, scope)?;
     above.scopes.bind(alloc, scope, binding.name, value)?;
@@ -256,7 +256,7 @@ fn add_edge(
     ensures grows { OnOk result (length above.old.scopes ≤ length above.new.scopes) }
 {
     if binds(b"dyndep", bindings) {
-        return Err(place.fault(FaultKind::Dyndep));
+        return Err(place.fault(FaultKind::Unsupported));
     }
     let rule = rule_of(above, place, scope, build.rule)?;
     let block = block_of(alloc, bindings, &above.scopes, scope)?;

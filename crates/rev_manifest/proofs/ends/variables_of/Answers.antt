@@ -1,6 +1,6 @@
 use Rattle.std.proofs.Common.{◌≡◌, Ok, Err, ap, subst}
 use Rattle.rev_scopes.specs.Edges.{EdgeValue}
-use Rattle.rev_manifest.specs.declared.fault.FaultKind.TheVariants.{NeedsItself, TooLarge}
+use Rattle.rev_manifest.specs.declared.fault.FaultKind.TheVariants.{VariableCycle, TooLarge}
 use Rattle.rev_manifest.specs.Answers.{refused, unless}
 use Rattle.rev_manifest.specs.Ends.{at_end, fault_at_end, values_at_end}
 use Rattle.rev_manifest.specs.Held.{seen_edge, seen_values}
@@ -24,7 +24,7 @@ returns-in-Err-NeedsItself c =
     record { ins = c.deref.result.now; outs = c.deref-2.result.now; block = edge.block; rule = c.args.rule.now; scopes = c.args.scopes.now; scope = edge.scope } in
     let same : given ≡ at_end c.args.scopes.now (seen_edge edge) c.args.rule.now =
     (λ i. record { ins = c.deref.ensures.value i; outs = c.deref-2.ensures.value i; block = edge.block; rule = c.args.rule.now; scopes = c.args.scopes.now; scope = edge.scope }) in
-    rw c.fault.ensures (subst (λ (e : EdgeValue). unless edge.place (fault_at_end e) (values_at_end e) ≡ refused edge.place NeedsItself) same
+    rw c.fault.ensures (subst (λ (e : EdgeValue). unless edge.place (fault_at_end e) (values_at_end e) ≡ refused edge.place VariableCycle) same
     (ap (λ o. unless edge.place o (values_at_end given)) (fault_needs given (c.in-Err-NeedsItself.ensures.needs_itself (ap Err c.in-Err-NeedsItself.field-0-is)))))
 
 pub returns-in-Err-TooLarge : goal.returns-in-Err-TooLarge
