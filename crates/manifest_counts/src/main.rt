@@ -60,6 +60,7 @@ fn count<R: Files + Print + AllocGlobal>(rt: &R, names: &[String]) -> Result<(),
     for name in names {
         let mut content = Vec::new(alloc);
         fs::open(rt, name.as_str())?.read_to_end(&mut content)?;
+        content.shrink_to_fit();
         files.push((Vec::from_slice(alloc, name.as_bytes())?, content))?;
     }
     let manifest = read(alloc, &files)?;

@@ -2,6 +2,7 @@ pub mod Above
 pub mod Answers
 pub mod Blocks
 pub mod Held
+pub mod Laws
 pub mod Ends
 pub mod Fault
 pub mod Files

@@ -9,6 +9,7 @@ mod ends;
 mod fault;
 mod files;
 mod inclusion;
+pub mod laws;
 mod manifest;
 mod names;
 mod pools;
