@@ -289,6 +289,33 @@ fn a_stamp_shows_through_a_phony_chain(rt: HostRuntime) -> Result<(), Fail> {
     Ok(())
 }
 
+// An edge that runs and a ladder of phony edges, each with two inputs that are the next.
+fn ladder(alloc: Global) -> Result<Manifest, AllocError> {
+    let mut content = Vec::from_slice(alloc, b"rule r\n  command = r\nbuild x: r p0\n")?;
+    for rung in 0..40_u32 {
+        let next = rung + 1;
+        let line = format!(in alloc; "build p{rung}: r p{next} p{next}\n")?;
+        content.extend_from_slice(line.as_bytes())?;
+    }
+    let mut manifest = manifest_of(alloc, &content)?;
+    for (edge, build) in manifest.builds.iter_mut().enumerate() {
+        build.phony = edge > 0;
+    }
+    Ok(manifest)
+}
+
+#[test]
+fn a_ladder_is_walked_rung_by_rung(rt: HostRuntime) -> Result<(), Fail> {
+    let alloc = rt.alloc();
+    let manifest = ladder(alloc)?;
+    let mut opening = opening_of(alloc, &[(b"p40", 30), (b"x", 20)])?;
+    add_built(alloc, &mut opening, b"x", 20, b"r")?;
+    let cells = Cells::new(alloc, &opening)?;
+    let found = explained(alloc, &manifest, &cells, 0)?;
+    assert_eq!(rt; found.as_slice(), [Reason::Older(0, 0)].as_slice());
+    Ok(())
+}
+
 #[test]
 fn a_phony_edge_without_inputs_is_dirty(rt: HostRuntime) -> Result<(), Fail> {
     let alloc = rt.alloc();

@@ -145,7 +145,7 @@ fn step(
 }
 
 /// What is known of phony edges once those through which inputs are seen are known. Each phony edge behind the inputs is
-/// looked at once.
+/// entered once and left once.
 pub(crate) fn know(
     alloc: Global,
     graph: &Graph,
