@@ -12,6 +12,11 @@ const CYCLE: &[u8; 47] = b"rule r\n  command = r\nbuild x: r y\nbuild y: r x\n";
 const BELOW_A_CYCLE: &[u8; 62] =
     b"rule r\n  command = r\nbuild w: r x\nbuild y x: r z\nbuild z: r y\n";
 
+const ORDER_ONLY_CYCLE: &[u8; 52] = b"rule r\n  command = r\nbuild x: r || y\nbuild y: r | x\n";
+
+const POOLS: &[u8; 124] =
+    b"pool any\n  depth = 0\npool one\n  depth = 2\nrule r\n  command = r\nbuild x | w: r a |@ v\n  pool = any\nbuild v: r b\n  pool = one\n";
+
 fn built(alloc: Global, content: &[u8]) -> Result<Graph, GraphFault> {
     let name = Vec::from_slice(alloc, b"build.ninja")?;
     let content = Vec::from_slice(alloc, content)?;
@@ -127,5 +132,37 @@ fn least_edge_on_a_cycle_is_named(rt: HostRuntime) -> Result<(), Fail> {
     let alloc = rt.alloc();
     assert_eq!(rt; fault_of(alloc, CYCLE)?, (41, named(alloc, b"x")?));
     assert_eq!(rt; fault_of(alloc, BELOW_A_CYCLE)?, (41, named(alloc, b"y")?));
+    Ok(())
+}
+
+#[test]
+fn order_only_inputs_close_a_cycle(rt: HostRuntime) -> Result<(), Fail> {
+    let alloc = rt.alloc();
+    let (code, path) = fault_of(alloc, ORDER_ONLY_CYCLE)?;
+    assert_eq!(rt; code, 41);
+    assert_eq!(rt; path, named(alloc, b"x")?);
+    Ok(())
+}
+
+#[test]
+fn implicit_outputs_and_validations_are_known(rt: HostRuntime) -> Result<(), Fail> {
+    let alloc = rt.alloc();
+    let graph = built(alloc, POOLS)?;
+    assert_eq!(rt; graph.producer(&named(alloc, b"w")?), Some(0));
+    assert_eq!(rt; graph.producer(&named(alloc, b"v")?), Some(1));
+    assert!(rt; graph.known(&named(alloc, b"v")?));
+    Ok(())
+}
+
+#[test]
+fn a_pool_of_depth_0_has_no_slots(rt: HostRuntime) -> Result<(), Fail> {
+    let alloc = rt.alloc();
+    let graph = built(alloc, POOLS)?;
+    assert_eq!(rt; graph.edges(), 2);
+    if graph.edges() == 2 {
+        assert_eq!(rt; graph.pool(0), None);
+        assert_eq!(rt; graph.pool(1), Some((2, 2)));
+        assert_eq!(rt; graph.validations(0).first(), Some(&named(alloc, b"v")?));
+    }
     Ok(())
 }
