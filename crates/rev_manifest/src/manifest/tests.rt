@@ -221,3 +221,57 @@ fn no_file(rt: HostRuntime) -> Result<(), Fail> {
     assert_eq!(rt; answer_to(rt.alloc(), &[])?, Fault(20, 0, 0));
     Ok(())
 }
+
+// Each value is twice as long as the one above it; the last has 1,048,576 bytes.
+const DOUBLES: &[u8] =
+    b"a0 = x\na1 = $a0$a0\na2 = $a1$a1\na3 = $a2$a2\na4 = $a3$a3\na5 = $a4$a4\na6 = $a5$a5\na7 = $a6$a6\na8 = $a7$a7\na9 = $a8$a8\na10 = $a9$a9\na11 = $a10$a10\na12 = $a11$a11\na13 = $a12$a12\na14 = $a13$a13\na15 = $a14$a14\na16 = $a15$a15\na17 = $a16$a16\na18 = $a17$a17\na19 = $a18$a18\na20 = $a19$a19\n";
+
+#[test]
+fn values_up_to_their_limit(rt: HostRuntime) -> Result<(), Fail> {
+    let alloc = rt.alloc();
+    let mut content = Vec::from_slice(alloc, DOUBLES)?;
+    assert_eq!(rt;
+        answer_to(alloc, &[(b"build.ninja", &content)])?,
+        Read(0, 1, 0)
+    );
+    content.extend_from_slice(b"build $a20: phony\n")?;
+    assert_eq!(rt;
+        answer_to(alloc, &[(b"build.ninja", &content)])?,
+        Fault(2, 0, 22)
+    );
+    let mut content = Vec::from_slice(alloc, DOUBLES)?;
+    content.extend_from_slice(b"a21 = $a20$a20\n")?;
+    assert_eq!(rt;
+        answer_to(alloc, &[(b"build.ninja", &content)])?,
+        Fault(23, 0, 22)
+    );
+    Ok(())
+}
+
+#[test]
+fn files_in_one_another(rt: HostRuntime) -> Result<(), Fail> {
+    let files: [(&[u8], &[u8]); 18] = [
+        (b"a", b"include b\n"),
+        (b"b", b"subninja c\n"),
+        (b"c", b"include d\n"),
+        (b"d", b"include e\n"),
+        (b"e", b"include f\n"),
+        (b"f", b"include g\n"),
+        (b"g", b"include h\n"),
+        (b"h", b"include i\n"),
+        (b"i", b"include j\n"),
+        (b"j", b"include k\n"),
+        (b"k", b"include l\n"),
+        (b"l", b"include m\n"),
+        (b"m", b"include n\n"),
+        (b"n", b"include o\n"),
+        (b"o", b"include p\n"),
+        (b"p", b"include q\n"),
+        (b"q", b"include r\n"),
+        (b"r", b"build x: phony\n"),
+    ];
+    assert_eq!(rt; answer_to(rt.alloc(), &files)?, Fault(21, 16, 1));
+    let (_, below) = files.as_slice().split_at(1);
+    assert_eq!(rt; answer_to(rt.alloc(), below)?, Read(1, 1, 1));
+    Ok(())
+}
