@@ -18,7 +18,11 @@ const TWICE: &[u8; 53] = b"rule r\n  command = r $in\nbuild m: r a\nbuild x: r m
 const CHAIN: &[u8; 77] =
     b"rule r\n  command = r $in\nbuild p: r a\nbuild q: r p\nbuild s: r q\nbuild x: r s\n";
 
-const RESPONSES: &[u8; 43] = b"rule r\n  command = r @o.rsp\nbuild o: r a b\n";
+const RESPONSES: &[u8; 97] =
+    b"rule r\n  command = r @$out.rsp\n  rspfile = $out.rsp\n  rspfile_content = $in\nbuild o: r a$ b it's\n";
+
+const GENERATED: &[u8; 113] =
+    b"rule r\n  command = r @$out.rsp\n  rspfile = $out.rsp\n  rspfile_content = $in\n  generator = 1\nbuild o: r a$ b it's\n";
 
 const BARE: &[u8; 32] = b"rule r\n  command = r\nbuild x: r\n";
 
@@ -124,7 +128,7 @@ fn a_missing_object_is_dirty(rt: HostRuntime) -> Result<(), Fail> {
 fn another_response_file_is_another_command(rt: HostRuntime) -> Result<(), Fail> {
     let alloc = rt.alloc();
     let manifest = manifest_of(alloc, RESPONSES)?;
-    let mut opening = opening_of(alloc, &[(b"a", 1), (b"b", 1), (b"o", 5)])?;
+    let mut opening = opening_of(alloc, &[(b"a b", 1), (b"it's", 1), (b"o", 5)])?;
     add_built(alloc, &mut opening, b"o", 5, b"r @o.rsp;rspfile=x")?;
     let cells = Cells::new(alloc, &opening)?;
     let found = explained(alloc, &manifest, &cells, 0)?;
@@ -135,11 +139,8 @@ fn another_response_file_is_another_command(rt: HostRuntime) -> Result<(), Fail>
 #[test]
 fn a_generator_asks_no_command(rt: HostRuntime) -> Result<(), Fail> {
     let alloc = rt.alloc();
-    let mut manifest = manifest_of(alloc, RESPONSES)?;
-    for build in &mut manifest.builds {
-        build.generator = true;
-    }
-    let mut opening = opening_of(alloc, &[(b"a", 1), (b"b", 1), (b"o", 5)])?;
+    let manifest = manifest_of(alloc, GENERATED)?;
+    let mut opening = opening_of(alloc, &[(b"a b", 1), (b"it's", 1), (b"o", 5)])?;
     add_built(alloc, &mut opening, b"o", 5, b"r @o.rsp;rspfile=x")?;
     let cells = Cells::new(alloc, &opening)?;
     let found = explained(alloc, &manifest, &cells, 0)?;
