@@ -1,5 +1,8 @@
 -- Depths, piece by piece.
-use Rattle.std.proofs.Common.{◌≡◌, ℕ, ◌+◌, ◌-◌, ◌*◌, Bool, true, false, ◌&&◌, List, [], ◌∷◌, ◌++◌, Option, Some, None, Ok, Err, nat_le, refl, sym, ap, ◌∙◌, if◌then◌else◌}
+use Rattle.std.proofs.Common.{◌≡◌, ℕ, ◌+◌, ◌-◌, ◌*◌, Bool, true, false, not, ◌&&◌, ◌||◌, ◌≤◌, ◌<◌, List, [], ◌∷◌, ◌++◌, Option, Some, None, Ok, Err, nat_le, nat_lt, refl, sym, ap, ◌∙◌, arith, if◌then◌else◌}
+use Rattle.std.specs.List.{list_all}
+use Rattle.std.proofs.lemmas.Bool.{lt-ltb, ltb-true, leb-true, leb-false}
+use Rattle.std.proofs.Math.Bool.{or-true}
 use Rattle.std.specs.Char.{is_ascii_digit}
 use Rattle.rev_syntax.specs.Texts.{PieceValue}
 use Rattle.rev_syntax.specs.Statements.{BindingValue}
@@ -13,7 +16,43 @@ use Rattle.rev_manifest.specs.Blocks.{last_text}
 use Rattle.rev_manifest.specs.Statements.{depth_read, depth_given, value_limited}
 use Rattle.std.proofs.lemmas.Grind.{flat_map-append}
 use Rattle.rev_manifest.specs.Names.{is_none}
-use Rattle.rev_manifest.specs.Pools.{depth_from, depth_of}
+use Rattle.rev_manifest.specs.Depths.{depth_from}
+use Rattle.rev_manifest.specs.Pools.{decimal_from, depth_of}
+
+-- a number does not become less by further digits
+at_least : (n : ℕ) (bs : List ℕ) → n ≤ decimal_from n bs
+at_least n [] = omega arith
+at_least n (b ∷ bs) = omega (arith, at_least (n * 10 + (b - 48)) bs)
+
+-- what the digits say after a number, as a whole
+abbrev whole : ℕ → List ℕ → Option ℕ
+whole n bs = if not (list_all is_ascii_digit bs) || nat_lt 1000000 (decimal_from n bs) then None else Some (decimal_from n bs)
+
+too_much : (n : ℕ) (bs : List ℕ) → 1000000 < n → whole n bs ≡ None
+too_much n bs more =
+    ap (λ t. if not (list_all is_ascii_digit bs) || t then None else Some (decimal_from n bs)) (lt-ltb 1000000 (decimal_from n bs) (omega (arith, at_least n bs)))
+    ∙ ap (λ t. if t then None else Some (decimal_from n bs)) (or-true (not (list_all is_ascii_digit bs)))
+
+digits_are : (n : ℕ) (bs : List ℕ) → n ≤ 1000000 → depth_from n bs ≡ whole n bs
+digits_are n [] few = by (nat_lt 1000000 n) refl
+  where
+    by : (t : Bool) → nat_lt 1000000 n ≡ t → Some n ≡ (if t then None else Some n)
+    by true more = let over : 1000000 < n = ltb-true 1000000 n more in absurd (omega arith)
+    by false more = refl
+digits_are n (b ∷ bs) few = by (is_ascii_digit b) (nat_le (n * 10 + (b - 48)) 1000000) refl (digits_are (n * 10 + (b - 48)) bs)
+  where
+    by : (d t : Bool) → nat_le (n * 10 + (b - 48)) 1000000 ≡ t
+        → (n * 10 + (b - 48) ≤ 1000000 → depth_from (n * 10 + (b - 48)) bs ≡ whole (n * 10 + (b - 48)) bs)
+        → (if d && t then depth_from (n * 10 + (b - 48)) bs else None)
+        ≡ (if not (d && list_all is_ascii_digit bs) || nat_lt 1000000 (decimal_from (n * 10 + (b - 48)) bs) then None else Some (decimal_from (n * 10 + (b - 48)) bs))
+    by false t e later = refl
+    by true true e later = later (leb-true (n * 10 + (b - 48)) 1000000 e)
+    by true false e later = sym (too_much (n * 10 + (b - 48)) bs (leb-false (n * 10 + (b - 48)) 1000000 e))
+
+-- a depth is read digit by digit
+depth_is : (text : List ℕ) → depth_of text ≡ (if is_none text then None else depth_from 0 text)
+depth_is [] = refl
+depth_is (b ∷ bs) = sym (digits_are 0 (b ∷ bs) (omega arith))
 
 some_more : (n : ℕ) (xs ys : List ℕ) (m : ℕ) → depth_from n xs ≡ Some m → depth_from n (xs ++ ys) ≡ depth_from m ys
 some_more n [] ys m e = let same : n ≡ m = cc in ap (λ k. depth_from k ys) same
@@ -66,10 +105,10 @@ module _ (place : Place) (look_up : List ℕ → List ℕ) (text : List PieceVal
     where
       by : (t : List PieceValue) → r ≡ (if is_none t then None else depth_from 0 (expanded look_up t)) → is_none (expanded look_up t) ≡ false → depth_of (expanded look_up t) ≡ r
       by [] e some = cc
-      by (piece ∷ pieces) e some = ap (λ b. if b then None else depth_from 0 (expanded look_up (piece ∷ pieces))) some ∙ sym e
+      by (piece ∷ pieces) e some = depth_is (expanded look_up (piece ∷ pieces)) ∙ ap (λ b. if b then None else depth_from 0 (expanded look_up (piece ∷ pieces))) some ∙ sym e
 
   pub depth_empty : is_none (expanded look_up text) ≡ true → depth_given place look_up (Some text) ≡ refused place BadDepth
-  depth_empty e = ap (λ b. depth_read place (expanded look_up text) (if b then None else depth_from 0 (expanded look_up text))) e
+  depth_empty e = ap (depth_read place (expanded look_up text)) (depth_is (expanded look_up text)) ∙ ap (λ b. depth_read place (expanded look_up text) (if b then None else depth_from 0 (expanded look_up text))) e
 
   pub depth_none : None ≡ (if is_none text then None else depth_from 0 (expanded look_up text)) → depth_given place look_up (Some text) ≡ refused place BadDepth
   depth_none e = by (is_none (expanded look_up text)) refl

@@ -3,6 +3,7 @@ pub mod Answers
 pub mod Blocks
 pub mod Held
 pub mod Laws
+pub mod Depths
 pub mod Ends
 pub mod Fault
 pub mod Files

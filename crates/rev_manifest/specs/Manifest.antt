@@ -1,6 +1,7 @@
 -- What files say as a manifest: its value, or its first fault.
 use Rattle.std.specs.Prelude.{ℕ, Bool, true, false, not, ◌||◌, List, [], ◌∷◌, ◌++◌, Option, Some, None, Result, Ok, Err, codes, if◌then◌else◌}
 use Rattle.std.specs.List.{flat_map}
+use Rattle.rev_scopes.specs.Edges.{compared}
 use Rattle.rev_scopes.specs.Scopes.{ScopeValue, RuleValue}
 use Rattle.rev_manifest.specs.declared.fault.FaultKind.TheVariants.{NoFile, TooLarge, UnknownPool}
 use Rattle.rev_manifest.specs.declared.fault.ManifestFault.{ManifestFault}
@@ -57,10 +58,6 @@ phony_build edge =
       line = edge.place.line;
     }
 
--- the command that is compared: what stands in a response file counts too
-abbrev pub compared_command : List ℕ → List ℕ → List ℕ
-compared_command command content = if is_none content then command else command ++ codes ";rspfile=" ++ content
-
 -- an edge with the values of its rule's variables and the number of its pool
 abbrev pub command_build : EdgeValue → EndValues → Option ℕ → BuildValue
 command_build edge values pool =
@@ -72,7 +69,7 @@ command_build edge values pool =
       implicit = edge.paths.implicit;
       order_only = edge.paths.order_only;
       validations = edge.paths.validations;
-      command = compared_command values.command values.rspfile_content;
+      command = compared values.command values.rspfile_content;
       keeps_deps = not (is_none values.depfile) || not (is_none values.deps);
       restat = not (is_none values.restat);
       generator = not (is_none values.generator);

@@ -1,5 +1,6 @@
 -- Pools, each a name and its depth, in the order of their numbers.
-use Rattle.std.specs.Prelude.{ℕ, ◌+◌, ◌-◌, ◌*◌, ◌&&◌, List, [], ◌∷◌, position, Option, Some, None, bytes_eq, codes, nat_le, if◌then◌else◌}
+use Rattle.std.specs.Prelude.{ℕ, ◌+◌, ◌-◌, ◌*◌, not, ◌||◌, List, [], ◌∷◌, position, Option, Some, None, bytes_eq, codes, nat_lt, if◌then◌else◌}
+use Rattle.std.specs.List.{list_all}
 use Rattle.std.specs.Char.{is_ascii_digit}
 use Rattle.rev_manifest.specs.Names.{is_none}
 
@@ -14,11 +15,12 @@ console = (codes "console", 1)
 abbrev pub pool_of : List ℕ → List PoolValue → Option ℕ
 pool_of name pools = position (λ pool. bytes_eq name pool.0) pools
 
--- the number that decimal digits say after those that said a number, unless it is more than 1,000,000
-abbrev pub depth_from : ℕ → List ℕ → Option ℕ
-depth_from number [] = Some number
-depth_from number (b ∷ bs) = if is_ascii_digit b && nat_le (number * 10 + (b - 48)) 1000000 then depth_from (number * 10 + (b - 48)) bs else None
+-- the number that decimal digits say after those that said a number
+abbrev pub decimal_from : ℕ → List ℕ → ℕ
+decimal_from number [] = number
+decimal_from number (b ∷ bs) = decimal_from (number * 10 + (b - 48)) bs
 
 -- a depth: decimal digits, leading zeros among them, that say at most 1,000,000
 abbrev pub depth_of : List ℕ → Option ℕ
-depth_of text = if is_none text then None else depth_from 0 text
+depth_of text =
+    if is_none text || not (list_all is_ascii_digit text) || nat_lt 1000000 (decimal_from 0 text) then None else Some (decimal_from 0 text)

@@ -4,7 +4,7 @@ ghost use Rattle.rev_syntax.specs.Pieces.{seen_piece};
 ghost use Rattle.rev_scopes.specs.Scopes.{variable_in};
 ghost use Rattle.rev_scopes.specs.Expansion.{expanded};
 ghost use Rattle.rev_manifest.specs.Names.{is_none};
-ghost use Rattle.rev_manifest.specs.Pools.{depth_from};
+ghost use Rattle.rev_manifest.specs.Depths.{depth_from};
 
 use rev_scopes::Scopes;
 use rev_syntax::{Piece, Text};

@@ -3,7 +3,7 @@ ghost use Rattle.std.specs.Prelude.{◌≡◌, ◌++◌, ◌||◌, not, filter, 
 ghost use Rattle.std.specs.List.{flat_map};
 ghost use Rattle.rev_manifest.specs.Answers.{IsFault};
 ghost use Rattle.rev_manifest.specs.Names.{is_among};
-ghost use Rattle.rev_manifest.specs.Manifest.{phony_build, compared_command, command_build, pool_number, variables_of, built, builds_of, inputs, outputs, defaults_of, ended};
+ghost use Rattle.rev_manifest.specs.Manifest.{phony_build, command_build, pool_number, variables_of, built, builds_of, inputs, outputs, defaults_of, ended};
 ghost use Rattle.rev_manifest.specs.Held.{seen_edge, seen_values, seen_above};
 ghost use Rattle.rev_manifest.specs.Seen.{seen_build, contents};
 
@@ -15,7 +15,7 @@ use crate::names::{add_names, push_others};
 use crate::pools::Pools;
 use indexmap::IndexSet;
 use rev_paths::Name;
-use rev_scopes::{EdgeVariables, Rule, Scopes, ValueFault, edge_variables};
+use rev_scopes::{EdgeVariables, Rule, Scopes, ValueFault, compared_command, edge_variables};
 use std::alloc::{AllocError, Global};
 
 // The names of two lists.
@@ -64,19 +64,6 @@ fn phony_build(alloc: Global, edge: Edge) -> Result<Build, AllocError>
     })
 }
 
-// The command that is compared: what stands in a response file counts too.
-fn compared_command(command: Vec<u8>, content: &[u8]) -> Result<Vec<u8>, AllocError>
-    ensures { IfOk result (λ whole. whole.items ≡ compared_command command.items content.now) }
-{
-    let mut whole = command;
-    if is_none(content) {
-        return Ok(whole);
-    }
-    whole.extend_from_slice(b";rspfile=")?;
-    whole.extend_from_slice(content)?;
-    Ok(whole)
-}
-
 // The number of an edge's pool.
 fn pool_number(place: Place, pools: &Pools, name: &[u8]) -> Result<Option<u32>, ReadFault>
     ensures { MatchResult result
@@ -107,10 +94,6 @@ fn variables_of(
         (λ values. variables_of scopes.now (seen_edge edge.now) rule.now ≡ Ok (seen_values values))
         (λ fault. IsFault fault (variables_of scopes.now (seen_edge edge.now) rule.now)) }
 {
-    if edge.scope >= scopes.len() {
-        // The scope of each edge is one of these.
-        return Err(ReadFault::Memory);
-    }
     let at_end = rev_scopes::Edge {
         ins: &edge.paths.ins,
         outs: &edge.paths.outs,

@@ -1,5 +1,5 @@
 use Rattle.std.proofs.Common.{◌≡◌, ◌≤◌, drop}
-use Rattle.rev_manifest.specs.Pools.{depth_from}
+use Rattle.rev_manifest.specs.Depths.{depth_from}
 use Rattle.rev_manifest.proofs.depth.depth_from.Given as goal
 
 abbrev pub invariant-loop-byte : goal.invariant-loop-byte

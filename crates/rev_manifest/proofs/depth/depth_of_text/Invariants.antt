@@ -2,7 +2,7 @@ use Rattle.std.proofs.Common.{◌≡◌, ◌≤◌, length, false}
 use Rattle.rev_scopes.specs.Scopes.{variable_in}
 use Rattle.rev_scopes.specs.Expansion.{expanded}
 use Rattle.rev_manifest.specs.Names.{is_none}
-use Rattle.rev_manifest.specs.Pools.{depth_from}
+use Rattle.rev_manifest.specs.Depths.{depth_from}
 use Rattle.rev_manifest.proofs.depth.depth_of_text.Given as goal
 
 abbrev pub invariant-loop-piece : goal.invariant-loop-piece
