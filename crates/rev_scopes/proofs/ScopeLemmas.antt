@@ -1,7 +1,8 @@
 -- Look-ups through scopes.
-use Rattle.std.proofs.Common.{◌≡◌, ℕ, zero, suc, ◌<◌, ◌≤◌, List, length, Option, Some, None, get_or, refl, sym, ap, ◌∙◌, arith}
-use Rattle.std.proofs.lemmas.List.{get_or_default}
-use Rattle.rev_scopes.specs.Scopes.{ScopeValue, empty_scope, scope_at, AreNested, or_else, find_up, found_in}
+use Rattle.std.proofs.Common.{◌≡◌, ℕ, zero, suc, ◌<◌, ◌≤◌, List, length, Option, Some, None, get_or, [], refl, sym, ap, ◌∙◌, arith}
+use Rattle.std.proofs.lemmas.List.{get_or_default, get_or_past}
+use Rattle.rev_scopes.specs.Scopes.{ScopeValue, empty_scope, scope_at, AreNested, or_else, or_empty, find_up, found_in, variable_in, rule_in}
+use Rattle.rev_scopes.specs.Bindings.{value_of}
 
 module _ {A : Type 0} (own : ScopeValue → Option A) (scopes : List ScopeValue) where
   pub find_up-none : (n : ℕ) → find_up own scopes n None ≡ None
@@ -54,3 +55,16 @@ module _ {A : Type 0} (own : ScopeValue → Option A) (scopes : List ScopeValue)
 -- what is read at a number
 pub at_number : (scopes : List ScopeValue) (i : ℕ) (here : ScopeValue) → i < length scopes → here ≡ get_or scopes i here → here ≡ scope_at scopes i
 at_number scopes i here within is = is ∙ get_or_default scopes i here (empty_scope None) within
+
+-- a scope that is not there has nothing
+found-past : {A : Type 0} (own : ScopeValue → Option A) (scopes : List ScopeValue) (i : ℕ) → own (empty_scope None) ≡ None → length scopes ≤ i → found_in own scopes i ≡ None
+unfolding find_up
+found-past own scopes i none past =
+    let empty : scope_at scopes i ≡ empty_scope None = get_or_past scopes i (empty_scope None) past in
+    ap (λ scope. or_else (own scope) (find_up own scopes i scope.parent)) empty ∙ ap (λ o. or_else o (find_up own scopes i None)) none ∙ find_up-none own scopes i
+
+pub no_variable : (scopes : List ScopeValue) (i : ℕ) (name : List ℕ) → length scopes ≤ i → variable_in scopes i name ≡ []
+no_variable scopes i name past = ap or_empty (found-past (λ scope. value_of name scope.variables) scopes i refl past)
+
+pub no_rule : (scopes : List ScopeValue) (i : ℕ) (name : List ℕ) → length scopes ≤ i → rule_in scopes i name ≡ None
+no_rule scopes i name past = found-past (λ scope. value_of name scope.rules) scopes i refl past

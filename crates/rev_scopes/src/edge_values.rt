@@ -1,5 +1,5 @@
 //! Expansion at the end, edge by edge.
-ghost use Rattle.std.specs.Prelude.{◌≡◌, ◌≢◌, ◌<◌, ◌≤◌, [], List, ℕ, IsTrue, length, IfOk, OnOk, IsErrOf, IfSome, IfNone, not, false, ◌↔◌, None, Some, option_map};
+ghost use Rattle.std.specs.Prelude.{◌≡◌, ◌≢◌, ◌≤◌, [], List, ℕ, IsTrue, length, IfOk, OnOk, IsErrOf, IfSome, IfNone, not, false, ◌↔◌, None, Some, option_map};
 ghost use Rattle.rev_paths.specs.Quoting.{quote};
 ghost use Rattle.rev_syntax.specs.Pieces.{seen_piece};
 ghost use Rattle.rev_scopes.specs.Expansion.{limited, appended};
@@ -76,7 +76,6 @@ pub(crate) enum Found<'e> {
 
 // What a name leads to.
 fn look_up<'e>(edge: &Edge<'e>, slots: &'e [Slot<'_>], name: &[u8]) -> Found<'e>
-    requires scope { edge.now.scope < length edge.now.scopes.now }
     requires slots { AreOf (seen_edge edge.now) (seen_slots slots.now) }
     ensures { IsFound (seen_edge edge.now) (seen_slots slots.now) name.now result }
 {
@@ -103,7 +102,6 @@ fn push_piece(
     slots: &[Slot<'_>],
     piece: Piece<'_>,
 ) -> Result<bool, AllocError>
-    requires scope { edge.now.scope < length edge.now.scopes.now }
     requires slots { AreOf (seen_edge edge.now) (seen_slots slots.now) }
     ensures { IfOk result (λ added. IsAdded (seen_edge edge.now) (seen_slots slots.now) (seen_piece piece.entry) value.old added value.new) }
 {
@@ -142,7 +140,6 @@ fn text_value(
     slots: &[Slot<'_>],
     text: Text<'_>,
 ) -> Result<Option<Growth>, AllocError>
-    requires scope { edge.now.scope < length edge.now.scopes.now }
     requires slots { AreOf (seen_edge edge.now) (seen_slots slots.now) }
     ensures { IfOk result (λ tried. IsTried (seen_edge edge.now) (seen_slots slots.now) text.entry tried) }
 {
@@ -165,7 +162,6 @@ fn try_slot(
     slot: &Slot<'_>,
     needed_only: bool,
 ) -> Result<Option<Growth>, AllocError>
-    requires scope { edge.now.scope < length edge.now.scopes.now }
     requires slots { AreOf (seen_edge edge.now) (seen_slots slots.now) }
     ensures known { IfOk result (λ tried. IfSome tried (λ value. (slot.now.value ≡ None) × IsRight (seen_edge edge.now) slot.now.bound.now.text (Some value))) }
     ensures waits { IfOk result (λ tried. IfNone tried (needed_only ≡ false → slot.now.value ≡ None → Waits (IsWaiting (seen_edge edge.now) (seen_slots slots.now)) slot.now.bound.now.text)) }
@@ -186,7 +182,6 @@ fn next_value(
     slots: &[Slot<'_>],
     needed_only: bool,
 ) -> Result<Option<(usize, Growth)>, AllocError>
-    requires scope { edge.now.scope < length edge.now.scopes.now }
     requires slots { AreOf (seen_edge edge.now) (seen_slots slots.now) }
     ensures known { IfOk result (λ next. IfSome next (λ found. IsKnowable (seen_edge edge.now) slots.now found.0 found.1)) }
     ensures stuck { IfOk result (λ next. IfNone next (needed_only ≡ false → AreStuck (seen_edge edge.now) (seen_slots slots.now))) }
@@ -206,7 +201,6 @@ fn settled<'e>(
     slots: Vec<Slot<'e>>,
     needed_only: bool,
 ) -> Result<Vec<Slot<'e>>, AllocError>
-    requires scope { edge.now.scope < length edge.now.scopes.now }
     requires slots { AreOf (seen_edge edge.now) (seen_slots slots.items) }
     ensures slots { IfOk result (λ settled. AreOf (seen_edge edge.now) (seen_slots settled.items)) }
     ensures stuck { IfOk result (λ settled. needed_only ≡ false → AreStuck (seen_edge edge.now) (seen_slots settled.items)) }
@@ -220,7 +214,6 @@ fn settled<'e>(
 
 // Whether a variable waits for a value.
 fn is_waiting(edge: &Edge<'_>, slots: &[Slot<'_>], variable: RuleVariable) -> bool
-    requires scope { edge.now.scope < length edge.now.scopes.now }
     requires slots { AreOf (seen_edge edge.now) (seen_slots slots.now) }
     ensures { IsTrue result ↔ IsWaiting (seen_edge edge.now) (seen_slots slots.now) (name_of variable) }
 {
@@ -229,7 +222,6 @@ fn is_waiting(edge: &Edge<'_>, slots: &[Slot<'_>], variable: RuleVariable) -> bo
 
 // Whether one of the variables that each edge needs waits for a value.
 fn waits(edge: &Edge<'_>, slots: &[Slot<'_>]) -> bool
-    requires scope { edge.now.scope < length edge.now.scopes.now }
     requires slots { AreOf (seen_edge edge.now) (seen_slots slots.now) }
     ensures some { IsTrue result → SomeWaits (seen_edge edge.now) (seen_slots slots.now) }
     ensures none { IsTrue (not result) → NoneWaits (seen_edge edge.now) (seen_slots slots.now) }
@@ -257,7 +249,6 @@ fn waits(edge: &Edge<'_>, slots: &[Slot<'_>]) -> bool
 
 // The texts of an edge's rule, with the values of all that the edge needs.
 fn settled_slots<'e>(alloc: Global, edge: &Edge<'e>) -> Result<Vec<Slot<'e>>, ValueFault>
-    requires { edge.now.scope < length edge.now.scopes.now }
     ensures slots { IfOk result (λ slots. AreOf (seen_edge edge.now) (seen_slots slots.items)) }
     ensures known { IfOk result (λ slots. NoneWaits (seen_edge edge.now) (seen_slots slots.items)) }
     ensures needs_itself { IsErrOf result ValueFault.NeedsItself → SomeNeedsItself (seen_edge edge.now) }
@@ -282,7 +273,6 @@ fn known_value(
     slots: &[Slot<'_>],
     variable: RuleVariable,
 ) -> Result<Vec<u8>, ValueFault>
-    requires scope { edge.now.scope < length edge.now.scopes.now }
     requires slots { AreOf (seen_edge edge.now) (seen_slots slots.now) }
     requires known { NoneWaits (seen_edge edge.now) (seen_slots slots.now) }
     requires needed { IsTrue (is_needed variable) }
@@ -315,7 +305,6 @@ fn known_value(
 /// [`ValueFault::TooLarge`] where one has more than [`MAX_VALUE_BYTES`](crate::MAX_VALUE_BYTES) bytes.
 /// [`ValueFault::Memory`] only where an allocation was refused.
 pub fn edge_variables(alloc: Global, edge: &Edge<'_>) -> Result<EdgeVariables, ValueFault>
-    requires { edge.now.scope < length edge.now.scopes.now }
     // What is given for each variable is its value, and no larger than a value may be.
     ensures values { IfOk result (λ values. (variable : RuleVariable) → IsTrue (is_needed variable) → HasValue (seen_edge edge.now) (name_of variable) (given_for variable values)) }
     ensures within { IfOk result (λ values. (variable : RuleVariable) → length (given_for variable values) ≤ 1048576) }

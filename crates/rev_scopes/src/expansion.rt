@@ -1,5 +1,5 @@
 //! Expansion of texts as they are read.
-ghost use Rattle.std.specs.Prelude.{◌≡◌, ◌≢◌, ◌<◌, ◌≤◌, length, IfOk, OnOk, IsErrOf};
+ghost use Rattle.std.specs.Prelude.{◌≡◌, ◌≢◌, ◌≤◌, length, IfOk, OnOk, IsErrOf};
 ghost use Rattle.rev_syntax.specs.Pieces.{seen_piece};
 ghost use Rattle.rev_scopes.specs.Scopes.{variable_in};
 ghost use Rattle.rev_scopes.specs.Expansion.{expanded, in_block, appended};
@@ -13,7 +13,6 @@ use std::alloc::{AllocError, Global};
 
 // The value of a name: in a block, else in the scopes.
 fn value_in<'a>(block: &'a Bindings, scopes: &'a Scopes, scope: usize, name: &[u8]) -> &'a [u8]
-    requires { scope < length scopes.now }
     ensures { result.now ≡ in_block block.now (variable_in scopes.now scope) name.now }
 {
     match block.value(name) {
@@ -30,7 +29,6 @@ fn push_piece(
     scopes: &Scopes,
     scope: usize,
 ) -> Result<(), AllocError>
-    requires { scope < length scopes.now }
     ensures { OnOk result (growth.new ≡ appended growth.old (expanded (in_block block.now (variable_in scopes.now scope)) (seen_piece piece.entry))) }
 {
     match piece {
@@ -53,7 +51,6 @@ pub fn expand_in_block(
     scopes: &Scopes,
     scope: usize,
 ) -> Result<Vec<u8>, ValueFault>
-    requires { scope < length scopes.now }
     ensures value { IfOk result (λ value. value.items ≡ expanded (in_block block.now (variable_in scopes.now scope)) text.entry) }
     ensures within { IfOk result (λ value. length value.items ≤ 1048576) }
     ensures too_large { IsErrOf result ValueFault.TooLarge → 1048576 < length (expanded (in_block block.now (variable_in scopes.now scope)) text.entry) }
@@ -79,7 +76,6 @@ pub fn expand(
     scopes: &Scopes,
     scope: usize,
 ) -> Result<Vec<u8>, ValueFault>
-    requires { scope < length scopes.now }
     ensures value { IfOk result (λ value. value.items ≡ expanded (variable_in scopes.now scope) text.entry) }
     ensures within { IfOk result (λ value. length value.items ≤ 1048576) }
     ensures too_large { IsErrOf result ValueFault.TooLarge → 1048576 < length (expanded (variable_in scopes.now scope) text.entry) }

@@ -158,11 +158,15 @@ impl Scopes {
         Ok(())
     }
 
-    /// The value of a variable: in the scope, else in its parents, the nearest first. A variable that is nowhere is empty.
+    /// The value of a variable: in the scope, else in its parents, the nearest first. A variable that is nowhere is empty, and
+    /// a scope that is not there has none.
+    #[tactic(auto, using(crate::proofs::ScopeLemmas::no_variable))]
     pub fn variable(&self, scope: usize, name: &[u8]) -> &[u8]
-        requires { scope < length self.now }
         ensures { result.now ≡ variable_in self.now scope name.now }
     {
+        if scope >= self.len() {
+            return b"";
+        }
         variable_from(&self.scopes, scope, name)
     }
 
@@ -191,11 +195,14 @@ impl Scopes {
         Ok(())
     }
 
-    /// The rule of a name: in the scope, else in its parents, the nearest first.
+    /// The rule of a name: in the scope, else in its parents, the nearest first. A scope that is not there has none.
+    #[tactic(auto, using(crate::proofs::ScopeLemmas::no_rule))]
     pub fn rule(&self, scope: usize, name: &[u8]) -> Option<&Rule>
-        requires { scope < length self.now }
         ensures { option_copied result ≡ rule_in self.now scope name.now }
     {
+        if scope >= self.len() {
+            return None;
+        }
         rule_from(&self.scopes, scope, name)
     }
 }

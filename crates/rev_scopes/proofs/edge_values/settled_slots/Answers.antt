@@ -6,8 +6,8 @@ use Rattle.rev_scopes.specs.Slots.{seen_slots, IsWaiting}
 use Rattle.rev_scopes.proofs.SlotLemmas.{unknown-are, stuck_name}
 use Rattle.rev_scopes.proofs.edge_values.settled_slots.Goals as goal
 
-pub settled-requires-clause-slots : goal.settled-requires-clause-slots
-settled-requires-clause-slots c = unknown-are (seen_edge c.args.edge.now) (seen_slots c.in_ok-slots.slots.items) c.in_ok-slots.ensures
+pub settled-requires : goal.settled-requires
+settled-requires c = record { slots = unknown-are (seen_edge c.args.edge.now) (seen_slots c.in_ok-slots.slots.items) c.in_ok-slots.ensures }
 
 pub returns-then-waits-clause-needs_itself : goal.returns-then-waits-clause-needs_itself
 returns-then-waits-clause-needs_itself c = λ _.
