@@ -311,6 +311,7 @@ pub fn reasons(
     if graph.is_phony(edge) {
         return phony_reasons(alloc, graph, cells, edge);
     }
+    // What it promises of every graph, ranks that fall along its steps, is what the stamps behind phony edges rest on.
     let _edges = graph.edges();
     command_reasons(alloc, graph, cells, edge)
 }

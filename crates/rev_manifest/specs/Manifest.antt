@@ -1,5 +1,5 @@
 -- What files say as a manifest: its value, or its first fault.
-use Rattle.std.specs.Prelude.{ℕ, Bool, true, false, not, ◌||◌, List, [], ◌∷◌, ◌++◌, Option, Some, None, Result, Ok, Err, codes, if◌then◌else◌}
+use Rattle.std.specs.Prelude.{ℕ, Bool, true, false, not, ◌||◌, List, [], ◌∷◌, ◌++◌, Option, Some, None, Result, Ok, Err, if◌then◌else◌}
 use Rattle.std.specs.List.{flat_map}
 use Rattle.rev_scopes.specs.Edges.{compared}
 use Rattle.rev_scopes.specs.Scopes.{ScopeValue, RuleValue}

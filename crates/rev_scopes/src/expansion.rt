@@ -1,5 +1,5 @@
 //! Expansion of texts as they are read.
-ghost use Rattle.std.specs.Prelude.{◌≡◌, ◌≢◌, ◌≤◌, length, IfOk, OnOk, IsErrOf};
+ghost use Rattle.std.specs.Prelude.{◌≡◌, ◌≢◌, ◌<◌, ◌≤◌, length, IfOk, OnOk, IsErrOf};
 ghost use Rattle.rev_syntax.specs.Pieces.{seen_piece};
 ghost use Rattle.rev_scopes.specs.Scopes.{variable_in};
 ghost use Rattle.rev_scopes.specs.Expansion.{expanded, in_block, appended};
