@@ -1,8 +1,10 @@
 //! Counts the edges and the outputs of manifests, to be put beside what `ninja -t targets all` lists.
 //!
 //! The words are files; `--` stands between one manifest's and the next's. The first file of each is the manifest itself.
+//! Where the first word is `--graph`, the graph of each manifest is built as well.
 #![tactic(auto)]
 
+use rev_graph::{Graph, GraphFault};
 use rev_manifest::{Manifest, ReadFault, read};
 use std::fs;
 use std::io::Read;
@@ -16,6 +18,8 @@ enum CountFault {
     Io(std::io::Error),
     // The manifest.
     Manifest(ReadFault),
+    // Its graph.
+    Graph(GraphFault),
 }
 
 impl From<std::io::Error> for CountFault {
@@ -42,19 +46,29 @@ impl From<ReadFault> for CountFault {
     }
 }
 
+impl From<GraphFault> for CountFault {
+    fn from(fault: GraphFault) -> CountFault {
+        CountFault::Graph(fault)
+    }
+}
+
 // How many outputs the edges have.
 fn outputs(manifest: &Manifest) -> usize {
     let mut count = 0usize;
-    for build in &manifest.builds {
+    for build in manifest.builds() {
         count = count
-            .saturating_add(build.explicit_outs.len())
-            .saturating_add(build.implicit_outs.len());
+            .saturating_add(build.explicit_outs().len())
+            .saturating_add(build.implicit_outs().len());
     }
     count
 }
 
 // Prints the counts of the manifest that these files are.
-fn count<R: Files + Print + AllocGlobal>(rt: &R, names: &[String]) -> Result<(), CountFault> {
+fn count<R: Files + Print + AllocGlobal>(
+    rt: &R,
+    names: &[String],
+    with_graph: bool,
+) -> Result<(), CountFault> {
     let alloc = rt.alloc();
     let mut files = Vec::new(alloc);
     for name in names {
@@ -64,12 +78,16 @@ fn count<R: Files + Print + AllocGlobal>(rt: &R, names: &[String]) -> Result<(),
         files.push((Vec::from_slice(alloc, name.as_bytes())?, content))?;
     }
     let manifest = read(alloc, &files)?;
+    if with_graph {
+        let graph = Graph::build(alloc, &manifest)?;
+        println!(rt; "graph of {} edges", graph.edges())?;
+    }
     println!(rt;
         "edges {} outputs {} pools {} defaults {}",
-        manifest.builds.len(),
+        manifest.builds().len(),
         outputs(&manifest),
-        manifest.pools.len(),
-        manifest.defaults.len()
+        manifest.pools().len(),
+        manifest.defaults().len()
     )?;
     Ok(())
 }
@@ -80,8 +98,12 @@ fn count_all<R: Files + Env + Print + AllocGlobal>(rt: &R) -> Result<(), CountFa
     let Some((_program, files)) = words.split_first() else {
         return Ok(());
     };
+    let (files, with_graph) = match files.split_first() {
+        Some((first, others)) if first.as_str() == "--graph" => (others, true),
+        _ => (files, false),
+    };
     for names in files.split(|word| word.as_str() == "--") {
-        count(rt, names)?;
+        count(rt, names, with_graph)?;
     }
     Ok(())
 }

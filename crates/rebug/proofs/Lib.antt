@@ -1,15 +1,5 @@
-pub mod AnswerLemmas
-pub mod FaultLemmas
-pub mod FieldLemmas
+pub mod DependentLemmas
 pub mod InputLemmas
-pub mod InverseLemmas
-pub mod ListLemmas
-pub mod NumberLemmas
-pub mod RecordLemmas
-pub mod SaidLemmas
-pub mod SliceLemmas
-pub mod TraceLemmas
 pub mod OutputLemmas
 pub mod SessionLemmas
-pub mod ListingLemmas
 pub mod ReportLemmas

@@ -2,12 +2,10 @@
 use Rattle.std.proofs.Common.{◌≡◌, ℕ, ◌+◌, ◌<◌, List, [], ◌∷◌, ◌++◌, map, length, drop, get_or, refl, sym, ap, ◌∙◌, add-one}
 use Rattle.std.proofs.Math.Seq.{drop-cons}
 use Rattle.std.specs.List.{flat_map}
-use Rattle.rev_cells.specs.State.{State}
-use Rattle.rebug.specs.declared.lines.commands.Command.{Command}
-use Rattle.rebug.specs.declared.lines.commands.Word.{Word}
+use Rattle.rev_trace.specs.declared.command.Command.{Command}
+use Rattle.rebug.specs.declared.script.Word.{Word}
 use Rattle.rebug.specs.Session.{Session, after_command, reply_line, reply_to}
-use Rattle.rebug.specs.Report.{after_commands, after_word, left_after, paths_there, replies_text, script_text, stamp_line, stamps_text, word_text}
-use Rattle.rebug.specs.Listing.{with_stamp, files_there}
+use Rattle.rebug.specs.Report.{after_commands, after_word, left_after, replies_text, script_text, word_text}
 
 -- what is left from an item on
 pub from_item : {A : Type 0} (xs : List A) (i : ℕ) (x : A) → i < length xs → x ≡ get_or xs i x → drop i xs ≡ x ∷ drop (i + 1) xs
@@ -29,14 +27,3 @@ flat_next f xs i x h at = ap (flat_map f) (from_item xs i x h at)
 
 pub flat_next_number : (f : ℕ → List ℕ) (xs : List ℕ) (i : ℕ) → i < length xs → flat_map f (drop i xs) ≡ f (get_or xs i 0) ++ flat_map f (drop (i + 1) xs)
 flat_next_number f xs i h = ap (flat_map f) (drop-cons xs i 0 h ∙ ap (λ j. get_or xs i 0 ∷ drop j xs) (sym (add-one i)))
-
-flat_mapped : {A B : Type 0} (f : B → List ℕ) (g : A → B) (xs : List A) → flat_map f (map g xs) ≡ flat_map (λ x. f (g x)) xs
-flat_mapped f g [] = refl
-flat_mapped f g (x ∷ xs) = ap (λ l. f (g x) ++ l) (flat_mapped f g xs)
-
-abbrev pub file_line : List ℕ × ℕ → List ℕ
-file_line file = stamp_line file.0 file.1
-
--- the lines of the files are those of the paths that are there
-pub file_lines : (s : State) → flat_map file_line (files_there s) ≡ stamps_text s
-file_lines s = flat_mapped file_line (with_stamp s) (paths_there s)

@@ -1,13 +1,7 @@
-pub mod Faults
-pub mod Fields
+pub mod Dependents
 pub mod Input
 pub mod InStep
-pub mod Lines
-pub mod Listing
-pub mod Numbers
 pub mod Output
-pub mod Parts
 pub mod Report
 pub mod Scripts
 pub mod Session
-pub mod Traces

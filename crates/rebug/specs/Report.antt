@@ -1,14 +1,18 @@
 -- The report: what a run writes for files, a trace and a script, and its status.
-use Rattle.std.specs.Prelude.{ℕ, ◌==◌, Bool, not, List, [], ◌∷◌, ◌++◌, filter, take, drop, Option, Some, None, Result, Ok, Err, codes, decimal, slice_get}
+use Rattle.std.specs.Prelude.{ℕ, List, [], ◌∷◌, ◌++◌, take, drop, Option, Some, None, Result, Ok, Err, codes, decimal, slice_get}
 use Rattle.std.specs.List.{flat_map}
-use Rattle.std.specs.FinMap as map
-use Rattle.rev_cells.specs.declared.cell.Cell.{Cell}
-use Rattle.rev_cells.specs.declared.cell.Cell.TheVariants as cell
-use Rattle.rev_cells.specs.State.{State, stamp_of}
+use Rattle.rev_listing.specs.Logs as logs
+use Rattle.rev_listing.specs.Marks as marks
+use Rattle.rev_listing.specs.Stamps as stamps
+use Rattle.rev_listing.specs.Why as reasons
+use Rattle.rev_cells.specs.State.{State}
+use Rattle.rev_graph.specs.Graph.{producer_of}
 use Rattle.rev_cells.specs.Table.{Records}
-use Rattle.rev_history.specs.declared.event.Event.{Event}
-use Rattle.rev_history.specs.declared.event.Event.TheVariants.{Touch}
-use Rattle.rev_history.specs.Timeline.{Timeline, opened, event_at, state_at}
+use Rattle.rev_events.specs.declared.event.Event.{Event}
+use Rattle.rev_events.specs.declared.refusal.Refusal.{Refusal}
+use Rattle.rev_events.specs.declared.refusal.Refusal.TheVariants.{NoSuchEdge}
+use Rattle.rev_events.specs.Refusal as refusals
+use Rattle.rev_history.specs.Timeline.{Timeline, cone_refusal, opened, event_at, state_at}
 use Rattle.rev_manifest.specs.declared.fault.ManifestFault.{ManifestFault}
 use Rattle.rev_manifest.specs.Fault as manifest_faults
 use Rattle.rev_manifest.specs.Manifest as manifest
@@ -16,22 +20,21 @@ use Rattle.rev_manifest.specs.Manifest.{BuildValue, ManifestValue}
 use Rattle.rev_graph.specs.declared.fault.GraphFault.{GraphFault}
 use Rattle.rev_graph.specs.Decided.{graph_fault}
 use Rattle.rev_graph.specs.Fault as graph_faults
-use Rattle.rebug.specs.declared.lines.commands.Command.{Command}
-use Rattle.rebug.specs.declared.lines.commands.Word.{Word}
-use Rattle.rebug.specs.declared.lines.commands.Word.TheVariants as word
-use Rattle.rebug.specs.declared.lines.faults.TextFault.{TextFault}
+use Rattle.rev_trace.specs.declared.command.Command.{Command}
+use Rattle.rebug.specs.declared.script.Word.{Word}
+use Rattle.rebug.specs.declared.script.Word.TheVariants as word
+use Rattle.rev_fields.specs.declared.faults.TextFault.{TextFault}
 use Rattle.rebug.specs.declared.report.Status.{Status}
 use Rattle.rebug.specs.declared.report.Status.TheVariants.{Success, Fault}
-use Rattle.rebug.specs.Faults.{code_of}
-use Rattle.rebug.specs.Fields.{field_text}
-use Rattle.rebug.specs.Traces.{trace_fault, trace_of, opening_of}
+use Rattle.rev_fields.specs.Faults.{code_of}
+use Rattle.rev_fields.specs.Fields.{field_text}
+use Rattle.rev_trace.specs.Texts.{event_text}
+use Rattle.rev_trace.specs.Traces.{trace_fault, trace_of}
+use Rattle.rebug.specs.Dependents.{dependents}
 use Rattle.rebug.specs.Scripts.{script_fault, script_of}
 use Rattle.rebug.specs.Session.{Session, reply_to, reply_line, after_command}
 
 -- The word `kept`: a line for each kept event, in rising number, with the command that it was.
-
-abbrev pub event_text : Event → List ℕ
-event_text (Touch path stamp) = codes "touch " ++ field_text path ++ codes " " ++ decimal stamp
 
 abbrev pub kept_line : ℕ → Option Event → List ℕ
 kept_line number None = []
@@ -40,25 +43,34 @@ kept_line number (Some e) = codes "kept " ++ decimal number ++ codes " " ++ even
 abbrev pub kept_text : Timeline → List ℕ
 kept_text t = flat_map (λ number. kept_line number (event_at t number)) t.kept
 
--- The word `stamps`: a line for each path whose file is not missing, in byte order of the paths.
+-- The words that ask of the history and its state.
 
--- the path whose stamp a cell holds, if it holds one
-abbrev pub stamped_path : Cell → List (List ℕ)
-stamped_path (cell.Stamp path) = path ∷ []
-stamped_path _ = []
+-- the state of a history, and the edges of its graph
+abbrev pub state_now : Session → State
+state_now s = state_at s.history
 
-abbrev pub is_there : State → List ℕ → Bool
-is_there state path = not (stamp_of state path == 0)
+abbrev pub builds_of : Session → List BuildValue
+builds_of s = s.history.manifest.builds
 
--- the paths that are not missing; the cells of a state stand in order, and those of stamps in byte order of their paths
-abbrev pub paths_there : State → List (List ℕ)
-paths_there state = filter (is_there state) (flat_map stamped_path (map.keys state))
+-- a question that is refused
+abbrev pub refused_line : ℕ → List ℕ
+refused_line code = codes "refused " ++ decimal code ++ codes "\n"
 
-abbrev pub stamp_line : List ℕ → ℕ → List ℕ
-stamp_line path stamp = codes "stamp " ++ field_text path ++ codes " " ++ decimal stamp ++ codes "\n"
+-- `why OUT`: refused where no edge has the output
+abbrev pub why_edge : List BuildValue → State → Option ℕ → List ℕ
+why_edge builds state None = refused_line (refusals.code_of NoSuchEdge)
+why_edge builds state (Some edge) = reasons.why_text builds state edge
 
-abbrev pub stamps_text : State → List ℕ
-stamps_text state = flat_map (λ path. stamp_line path (stamp_of state path)) (paths_there state)
+-- `dependents N`: refused where no event was accepted under the number, or it is not kept
+abbrev pub dependents_line : ℕ → List ℕ → List ℕ
+dependents_line n ms = codes "dependents " ++ decimal n ++ flat_map (λ m. codes " " ++ decimal m) ms ++ codes "\n"
+
+abbrev pub dependents_unless : Option Refusal → Timeline → ℕ → List ℕ
+dependents_unless (Some r) t n = refused_line (refusals.code_of r)
+dependents_unless None t n = dependents_line n (dependents t n)
+
+abbrev pub dependents_text : Timeline → ℕ → List ℕ
+dependents_text t n = dependents_unless (cone_refusal t n) t n
 
 -- Commands of one lane, one after the other: the lines of their replies, and the session after them.
 
@@ -85,21 +97,23 @@ abbrev pub word_text : ℕ → Session → List Command → Word → List ℕ
 word_text lane s left (word.Command c) = reply_line lane (reply_to s c)
 word_text lane s left (word.Run k) = replies_text 0 s (taken k left)
 word_text lane s left word.Kept = kept_text s.history
-word_text lane s left word.Stamps = stamps_text (state_at s.history)
+word_text lane s left word.Marks = marks.marks_text (builds_of s) (state_now s)
+word_text lane s left word.Stamps = stamps.stamps_text (state_now s)
+word_text lane s left word.Logs = logs.logs_text (state_now s)
+word_text lane s left (word.Why out) = why_edge (builds_of s) (state_now s) (producer_of (builds_of s) out)
+word_text lane s left (word.Dependents n) = dependents_text s.history n
 
 -- the session after a word
 abbrev pub after_word : Session → List Command → Word → Session
 after_word s left (word.Command c) = after_command s c
 after_word s left (word.Run k) = after_commands s (taken k left)
-after_word s left word.Kept = s
-after_word s left word.Stamps = s
+after_word s left _ = s
 
 -- the commands of the trace's lane 0 that are left after a word
 abbrev pub left_after : List Command → Word → List Command
 left_after left (word.Command c) = left
 left_after left (word.Run k) = untaken k left
-left_after left word.Kept = left
-left_after left word.Stamps = left
+left_after left _ = left
 
 -- what a script writes: its words in turn
 abbrev pub script_text : ℕ → Session → List Command → List Word → List ℕ
@@ -107,8 +121,8 @@ script_text lane s left [] = []
 script_text lane s left (w ∷ words) = word_text lane s left w ++ script_text lane (after_word s left w) (left_after left w) words
 
 -- a session that has just been opened
-abbrev pub opened_session : Records → Session
-opened_session opening = record { history = opened opening.jobs opening.state; entries = 0 }
+abbrev pub opened_session : ManifestValue → Records → Session
+opened_session manifest opening = record { history = opened manifest opening.jobs opening.state; entries = 0 }
 
 -- the commands of the trace's lane 0, none where the trace does not open it
 abbrev pub lane_commands : List (List Command) → List Command
@@ -121,8 +135,8 @@ script_lane [] = 0
 script_lane (commands ∷ lanes) = 1
 
 -- what the words of a script write, for a trace with this opening and these lanes
-abbrev pub session_text : Records → List (List Command) → List Word → List ℕ
-session_text opening lanes words = script_text (script_lane lanes) (opened_session opening) (lane_commands lanes) words
+abbrev pub session_text : ManifestValue → Records → List (List Command) → List Word → List ℕ
+session_text manifest opening lanes words = script_text (script_lane lanes) (opened_session manifest opening) (lane_commands lanes) words
 
 -- Faults: one line, with the line and the number of the fault.
 
@@ -167,23 +181,23 @@ unless_fault None line report = report
 unless_fault (Some f) line report = record { text = line f; status = Fault }
 
 -- the report of a script, where the trace has been read
-abbrev pub script_report : Records → List (List Command) → List ℕ → Report
-script_report opening lanes script =
-    unless_fault (script_fault script) (text_fault_line (codes "script")) (record { text = session_text opening lanes (script_of script); status = Success })
+abbrev pub script_report : ManifestValue → Records → List (List Command) → List ℕ → Report
+script_report manifest opening lanes script =
+    unless_fault (script_fault script) (text_fault_line (codes "script")) (record { text = session_text manifest opening lanes (script_of script); status = Success })
 
 -- the report of a trace and a script, where the manifest has been read
-abbrev pub trace_report : List ℕ → List ℕ → Report
-trace_report trace script = unless_fault (trace_fault trace) (text_fault_line (codes "trace")) (script_report (opening_of (trace_of trace).records) (trace_of trace).lanes script)
+abbrev pub trace_report : ManifestValue → List ℕ → List ℕ → Report
+trace_report manifest trace script = unless_fault (trace_fault trace) (text_fault_line (codes "trace")) (script_report manifest (trace_of trace).opening (trace_of trace).lanes script)
 
 -- the report of a trace and a script, for the edges of a manifest that has been read
-abbrev pub edges_report : List BuildValue → List ℕ → List ℕ → Report
-edges_report builds trace script = unless_fault (graph_fault builds) edges_fault_line (trace_report trace script)
+abbrev pub edges_report : ManifestValue → List ℕ → List ℕ → Report
+edges_report manifest trace script = unless_fault (graph_fault manifest.builds) edges_fault_line (trace_report manifest trace script)
 
--- the edges of a manifest that has been read
-abbrev pub edges_of : Result ManifestValue ManifestFault → List BuildValue
-edges_of (Ok manifest) = manifest.builds
-edges_of (Err fault) = []
+-- the report for a manifest that has been read
+abbrev pub manifest_report : Result ManifestValue ManifestFault → List ℕ → List ℕ → Report
+manifest_report (Ok manifest) trace script = edges_report manifest trace script
+manifest_report (Err fault) trace script = record { text = []; status = Fault }
 
 -- the report of files, their edges, a trace and a script, which are looked at in that order
 abbrev pub report : List (List ℕ × List ℕ) → List ℕ → List ℕ → Report
-report files trace script = unless_fault (manifest.first_fault files) (manifest_fault_line files) (edges_report (edges_of (manifest.manifest_of files)) trace script)
+report files trace script = unless_fault (manifest.first_fault files) (manifest_fault_line files) (manifest_report (manifest.manifest_of files) trace script)

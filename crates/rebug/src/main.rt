@@ -1,13 +1,13 @@
 //! A reversible debugger for Ninja builds: it replays a recorded build, and undoes and redoes its events.
 #![tactic(auto)]
 
+mod dependents;
 mod fault;
 mod input;
-mod lines;
-mod listing;
 mod options;
 mod output;
 mod report;
+mod script;
 mod session;
 #[cfg(test)]
 mod tests;

@@ -1,25 +1,31 @@
 //! The report of a run: what is written for files, a trace and a script.
 ghost use Rattle.std.specs.Prelude.{◌≡◌, ◌≢◌, ◌++◌, ℕ, List, IfOk, OnOk, slice_get};
 ghost use Rattle.rebug.specs.Output.{Writes};
-ghost use Rattle.rebug.specs.Report.{after_commands, after_word, edges_fault_line, edges_report, kept_text, left_after, manifest_fault_line, name_text, replies_text, report, script_report, script_text, session_text, stamps_text, taken, text_fault_line, trace_report, untaken, word_text};
+ghost use Rattle.rebug.specs.Report.{after_commands, after_word, dependents_text, edges_fault_line, edges_report, kept_text, left_after, manifest_fault_line, name_text, replies_text, report, script_report, script_text, session_text, taken, text_fault_line, trace_report, untaken, why_edge, word_text};
 ghost use Rattle.rebug.specs.Session.{after_command, reply_line, reply_to};
 ghost use Rattle.rev_history.specs.Timeline.{state_at};
-ghost use Rattle.rebug.specs.Parts.{lanes_of};
-ghost use Rattle.rev_manifest.specs.Seen.{contents, seen_files};
+ghost use Rattle.rev_trace.specs.Traces.{lanes_of};
+ghost use Rattle.rev_graph.specs.Graph.{producer_of};
+ghost use Rattle.rev_listing.specs.Logs as logs;
+ghost use Rattle.rev_listing.specs.Marks as marks;
+ghost use Rattle.rev_listing.specs.Stamps as stamps;
+ghost use Rattle.rev_manifest.specs.Seen.{seen_files};
 ghost use Rattle.rebug.specs.declared.report.Status.{Status};
 
+use crate::dependents::dependents_text;
 use crate::fault::RunFault;
-use crate::lines::{
-    Command, ReadFault, TextFault, Trace, Word, push_field, read_script, read_trace,
-};
-use crate::listing::files_there;
 use crate::output::send;
+use crate::script::{Word, read_script};
 use crate::session::Session;
-use crate::text::{fault_line, graph_fault_line, kept_line, reply_line, stamp_line};
-use rev_cells::Cells;
+use crate::text::{fault_line, graph_fault_line, kept_line, refused_line, reply_line};
+use rev_events::Refusal;
+use rev_fields::{ReadFault, TextFault, push_field};
 use rev_graph::{Graph, GraphFault};
 use rev_history::History;
+use rev_listing::{logs_text, marks_text, stamps_text, why_text};
 use rev_manifest::{Manifest, ManifestFault, read};
+use rev_paths::Name;
+use rev_trace::{Command, Trace, read_trace};
 use std::alloc::{AllocError, Global};
 use std::io::Write;
 
@@ -67,7 +73,7 @@ fn run_commands<W: Write>(
 
 // Writes the lines of the kept events.
 fn write_kept<W: Write>(alloc: Global, history: &History, writer: &mut W) -> Result<(), RunFault>
-    ensures { Writes result (W.contents writer.old) (W.contents writer.new) (kept_text history.now) }
+    ensures { Writes result (W.contents writer.old) (W.contents writer.new) (kept_text history.now.timeline) }
 {
     for number in history.kept() {
         let Some(event) = history.event(*number) else {
@@ -79,16 +85,62 @@ fn write_kept<W: Write>(alloc: Global, history: &History, writer: &mut W) -> Res
     Ok(())
 }
 
-// Writes the lines of the files that are not missing.
-fn write_stamps<W: Write>(alloc: Global, cells: &Cells, writer: &mut W) -> Result<(), RunFault>
-    ensures { Writes result (W.contents writer.old) (W.contents writer.new) (stamps_text cells.now.state) }
+// Writes the marks, what is held, and whether the build was interrupted.
+fn write_marks<W: Write>(alloc: Global, history: &History, writer: &mut W) -> Result<(), RunFault>
+    ensures { Writes result (W.contents writer.old) (W.contents writer.new) (marks.marks_text history.now.timeline.manifest.builds (state_at history.now.timeline)) }
 {
-    let files = files_there(alloc, cells)?;
-    for (path, stamp) in &files {
-        let line = stamp_line(alloc, path, *stamp)?;
-        send(writer, &line)?;
+    let text = marks_text(alloc, history.graph(), history.cells())?;
+    send(writer, &text)
+}
+
+// Writes the lines of the files that are not missing.
+fn write_stamps<W: Write>(alloc: Global, history: &History, writer: &mut W) -> Result<(), RunFault>
+    ensures { Writes result (W.contents writer.old) (W.contents writer.new) (stamps.stamps_text (state_at history.now.timeline)) }
+{
+    let text = stamps_text(alloc, history.cells())?;
+    send(writer, &text)
+}
+
+// Writes the records of the logs.
+fn write_logs<W: Write>(alloc: Global, history: &History, writer: &mut W) -> Result<(), RunFault>
+    ensures { Writes result (W.contents writer.old) (W.contents writer.new) (logs.logs_text (state_at history.now.timeline)) }
+{
+    let text = logs_text(alloc, history.cells())?;
+    send(writer, &text)
+}
+
+// Writes the way from the edge of an output to one with reasons.
+fn write_why<W: Write>(
+    alloc: Global,
+    history: &History,
+    out: &Name,
+    writer: &mut W,
+) -> Result<(), RunFault>
+    ensures { Writes result (W.contents writer.old) (W.contents writer.new) (why_edge history.now.timeline.manifest.builds (state_at history.now.timeline) (producer_of history.now.timeline.manifest.builds out.now)) }
+{
+    match history.graph().producer(out) {
+        None => {
+            let line = refused_line(alloc, Refusal::NoSuchEdge.code())?;
+            send(writer, &line)
+        }
+        Some(edge) => {
+            let text = why_text(alloc, history.graph(), history.cells(), edge)?;
+            send(writer, &text)
+        }
     }
-    Ok(())
+}
+
+// Writes the kept events that depend on a kept one.
+fn write_dependents<W: Write>(
+    alloc: Global,
+    history: &History,
+    number: u32,
+    writer: &mut W,
+) -> Result<(), RunFault>
+    ensures { Writes result (W.contents writer.old) (W.contents writer.new) (dependents_text history.now.timeline number) }
+{
+    let text = dependents_text(alloc, history, number)?;
+    send(writer, &text)
 }
 
 // The commands that `run` takes, and those that it leaves.
@@ -129,8 +181,24 @@ fn run_word<'a, W: Write>(
             write_kept(alloc, session.history(), writer)?;
             Ok(left)
         }
+        Word::Marks => {
+            write_marks(alloc, session.history(), writer)?;
+            Ok(left)
+        }
         Word::Stamps => {
-            write_stamps(alloc, session.history().cells(), writer)?;
+            write_stamps(alloc, session.history(), writer)?;
+            Ok(left)
+        }
+        Word::Logs => {
+            write_logs(alloc, session.history(), writer)?;
+            Ok(left)
+        }
+        Word::Why(out) => {
+            write_why(alloc, session.history(), out, writer)?;
+            Ok(left)
+        }
+        Word::Dependents(number) => {
+            write_dependents(alloc, session.history(), *number, writer)?;
             Ok(left)
         }
     }
@@ -157,13 +225,14 @@ fn run_words<W: Write>(
 // Runs a script over a trace that has been read.
 fn run_script<W: Write>(
     alloc: Global,
+    graph: Graph,
     trace: &Trace,
     words: &[Word],
     writer: &mut W,
 ) -> Result<(), RunFault>
-    ensures { Writes result (W.contents writer.old) (W.contents writer.new) (session_text trace.now.opening (lanes_of trace.now.lanes.items) words.now) }
+    ensures { Writes result (W.contents writer.old) (W.contents writer.new) (session_text graph.manifest trace.now.opening (lanes_of trace.now.lanes.items) words.now) }
 {
-    let mut session = Session::new(alloc, &trace.opening)?;
+    let mut session = Session::new(alloc, graph, &trace.opening)?;
     match trace.lanes.first() {
         None => run_words(alloc, &mut session, 0, &[], words, writer),
         Some(commands) => run_words(alloc, &mut session, 1, commands, words, writer),
@@ -188,16 +257,17 @@ fn report_fault<W: Write>(
 // Reports on a script, for a trace that has been read.
 fn report_script<W: Write>(
     alloc: Global,
+    graph: Graph,
     trace: &Trace,
     script: &[u8],
     writer: &mut W,
 ) -> Result<Status, RunFault>
-    ensures text { Writes result (W.contents writer.old) (W.contents writer.new) (script_report trace.now.opening (lanes_of trace.now.lanes.items) script.now).text }
-    ensures status { IfOk result (λ status. status ≡ (script_report trace.now.opening (lanes_of trace.now.lanes.items) script.now).status) }
+    ensures text { Writes result (W.contents writer.old) (W.contents writer.new) (script_report graph.manifest trace.now.opening (lanes_of trace.now.lanes.items) script.now).text }
+    ensures status { IfOk result (λ status. status ≡ (script_report graph.manifest trace.now.opening (lanes_of trace.now.lanes.items) script.now).status) }
 {
     match read_script(alloc, script) {
         Ok(words) => {
-            run_script(alloc, trace, &words, writer)?;
+            run_script(alloc, graph, trace, &words, writer)?;
             Ok(Status::Success)
         }
         Err(ReadFault::Numbered(fault)) => report_fault(alloc, b"script", fault, writer),
@@ -208,15 +278,16 @@ fn report_script<W: Write>(
 // Reports on a trace and a script, where nothing before them has a fault.
 fn report_trace<W: Write>(
     alloc: Global,
+    graph: Graph,
     trace: &[u8],
     script: &[u8],
     writer: &mut W,
 ) -> Result<Status, RunFault>
-    ensures text { Writes result (W.contents writer.old) (W.contents writer.new) (trace_report trace.now script.now).text }
-    ensures status { IfOk result (λ status. status ≡ (trace_report trace.now script.now).status) }
+    ensures text { Writes result (W.contents writer.old) (W.contents writer.new) (trace_report graph.manifest trace.now script.now).text }
+    ensures status { IfOk result (λ status. status ≡ (trace_report graph.manifest trace.now script.now).status) }
 {
     match read_trace(alloc, trace) {
-        Ok(trace) => report_script(alloc, &trace, script, writer),
+        Ok(trace) => report_script(alloc, graph, &trace, script, writer),
         Err(ReadFault::Numbered(fault)) => report_fault(alloc, b"trace", fault, writer),
         Err(ReadFault::Memory) => Err(RunFault::Memory),
     }
@@ -247,27 +318,22 @@ fn report_edges<W: Write>(
     script: &[u8],
     writer: &mut W,
 ) -> Result<Status, RunFault>
-    ensures text { Writes result (W.contents writer.old) (W.contents writer.new) (edges_report (contents manifest.now).builds trace.now script.now).text }
-    ensures status { IfOk result (λ status. status ≡ (edges_report (contents manifest.now).builds trace.now script.now).status) }
+    ensures text { Writes result (W.contents writer.old) (W.contents writer.new) (edges_report manifest.now trace.now script.now).text }
+    ensures status { IfOk result (λ status. status ≡ (edges_report manifest.now trace.now script.now).status) }
 {
     match Graph::build(alloc, manifest) {
-        Ok(_graph) => report_trace(alloc, trace, script, writer),
+        Ok(graph) => report_trace(alloc, graph, trace, script, writer),
         Err(fault) => report_graph_fault(alloc, &fault, writer),
     }
 }
 
 // Adds the name of the file at a place, or a dash where there is none.
-fn push_name(
-    alloc: Global,
-    line: &mut Vec<u8>,
-    files: &[(Vec<u8>, Vec<u8>)],
-    place: u64,
-) -> Result<(), AllocError>
+fn push_name(line: &mut Vec<u8>, files: &[(Vec<u8>, Vec<u8>)], place: u64) -> Result<(), AllocError>
     ensures { OnOk result (line.new.items ≡ line.old.items ++ name_text (slice_get (seen_files files.now) place)) }
 {
     match files.get(place as usize) {
         None => line.extend_from_slice(b"-"),
-        Some((name, _)) => push_field(alloc, line, name),
+        Some((name, _)) => push_field(line, name),
     }
 }
 
@@ -280,7 +346,7 @@ fn manifest_fault_line(
     ensures { IfOk result (λ line. line.items ≡ manifest_fault_line (seen_files files.now) fault) }
 {
     let mut what = Vec::from_slice(alloc, b"manifest ")?;
-    push_name(alloc, &mut what, files, fault.file)?;
+    push_name(&mut what, files, fault.file)?;
     fault_line(alloc, &what, fault.line, fault.kind.code())
 }
 

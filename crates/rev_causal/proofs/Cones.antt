@@ -147,7 +147,7 @@ module _ (m : Machine) (l : IsLocal m) where
   written_by [] k = false
   written_by (c ∷ cs) k = m.writes c.footprint k || written_by cs k
 
-  avoided : (cs : List (Entry m)) (x : Entry m) → any_conflict (clash m) cs x ≡ false → (k : m.Cell) → written_by cs k ≡ true → m.touches x.footprint k ≡ false
+  avoided : (cs : List (Entry m)) (x : Entry m) → any_conflict (clash m) cs x ≡ false → (k : m.Cell) → written_by cs k ≡ true → m.accesses x.footprint k ≡ false
   avoided [] x none k h = absurd (true≢false (sym h))
   avoided (c ∷ cs) x none k h =
       let n : (clash m c x ≡ false) × (any_conflict (clash m) cs x ≡ false) = or_none (clash m c x) _ none in
@@ -164,8 +164,8 @@ module _ (m : Machine) (l : IsLocal m) where
         let n : (m.writes z.footprint k ≡ false) × (written_by cs k ≡ false) = or_none (m.writes z.footprint k) _ e in
         off k n.1 ∙ sym (l.kept s z.event h.0 k (ap (λ f. m.writes f k) (sym h.1) ∙ n.0))))
     | inr o ↦
-        let avoids : (k : m.Cell) → written_by cs k ≡ true → m.touches (m.footprint s z.event) k ≡ false = λ k w. ap (λ f. m.touches f k) (sym h.1) ∙ avoided cs z o k w in
-        let on = Runs.agree_on_touched m l (written_by cs) (m.footprint s z.event) avoids s t off in
+        let avoids : (k : m.Cell) → written_by cs k ≡ true → m.accesses (m.footprint s z.event) k ≡ false = λ k w. ap (λ f. m.accesses f k) (sym h.1) ∙ avoided cs z o k w in
+        let on = Runs.agree_on_accessed m l (written_by cs) (m.footprint s z.event) avoids s t off in
         subst (λ b. IsRun m t (cond b (outside (clash m) (z ∷ cs) zs) (z ∷ outside (clash m) cs zs))) (sym o) (
           l.accepted s t z.event h.0 on,
           h.1 ∙ sym (l.same_footprint s t z.event h.0 on),

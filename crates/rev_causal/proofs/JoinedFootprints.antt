@@ -4,7 +4,7 @@ use Rattle.std.specs.List.{list_any}
 use Rattle.rev_causal.specs.declared.registers.Cell.{Cell}
 use Rattle.rev_causal.specs.Order.{any_conflict, cone}
 use Rattle.rev_causal.specs.Entries.{Entry, clash}
-use Rattle.rev_causal.specs.Store.{Footprint, Footprint.Whole, Footprint.Cells, among, is_touched, conflict}
+use Rattle.rev_causal.specs.Store.{Footprint, Footprint.Whole, Footprint.Cells, among, is_accessed, conflict}
 use Rattle.rev_causal.specs.Registers.{register_machine, cell_cmp, joined, print_of}
 use Rattle.rev_causal.specs.RegisterHistory.{number_of_entry}
 
@@ -38,8 +38,8 @@ any_same : (p q : Cell → Bool) (xs : List Cell) → ((k : Cell) → p k ≡ q 
 any_same p q [] h = refl
 any_same p q (x ∷ xs) h = ap₂ (λ a b. a || b) (h x) (any_same p q xs h)
 
-touched_joined : (r w r' w' : List Cell) (k : Cell) → is_touched cell_cmp (Cells (r ++ r') (w ++ w')) k ≡ (is_touched cell_cmp (Cells r w) k || is_touched cell_cmp (Cells r' w') k)
-touched_joined r w r' w' k =
+accessed_joined : (r w r' w' : List Cell) (k : Cell) → is_accessed cell_cmp (Cells (r ++ r') (w ++ w')) k ≡ (is_accessed cell_cmp (Cells r w) k || is_accessed cell_cmp (Cells r' w') k)
+accessed_joined r w r' w' k =
     ap₂ (λ a b. a || b) (any_append _ w w') (any_append _ r r')
     ∙ or_four (among cell_cmp w k) (among cell_cmp w' k) (among cell_cmp r k) (among cell_cmp r' k)
 
@@ -48,10 +48,10 @@ conflict_joined Whole g h = refl
 conflict_joined (Cells r w) Whole h = sym (or_true (conflict cell_cmp (Cells r w) h))
 conflict_joined (Cells r w) (Cells r' w') Whole = refl
 conflict_joined (Cells r w) (Cells r' w') (Cells rh wh) =
-    ap₂ (λ a b. a || b) (any_append (is_touched cell_cmp (Cells rh wh)) w w')
-    (any_same (is_touched cell_cmp (Cells (r ++ r') (w ++ w'))) (λ k. is_touched cell_cmp (Cells r w) k || is_touched cell_cmp (Cells r' w') k) wh (touched_joined r w r' w')
-    ∙ any_either (is_touched cell_cmp (Cells r w)) (is_touched cell_cmp (Cells r' w')) wh)
-    ∙ or_four (list_any (is_touched cell_cmp (Cells rh wh)) w) (list_any (is_touched cell_cmp (Cells rh wh)) w') (list_any (is_touched cell_cmp (Cells r w)) wh) (list_any (is_touched cell_cmp (Cells r' w')) wh)
+    ap₂ (λ a b. a || b) (any_append (is_accessed cell_cmp (Cells rh wh)) w w')
+    (any_same (is_accessed cell_cmp (Cells (r ++ r') (w ++ w'))) (λ k. is_accessed cell_cmp (Cells r w) k || is_accessed cell_cmp (Cells r' w') k) wh (accessed_joined r w r' w')
+    ∙ any_either (is_accessed cell_cmp (Cells r w)) (is_accessed cell_cmp (Cells r' w')) wh)
+    ∙ or_four (list_any (is_accessed cell_cmp (Cells rh wh)) w) (list_any (is_accessed cell_cmp (Cells rh wh)) w') (list_any (is_accessed cell_cmp (Cells r w)) wh) (list_any (is_accessed cell_cmp (Cells r' w')) wh)
 
 -- the parts that the code keeps, joined
 pub print_joined : (a b : Bool) (r w r' w' : List Cell) → print_of (a || b) (r ++ r') (w ++ w') ≡ joined (print_of a r w) (print_of b r' w')

@@ -278,7 +278,7 @@ module _ {K : Type 0} {R : K → K → Ordering} (o : IsTotalOrder R) (exact : I
   equal_writers_conflict s u e h = (store.conflict_is_exact o exact (t.footprint s e) (t.footprint u e)).1 (elim h [
     | inl p ↦ inl p
     | inr (inl p) ↦ inr (inl p)
-    | inr (inr p) ↦ inr (inr (inl (p.0, p.1, store.written_touched o exact (t.footprint u e) p.0 p.2)))
+    | inr (inr p) ↦ inr (inr (inl (p.0, p.1, store.written_accessed o exact (t.footprint u e) p.0 p.2)))
   ])
 
   pub equal_events_conflict_of : ((e : E) → AlwaysWrites t e) → EqualEventsConflict (machine_of t)

@@ -14,7 +14,7 @@ use Rattle.rev_causal.specs.declared.registers.Event.{Event}
 use Rattle.rev_causal.specs.declared.registers.Event.TheVariants.{Set, Load, Close, Shift}
 use Rattle.rev_causal.specs.Machine.{IsLocal}
 use Rattle.rev_causal.specs.Order.{Has}
-use Rattle.rev_causal.specs.Store.{Footprint.Cells, is_written, is_touched, IsLocalEvent, IsLocalTable}
+use Rattle.rev_causal.specs.Store.{Footprint.Cells, is_written, is_accessed, IsLocalEvent, IsLocalTable}
 use Rattle.rev_causal.specs.OrderCheck.{IsEquality, EqualEventsConflict, AlwaysWrites}
 use Rattle.rev_causal.specs.Registers.{State, numbers_of, cell_of, cell_of-numbers_of, cell_cmp, registers, register_machine, refusal, effect, footprint, refused_by, pointed, or_zero, event_numbers, same_event, cells_of}
 use Rattle.rev_causal.proofs.Store as store
@@ -26,15 +26,15 @@ cell_total = on_total numbers_of nat_list_cmp_total
 pub cell_exact : IsAntisymmetric cell_cmp
 cell_exact a b h = sym (cell_of-numbers_of a) ∙ ap cell_of (slice_cmp-IsAntisymmetric nat_cmp-IsAntisymmetric (numbers_of a) (numbers_of b) h) ∙ cell_of-numbers_of b
 
--- the states hold the same in what the event touches
+-- the states hold the same in what the event accesses
 abbrev Agree : State → State → Event → Type 0
-Agree s u e = (k : Cell) → is_touched cell_cmp (footprint s e) k ≡ true → get u k ≡ get s k
+Agree s u e = (k : Cell) → is_accessed cell_cmp (footprint s e) k ≡ true → get u k ≡ get s k
 
 -- a cell that a footprint reads, and one that it writes
-read_by : (reads writes : List Cell) (k : Cell) → Has reads k → is_touched cell_cmp (Cells reads writes) k ≡ true
+read_by : (reads writes : List Cell) (k : Cell) → Has reads k → is_accessed cell_cmp (Cells reads writes) k ≡ true
 read_by = store.of_read cell_total cell_exact
 
-written_by : (reads writes : List Cell) (k : Cell) → Has writes k → is_touched cell_cmp (Cells reads writes) k ≡ true
+written_by : (reads writes : List Cell) (k : Cell) → Has writes k → is_accessed cell_cmp (Cells reads writes) k ≡ true
 written_by = store.of_write cell_total cell_exact
 
 set_is_local : (register value : ℕ) → IsLocalEvent registers (Set register value)

@@ -42,9 +42,9 @@ module _ {K V E F : Type 0} {R : K → K → Ordering} (o : IsTotalOrder R) (exa
       replaced s (t.effect s e) ≡ replaced (run (machine_of t) s es) (t.effect (run (machine_of t) s es) e)
   same_at_end s e es legal acc free =
       let v : FinMap R V = run (machine_of t) s es in
-      let on : AgreeOn (machine_of t) ((machine_of t).touches (t.footprint v e)) v s = λ k h. sym (Runs.unwritten (machine_of t) local ((machine_of t).touches (t.footprint v e)) s es legal (t.footprint v e) (λ q w. w) free k h) in
+      let on : AgreeOn (machine_of t) ((machine_of t).accesses (t.footprint v e)) v s = λ k h. sym (Runs.unwritten (machine_of t) local ((machine_of t).accesses (t.footprint v e)) s es legal (t.footprint v e) (λ q w. w) free k h) in
       ap (replaced s) (l.same_effect v s e acc on)
-      ∙ store.same_values o exact t l v s (t.effect v e) (λ q h. on q (store.keys_touched o exact t l (t.footprint v e) (keys_of (t.effect v e)) q (l.writes v e acc) h))
+      ∙ store.same_values o exact t l v s (t.effect v e) (λ q h. on q (store.keys_accessed o exact t l (t.footprint v e) (keys_of (t.effect v e)) q (l.writes v e acc) h))
 
   undo_keeps_cut : (s : FinMap R V) (n : ℕ) (e : E) (before later : List (ℕ × E)) → AllByRecursion (λ (x : ℕ × E). x.0 < n) before → Legal (machine_of t) s (before ++ (n, e) ∷ later) → nearest_to (machine_of t) n (entries (machine_of t) s (before ++ (n, e) ∷ later)) ≡ None →
       replaced_by_number t s (without n (before ++ (n, e) ∷ later)) ≡ without n (replaced_by_number t s (before ++ (n, e) ∷ later))

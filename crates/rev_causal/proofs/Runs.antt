@@ -8,24 +8,24 @@ either true = inl refl
 either false = inr refl
 
 module _ (m : Machine) (l : IsLocal m) where
-  -- an event that touches nothing of the test writes nothing of it
-  pub writes_none : (test : m.Cell → Bool) (f : m.Footprint) → ((k : m.Cell) → test k ≡ true → m.touches f k ≡ false) → (k : m.Cell) → test k ≡ true → m.writes f k ≡ false
+  -- an event that accesses nothing of the test writes nothing of it
+  pub writes_none : (test : m.Cell → Bool) (f : m.Footprint) → ((k : m.Cell) → test k ≡ true → m.accesses f k ≡ false) → (k : m.Cell) → test k ≡ true → m.writes f k ≡ false
   writes_none test f avoids k h = elim (either (m.writes f k)) [
-    | inl w ↦ absurd (true≢false (sym (l.touched f k w) ∙ avoids k h))
+    | inl w ↦ absurd (true≢false (sym (l.accessed f k w) ∙ avoids k h))
     | inr w ↦ w
   ]
 
   -- and it reads what is the same in both states
-  pub agree_on_touched : (test : m.Cell → Bool) (f : m.Footprint) → ((k : m.Cell) → test k ≡ true → m.touches f k ≡ false) → (s t : m.State) → AgreeOff m test s t → AgreeOn m (m.touches f) s t
-  agree_on_touched test f avoids s t off k h = elim (either (test k)) [
+  pub agree_on_accessed : (test : m.Cell → Bool) (f : m.Footprint) → ((k : m.Cell) → test k ≡ true → m.accesses f k ≡ false) → (s t : m.State) → AgreeOff m test s t → AgreeOn m (m.accesses f) s t
+  agree_on_accessed test f avoids s t off k h = elim (either (test k)) [
     | inl w ↦ absurd (true≢false (sym h ∙ avoids k w))
     | inr w ↦ off k w
   ]
 
   -- one step from both states
-  pub off_after : (test : m.Cell → Bool) (s t : m.State) (e : m.Event) → Accepts m s e → ((k : m.Cell) → test k ≡ true → m.touches (m.footprint s e) k ≡ false) → AgreeOff m test s t → AgreeOff m test (m.after s e) (m.after t e)
+  pub off_after : (test : m.Cell → Bool) (s t : m.State) (e : m.Event) → Accepts m s e → ((k : m.Cell) → test k ≡ true → m.accesses (m.footprint s e) k ≡ false) → AgreeOff m test s t → AgreeOff m test (m.after s e) (m.after t e)
   off_after test s t e acc avoids off k h =
-      let on : AgreeOn m (m.touches (m.footprint s e)) s t = agree_on_touched test (m.footprint s e) avoids s t off in
+      let on : AgreeOn m (m.accesses (m.footprint s e)) s t = agree_on_accessed test (m.footprint s e) avoids s t off in
       elim (either (m.writes (m.footprint s e) k)) [
         | inl w ↦ l.written s t e acc on k w
         | inr w ↦ l.kept t e (l.accepted s t e acc on) k (ap (λ f. m.writes f k) (l.same_footprint s t e acc on) ∙ w)
@@ -35,7 +35,7 @@ module _ (m : Machine) (l : IsLocal m) where
   pub carry : (test : m.Cell → Bool) (s t : m.State) (es : List (ℕ × m.Event)) → Legal m s es → Avoids m test (footprints m s es) → AgreeOff m test s t → Carried m test s t es
   carry test s t [] legal avoids off = record { legal = tt; same_footprints = refl; off = off; on_first = λ k h. refl; on_second = λ k h. refl }
   carry test s t (e ∷ es) legal avoids off =
-      let on : AgreeOn m (m.touches (m.footprint s e.1)) s t = agree_on_touched test (m.footprint s e.1) avoids.0 s t off in
+      let on : AgreeOn m (m.accesses (m.footprint s e.1)) s t = agree_on_accessed test (m.footprint s e.1) avoids.0 s t off in
       let acc : Accepts m t e.1 = l.accepted s t e.1 legal.0 on in
       let print : m.footprint t e.1 ≡ m.footprint s e.1 = l.same_footprint s t e.1 legal.0 on in
       let none : (k : m.Cell) → test k ≡ true → m.writes (m.footprint s e.1) k ≡ false = writes_none test (m.footprint s e.1) avoids.0 in
@@ -54,7 +54,7 @@ module _ (m : Machine) (l : IsLocal m) where
   avoids_written f (g ∷ gs) none = (l.apart f g none.0, avoids_written f gs none.1)
 
   -- what no event of a list writes has its value at the end
-  pub unwritten : (test : m.Cell → Bool) (s : m.State) (es : List (ℕ × m.Event)) → Legal m s es → (f : m.Footprint) → ((k : m.Cell) → test k ≡ true → m.touches f k ≡ true) → NoneConflicts m f (footprints m s es) → AgreeOn m test s (run m s es)
+  pub unwritten : (test : m.Cell → Bool) (s : m.State) (es : List (ℕ × m.Event)) → Legal m s es → (f : m.Footprint) → ((k : m.Cell) → test k ≡ true → m.accesses f k ≡ true) → NoneConflicts m f (footprints m s es) → AgreeOn m test s (run m s es)
   unwritten test s [] legal f within none k h = refl
   unwritten test s (e ∷ es) legal f within none k h =
       unwritten test (m.after s e.1) es legal.1 f within none.1 k h
@@ -73,14 +73,14 @@ module _ (m : Machine) (l : IsLocal m) where
   -- an event that nothing later conflicts with is accepted at the end too, with the same footprint
   pub accepted_last : (s : m.State) (n : m.Event) (es : List (ℕ × m.Event)) → Accepts m s n → Legal m s es → NoneConflicts m (m.footprint s n) (footprints m s es) → Accepts m (run m s es) n × (m.footprint (run m s es) n ≡ m.footprint s n)
   accepted_last s n es acc legal none =
-      let on : AgreeOn m (m.touches (m.footprint s n)) s (run m s es) = unwritten (m.touches (m.footprint s n)) s es legal (m.footprint s n) (λ k h. h) none in
+      let on : AgreeOn m (m.accesses (m.footprint s n)) s (run m s es) = unwritten (m.accesses (m.footprint s n)) s es legal (m.footprint s n) (λ k h. h) none in
       (l.accepted s (run m s es) n acc on, l.same_footprint s (run m s es) n acc on)
 
   pub place : (s : m.State) (n : m.Event) (es : List (ℕ × m.Event)) → Legal m s es → Accepts m (run m s es) n → NoneConflicts m (m.footprint (run m s es) n) (footprints m s es) → Placed m s n es
   place s n es legal acc none =
       let u : m.State = run m s es in
       let f : m.Footprint = m.footprint u n in
-      let on : AgreeOn m (m.touches f) u s = λ k h. sym (unwritten (m.touches f) s es legal f (λ k h. h) none k h) in
+      let on : AgreeOn m (m.accesses f) u s = λ k h. sym (unwritten (m.accesses f) s es legal f (λ k h. h) none k h) in
       let here : Accepts m s n = l.accepted u s n acc on in
       let print : m.footprint s n ≡ f = l.same_footprint u s n acc on in
       let off : AgreeOff m (m.writes f) s (m.after s n) = λ k h. l.kept s n here k (ap (λ g. m.writes g k) print ∙ h) in

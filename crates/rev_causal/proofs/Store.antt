@@ -8,7 +8,7 @@ use Rattle.std.specs.declared.option.Option.{Option}
 use Rattle.std.specs.declared.option.Option.TheVariants.{None, Some}
 use Rattle.std.specs.FinMap.{FinMap, get, get-insert, get-remove, same_map, IsAntisymmetric}
 use Rattle.rev_causal.specs.Machine.{IsLocal, Legal, Accepts, run, footprints, NoneConflicts, Removed, Avoids, AgreeOff}
-use Rattle.rev_causal.specs.Store.{Footprint, Footprint.Whole, Footprint.Cells, among, is_written, is_touched, conflict, set_cell, set_cells, Table, machine_of, replaced, all_replaced, keys_of, WritesAre, IsLocalTable, is_whole, IsLocalEvent}
+use Rattle.rev_causal.specs.Store.{Footprint, Footprint.Whole, Footprint.Cells, among, is_written, is_accessed, conflict, set_cell, set_cells, Table, machine_of, replaced, all_replaced, keys_of, WritesAre, IsLocalTable, is_whole, IsLocalEvent}
 use Rattle.rev_causal.specs.Order.{Has}
 use Rattle.rev_causal.specs.Laws.{ConflictIsExact}
 use Rattle.std.proofs.lemmas.Map.Views.{tells_apart}
@@ -37,9 +37,9 @@ module _ {K : Type 0} {R : K → K → Ordering} (o : IsTotalOrder R) (exact : I
   alike : (a b : K) → eq_by_cmp R a b ≡ true → a ≡ b
   alike a b h = tells_apart exact a b h
 
-  pub written_touched : (f : Footprint K) (k : K) → is_written R f k ≡ true → is_touched R f k ≡ true
-  written_touched Whole k h = refl
-  written_touched (Cells reads writes) k h = ap (λ b. b || among R reads k) h
+  pub written_accessed : (f : Footprint K) (k : K) → is_written R f k ≡ true → is_accessed R f k ≡ true
+  written_accessed Whole k h = refl
+  written_accessed (Cells reads writes) k h = ap (λ b. b || among R reads k) h
 
   -- no element of a list passes a test that none passes
   none_among : (test : K → Bool) (ks : List K) → list_any test ks ≡ false → (k : K) → among R ks k ≡ true → test k ≡ false
@@ -51,16 +51,16 @@ module _ {K : Type 0} {R : K → K → Ordering} (o : IsTotalOrder R) (exact : I
         | inr e ↦ none_among test ks n.1 k (sym (ap (λ b. b || among R ks k) e) ∙ h)
       ]
 
-  apart : (f g : Footprint K) → conflict R f g ≡ false → (k : K) → is_written R f k ≡ true → is_touched R g k ≡ false
+  apart : (f g : Footprint K) → conflict R f g ≡ false → (k : K) → is_written R f k ≡ true → is_accessed R g k ≡ false
   apart Whole g none k h = absurd (true≢false none)
   apart (Cells r w) Whole none k h = absurd (true≢false none)
-  apart (Cells r w) (Cells r' w') none k h = none_among (is_touched R (Cells r' w')) w (or_none _ _ none).0 k h
+  apart (Cells r w) (Cells r' w') none k h = none_among (is_accessed R (Cells r' w')) w (or_none _ _ none).0 k h
 
   both_ways : (f g : Footprint K) → conflict R f g ≡ conflict R g f
   both_ways Whole Whole = refl
   both_ways Whole (Cells r w) = refl
   both_ways (Cells r w) Whole = refl
-  both_ways (Cells r w) (Cells r' w') = or_comm (list_any (is_touched R (Cells r' w')) w) (list_any (is_touched R (Cells r w)) w')
+  both_ways (Cells r w) (Cells r' w') = or_comm (list_any (is_accessed R (Cells r' w')) w) (list_any (is_accessed R (Cells r w)) w')
 
   module _ {V : Type 0} where
     pub get-set_cell : (s : FinMap R V) (k : K) (v : Option V) (q : K) → get (set_cell R s k v) q ≡ cond (eq_by_cmp R q k) v (get s q)
@@ -98,7 +98,7 @@ module _ {K : Type 0} {R : K → K → Ordering} (o : IsTotalOrder R) (exact : I
     pub local_of : IsLocal (machine_of t)
     local_of = record {
       same_state = λ s u h. same_map o exact u s h;
-      touched = written_touched;
+      accessed = written_accessed;
       apart = apart;
       both_ways = both_ways;
       kept = λ s e acc k h. not_written s (t.effect s e) k (keys_written (t.footprint s e) _ k (l.writes s e acc) h);
@@ -106,7 +106,7 @@ module _ {K : Type 0} {R : K → K → Ordering} (o : IsTotalOrder R) (exact : I
       same_footprint = l.same_footprint;
       written = λ s u e acc on k h. elim (written_key (t.footprint s e) _ k (l.writes s e acc) h) [
         | inl w ↦
-            let alike_all : u ≡ s = same_map o exact u s (λ q. on q (ap (λ f. is_touched R f q) w)) in
+            let alike_all : u ≡ s = same_map o exact u s (λ q. on q (ap (λ f. is_accessed R f q) w)) in
             ap (λ x. get (set_cells R x (t.effect x e)) k) alike_all
         | inr w ↦ ap (λ ws. get (set_cells R u ws) k) (l.same_effect s u e acc on) ∙ once_written s u (t.effect s e) k w
       ];
@@ -119,11 +119,11 @@ module _ {K : Type 0} {R : K → K → Ordering} (o : IsTotalOrder R) (exact : I
     | inr r ↦ or_right (eq_by_cmp R k x) (among R ks k) (among_has ks k r)
   ]
 
-  -- the cells that a footprint lists are touched
-  pub of_write : (reads writes : List K) (k : K) → Has writes k → is_touched R (Cells reads writes) k ≡ true
+  -- the cells that a footprint lists are accessed
+  pub of_write : (reads writes : List K) (k : K) → Has writes k → is_accessed R (Cells reads writes) k ≡ true
   of_write reads writes k h = ap (λ b. b || among R reads k) (among_has writes k h)
 
-  pub of_read : (reads writes : List K) (k : K) → Has reads k → is_touched R (Cells reads writes) k ≡ true
+  pub of_read : (reads writes : List K) (k : K) → Has reads k → is_accessed R (Cells reads writes) k ≡ true
   of_read reads writes k h = or_right (among R writes k) (among R reads k) (among_has reads k h)
 
   module _ {V : Type 0} where
@@ -185,29 +185,29 @@ module _ {K : Type 0} {R : K → K → Ordering} (o : IsTotalOrder R) (exact : I
     same_values s u [] on = refl
     same_values s u (w ∷ ws) on = λ i. (w.0, on w.0 (among_has (keys_of (w ∷ ws)) w.0 (inl refl)) i) ∷ same_values s u ws (λ q h. on q (or_right (eq_by_cmp R q w.0) (among R (keys_of ws) q) h)) i
 
-    pub keys_touched : (f : Footprint K) (ks : List K) (k : K) → WritesAre f ks → among R ks k ≡ true → is_touched R f k ≡ true
-    keys_touched Whole ks k w h = refl
-    keys_touched (Cells reads writes) ks k w h = ap (λ b. b || among R reads k) (ap (λ zs. among R zs k) (sym w) ∙ h)
+    pub keys_accessed : (f : Footprint K) (ks : List K) (k : K) → WritesAre f ks → among R ks k ≡ true → is_accessed R f k ≡ true
+    keys_accessed Whole ks k w h = refl
+    keys_accessed (Cells reads writes) ks k w h = ap (λ b. b || among R reads k) (ap (λ zs. among R zs k) (sym w) ∙ h)
 
     pub replaced_kept : (test : K → Bool) (s u : FinMap R V) (es : List (ℕ × E)) → Legal (machine_of t) s es → Avoids (machine_of t) test (footprints (machine_of t) s es) → AgreeOff (machine_of t) test s u → all_replaced t u es ≡ all_replaced t s es
     replaced_kept test s u [] legal avoids off = refl
     replaced_kept test s u (e ∷ es) legal avoids off =
-        let on = Runs.agree_on_touched (machine_of t) (local_of t l) test (t.footprint s e.1) avoids.0 s u off in
+        let on = Runs.agree_on_accessed (machine_of t) (local_of t l) test (t.footprint s e.1) avoids.0 s u off in
         let same : t.effect u e.1 ≡ t.effect s e.1 = l.same_effect s u e.1 legal.0 on in
         let values : replaced u (t.effect u e.1) ≡ replaced s (t.effect s e.1) =
-        ap (replaced u) same ∙ same_values s u (t.effect s e.1) (λ q h. on q (keys_touched (t.footprint s e.1) _ q (l.writes s e.1 legal.0) h)) in
+        ap (replaced u) same ∙ same_values s u (t.effect s e.1) (λ q h. on q (keys_accessed (t.footprint s e.1) _ q (l.writes s e.1 legal.0) h)) in
         let rest : all_replaced t (set_cells R u (t.effect u e.1)) es ≡ all_replaced t (set_cells R s (t.effect s e.1)) es =
         replaced_kept test (set_cells R s (t.effect s e.1)) (set_cells R u (t.effect u e.1)) es legal.1 avoids.1 (Runs.off_after (machine_of t) (local_of t l) test s u e.1 legal.0 avoids.0 off) in
         λ i. values i ∷ rest i
 
-  -- states that agree on what a whole event touches are one state
-  pub whole_agrees : {V : Type 0} (s u : FinMap R V) → ((k : K) → is_touched R Whole k ≡ true → get u k ≡ get s k) → u ≡ s
+  -- states that agree on what a whole event accesses are one state
+  pub whole_agrees : {V : Type 0} (s u : FinMap R V) → ((k : K) → is_accessed R Whole k ≡ true → get u k ≡ get s k) → u ≡ s
   whole_agrees s u on = same_map o exact u s (λ q. on q refl)
 
   -- Events handled one by one make a local table: where one is whole, states that agree on its cells are one state.
   module _ {V E F : Type 0} (t : Table K V E F R) where
-    -- what is touched by a whole event is all
-    one_state : (f : Footprint K) → is_whole f ≡ true → (s u : FinMap R V) → ((k : K) → is_touched R f k ≡ true → get u k ≡ get s k) → u ≡ s
+    -- what is accessed by a whole event is all
+    one_state : (f : Footprint K) → is_whole f ≡ true → (s u : FinMap R V) → ((k : K) → is_accessed R f k ≡ true → get u k ≡ get s k) → u ≡ s
     one_state Whole h s u on = whole_agrees s u on
     one_state (Cells reads writes) h s u on = absurd (true≢false (sym h))
 
@@ -261,22 +261,22 @@ module _ {K : Type 0} {R : K → K → Ordering} (o : IsTotalOrder R) (exact : I
     | inr e ↦ or_right (test x) (list_any test ks) (has_any test ks k (sym (ap (λ b. b || among R ks k) e) ∙ h) p)
   ]
 
-  -- what it is for one to write a cell that the other touches
+  -- what it is for one to write a cell that the other accesses
   abbrev Shares : Footprint K → Footprint K → Type 0
-  Shares f g = (k : K) × (is_written R f k ≡ true) × (is_touched R g k ≡ true)
+  Shares f g = (k : K) × (is_written R f k ≡ true) × (is_accessed R g k ≡ true)
 
   pub sharing_conflicts : (f g : Footprint K) → Shares f g → conflict R f g ≡ true
   sharing_conflicts Whole g h = refl
   sharing_conflicts (Cells r w) Whole h = refl
-  sharing_conflicts (Cells r w) (Cells r' w') h = ap (λ b. b || list_any (is_touched R (Cells r w)) w') (has_any (is_touched R (Cells r' w')) w h.0 h.1 h.2)
+  sharing_conflicts (Cells r w) (Cells r' w') h = ap (λ b. b || list_any (is_accessed R (Cells r w)) w') (has_any (is_accessed R (Cells r' w')) w h.0 h.1 h.2)
 
-  conflict_parts : (f g : Footprint K) → conflict R f g ≡ true → (is_whole f ≡ true) ⊎ (is_whole g ≡ true) ⊎ Shares f g ⊎ ((k : K) × (is_touched R f k ≡ true) × (is_written R g k ≡ true))
+  conflict_parts : (f g : Footprint K) → conflict R f g ≡ true → (is_whole f ≡ true) ⊎ (is_whole g ≡ true) ⊎ Shares f g ⊎ ((k : K) × (is_accessed R f k ≡ true) × (is_written R g k ≡ true))
   conflict_parts Whole g h = inl refl
   conflict_parts (Cells r w) Whole h = inr (inl refl)
-  conflict_parts (Cells r w) (Cells r' w') h = elim (either (list_any (is_touched R (Cells r' w')) w)) [
-    | inl p ↦ inr (inr (inl (any_has (is_touched R (Cells r' w')) w p)))
+  conflict_parts (Cells r w) (Cells r' w') h = elim (either (list_any (is_accessed R (Cells r' w')) w)) [
+    | inl p ↦ inr (inr (inl (any_has (is_accessed R (Cells r' w')) w p)))
     | inr f ↦
-        let k : (k : K) × (among R w' k ≡ true) × (is_touched R (Cells r w) k ≡ true) = any_has (is_touched R (Cells r w)) w' (sym (ap (λ b. b || list_any (is_touched R (Cells r w)) w') f) ∙ h) in
+        let k : (k : K) × (among R w' k ≡ true) × (is_accessed R (Cells r w) k ≡ true) = any_has (is_accessed R (Cells r w)) w' (sym (ap (λ b. b || list_any (is_accessed R (Cells r w)) w') f) ∙ h) in
         inr (inr (inr (k.0, k.2, k.1)))
   ]
 

@@ -8,7 +8,7 @@ use Rattle.rev_causal.specs.Machine.{Machine, Accepts, Legal, run, footprints, N
 use Rattle.rev_causal.specs.Order.{Has, Stands, Distinct, InCone}
 use Rattle.rev_causal.specs.Entries.{Entry, entries, events, clash, SwapEquivalent, Swaps}
 use Rattle.rev_causal.specs.History.{IsRising, event_at, without, put, nearest_to, nearest_above, Undone, Redone, cone_of, rest_of, footprints_by_number}
-use Rattle.rev_causal.specs.Store.{Footprint, is_whole, is_written, is_touched, conflict, Table, machine_of, set_cells, replaced, replaced_by_number}
+use Rattle.rev_causal.specs.Store.{Footprint, is_whole, is_written, is_accessed, conflict, Table, machine_of, set_cells, replaced, replaced_by_number}
 
 -- CONFLICT
 module _ {K : Type 0} (R : K → K → Ordering) where
@@ -16,8 +16,8 @@ module _ {K : Type 0} (R : K → K → Ordering) where
   abbrev pub ConflictIsExact : Type 0
   ConflictIsExact = (f g : Footprint K) → (conflict R f g ≡ true) ↔ (
       (is_whole f ≡ true) ⊎ (is_whole g ≡ true) ⊎
-      ((k : K) × (is_written R f k ≡ true) × (is_touched R g k ≡ true)) ⊎
-      ((k : K) × (is_touched R f k ≡ true) × (is_written R g k ≡ true))
+      ((k : K) × (is_written R f k ≡ true) × (is_accessed R g k ≡ true)) ⊎
+      ((k : K) × (is_accessed R f k ≡ true) × (is_written R g k ≡ true))
       )
 
 -- EXCHANGE, REMOVAL AND PLACE
@@ -145,6 +145,18 @@ module _ (m : Machine) where
   ConeIsWithin = (s : m.State) (kept : List (ℕ × m.Event)) (member : Entry m → Bool) (one : Entry m) → member one ≡ true →
       ((a b : Entry m) → member a ≡ true → Stands a b (entries m s kept) → clash m a b ≡ true → member b ≡ true) →
       (z : Entry m) → InCone (clash m) (entries m s kept) one z → member z ≡ true
+
+  -- what the greatest member of a cone meets, and what it leaves
+  pub record IsTakenFirst (s : m.State) (kept : List (ℕ × m.Event)) (n : ℕ) (front : List (Entry m)) (z : Entry m) : Type 0 where
+    -- no event depends on it
+    pub free : nearest_to m z.number (entries m s kept) ≡ None
+    -- without it the cone of n has the other members, and what is outside is as before
+    pub cone_without : cone_of m n (entries m s (without z.number kept)) ≡ front
+    pub rest_without : rest_of m n (entries m s (without z.number kept)) ≡ rest_of m n (entries m s kept)
+
+  -- A cone can be taken out member by member, from the greatest down to the event itself.
+  abbrev pub ConeComesDown : Type 0
+  ConeComesDown = (s : m.State) (n : ℕ) (kept : List (ℕ × m.Event)) (front : List (Entry m)) (z : Entry m) → IsRising kept → Legal m s kept → cone_of m n (entries m s kept) ≡ front ++ z ∷ [] → IsTakenFirst s kept n front z
 
 -- EQUIVALENT LISTS
 module _ (m : Machine) where

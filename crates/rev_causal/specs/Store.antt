@@ -26,15 +26,15 @@ module _ {K : Type 0} (R : K → K → Ordering) where
   is_written (Cells reads writes) k = among writes k
 
   -- it is read or written
-  abbrev pub is_touched : Footprint K → K → Bool
-  is_touched Whole k = true
-  is_touched (Cells reads writes) k = among writes k || among reads k
+  abbrev pub is_accessed : Footprint K → K → Bool
+  is_accessed Whole k = true
+  is_accessed (Cells reads writes) k = among writes k || among reads k
 
   -- one is whole, or a cell that one writes is read or written by the other
   abbrev pub conflict : Footprint K → Footprint K → Bool
   conflict Whole g = true
   conflict (Cells reads writes) Whole = true
-  conflict (Cells reads writes) (Cells reads' writes') = list_any (is_touched (Cells reads' writes')) writes || list_any (is_touched (Cells reads writes)) writes'
+  conflict (Cells reads writes) (Cells reads' writes') = list_any (is_accessed (Cells reads' writes')) writes || list_any (is_accessed (Cells reads writes)) writes'
 
   module _ {V : Type 0} where
     -- the state with another value in a cell, None being the default
@@ -68,7 +68,7 @@ machine_of {K} {V} {E} {F} {R} t = record {
   after = λ s e. set_cells R s (t.effect s e);
   footprint = t.footprint;
   writes = is_written R;
-  touches = is_touched R;
+  accesses = is_accessed R;
   conflict = conflict R;
 }
 
@@ -87,12 +87,12 @@ abbrev pub replaced : {K V : Type 0} {R : K → K → Ordering} → FinMap R V �
 replaced s [] = []
 replaced s (w ∷ ws) = (w.0, get s w.0) ∷ replaced s ws
 
--- Locality of a table. Where a state agrees with the event's on what it touches, it accepts the event too, which then has
+-- Locality of a table. Where a state agrees with the event's on what it accesses, it accepts the event too, which then has
 -- the same effect and the same footprint; and the effect writes what the footprint says.
 pub record IsLocalTable {K V E F : Type 0} {R : K → K → Ordering} (t : Table K V E F R) : Type 0 where
-  pub accepted : (s u : FinMap R V) (e : E) → t.refusal s e ≡ None → ((k : K) → is_touched R (t.footprint s e) k ≡ true → get u k ≡ get s k) → t.refusal u e ≡ None
-  pub same_effect : (s u : FinMap R V) (e : E) → t.refusal s e ≡ None → ((k : K) → is_touched R (t.footprint s e) k ≡ true → get u k ≡ get s k) → t.effect u e ≡ t.effect s e
-  pub same_footprint : (s u : FinMap R V) (e : E) → t.refusal s e ≡ None → ((k : K) → is_touched R (t.footprint s e) k ≡ true → get u k ≡ get s k) → t.footprint u e ≡ t.footprint s e
+  pub accepted : (s u : FinMap R V) (e : E) → t.refusal s e ≡ None → ((k : K) → is_accessed R (t.footprint s e) k ≡ true → get u k ≡ get s k) → t.refusal u e ≡ None
+  pub same_effect : (s u : FinMap R V) (e : E) → t.refusal s e ≡ None → ((k : K) → is_accessed R (t.footprint s e) k ≡ true → get u k ≡ get s k) → t.effect u e ≡ t.effect s e
+  pub same_footprint : (s u : FinMap R V) (e : E) → t.refusal s e ≡ None → ((k : K) → is_accessed R (t.footprint s e) k ≡ true → get u k ≡ get s k) → t.footprint u e ≡ t.footprint s e
   pub writes : (s : FinMap R V) (e : E) → t.refusal s e ≡ None → WritesAre (t.footprint s e) (keys_of (t.effect s e))
 
 -- whether all cells are read and written
@@ -103,9 +103,9 @@ is_whole (Cells reads writes) = false
 -- What one event owes, where its footprint names its cells. Where it is whole it owes nothing: states that agree on
 -- all cells are one state.
 pub record IsLocalEvent {K V E F : Type 0} {R : K → K → Ordering} (t : Table K V E F R) (e : E) : Type 0 where
-  pub accepted : (s u : FinMap R V) → t.refusal s e ≡ None → is_whole (t.footprint s e) ≡ false → ((k : K) → is_touched R (t.footprint s e) k ≡ true → get u k ≡ get s k) → t.refusal u e ≡ None
-  pub same_effect : (s u : FinMap R V) → t.refusal s e ≡ None → is_whole (t.footprint s e) ≡ false → ((k : K) → is_touched R (t.footprint s e) k ≡ true → get u k ≡ get s k) → t.effect u e ≡ t.effect s e
-  pub same_footprint : (s u : FinMap R V) → t.refusal s e ≡ None → is_whole (t.footprint s e) ≡ false → ((k : K) → is_touched R (t.footprint s e) k ≡ true → get u k ≡ get s k) → t.footprint u e ≡ t.footprint s e
+  pub accepted : (s u : FinMap R V) → t.refusal s e ≡ None → is_whole (t.footprint s e) ≡ false → ((k : K) → is_accessed R (t.footprint s e) k ≡ true → get u k ≡ get s k) → t.refusal u e ≡ None
+  pub same_effect : (s u : FinMap R V) → t.refusal s e ≡ None → is_whole (t.footprint s e) ≡ false → ((k : K) → is_accessed R (t.footprint s e) k ≡ true → get u k ≡ get s k) → t.effect u e ≡ t.effect s e
+  pub same_footprint : (s u : FinMap R V) → t.refusal s e ≡ None → is_whole (t.footprint s e) ≡ false → ((k : K) → is_accessed R (t.footprint s e) k ≡ true → get u k ≡ get s k) → t.footprint u e ≡ t.footprint s e
   pub writes : (s : FinMap R V) → t.refusal s e ≡ None → is_whole (t.footprint s e) ≡ false → WritesAre (t.footprint s e) (keys_of (t.effect s e))
 
 -- what each event of a list replaces, at its place

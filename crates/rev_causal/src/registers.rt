@@ -5,7 +5,7 @@ ghost use Rattle.std.specs.Prelude.{◌≡◌, IfOk, [], ◌∷◌};
 ghost use Rattle.std.specs.FinMap as finmap;
 ghost use Rattle.std.specs.List.{list_any};
 ghost use Rattle.std.specs.Ordering.{eq_by_cmp};
-ghost use Rattle.rev_causal.specs.Store.{set_cells, among, is_touched, conflict as conflicts, replaced};
+ghost use Rattle.rev_causal.specs.Store.{set_cells, among, is_accessed, conflict as conflicts, replaced};
 ghost use Rattle.rev_causal.specs.Store.Footprint.{Whole, Cells as Of};
 ghost use Rattle.rev_causal.specs.Registers as table;
 ghost use Rattle.rev_causal.specs.Registers.{cell_cmp, cells_of};
@@ -110,8 +110,8 @@ impl Footprint {
     }
 
     /// Whether the cell is read or written.
-    pub fn touches(&self, cell: Cell) -> bool
-        ensures { result ≡ is_touched cell_cmp self.now cell }
+    pub fn accesses(&self, cell: Cell) -> bool
+        ensures { result ≡ is_accessed cell_cmp self.now cell }
     {
         self.whole || has(&self.writes, cell) || has(&self.reads, cell)
     }
@@ -123,10 +123,10 @@ fn has(cells: &[Cell], cell: Cell) -> bool
     cells.iter().any(|c| *c == cell)
 }
 
-fn any_touched(cells: &[Cell], footprint: &Footprint) -> bool
-    ensures { result ≡ list_any (is_touched cell_cmp footprint.now) cells.now }
+fn any_accessed(cells: &[Cell], footprint: &Footprint) -> bool
+    ensures { result ≡ list_any (is_accessed cell_cmp footprint.now) cells.now }
 {
-    cells.iter().any(|c| footprint.touches(*c))
+    cells.iter().any(|c| footprint.accesses(*c))
 }
 
 /// Whether two footprints conflict: one is whole, or a cell that one writes is read or written by the other.
@@ -136,7 +136,7 @@ pub fn conflict(a: &Footprint, b: &Footprint) -> bool
     if a.whole || b.whole {
         return true;
     }
-    any_touched(&a.writes, b) || any_touched(&b.writes, a)
+    any_accessed(&a.writes, b) || any_accessed(&b.writes, a)
 }
 
 /// What the cells hold, kept as the list of what was written, the last write first.

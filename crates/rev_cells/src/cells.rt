@@ -1,14 +1,15 @@
 //! The cells and what they hold.
 ghost use Rattle.std.specs.Prelude.{◌≡◌, ◌↔◌, ◌++◌, ◌∷◌, [], IsTrue, IsSome, IfOk, IfSome, OnOk, OnErr, slice_get, length, Contains, ◌<◌, ◌^◌, ◌⊎◌};
 ghost use Rattle.std.specs.Option.{option_copied};
-ghost use Rattle.std.specs.List.{IsDistinct};
+ghost use Rattle.std.specs.List.{AllByRecursion, IsDistinct};
 ghost use Rattle.std.specs.Ordering.{eq_by_cmp};
 ghost use Rattle.std.specs.FinMap as map;
 ghost use Rattle.rev_cells.specs.declared.cell.Cell.{Cell};
 ghost use Rattle.rev_cells.specs.Keys.{cell_cmp};
-ghost use Rattle.rev_cells.specs.State.{default_or, value_at};
-ghost use Rattle.rev_cells.specs.Table.{Table, no_records, opened, raised, written};
-ghost use Rattle.rev_cells.specs.Values.{Fits};
+ghost use Rattle.rev_cells.specs.Effects.{cells_of, former_values, set_all, stored_in, stored_values};
+ghost use Rattle.rev_cells.specs.State.{default_or, set, value_at};
+ghost use Rattle.rev_cells.specs.Table.{Table, no_records, opened, raised, raised_by, written, written_all};
+ghost use Rattle.rev_cells.specs.Values.{Fits, unless_default};
 
 use crate::cell::Cell;
 use crate::opening::Opening;
@@ -80,6 +81,14 @@ impl Cells {
         })
     }
 
+    // Changes the number of jobs.
+    pub(crate) fn set_jobs(&mut self, jobs: u32)
+        ensures { self.new ≡ record self.old { jobs = jobs } }
+    {
+        let Cells { jobs: now, .. } = self;
+        *now = jobs;
+    }
+
     /// How many jobs there are.
     pub fn jobs(&self) -> u32
         ensures { result ≡ self.now.jobs }
@@ -148,6 +157,9 @@ impl Cells {
         requires fits { Fits cell.now value }
         ensures former { result ≡ value_at self.old.state cell.now }
         ensures after { self.new ≡ written self.old cell.now value }
+        ensures former_fits { Fits cell.now result }
+        ensures stored { map.get self.old.state cell.now ≡ unless_default result }
+        ensures back { set self.new.state cell.now result ≡ self.old.state }
     {
         let Some(slot) = self.entries.get_mut(cell) else {
             unreachable!()
@@ -155,6 +167,72 @@ impl Cells {
         let former = mem::replace(slot, value);
         self.writes = one_write_more(self.writes);
         former
+    }
+
+    // Makes a place for each cell that is written.
+    fn reserve_all(&mut self, writes: &[(Cell, Value)]) -> Result<(), AllocError>
+        ensures state { self.new.state ≡ self.old.state }
+        ensures jobs { self.new.jobs ≡ self.old.jobs }
+        ensures writes { self.new.writes ≡ self.old.writes }
+        ensures more { (c : Cell) → Contains self.old.places c → Contains self.new.places c }
+        ensures has { OnOk result (AllByRecursion (λ (w : Cell × Value). Contains self.new.places w.0) writes.now) }
+    {
+        for (cell, _) in writes {
+            self.reserve(cell)?;
+        }
+        Ok(())
+    }
+
+    // Writes one cell, and leaves what it held in place of what was written.
+    fn exchange_one(&mut self, write: &mut (Cell, Value))
+        requires has { Contains self.old.places write.old.0 }
+        requires fits { Fits write.old.0 write.old.1 }
+        ensures former { write.new ≡ (write.old.0, value_at self.old.state write.old.0) }
+        ensures former_fits { Fits write.new.0 write.new.1 }
+        ensures stored { map.get self.old.state write.old.0 ≡ unless_default write.new.1 }
+        ensures after { self.new ≡ written self.old write.old.0 write.old.1 }
+    {
+        let value = mem::replace(&mut write.1, Value::Halted(false));
+        write.1 = self.swap(&write.0, value);
+    }
+
+    /// Writes cells that have places, in their order, and leaves beside each what it held when its turn came. Each is
+    /// counted as a write. It takes no memory. Where no cell stands twice, another call with what is left restores the state.
+    pub fn exchange(&mut self, writes: &mut Vec<(Cell, Value)>)
+        requires has { AllByRecursion (λ (w : Cell × Value). Contains self.old.places w.0) writes.old.items }
+        requires fits { AllByRecursion (λ (w : Cell × Value). Fits w.0 w.1) writes.old.items }
+        ensures after { self.new ≡ written_all self.old writes.old.items }
+        ensures former { writes.new.items ≡ former_values self.old.state writes.old.items }
+        ensures former_fits { AllByRecursion (λ (w : Cell × Value). Fits w.0 w.1) writes.new.items }
+        ensures stored { IsDistinct (eq_by_cmp cell_cmp) (cells_of writes.old.items) → stored_values writes.new.items ≡ stored_in self.old.state writes.old.items }
+    {
+        for place in 0..writes.len() {
+            self.exchange_one(&mut writes[place]);
+        }
+    }
+
+    /// Writes cells, in their order, and gives each with what it held when its turn came. Each is counted as a write.
+    /// Places are made first, so that want of memory leaves the state as it was.
+    pub fn write_all(
+        &mut self,
+        writes: Vec<(Cell, Value)>,
+    ) -> Result<Vec<(Cell, Value)>, AllocError>
+        requires { AllByRecursion (λ (w : Cell × Value). Fits w.0 w.1) writes.items }
+        ensures state { OnOk result (self.new.state ≡ set_all self.old.state writes.items) }
+        ensures writes { OnOk result (self.new.writes ≡ raised_by (length writes.items) self.old.writes) }
+        ensures jobs { self.new.jobs ≡ self.old.jobs }
+        ensures more { (c : Cell) → Contains self.old.places c → Contains self.new.places c }
+        ensures has { OnOk result (AllByRecursion (λ (w : Cell × Value). Contains self.new.places w.0) writes.items) }
+        ensures former { IfOk result (λ former. former.items ≡ former_values self.old.state writes.items) }
+        ensures former_fits { IfOk result (λ former. AllByRecursion (λ (w : Cell × Value). Fits w.0 w.1) former.items) }
+        ensures stored { IsDistinct (eq_by_cmp cell_cmp) (cells_of writes.items) → IfOk result (λ former. stored_values former.items ≡ stored_in self.old.state writes.items) }
+        ensures unchanged { OnErr result (self.new.state ≡ self.old.state) }
+        ensures not_counted { OnErr result (self.new.writes ≡ self.old.writes) }
+    {
+        self.reserve_all(&writes)?;
+        let mut former = writes;
+        self.exchange(&mut former);
+        Ok(former)
     }
 }
 

@@ -8,6 +8,7 @@ pub mod laws;
 mod lists;
 mod mark;
 mod opening;
+pub mod records;
 mod value;
 
 pub use cell::Cell;

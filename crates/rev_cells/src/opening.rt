@@ -1,7 +1,8 @@
 //! The records that a session opens with.
-ghost use Rattle.std.specs.Prelude.{◌≡◌, ◌↔◌, ◌<◌, Contains, IfOk, OnOk, OnErr, IsErrOf, ◌⊎◌, ◌≢◌, Err, Some};
+ghost use Rattle.std.specs.Prelude.{◌≡◌, ◌↔◌, ◌<◌, true, Contains, IfOk, OnOk, OnErr, IsErrOf, ◌⊎◌, ◌≢◌, Err, Some};
 ghost use Rattle.rev_cells.specs.declared.cell.Cell.TheVariants as cell;
 ghost use Rattle.rev_cells.specs.declared.value.Value.TheVariants as value;
+ghost use Rattle.rev_cells.specs.Opened.{IsOpened, IsOpening, is_of_record};
 ghost use Rattle.rev_cells.specs.Table.{no_records, opened, with_record};
 ghost use Rattle.rev_cells.specs.Values.{Fits};
 
@@ -14,7 +15,8 @@ use rev_paths::Name;
 use std::alloc::{AllocError, Global};
 use std::marker::Model;
 
-/// The number of jobs, and the records that were given. Each record has a place, in the order in which they were given.
+/// The number of jobs, and the records that were given: stamps, and what the logs of builds say. Each record has a place, in the
+/// order in which they were given. Nothing is marked, and no job is held.
 #[derive(Drop)]
 pub struct Opening {
     cells: Cells,
@@ -27,9 +29,11 @@ impl Model for Opening {
 
     ghost coded = { records_code };
 
-    ghost use Rattle.rev_cells.specs.Opened.{records_of};
+    ghost use Rattle.rev_cells.specs.Opened.{records_of, IsOpening};
 
     ghost view = { records_of };
+
+    ghost invariant = { λ a. IsOpening (records_of a) };
 }
 
 impl Opening {
@@ -48,6 +52,29 @@ impl Opening {
         Ok(Opening {
             cells: Cells::with_jobs(alloc, jobs),
         })
+    }
+
+    /// How many jobs there are.
+    pub fn jobs(&self) -> u32
+        ensures jobs { result ≡ self.now.jobs }
+        ensures opening { IsOpening self.now }
+        ensures opened { IsOpened self.now.state }
+    {
+        self.cells.jobs()
+    }
+
+    /// Gives the opening another number of jobs, from 1 to 1,024. It takes no memory.
+    pub fn set_jobs(&mut self, jobs: u32) -> Result<(), OpeningFault>
+        ensures ok { OnOk result (self.new ≡ record self.old { jobs = jobs }) }
+        ensures bad_jobs { IsErrOf result OpeningFault.BadJobs ↔ ((jobs ≡ 0) ⊎ (1024 < jobs)) }
+        ensures only { OnErr result (IsErrOf result OpeningFault.BadJobs) }
+        ensures err { OnErr result (self.new ≡ self.old) }
+    {
+        if jobs > Self::MAX_JOBS || jobs == 0 {
+            return Err(OpeningFault::BadJobs);
+        }
+        self.cells.set_jobs(jobs);
+        Ok(())
     }
 
     /// Adds the record of a path's stamp, which is 0 where the file is missing. A path is given at most one,
@@ -103,7 +130,8 @@ impl Opening {
 
     /// An equal opening.
     pub fn copy(&self) -> Result<Opening, AllocError>
-        ensures { IfOk result (λ copy. copy ≡ self.now) }
+        ensures copy { IfOk result (λ copy. copy ≡ self.now) }
+        ensures opening { IsOpening self.now }
     {
         Ok(Opening {
             cells: self.cells.copy()?,
@@ -112,7 +140,8 @@ impl Opening {
 
     // Adds a record of any kind.
     fn add(&mut self, cell: Cell, value: Value) -> Result<(), OpeningFault>
-        requires { Fits cell value }
+        requires of_record { is_of_record cell ≡ true }
+        requires fits { Fits cell value }
         ensures ok { OnOk result (self.new ≡ with_record self.old cell value) }
         ensures double { IsErrOf result OpeningFault.DoubleRecord ↔ Contains self.old.places cell }
         ensures no_jobs { result ≢ Err OpeningFault.BadJobs }
@@ -146,6 +175,7 @@ mod tests {
         opening.add_stamp(Name::new(alloc, b"a.c")?, 10)?;
         assert_eq!(rt; opening.add_stamp(Name::new(alloc, b"b.c")?, 0), Ok(()));
         let copy = opening.copy()?;
+        assert_eq!(rt; copy.jobs(), 2);
         let cells = Cells::new(alloc, &copy)?;
         assert_eq!(rt; cells.jobs(), 2);
         let cell = Cell::Stamp(Name::new(alloc, b"./a.c")?);

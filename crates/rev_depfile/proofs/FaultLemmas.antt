@@ -1,10 +1,11 @@
 -- The first fault asks of the outputs only which paths are among them.
 use Rattle.std.proofs.Common.{◌≡◌, ℕ, not, ◌||◌, ◌&&◌, List, [], ◌∷◌, Some, bytes_eq, refl, ap, if◌then◌else◌}
 use Rattle.std.specs.List.{list_any}
+use Rattle.std.specs.Option.{option_or}
 use Rattle.rev_depfile.specs.declared.fault.DepfileFault.TheVariants.{OtherTarget}
 use Rattle.rev_depfile.specs.declared.sign.Sign.{Sign}
 use Rattle.rev_depfile.specs.Lines.{words, before_colon, from_colon}
-use Rattle.rev_depfile.specs.Value.{is_long, path_of, is_output, rule_fault, fault_by, first_fault_in, long_fault, line_at, or_else}
+use Rattle.rev_depfile.specs.Value.{is_long, path_of, is_output, rule_fault, fault_by, first_fault_in, long_fault, line_at}
 
 abbrev SameMembers : List (List ℕ) → List (List ℕ) → Type 0
 SameMembers xs ys = (path : List ℕ) → list_any (bytes_eq path) xs ≡ list_any (bytes_eq path) ys
@@ -27,4 +28,4 @@ fault_by-same xs ys same targets (colon ∷ rest) = rule_fault-same xs ys same t
 
 pub first_fault-same : (xs ys : List (List ℕ)) → SameMembers xs ys → (ls : List (List Sign)) → first_fault_in xs ls ≡ first_fault_in ys ls
 first_fault-same xs ys same [] = refl
-first_fault-same xs ys same (l ∷ ls) = λ i. or_else (fault_by-same xs ys same (words (before_colon l)) (from_colon l) i) (first_fault-same xs ys same ls i)
+first_fault-same xs ys same (l ∷ ls) = λ i. option_or (fault_by-same xs ys same (words (before_colon l)) (from_colon l) i) (first_fault-same xs ys same ls i)

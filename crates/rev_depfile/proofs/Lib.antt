@@ -1,5 +1,8 @@
+pub mod CutLemmas
 pub mod FaultLemmas
+pub mod GrammarLemmas
 pub mod LineLemmas
-pub mod MentionLemmas
+pub mod ReadingLemmas
 pub mod SignLemmas
+pub mod SpellingLemmas
 pub mod WordLemmas

@@ -27,14 +27,14 @@ more-none at (b ∷ bs) =
     ]
 
 -- a backslash
-more-backslash : (at n i b : ℕ) (bs : List ℕ) → (b == 92) ≡ true → more at n (pieces i (b ∷ bs)) ≡ more at (n + 1) (pieces (i + 1) bs)
+pub more-backslash : (at n i b : ℕ) (bs : List ℕ) → (b == 92) ≡ true → more at n (pieces i (b ∷ bs)) ≡ more at (n + 1) (pieces (i + 1) bs)
 more-backslash at n i b bs e =
     ap (λ t. more at n (if t then more i 1 (pieces (i + 1) bs) else (if is_line_end_return b bs then more i 0 (pieces (i + 1) bs)
     else record { at = i; backslashes = 0; byte = Some b; after = bs } ∷ pieces (i + 1) bs))) e
     ∙ more-more at n i 1 (pieces (i + 1) bs)
 
 -- a CR before LF
-more-return : (at n i b : ℕ) (bs : List ℕ) → (b == 92) ≡ false → is_line_end_return b bs ≡ true → more at n (pieces i (b ∷ bs)) ≡ more at n (pieces (i + 1) bs)
+pub more-return : (at n i b : ℕ) (bs : List ℕ) → (b == 92) ≡ false → is_line_end_return b bs ≡ true → more at n (pieces i (b ∷ bs)) ≡ more at n (pieces (i + 1) bs)
 more-return at n i b bs e f =
     ap (λ t. more at n (if t then more i 1 (pieces (i + 1) bs) else (if is_line_end_return b bs then more i 0 (pieces (i + 1) bs)
     else record { at = i; backslashes = 0; byte = Some b; after = bs } ∷ pieces (i + 1) bs))) e
@@ -42,7 +42,7 @@ more-return at n i b bs e f =
     ∙ more-more at n i 0 (pieces (i + 1) bs) ∙ ap (λ k. more at k (pieces (i + 1) bs)) (add-zero n)
 
 -- another byte
-more-byte : (at n i b : ℕ) (bs : List ℕ) → (b == 92) ≡ false → is_line_end_return b bs ≡ false
+pub more-byte : (at n i b : ℕ) (bs : List ℕ) → (b == 92) ≡ false → is_line_end_return b bs ≡ false
     → more at n (pieces i (b ∷ bs)) ≡ record { at = at; backslashes = n; byte = Some b; after = bs } ∷ pieces (i + 1) bs
 more-byte at n i b bs e f =
     ap (λ t. more at n (if t then more i 1 (pieces (i + 1) bs) else (if is_line_end_return b bs then more i 0 (pieces (i + 1) bs)

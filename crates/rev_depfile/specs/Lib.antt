@@ -1,5 +1,9 @@
 pub mod Fault
+pub mod Grammar
+pub mod Laws
+pub mod Reading
 pub mod Lines
 pub mod Signs
 pub mod Slices
+pub mod Spelling
 pub mod Value

@@ -1,7 +1,9 @@
 -- What a depfile says: its prerequisites, or its first fault.
-use Rattle.std.specs.Prelude.{ℕ, nat_lt, Bool, not, ◌&&◌, List, [], ◌∷◌, map, filter, length, bytes_eq, Option, Some, None, if◌then◌else◌}
+use Rattle.std.specs.Prelude.{ℕ, nat_lt, Bool, not, ◌&&◌, List, [], ◌∷◌, map, length, bytes_eq, Option, Some, None, if◌then◌else◌}
 use Rattle.std.specs.List.{list_any, flat_map}
+use Rattle.std.specs.Option.{option_or}
 use Rattle.rev_paths.specs.Canonical.{canonical}
+pub use Rattle.rev_paths.specs.Mentions.{first_mentions}
 use Rattle.rev_depfile.specs.declared.fault.DepfileFault.{DepfileFault}
 use Rattle.rev_depfile.specs.declared.fault.DepfileFault.TheVariants.{NoColon, OtherTarget, LongPath}
 use Rattle.rev_depfile.specs.declared.sign.Sign.{Sign}
@@ -57,24 +59,14 @@ paths_by (colon ∷ rest) = map path_of (words rest)
 abbrev pub line_paths : List Sign → List (List ℕ)
 line_paths line = paths_by (from_colon line)
 
--- a fault where there is one, and otherwise a later one
-abbrev pub or_else : Option DepfileFault → Option DepfileFault → Option DepfileFault
-or_else None later = later
-or_else (Some fault) later = Some fault
-
 -- The first fault of lines is that of the first line that has one.
 abbrev pub first_fault_in : List (List ℕ) → List (List Sign) → Option DepfileFault
 first_fault_in outputs [] = None
-first_fault_in outputs (line ∷ ls) = or_else (line_fault outputs line) (first_fault_in outputs ls)
+first_fault_in outputs (line ∷ ls) = option_or (line_fault outputs line) (first_fault_in outputs ls)
 
 -- The first fault of a text for an edge with these outputs is that of its lines.
 abbrev pub first_fault : List (List ℕ) → List ℕ → Option DepfileFault
 first_fault outputs text = first_fault_in outputs (lines text)
-
--- each path of a list once, where it stands first
-abbrev pub first_mentions : List (List ℕ) → List (List ℕ)
-first_mentions [] = []
-first_mentions (p ∷ ps) = p ∷ filter (λ q. not (bytes_eq q p)) (first_mentions ps)
 
 -- The prerequisites of a text are those of all its lines, each at its first mention.
 abbrev pub prerequisites : List ℕ → List (List ℕ)

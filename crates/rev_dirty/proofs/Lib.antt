@@ -1,6 +1,10 @@
 pub mod ChangeLemmas
 pub mod ChosenLemmas
 pub mod InputLemmas
+pub mod ListLemmas
 pub mod ReasonLemmas
+pub mod SameReasons
+pub mod SeenLemmas
+pub mod SeesLemmas
 pub mod VisibleLemmas
 pub mod WalkLemmas

@@ -278,6 +278,16 @@ all-phony builds state all =
     through-phony Listed path edge is = seen-phony builds state path edge is
     through-phony OrderOnly path edge is = absurd (let no : None ≡ Some edge = is in cc)
 
+-- what shows of the inputs of an edge, where all phony edges through which they are seen are known
+pub newest-are : (builds : List BuildValue) (ranks : List ℕ) (state : State) (all : List InputValue) (entries : List (ℕ × ℕ)) → IsRanked builds ranks → IsKnowledge builds state entries
+    → ((other : ℕ) → Contains (filter_map (λ (input : Input). input.through) (map (facts_of_input builds state) all)) other → is_some (known entries other) ≡ true)
+    → greatest (map (shown entries) (map (facts_of_input builds state) all)) ≡ newest_stamp builds state all
+newest-are builds ranks state all entries ranked k there =
+    ap greatest (map-map-facts builds state entries all)
+    ∙ newest-stamp (λ (input : InputValue). shown entries (facts_of_input builds state input)) (λ (input : InputValue). visible_stamp builds state input.path) all
+    (λ input at. shown-kind builds ranks state entries ranked k input.kind input.path (input-known builds state entries all there input at))
+    (λ input c. uncounted-shown builds state entries input.kind input.path c)
+
 -- the reasons of an edge that is not phony
 pub command-are : (builds : List BuildValue) (ranks : List ℕ) (state : State) (edge : ℕ) (entries : List (ℕ × ℕ)) → IsRanked builds ranks → IsKnowledge builds state entries
     → ((other : ℕ) → Contains (filter_map (λ (input : Input). input.through) (map (facts_of_input builds state) (inputs state (build_at builds edge)))) other → is_some (known entries other) ≡ true)
@@ -294,10 +304,7 @@ command-are builds ranks state edge entries ranked k there command =
     let p = is_command_reason builds state build in
     let shows-same : (input : InputValue) → Contains all input → counts input.kind ≡ true → shown entries (facts_of_input builds state input) ≡ visible_stamp builds state input.path =
     λ input at. shown-kind builds ranks state entries ranked k input.kind input.path (input-known builds state entries all there input at) in
-    let top : greatest (map (shown entries) facts) ≡ newest_stamp builds state all =
-    ap greatest (map-map-facts builds state entries all)
-    ∙ newest-stamp (λ (input : InputValue). shown entries (facts_of_input builds state input)) (λ (input : InputValue). visible_stamp builds state input.path) all shows-same
-    (λ input c. uncounted-shown builds state entries input.kind input.path c) in
+    let top : greatest (map (shown entries) facts) ≡ newest_stamp builds state all = newest-are builds ranks state all entries ranked k there in
     let first : position (has_shown entries (greatest (map (shown entries) facts))) facts ≡ newest builds state all =
     ap (λ stamp. position (has_shown entries stamp) facts) top
     ∙ position-agree (facts_of_input builds state) (has_shown entries (newest_stamp builds state all)) (shows builds state (newest_stamp builds state all)) all
@@ -320,7 +327,7 @@ command-are builds ranks state edge entries ranked k there command =
     (λ j. sym (holds-agree (λ (input : InputValue). lacks (facts_of_input builds state input)) (is_missing_dep builds state) (λ input. lacks-dep builds ranks state ranked input.kind input.path) (slice_get all j))) i
     ++ older i
     ++ part p reason.NoRecord (λ (o : Output). o.unrecorded) (output_facts state build) outs (λ j. refl) i
-    ++ part p reason.Command (λ (o : Output). o.recommanded) (output_facts state build) outs (λ j. refl) i))
+    ++ part p reason.Command (λ (o : Output). o.command_changed) (output_facts state build) outs (λ j. refl) i))
 
 -- the reasons of a phony edge
 none-of : (p : Reason → Bool) (outs ins : List ℕ) → ((r : Reason) → p r ≡ false) → filter p (candidates outs ins) ≡ []

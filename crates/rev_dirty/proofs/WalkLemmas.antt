@@ -421,16 +421,16 @@ left-needs builds state entries front edge other ready at =
 
 -- The whole walk.
 
-pub started-walk : (builds : List BuildValue) (state : State) (edges : List ℕ) → All (IsPhonyEdge builds) edges → IsWalk builds state [] (map Enter edges)
-started-walk builds state edges all =
-    record {
-      knowledge = record { phony = λ edge stamp h. absurd (let no : None ≡ Some stamp = h in cc); right = λ edge stamp h. absurd (let no : None ≡ Some stamp = h in cc) };
-      edges = entered-edges builds edges all;
-      ready = ready-entered builds state [] edges;
-    }
+pub started-walk : (builds : List BuildValue) (state : State) (entries : List (ℕ × ℕ)) (edges : List ℕ) → IsKnowledge builds state entries → All (IsPhonyEdge builds) edges → IsWalk builds state entries (map Enter edges)
+started-walk builds state entries edges k all = record { knowledge = k; edges = entered-edges builds edges all; ready = ready-entered builds state entries edges }
 
-pub all-known : (entries : List (ℕ × ℕ)) (edges : List ℕ) → GoesOn [] (map Enter edges) entries [] → (edge : ℕ) → Contains edges edge → is_some (known entries edge) ≡ true
-all-known entries edges goes edge at = or-none (is_some (known entries edge)) (goes edge (has-entered edges edge at))
+pub all-known : (before entries : List (ℕ × ℕ)) (edges : List ℕ) → GoesOn before (map Enter edges) entries [] → (edge : ℕ) → Contains edges edge → is_some (known entries edge) ≡ true
+all-known before entries edges goes edge at =
+    or-none (is_some (known entries edge)) (goes edge (or-right (is_some (known before edge)) (has_task (map Enter edges) edge) (has-entered edges edge at)))
+
+-- what is known where nothing is
+pub nothing-known : (builds : List BuildValue) (state : State) → IsKnowledge builds state []
+nothing-known builds state = record { phony = λ edge stamp h. absurd (let no : None ≡ Some stamp = h in cc); right = λ edge stamp h. absurd (let no : None ≡ Some stamp = h in cc) }
 
 pub nil-from_length : {X : Type 0} (xs : List X) → length xs ≡ 0 → xs ≡ []
 nil-from_length [] h = refl

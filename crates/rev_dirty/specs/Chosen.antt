@@ -47,4 +47,4 @@ all_reasons entries outputs inputs changes lacks_deps has_old_deps =
     ++ map reason.MissingDep (positions lacks inputs)
     ++ older_by (position (has_shown entries (greatest (map (shown entries) inputs))) inputs) (greatest (map (shown entries) inputs)) outputs
     ++ map reason.NoRecord (positions (λ (output : Output). output.unrecorded) outputs)
-    ++ map reason.Command (positions (λ (output : Output). output.recommanded) outputs)
+    ++ map reason.Command (positions (λ (output : Output). output.command_changed) outputs)

@@ -32,4 +32,4 @@ facts_of_input builds state input = input_facts builds state input.kind input.pa
 -- what is asked of an output
 abbrev pub output_facts : State → BuildValue → List ℕ → Output
 output_facts state build path =
-    record { stamp = stamp_of state path; effective = effective_stamp state build path; unrecorded = lacks_record state build path; recommanded = has_other_command state build path }
+    record { stamp = stamp_of state path; effective = effective_stamp state build path; unrecorded = lacks_record state build path; command_changed = has_other_command state build path }

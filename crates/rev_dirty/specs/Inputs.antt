@@ -1,7 +1,8 @@
 -- The inputs of an edge in a state.
 use Rattle.std.specs.Prelude.{ℕ, Bool, true, false, List, [], ◌∷◌, ◌++◌, map, Option, Some, None, if◌then◌else◌}
+use Rattle.std.specs.List.{filter_map}
 use Rattle.rev_manifest.specs.Manifest.{BuildValue}
-use Rattle.rev_graph.specs.Graph.{outputs_of}
+use Rattle.rev_graph.specs.Graph.{outputs_of, producer_of}
 use Rattle.rev_cells.specs.State.{State, deps_of}
 use Rattle.rev_cells.specs.declared.value.DepsRecord.{DepsRecord}
 use Rattle.rev_dirty.specs.declared.input.InputKind.{InputKind}
@@ -40,3 +41,11 @@ counts _ = true
 abbrev pub is_listed : InputKind → Bool
 is_listed Listed = true
 is_listed _ = false
+
+-- the paths of inputs
+abbrev pub paths_of : List InputValue → List (List ℕ)
+paths_of all = map (λ (input : InputValue). input.path) all
+
+-- the edges that produce some of these paths
+abbrev pub producers_in : List BuildValue → List (List ℕ) → List ℕ
+producers_in builds paths = filter_map (producer_of builds) paths

@@ -3,6 +3,10 @@ pub mod Chosen
 pub mod Facts
 pub mod Inputs
 pub mod Laws
+pub mod Reading
 pub mod Reasons
+pub mod Scan
+pub mod ScanValue
+pub mod Seen
 pub mod Visible
 pub mod Walk

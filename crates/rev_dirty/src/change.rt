@@ -16,7 +16,7 @@ use rev_paths::Name;
 use std::alloc::{AllocError, Global};
 
 /// For each edge that was met the outputs that it changed.
-type Changed = IndexMap<u32, IndexSet<Name>>;
+pub(crate) type Changed = IndexMap<u32, IndexSet<Name>>;
 
 // The output at a position.
 fn output_at<'a>(explicit: &'a [Name], implicit: &'a [Name], position: u64) -> Option<&'a Name>
@@ -85,7 +85,7 @@ fn has_changed(
     requires edge { edge < length graph.now.manifest.builds }
     requires changed { AreChanges graph.now.manifest.builds cells.now.state changed.old.entries }
     ensures value { IfOk result (λ found. found ≡ has_path (changed_outputs (mark_of cells.now.state edge) (outputs_of (build_at graph.now.manifest.builds edge))) path.now) }
-    ensures changed { OnOk result (AreChanges graph.now.manifest.builds cells.now.state changed.new.entries) }
+    ensures changed { AreChanges graph.now.manifest.builds cells.now.state changed.new.entries }
 {
     if let Some(outputs) = changed.get(&edge) {
         return Ok(outputs.contains(path));
@@ -108,7 +108,7 @@ fn was_changed(
     requires producer { producer ≡ producer_of graph.now.manifest.builds path.now }
     requires changed { AreChanges graph.now.manifest.builds cells.now.state changed.old.entries }
     ensures value { IfOk result (λ found. found ≡ was_changed_in graph.now.manifest.builds cells.now.state path.now) }
-    ensures changed { OnOk result (AreChanges graph.now.manifest.builds cells.now.state changed.new.entries) }
+    ensures changed { AreChanges graph.now.manifest.builds cells.now.state changed.new.entries }
 {
     match producer {
         Some(edge) => {
@@ -132,7 +132,7 @@ fn is_rebuilt(
     requires producer { producer ≡ producer_of graph.now.manifest.builds path.now }
     requires changed { AreChanges graph.now.manifest.builds cells.now.state changed.old.entries }
     ensures value { IfOk result (λ rebuilt. rebuilt ≡ is_rebuilt_in graph.now.manifest.builds cells.now.state (an kind path.now)) }
-    ensures changed { OnOk result (AreChanges graph.now.manifest.builds cells.now.state changed.new.entries) }
+    ensures changed { AreChanges graph.now.manifest.builds cells.now.state changed.new.entries }
 {
     if kind == InputKind::OrderOnly {
         return Ok(false);
@@ -154,7 +154,7 @@ fn push_changes(
 ) -> Result<(), AllocError>
     requires producers { producers.now ≡ map (producer_of graph.now.manifest.builds) paths.now }
     requires changed { AreChanges graph.now.manifest.builds cells.now.state changed.old.entries }
-    ensures changed { OnOk result (AreChanges graph.now.manifest.builds cells.now.state changed.new.entries) }
+    ensures changed { AreChanges graph.now.manifest.builds cells.now.state changed.new.entries }
     ensures changes { OnOk result (changes.new.items ≡ changes.old.items ++ map (is_rebuilt_in graph.now.manifest.builds cells.now.state) (map (an kind) paths.now)) }
 {
     for (place, path) in paths.iter().enumerate() {
@@ -171,23 +171,25 @@ pub(crate) fn changes_of(
     alloc: Global,
     graph: &Graph,
     cells: &Cells,
+    changed: &mut Changed,
     edge: u32,
     listed: &[Name],
     producers: &[Option<u32>],
 ) -> Result<Vec<bool>, AllocError>
+    requires changed { AreChanges graph.now.manifest.builds cells.now.state changed.old.entries }
     requires edge { edge < length graph.now.manifest.builds }
     requires producers { producers.now ≡ map (producer_of graph.now.manifest.builds) listed.now }
     requires listed { listed.now ≡ paths_in (deps_record cells.now.state (build_at graph.now.manifest.builds edge)) }
-    ensures { IfOk result (λ changes. changes.items ≡ map (is_rebuilt_in graph.now.manifest.builds cells.now.state) (inputs cells.now.state (build_at graph.now.manifest.builds edge))) }
+    ensures changed { AreChanges graph.now.manifest.builds cells.now.state changed.new.entries }
+    ensures changes { IfOk result (λ changes. changes.items ≡ map (is_rebuilt_in graph.now.manifest.builds cells.now.state) (inputs cells.now.state (build_at graph.now.manifest.builds edge))) }
 {
     let on_line = graph.inputs(edge);
     let line = line_producers(graph, edge);
-    let mut changed = IndexMap::new(alloc);
     let mut changes = Vec::new(alloc);
     push_changes(
         alloc,
         &mut changes,
-        &mut changed,
+        changed,
         graph,
         cells,
         InputKind::OnLine,
@@ -197,7 +199,7 @@ pub(crate) fn changes_of(
     push_changes(
         alloc,
         &mut changes,
-        &mut changed,
+        changed,
         graph,
         cells,
         InputKind::OnLine,
@@ -207,7 +209,7 @@ pub(crate) fn changes_of(
     push_changes(
         alloc,
         &mut changes,
-        &mut changed,
+        changed,
         graph,
         cells,
         InputKind::OrderOnly,
@@ -217,7 +219,7 @@ pub(crate) fn changes_of(
     push_changes(
         alloc,
         &mut changes,
-        &mut changed,
+        changed,
         graph,
         cells,
         InputKind::Listed,

@@ -1,37 +1,41 @@
 //! The reasons to run an edge's command.
 ghost use Rattle.std.specs.Prelude.{◌≡◌, ◌<◌, ◌++◌, ◌==◌, ◌&&◌, ◌+◌, is_none, true, false, nat_lt, map, length, IfOk, OnOk};
 ghost use Rattle.std.specs.Option.{option_copied};
-ghost use Rattle.std.specs.List.{position};
+ghost use Rattle.std.specs.List.{position, list_any};
 ghost use Rattle.rev_cells.specs.declared.value.DepsRecord.{DepsRecord};
-ghost use Rattle.rev_dirty.specs.Visible.{greatest};
-ghost use Rattle.rev_dirty.specs.Walk.{shown as shown_of};
+ghost use Rattle.rev_dirty.specs.Visible.{greatest, visible_stamp};
+ghost use Rattle.rev_dirty.specs.Walk.{shown as shown_of, IsKnowledge};
 ghost use Rattle.rev_graph.specs.Graph.{build_at, inputs_of, IsGraph};
 ghost use Rattle.rev_dirty.specs.declared.input.Input.{Input};
 ghost use Rattle.rev_dirty.specs.declared.output.Output.{Output};
 ghost use Rattle.rev_dirty.specs.declared.reason.Reason.TheVariants as reason;
 ghost use Rattle.rev_dirty.specs.Chosen.{positions, lacks as lacks_of, has_shown, older_by, where_holds, stamp_of_first, all_reasons as all_reasons_of};
-ghost use Rattle.rev_dirty.specs.Inputs.{deps_record, paths_in};
-ghost use Rattle.rev_dirty.specs.Reasons.{reasons_of, holds};
+ghost use Rattle.rev_dirty.specs.Inputs.{deps_record as record_of, inputs as inputs_in, paths_in};
+ghost use Rattle.rev_dirty.specs.Changes.{AreChanges};
+ghost use Rattle.rev_dirty.specs.Reasons.{reasons_of, holds, newest_stamp, is_rebuilt};
 
-use crate::change::changes_of;
-use crate::input::{Input, InputKind, all_inputs, producers_of};
+use crate::change::{Changed, changes_of};
+use crate::input::{Input, InputKind, all_inputs, input_of, producers_of};
 use crate::output::{Output, outputs_of};
 use crate::reason::Reason;
-use crate::records::deps;
 use crate::walk::{Known, greatest_shown, know, shown};
+use rev_cells::records::deps;
 use rev_cells::{Cells, DepsRecord};
 use rev_graph::Graph;
 use rev_paths::Name;
 use std::alloc::{AllocError, Global};
 
-// The record that lists an edge's further inputs.
-fn deps_of<'a>(
+/// The record that lists an edge's further inputs: the deps log's record of its first output, where the edge keeps deps.
+///
+/// # Errors
+/// [`AllocError`] only where an allocation was refused.
+pub fn deps_record<'a>(
     graph: &Graph,
     cells: &'a Cells,
     edge: u32,
 ) -> Result<Option<&'a DepsRecord>, AllocError>
     requires { edge < length graph.now.manifest.builds }
-    ensures { IfOk result (λ deps. option_copied deps ≡ deps_record cells.now.state (build_at graph.now.manifest.builds edge)) }
+    ensures { IfOk result (λ deps. option_copied deps ≡ record_of cells.now.state (build_at graph.now.manifest.builds edge)) }
 {
     if !graph.keeps_deps(edge) {
         return Ok(None);
@@ -127,11 +131,11 @@ fn push_unrecorded(reasons: &mut Vec<Reason>, outputs: &[Output]) -> Result<(), 
 }
 
 // Adds the outputs that were made by another command.
-fn push_recommanded(reasons: &mut Vec<Reason>, outputs: &[Output]) -> Result<(), AllocError>
-    ensures { OnOk result (reasons.new.items ≡ reasons.old.items ++ map reason.Command (positions (λ (output : Output). output.recommanded) outputs.now)) }
+fn push_command_changed(reasons: &mut Vec<Reason>, outputs: &[Output]) -> Result<(), AllocError>
+    ensures { OnOk result (reasons.new.items ≡ reasons.old.items ++ map reason.Command (positions (λ (output : Output). output.command_changed) outputs.now)) }
 {
     for (position, output) in outputs.iter().enumerate() {
-        if output.recommanded {
+        if output.command_changed {
             reasons.push(Reason::Command(position as u64))?;
         }
     }
@@ -198,6 +202,29 @@ fn listed_in(deps: Option<&DepsRecord>) -> &[Name]
     }
 }
 
+/// The inputs of an edge that its deps record lists, where it keeps deps and has one.
+///
+/// # Errors
+/// [`AllocError`] only where an allocation was refused.
+pub fn listed_inputs<'a>(
+    graph: &Graph,
+    cells: &'a Cells,
+    edge: u32,
+) -> Result<&'a [Name], AllocError>
+    requires { edge < length graph.now.manifest.builds }
+    ensures { IfOk result (λ listed. listed.now ≡ paths_in (record_of cells.now.state (build_at graph.now.manifest.builds edge))) }
+{
+    let deps = deps_record(graph, cells, edge)?;
+    Ok(listed_in(deps))
+}
+
+// Whether one of the inputs was changed.
+fn any_changed(changes: &[bool]) -> bool
+    ensures { result ≡ list_any (λ changed. changed) changes.now }
+{
+    changes.iter().any(|changed| *changed)
+}
+
 // Whether an edge has no input of any kind, where `listed` are those that its deps record lists.
 fn has_no_input(graph: &Graph, edge: u32, listed: &[Name]) -> bool
     requires { edge < length graph.now.manifest.builds }
@@ -221,7 +248,7 @@ fn phony_reasons(
     requires phony { (build_at graph.now.manifest.builds edge).phony ≡ true }
     ensures { IfOk result (λ reasons. reasons.items ≡ reasons_of graph.now.manifest.builds cells.now.state edge) }
 {
-    let deps = deps_of(graph, cells, edge)?;
+    let deps = deps_record(graph, cells, edge)?;
     let mut reasons = Vec::new(alloc);
     if !has_no_input(graph, edge, listed_in(deps)) {
         return Ok(reasons);
@@ -251,7 +278,7 @@ fn all_reasons(
     push_missing_deps(&mut reasons, inputs)?;
     push_outdated(&mut reasons, known, inputs, outputs)?;
     push_unrecorded(&mut reasons, outputs)?;
-    push_recommanded(&mut reasons, outputs)?;
+    push_command_changed(&mut reasons, outputs)?;
     Ok(reasons)
 }
 
@@ -260,25 +287,31 @@ fn command_reasons(
     alloc: Global,
     graph: &Graph,
     cells: &Cells,
+    known: &mut Known,
+    changed: &mut Changed,
     edge: u32,
 ) -> Result<Vec<Reason>, AllocError>
     requires edge { edge < length graph.now.manifest.builds }
     requires command { (build_at graph.now.manifest.builds edge).phony ≡ false }
     requires graph { IsGraph graph.now }
-    ensures { IfOk result (λ reasons. reasons.items ≡ reasons_of graph.now.manifest.builds cells.now.state edge) }
+    requires knowledge { IsKnowledge graph.now.manifest.builds cells.now.state known.old.entries }
+    requires changed { AreChanges graph.now.manifest.builds cells.now.state changed.old.entries }
+    ensures reasons { IfOk result (λ reasons. reasons.items ≡ reasons_of graph.now.manifest.builds cells.now.state edge) }
+    ensures knowledge { IsKnowledge graph.now.manifest.builds cells.now.state known.new.entries }
+    ensures changed { AreChanges graph.now.manifest.builds cells.now.state changed.new.entries }
 {
-    let deps = deps_of(graph, cells, edge)?;
+    let deps = deps_record(graph, cells, edge)?;
     let listed = listed_in(deps);
     let outputs = outputs_of(alloc, graph, cells, edge)?;
     let producers = producers_of(alloc, graph, listed)?;
     let inputs = all_inputs(alloc, graph, cells, edge, listed, &producers)?;
-    let changes = changes_of(alloc, graph, cells, edge, listed, &producers)?;
-    let known = know(alloc, graph, cells, &inputs)?;
+    let changes = changes_of(alloc, graph, cells, changed, edge, listed, &producers)?;
+    know(alloc, graph, cells, known, &inputs)?;
     let lacks_deps = lacks_deps(graph.keeps_deps(edge), deps);
     let has_old_deps = are_old(deps, &outputs);
     let reasons = all_reasons(
         alloc,
-        &known,
+        known,
         &outputs,
         &inputs,
         &changes,
@@ -288,30 +321,84 @@ fn command_reasons(
     Ok(reasons)
 }
 
-/// The reasons why an edge is dirty, all of them: by kind, then by the position of the output, then of the input. Where there
-/// is none the edge is clean.
-///
-/// An edge that is not phony is dirty where an output is missing, is older than an input or has no record of this edge's
-/// command, where its deps are not known or out of date, or where an input was rebuilt (Ninja manual, the build log, deps,
-/// restat, generator). A phony edge is dirty only where it has no input of any kind, for each output that is missing.
-///
-/// It takes time linear in the edge's inputs and outputs and in what the phony edges behind its inputs have, up to hashing.
-///
-/// # Errors
-/// [`AllocError`] only where an allocation was refused.
-pub fn reasons(
+/// The reasons of an edge, by what is known of phony edges and of what edges changed, and by what is learned of them.
+pub(crate) fn reasons_by(
     alloc: Global,
     graph: &Graph,
     cells: &Cells,
+    known: &mut Known,
+    changed: &mut Changed,
     edge: u32,
 ) -> Result<Vec<Reason>, AllocError>
-    requires { edge < length graph.now.manifest.builds }
-    ensures { IfOk result (λ reasons. reasons.items ≡ reasons_of graph.now.manifest.builds cells.now.state edge) }
+    requires edge { edge < length graph.now.manifest.builds }
+    requires graph { IsGraph graph.now }
+    requires knowledge { IsKnowledge graph.now.manifest.builds cells.now.state known.old.entries }
+    requires changed { AreChanges graph.now.manifest.builds cells.now.state changed.old.entries }
+    ensures reasons { IfOk result (λ reasons. reasons.items ≡ reasons_of graph.now.manifest.builds cells.now.state edge) }
+    ensures knowledge { IsKnowledge graph.now.manifest.builds cells.now.state known.new.entries }
+    ensures changed { AreChanges graph.now.manifest.builds cells.now.state changed.new.entries }
 {
     if graph.is_phony(edge) {
         return phony_reasons(alloc, graph, cells, edge);
     }
-    // What it promises of every graph, ranks that fall along its steps, is what the stamps behind phony edges rest on.
-    let _edges = graph.edges();
-    command_reasons(alloc, graph, cells, edge)
+    command_reasons(alloc, graph, cells, known, changed, edge)
+}
+
+/// The greatest visible stamp of the inputs of an edge that are not order-only, 0 where there is none.
+pub(crate) fn newest_stamp_by(
+    alloc: Global,
+    graph: &Graph,
+    cells: &Cells,
+    known: &mut Known,
+    edge: u32,
+) -> Result<u64, AllocError>
+    requires edge { edge < length graph.now.manifest.builds }
+    requires graph { IsGraph graph.now }
+    requires knowledge { IsKnowledge graph.now.manifest.builds cells.now.state known.old.entries }
+    ensures stamp { IfOk result (λ stamp. stamp ≡ newest_stamp graph.now.manifest.builds cells.now.state (inputs_in cells.now.state (build_at graph.now.manifest.builds edge))) }
+    ensures knowledge { IsKnowledge graph.now.manifest.builds cells.now.state known.new.entries }
+{
+    let listed = listed_inputs(graph, cells, edge)?;
+    let producers = producers_of(alloc, graph, listed)?;
+    let inputs = all_inputs(alloc, graph, cells, edge, listed, &producers)?;
+    know(alloc, graph, cells, known, &inputs)?;
+    Ok(greatest_shown(known, &inputs))
+}
+
+/// Whether the producer of some input of an edge that is not order-only is done and changed that input.
+pub(crate) fn has_rebuilt_by(
+    alloc: Global,
+    graph: &Graph,
+    cells: &Cells,
+    changed: &mut Changed,
+    edge: u32,
+) -> Result<bool, AllocError>
+    requires edge { edge < length graph.now.manifest.builds }
+    requires changed { AreChanges graph.now.manifest.builds cells.now.state changed.old.entries }
+    ensures rebuilt { IfOk result (λ rebuilt. rebuilt ≡ list_any (is_rebuilt graph.now.manifest.builds cells.now.state) (inputs_in cells.now.state (build_at graph.now.manifest.builds edge))) }
+    ensures changed { AreChanges graph.now.manifest.builds cells.now.state changed.new.entries }
+{
+    let listed = listed_inputs(graph, cells, edge)?;
+    let producers = producers_of(alloc, graph, listed)?;
+    let changes = changes_of(alloc, graph, cells, changed, edge, listed, &producers)?;
+    Ok(any_changed(&changes))
+}
+
+/// The visible stamp of a path, by what is known of phony edges, and by what is learned of them.
+pub(crate) fn visible_stamp_by(
+    alloc: Global,
+    graph: &Graph,
+    cells: &Cells,
+    known: &mut Known,
+    path: &Name,
+) -> Result<u64, AllocError>
+    requires graph { IsGraph graph.now }
+    requires knowledge { IsKnowledge graph.now.manifest.builds cells.now.state known.old.entries }
+    ensures stamp { IfOk result (λ stamp. stamp ≡ visible_stamp graph.now.manifest.builds cells.now.state path.now) }
+    ensures knowledge { IsKnowledge graph.now.manifest.builds cells.now.state known.new.entries }
+{
+    let input = input_of(graph, cells, InputKind::OnLine, path, graph.producer(path))?;
+    let inputs = [input];
+    know(alloc, graph, cells, known, &inputs)?;
+    Ok(greatest_shown(known, &inputs))
 }

@@ -6,8 +6,8 @@ ghost use Rattle.rev_dirty.specs.Inputs.{inputs, paths_in, deps_record};
 ghost use Rattle.rev_dirty.specs.Visible.{line_inputs};
 ghost use Rattle.rev_dirty.specs.declared.input.InputKind.TheVariants.{OnLine};
 
-use crate::records::stamp;
 use rev_cells::Cells;
+use rev_cells::records::stamp;
 use rev_graph::Graph;
 use rev_paths::Name;
 use std::alloc::{AllocError, Global};
@@ -92,8 +92,8 @@ fn phony_producer(graph: &Graph, producer: Option<u32>) -> Option<u32>
     }
 }
 
-// What is asked of an input.
-fn input_of(
+/// What is asked of an input.
+pub(crate) fn input_of(
     graph: &Graph,
     cells: &Cells,
     kind: InputKind,

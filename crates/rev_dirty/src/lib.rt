@@ -7,13 +7,12 @@ mod input;
 pub mod laws;
 mod output;
 mod reason;
-mod records;
-mod walk;
-
-pub use dirtiness::reasons;
-
+mod scan;
 #[cfg(test)]
 mod tests;
+mod walk;
 
+pub use dirtiness::{deps_record, listed_inputs};
 pub use input::InputKind;
 pub use reason::Reason;
+pub use scan::{DependencyScan, reasons};

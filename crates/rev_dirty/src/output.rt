@@ -5,7 +5,7 @@ ghost use Rattle.rev_graph.specs.Graph.{build_at, outputs_of as outputs_on};
 ghost use Rattle.rev_dirty.specs.Facts.{output_facts};
 ghost use Rattle.rev_dirty.specs.Reasons.{recorded_stamp};
 
-use crate::records::{built, stamp};
+use rev_cells::records::{built, stamp};
 use rev_cells::{BuiltRecord, Cells};
 use rev_graph::Graph;
 use rev_paths::Name;
@@ -21,7 +21,7 @@ pub(crate) struct Output {
     /// Whether it has no record in the build log where one is asked for.
     pub(crate) unrecorded: bool,
     /// Whether it was made by another command than the edge's where that is asked.
-    pub(crate) recommanded: bool,
+    pub(crate) command_changed: bool,
 }
 
 // The stamp that an output counts with.
@@ -56,24 +56,24 @@ fn output_of(graph: &Graph, cells: &Cells, edge: u32, path: &Name) -> Result<Out
             stamp,
             effective,
             unrecorded: false,
-            recommanded: false,
+            command_changed: false,
         });
     }
     match built {
         Some(built) => {
-            let recommanded = built.command.as_slice() != graph.command(edge);
+            let command_changed = built.command.as_slice() != graph.command(edge);
             Ok(Output {
                 stamp,
                 effective,
                 unrecorded: false,
-                recommanded,
+                command_changed,
             })
         }
         None => Ok(Output {
             stamp,
             effective,
             unrecorded: true,
-            recommanded: false,
+            command_changed: false,
         }),
     }
 }

@@ -11,20 +11,13 @@ use std::test::Fail;
 const PROGRAM: &[u8; 131] =
     b"rule cc\n  command = cc -c $in -o $out\nrule ld\n  command = ld $in -o $out\nbuild a.o: cc a.c\nbuild b.o: cc b.c\nbuild app: ld a.o b.o\n";
 
-const OBJECT: &[u8; 45] = b"rule cc\n  command = cc $in\nbuild a.o: cc a.c\n";
-
 const TWICE: &[u8; 53] = b"rule r\n  command = r $in\nbuild m: r a\nbuild x: r m m\n";
-
-const CHAIN: &[u8; 77] =
-    b"rule r\n  command = r $in\nbuild p: r a\nbuild q: r p\nbuild s: r q\nbuild x: r s\n";
 
 const RESPONSES: &[u8; 97] =
     b"rule r\n  command = r @$out.rsp\n  rspfile = $out.rsp\n  rspfile_content = $in\nbuild o: r a$ b it's\n";
 
 const GENERATED: &[u8; 113] =
     b"rule r\n  command = r @$out.rsp\n  rspfile = $out.rsp\n  rspfile_content = $in\n  generator = 1\nbuild o: r a$ b it's\n";
-
-const BARE: &[u8; 32] = b"rule r\n  command = r\nbuild x: r\n";
 
 fn manifest_of(alloc: Global, content: &[u8]) -> Result<Manifest, AllocError> {
     let name = Vec::from_slice(alloc, b"build.ninja")?;
@@ -148,58 +141,6 @@ fn a_generator_asks_no_command(rt: HostRuntime) -> Result<(), Fail> {
     Ok(())
 }
 
-// An object that keeps deps.
-fn with_deps(alloc: Global) -> Result<Manifest, AllocError> {
-    let mut manifest = manifest_of(alloc, OBJECT)?;
-    for build in &mut manifest.builds {
-        build.keeps_deps = true;
-    }
-    Ok(manifest)
-}
-
-#[test]
-fn deps_without_a_record_are_unknown(rt: HostRuntime) -> Result<(), Fail> {
-    let alloc = rt.alloc();
-    let manifest = with_deps(alloc)?;
-    let opening = opening_of(alloc, &[(b"a.c", 10), (b"h.h", 5)])?;
-    let cells = Cells::new(alloc, &opening)?;
-    let found = explained(alloc, &manifest, &cells, 0)?;
-    let wanted = [
-        Reason::Missing(0),
-        Reason::NoDeps,
-        Reason::Older(0, 0),
-        Reason::NoRecord(0),
-    ];
-    assert_eq!(rt; found.as_slice(), wanted.as_slice());
-    Ok(())
-}
-
-#[test]
-fn deps_listed_before_the_object_are_old(rt: HostRuntime) -> Result<(), Fail> {
-    let alloc = rt.alloc();
-    let manifest = with_deps(alloc)?;
-    let mut opening = opening_of(alloc, &[(b"a.c", 10), (b"h.h", 5), (b"a.o", 100)])?;
-    add_built(alloc, &mut opening, b"a.o", 100, b"cc a.c")?;
-    add_deps(alloc, &mut opening, 50)?;
-    let cells = Cells::new(alloc, &opening)?;
-    let found = explained(alloc, &manifest, &cells, 0)?;
-    assert_eq!(rt; found.as_slice(), [Reason::DepsOld].as_slice());
-    Ok(())
-}
-
-#[test]
-fn a_listed_header_is_missing(rt: HostRuntime) -> Result<(), Fail> {
-    let alloc = rt.alloc();
-    let manifest = with_deps(alloc)?;
-    let mut opening = opening_of(alloc, &[(b"a.c", 10), (b"a.o", 100)])?;
-    add_built(alloc, &mut opening, b"a.o", 100, b"cc a.c")?;
-    add_deps(alloc, &mut opening, 100)?;
-    let cells = Cells::new(alloc, &opening)?;
-    let found = explained(alloc, &manifest, &cells, 0)?;
-    assert_eq!(rt; found.as_slice(), [Reason::MissingDep(2)].as_slice());
-    Ok(())
-}
-
 #[test]
 fn an_input_that_stands_twice_is_rebuilt_twice(rt: HostRuntime) -> Result<(), Fail> {
     let alloc = rt.alloc();
@@ -225,108 +166,6 @@ fn an_input_that_stands_twice_is_newest_once(rt: HostRuntime) -> Result<(), Fail
     let cells = Cells::new(alloc, &opening)?;
     let found = explained(alloc, &manifest, &cells, 1)?;
     assert_eq!(rt; found.as_slice(), [Reason::Older(0, 0)].as_slice());
-    Ok(())
-}
-
-// Where the only output of x has stamp 20, and its record that stamp.
-fn explained_at_20(
-    alloc: Global,
-    manifest: &Manifest,
-    source: u64,
-    recorded: u64,
-    edge: u32,
-) -> Result<Vec<Reason>, AllocError> {
-    let mut opening = opening_of(alloc, &[(b"a", source), (b"m", source), (b"x", 20)])?;
-    add_built(alloc, &mut opening, b"x", recorded, b"r m m")?;
-    let cells = Cells::new(alloc, &opening)?;
-    explained(alloc, manifest, &cells, edge)
-}
-
-#[test]
-fn restat_takes_the_greater_stamp(rt: HostRuntime) -> Result<(), Fail> {
-    let alloc = rt.alloc();
-    let mut manifest = manifest_of(alloc, TWICE)?;
-    for build in &mut manifest.builds {
-        build.restat = true;
-    }
-    assert!(rt; explained_at_20(alloc, &manifest, 30, 40, 1)?.is_empty());
-    assert!(rt; explained_at_20(alloc, &manifest, 15, 10, 1)?.is_empty());
-    let found = explained_at_20(alloc, &manifest, 30, 10, 1)?;
-    assert_eq!(rt; found.as_slice(), [Reason::Older(0, 0)].as_slice());
-    Ok(())
-}
-
-#[test]
-fn order_only_inputs_are_no_reason(rt: HostRuntime) -> Result<(), Fail> {
-    let alloc = rt.alloc();
-    let mut manifest = manifest_of(alloc, TWICE)?;
-    for build in &mut manifest.builds {
-        mem::swap(&mut build.explicit, &mut build.order_only);
-    }
-    assert!(rt; explained_at_20(alloc, &manifest, 30, 20, 1)?.is_empty());
-    Ok(())
-}
-
-// A chain of three phony edges and an edge that runs.
-fn phony_chain(alloc: Global) -> Result<Manifest, AllocError> {
-    let mut manifest = manifest_of(alloc, CHAIN)?;
-    for (edge, build) in manifest.builds.iter_mut().enumerate() {
-        build.phony = edge < 3;
-    }
-    Ok(manifest)
-}
-
-#[test]
-fn a_stamp_shows_through_a_phony_chain(rt: HostRuntime) -> Result<(), Fail> {
-    let alloc = rt.alloc();
-    let manifest = phony_chain(alloc)?;
-    let mut opening = opening_of(alloc, &[(b"a", 30), (b"x", 20)])?;
-    add_built(alloc, &mut opening, b"x", 20, b"r s")?;
-    let cells = Cells::new(alloc, &opening)?;
-    let found = explained(alloc, &manifest, &cells, 3)?;
-    assert_eq!(rt; found.as_slice(), [Reason::Older(0, 0)].as_slice());
-    let phony = explained(alloc, &manifest, &cells, 2)?;
-    assert!(rt; phony.is_empty());
-    Ok(())
-}
-
-// An edge that runs and a ladder of phony edges, each with two inputs that are the next.
-fn ladder(alloc: Global) -> Result<Manifest, AllocError> {
-    let mut content = Vec::from_slice(alloc, b"rule r\n  command = r\nbuild x: r p0\n")?;
-    for rung in 0..40_u32 {
-        let next = rung + 1;
-        let line = format!(in alloc; "build p{rung}: r p{next} p{next}\n")?;
-        content.extend_from_slice(line.as_bytes())?;
-    }
-    let mut manifest = manifest_of(alloc, &content)?;
-    for (edge, build) in manifest.builds.iter_mut().enumerate() {
-        build.phony = edge > 0;
-    }
-    Ok(manifest)
-}
-
-#[test]
-fn a_ladder_is_walked_rung_by_rung(rt: HostRuntime) -> Result<(), Fail> {
-    let alloc = rt.alloc();
-    let manifest = ladder(alloc)?;
-    let mut opening = opening_of(alloc, &[(b"p40", 30), (b"x", 20)])?;
-    add_built(alloc, &mut opening, b"x", 20, b"r")?;
-    let cells = Cells::new(alloc, &opening)?;
-    let found = explained(alloc, &manifest, &cells, 0)?;
-    assert_eq!(rt; found.as_slice(), [Reason::Older(0, 0)].as_slice());
-    Ok(())
-}
-
-#[test]
-fn a_phony_edge_without_inputs_is_dirty(rt: HostRuntime) -> Result<(), Fail> {
-    let alloc = rt.alloc();
-    let mut manifest = manifest_of(alloc, BARE)?;
-    for build in &mut manifest.builds {
-        build.phony = true;
-    }
-    let cells = Cells::new(alloc, &opening_of(alloc, &[])?)?;
-    let found = explained(alloc, &manifest, &cells, 0)?;
-    assert_eq!(rt; found.as_slice(), [Reason::Missing(0)].as_slice());
     Ok(())
 }
 

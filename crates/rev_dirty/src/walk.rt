@@ -110,6 +110,7 @@ fn leave(
     requires knowledge { IsKnowledge graph.now.manifest.builds cells.now.state known.old.entries }
     requires needed { (other : ℕ) → Contains (needed graph.now.manifest.builds cells.now.state edge) other → is_some (known_by known.old.entries other) ≡ true }
     ensures added { OnOk result (IsAdded known.old.entries known.new.entries edge (shown_behind graph.now.manifest.builds cells.now.state edge)) }
+    ensures knowledge { IsKnowledge graph.now.manifest.builds cells.now.state known.new.entries }
 {
     let inputs = counted_on_line(alloc, graph, cells, edge)?;
     let stamp = greatest_shown(known, &inputs);
@@ -131,6 +132,7 @@ fn step(
     ensures walk { OnOk result (IsWalk graph.now.manifest.builds cells.now.state known.new.entries tasks.new.items) }
     ensures goes_on { OnOk result (GoesOn known.old.entries (tasks.old.items ++ task ∷ []) known.new.entries tasks.new.items) }
     ensures less { OnOk result (work_left graph.now.manifest.builds cells.now.state graph.now.ranks tasks.new.items < work_left graph.now.manifest.builds cells.now.state graph.now.ranks (tasks.old.items ++ task ∷ [])) }
+    ensures knowledge { IsKnowledge graph.now.manifest.builds cells.now.state known.new.entries }
 {
     match task {
         Task::Enter(edge) => {
@@ -144,25 +146,26 @@ fn step(
     }
 }
 
-/// What is known of phony edges once those through which inputs are seen are known. Each phony edge behind the inputs is
-/// entered once and left once.
+/// Makes the phony edges known through which inputs are seen, and those behind them. Each that was not known is entered once
+/// and left once. What was known stays so, also where memory is short.
 pub(crate) fn know(
     alloc: Global,
     graph: &Graph,
     cells: &Cells,
+    known: &mut Known,
     inputs: &[Input],
-) -> Result<Known, AllocError>
+) -> Result<(), AllocError>
     requires graph { IsGraph graph.now }
     requires phony { All (IsPhonyEdge graph.now.manifest.builds) (filter_map (λ (input : Input). input.through) inputs.now) }
-    ensures knowledge { IfOk result (λ known. IsKnowledge graph.now.manifest.builds cells.now.state known.entries) }
-    ensures all { IfOk result (λ known. (edge : ℕ) → Contains (filter_map (λ (input : Input). input.through) inputs.now) edge → is_some (known_by known.entries edge) ≡ true) }
+    requires knowledge { IsKnowledge graph.now.manifest.builds cells.now.state known.old.entries }
+    ensures knowledge { IsKnowledge graph.now.manifest.builds cells.now.state known.new.entries }
+    ensures all { OnOk result ((edge : ℕ) → Contains (filter_map (λ (input : Input). input.through) inputs.now) edge → is_some (known_by known.new.entries edge) ≡ true) }
 {
     let edges = edges_through(alloc, inputs)?;
-    let mut known = IndexMap::new(alloc);
     let mut tasks = Vec::new(alloc);
     push_entered(&mut tasks, &edges)?;
     while let Some(task) = tasks.pop() {
-        step(alloc, graph, cells, &mut known, &mut tasks, task)?;
+        step(alloc, graph, cells, known, &mut tasks, task)?;
     }
-    Ok(known)
+    Ok(())
 }

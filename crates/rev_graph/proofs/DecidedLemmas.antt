@@ -1,186 +1,30 @@
 -- The search for cycles finds what there is.
-use Rattle.std.proofs.Common.{◌≡◌, ◌≢◌, ℕ, ◌+◌, ◌-◌, ◌<◌, ◌≤◌, zero, suc, Bool, true, false, cond, ◌||◌, ◌==◌, List, [], ◌∷◌, length, Some, None, option_map, find, nat_lt, Contains, ◌⊎◌, inl, inr, refl, sym, ap, subst, ◌∙◌, arith, if◌then◌else◌, eqb-true, eq-eqb}
+use Rattle.std.proofs.Common.{◌≡◌, ◌≢◌, ℕ, ◌+◌, ◌<◌, ◌≤◌, zero, suc, Bool, true, false, cond, List, [], ◌∷◌, length, Option, Some, None, option_map, find, slice_get, nat_eq, nat_lt, ◌⊎◌, inl, inr, refl, sym, ap, subst, ◌∙◌, arith, if◌then◌else◌, eqb-true, eq-eqb}
 use Rattle.std.specs.List.{list_any, range_with_len}
-use Rattle.std.proofs.lemmas.Bool.{lt-ltb, le-ltb, cases_lt, cases_eq}
+use Rattle.std.proofs.lemmas.Bool.{lt-ltb, le-ltb, ltb-true, ltb-false, cases_lt, cases_eq}
 use Rattle.std.proofs.lemmas.List.{get_or_past}
-use Rattle.std.proofs.lemmas.List.Folds.{list_any_at}
-use Rattle.std.proofs.lemmas.List.Elements.{Contains-get_or, Contains-append_right}
 use Rattle.rev_manifest.specs.Manifest.{BuildValue}
-use Rattle.rev_ranks.specs.Graph.{successors_of, Steps, Reaches, Reaches.step, Reaches.further}
+use Rattle.rev_ranks.specs.Graph.{Steps, Reaches, Reaches.step, Reaches.further}
+use Rattle.rev_ranks.proofs.LeadsLemmas.{leads-sound, leads-complete}
 use Rattle.rev_graph.specs.declared.fault.GraphFault.{GraphFault}
 use Rattle.rev_graph.specs.declared.fault.GraphFault.TheVariants.{Memory, TooManyEdges, MultipleProducers, Cycle}
-use Rattle.rev_graph.specs.Decided.{steps_to, reaches_through, reaches_itself, least_on_cycle, cycle_at, double_or, graph_fault}
+use Rattle.rev_graph.specs.Decided.{reaches_itself, least_on_cycle, cycle_at, double_or, graph_fault}
 use Rattle.rev_graph.specs.Fault.{Explains, IsFaultless}
-use Rattle.rev_graph.specs.Graph.{first_double, successor_lists, EdgeReaches, IsLeastOnCycle}
-use Rattle.rev_graph.proofs.StepLemmas.{node_way, edge_way, length-lists}
+use Rattle.rev_graph.specs.Graph.{build_at, outputs_of, first_double, successor_lists, EdgeReaches, IsLeastOnCycle}
+use Rattle.rev_graph.proofs.StepLemmas.{node_way, edge_way, length-lists, reached-outputs}
 
-or-cases : (a b : Bool) → (a || b) ≡ true → (a ≡ true) ⊎ (b ≡ true)
-or-cases true b h = inl refl
-or-cases false b h = inr h
+-- a node that is seen to reach itself does
+sound : (graph : List (List ℕ)) (n : ℕ) → reaches_itself graph n ≡ true → Reaches graph n n
+sound graph n h =
+    let found = leads-sound graph (nat_eq n) n h in
+    subst (λ (m : ℕ). Reaches graph n m) (sym (eqb-true n found.other found.passes)) found.way
 
-or-left : (a b : Bool) → a ≡ true → (a || b) ≡ true
-or-left true b h = refl
-or-left false b h = cc
-
-or-right : (a b : Bool) → b ≡ true → (a || b) ≡ true
-or-right true b h = refl
-or-right false b h = h
-
--- an item that passes
-record Passing (p : ℕ → Bool) (xs : List ℕ) : Type 0 where
-  item : ℕ
-  there : Contains xs item
-  passes : p item ≡ true
-
-passing-by : (p : ℕ → Bool) (x : ℕ) (xs : List ℕ) → (p x ≡ true) ⊎ (list_any p xs ≡ true) → (list_any p xs ≡ true → Passing p xs) → Passing p (x ∷ xs)
-passing-by p x xs (inl here) rest = record { item = x; there = Contains-get_or (x ∷ xs) 0 x (omega arith); passes = here }
-passing-by p x xs (inr later) rest =
-    let f = rest later in
-    record { item = f.item; there = Contains-append_right (x ∷ []) xs f.item f.there; passes = f.passes }
-
-passing : (p : ℕ → Bool) (xs : List ℕ) → list_any p xs ≡ true → Passing p xs
-passing p [] h = cc
-passing p (x ∷ xs) h = passing-by p x xs (or-cases (p x) (list_any p xs) h) (passing p xs)
-
-any-passes : (p : ℕ → Bool) (xs : List ℕ) (x : ℕ) → Contains xs x → p x ≡ true → list_any p xs ≡ true
-any-passes p xs x (k, within, at) h = list_any_at p xs k x within (ap p at ∙ h)
-
--- a step that is seen
-seen-step : (graph : List (List ℕ)) (n m : ℕ) → steps_to graph n m ≡ true → Steps graph n m
-seen-step graph n m h =
-    let f = passing (λ next. next == m) (successors_of graph n) h in
-    subst (Contains (successors_of graph n)) (eqb-true f.item m f.passes) f.there
-
-step-seen : (graph : List (List ℕ)) (n m : ℕ) → Steps graph n m → steps_to graph n m ≡ true
-step-seen graph n m h = any-passes (λ next. next == m) (successors_of graph n) m h (eq-eqb m m refl)
-
--- what is seen to reach does
-mutual-sound : (graph : List (List ℕ)) (m most n : ℕ) → ((s : ℕ) → reaches_through graph m most s ≡ true → Reaches graph s m)
-    → (steps_to graph n m ≡ true) ⊎ (list_any (reaches_through graph m most) (successors_of graph n) ≡ true) → Reaches graph n m
-mutual-sound graph m most n below (inl h) = step (seen-step graph n m h)
-mutual-sound graph m most n below (inr h) =
-    let f = passing (reaches_through graph m most) (successors_of graph n) h in
-    further f.there (below f.item f.passes)
-
-sound : (graph : List (List ℕ)) (m most n : ℕ) → reaches_through graph m most n ≡ true → Reaches graph n m
-sound graph m zero n h = step (seen-step graph n m h)
-sound graph m (suc most) n h = mutual-sound graph m most n (sound graph m most) (or-cases (steps_to graph n m) (list_any (reaches_through graph m most) (successors_of graph n)) h)
-
--- a step is seen whatever the bound
-step-through : (graph : List (List ℕ)) (m most n : ℕ) → steps_to graph n m ≡ true → reaches_through graph m most n ≡ true
-step-through graph m zero n h = h
-step-through graph m (suc most) n h = or-left (steps_to graph n m) _ h
-
-on-through : (graph : List (List ℕ)) (m most n s : ℕ) → Steps graph n s → reaches_through graph m most s ≡ true → reaches_through graph m (suc most) n ≡ true
-on-through graph m most n s h r = or-right (steps_to graph n m) _ (any-passes (reaches_through graph m most) (successors_of graph n) s h r)
-
-more-by : (graph : List (List ℕ)) (m most n : ℕ) → ((s : ℕ) → reaches_through graph m most s ≡ true → reaches_through graph m (suc most) s ≡ true)
-    → (steps_to graph n m ≡ true) ⊎ (list_any (reaches_through graph m most) (successors_of graph n) ≡ true) → reaches_through graph m (suc (suc most)) n ≡ true
-more-by graph m most n rise (inl h) = step-through graph m (suc (suc most)) n h
-more-by graph m most n rise (inr h) =
-    let f = passing (reaches_through graph m most) (successors_of graph n) h in
-    on-through graph m (suc most) n f.item f.there (rise f.item f.passes)
-
--- a greater bound sees no less
-more : (graph : List (List ℕ)) (m most n : ℕ) → reaches_through graph m most n ≡ true → reaches_through graph m (suc most) n ≡ true
-more graph m zero n h = or-left (steps_to graph n m) _ h
-more graph m (suc most) n h =
-    more-by graph m most n (more graph m most) (or-cases (steps_to graph n m) (list_any (reaches_through graph m most) (successors_of graph n)) h)
-
-more_on : (graph : List (List ℕ)) (m n most extra : ℕ) → reaches_through graph m most n ≡ true → reaches_through graph m (extra + most) n ≡ true
-more_on graph m n most zero h = subst (λ k. reaches_through graph m k n ≡ true) (let e : most ≡ 0 + most = omega arith in e) h
-more_on graph m n most (suc extra) h =
-    subst (λ k. reaches_through graph m k n ≡ true) (let e : suc (extra + most) ≡ suc extra + most = omega arith in e) (more graph m (extra + most) n (more_on graph m n most extra h))
-
--- a bound that sees as much as the next
-abbrev IsStable : List (List ℕ) → ℕ → ℕ → Type 0
-IsStable graph m most = (n : ℕ) → reaches_through graph m (suc most) n ≡ true → reaches_through graph m most n ≡ true
-
--- it sees all
-stable-sees : (graph : List (List ℕ)) (m most : ℕ) → IsStable graph m most → {n : ℕ} → Reaches graph n m → reaches_through graph m most n ≡ true
-stable-sees graph m most stable {n} (step h) = step-through graph m most n (step-seen graph n m h)
-stable-sees graph m most stable {n} (further {s = s} h way) = stable n (on-through graph m most n s h (stable-sees graph m most stable way))
-
--- how many numbers below a bound pass
-abbrev count : (ℕ → Bool) → ℕ → ℕ
-count p zero = 0
-count p (suc n) = cond (p n) (count p n + 1) (count p n)
-
-count-within : (p : ℕ → Bool) (n : ℕ) → count p n ≤ n
-count-within p zero = omega arith
-count-within p (suc n) = by (p n) (count p n) (count-within p n)
-  where
-    by : (b : Bool) (k : ℕ) → k ≤ n → cond b (k + 1) k ≤ suc n
-    by true k h = omega arith
-    by false k h = omega arith
-
-grown-by : (a b : Bool) (j k : ℕ) → (a ≡ true → b ≡ true) → j ≤ k → cond a (j + 1) j ≤ cond b (k + 1) k
-grown-by true true j k h le = omega arith
-grown-by true false j k h le =
-    let no : false ≡ true = h refl in
-    cc
-grown-by false true j k h le = omega arith
-grown-by false false j k h le = le
-
-count-grows : (p q : ℕ → Bool) → ((n : ℕ) → p n ≡ true → q n ≡ true) → (n : ℕ) → count p n ≤ count q n
-count-grows p q h zero = omega arith
-count-grows p q h (suc n) = grown-by (p n) (q n) (count p n) (count q n) (h n) (count-grows p q h n)
-
-one-more : (a b : Bool) (j k : ℕ) → a ≡ false → b ≡ true → j ≤ k → cond a (j + 1) j < cond b (k + 1) k
-one-more true b j k none some le = cc
-one-more false true j k none some le = omega arith
-one-more false false j k none some le = cc
-
-less-by : (a b : Bool) (j k : ℕ) → (a ≡ true → b ≡ true) → j < k → cond a (j + 1) j < cond b (k + 1) k
-less-by true true j k h lt = omega arith
-less-by true false j k h lt =
-    let no : false ≡ true = h refl in
-    cc
-less-by false true j k h lt = omega arith
-less-by false false j k h lt = lt
-
-strict-by : (p q : ℕ → Bool) (n i : ℕ) → ((k : ℕ) → p k ≡ true → q k ≡ true) → i < suc n → p i ≡ false → q i ≡ true → (i < n → count p n < count q n) → (i ≡ n) ⊎ (i ≢ n) → count p (suc n) < count q (suc n)
-strict-by p q n i h within none some rest (inl same) =
-    one-more (p n) (q n) (count p n) (count q n) (ap p (sym same) ∙ none) (ap q (sym same) ∙ some) (count-grows p q h n)
-strict-by p q n i h within none some rest (inr other) = less-by (p n) (q n) (count p n) (count q n) (h n) (rest (omega arith))
-
-count-rises : (p q : ℕ → Bool) → ((k : ℕ) → p k ≡ true → q k ≡ true) → (n i : ℕ) → i < n → p i ≡ false → q i ≡ true → count p n < count q n
-count-rises p q h zero i within none some = absurd (omega arith)
-count-rises p q h (suc n) i within none some = strict-by p q n i h within none some (λ less. count-rises p q h n i less none some) (cases_eq i n)
-
--- where one test passes and another does not
-record Gap (p q : ℕ → Bool) (n : ℕ) : Type 0 where
-  place : ℕ
-  within : place < n
-  none : p place ≡ false
-  some : q place ≡ true
-
-abbrev NoGap : (ℕ → Bool) → (ℕ → Bool) → ℕ → Type 0
-NoGap p q n = (k : ℕ) → k < n → q k ≡ true → p k ≡ true
-
-wider : (p q : ℕ → Bool) (n : ℕ) → Gap p q n → Gap p q (suc n)
-wider p q n g = record { place = g.place; within = omega (arith, g.within); none = g.none; some = g.some }
-
-no-more : (p q : ℕ → Bool) (n : ℕ) → NoGap p q n → (q n ≡ true → p n ≡ true) → NoGap p q (suc n)
-no-more p q n below here k within some =
-    elim (cases_eq k n) [
-      | inl same ↦ ap p same ∙ here (ap q (sym same) ∙ some)
-      | inr other ↦ below k (omega arith) some
-    ]
-
-gap-at : (p q : ℕ → Bool) (n : ℕ) (a b : Bool) → p n ≡ a → q n ≡ b → NoGap p q n ⊎ Gap p q n → NoGap p q (suc n) ⊎ Gap p q (suc n)
-gap-at p q n a b pa qb (inr g) = inr (wider p q n g)
-gap-at p q n true b pa qb (inl below) = inl (no-more p q n below (λ _. pa))
-gap-at p q n false false pa qb (inl below) = inl (no-more p q n below (λ some. let no : false ≡ true = sym qb ∙ some in cc))
-gap-at p q n false true pa qb (inl below) = inr (record { place = n; within = omega arith; none = pa; some = qb })
-
-gap : (p q : ℕ → Bool) (n : ℕ) → NoGap p q n ⊎ Gap p q n
-gap p q zero = inl (λ k within some. absurd (omega arith))
-gap p q (suc n) = gap-at p q n (p n) (q n) refl refl (gap p q n)
+complete : (graph : List (List ℕ)) (n : ℕ) → Reaches graph n n → reaches_itself graph n ≡ true
+complete graph n way = leads-complete graph (nat_eq n) n n way (eq-eqb n n refl)
 
 -- what is no node reaches nothing
-past : (graph : List (List ℕ)) (m most n : ℕ) → length graph ≤ n → reaches_through graph m most n ≡ true → ⊥
-past graph m most n h r = no-way (sound graph m most n r)
+past : (graph : List (List ℕ)) (n m : ℕ) → length graph ≤ n → Reaches graph n m → ⊥
+past graph n m h way = no-way way
   where
     no-step : (s : ℕ) → Steps graph n s → ⊥
     no-step s (k, within, at) = omega (arith, within, ap length (get_or_past graph n [] h))
@@ -188,50 +32,6 @@ past graph m most n h r = no-way (sound graph m most n r)
     no-way : Reaches graph n m → ⊥
     no-way (step s) = no-step m s
     no-way (further {s = s} first way) = no-step s first
-
-stable-or : (graph : List (List ℕ)) (m most : ℕ) → IsStable graph m most ⊎ (count (reaches_through graph m most) (length graph) < count (reaches_through graph m (suc most)) (length graph))
-stable-or graph m most =
-    elim (gap (reaches_through graph m most) (reaches_through graph m (suc most)) (length graph)) [
-      | inl none ↦ inl (λ n r. elim (cases_lt n (length graph)) [ inl within ↦ none n within r | inr out ↦ absurd (past graph m (suc most) n (omega arith) r) ])
-      | inr g ↦ inr (count-rises (reaches_through graph m most) (reaches_through graph m (suc most)) (more graph m most) (length graph) g.place g.within g.none g.some)
-    ]
-
--- a stable bound
-record Stable (graph : List (List ℕ)) (m most : ℕ) : Type 0 where
-  bound : ℕ
-  within : bound ≤ most
-  is : IsStable graph m bound
-
-climb-by : (graph : List (List ℕ)) (m most : ℕ) → most ≤ count (reaches_through graph m most) (length graph)
-    → IsStable graph m most ⊎ (count (reaches_through graph m most) (length graph) < count (reaches_through graph m (suc most)) (length graph))
-    → Stable graph m (suc most) ⊎ (suc most ≤ count (reaches_through graph m (suc most)) (length graph))
-climb-by graph m most h (inl stable) = inl (record { bound = most; within = omega arith; is = stable })
-climb-by graph m most h (inr rises) = inr (omega arith)
-
-climb-on : (graph : List (List ℕ)) (m most : ℕ) → Stable graph m most ⊎ (most ≤ count (reaches_through graph m most) (length graph))
-    → Stable graph m (suc most) ⊎ (suc most ≤ count (reaches_through graph m (suc most)) (length graph))
-climb-on graph m most (inl s) = inl (record { bound = s.bound; within = omega (arith, s.within); is = s.is })
-climb-on graph m most (inr h) = climb-by graph m most h (stable-or graph m most)
-
-climb : (graph : List (List ℕ)) (m most : ℕ) → Stable graph m most ⊎ (most ≤ count (reaches_through graph m most) (length graph))
-climb graph m zero = inr (omega arith)
-climb graph m (suc most) = climb-on graph m most (climb graph m most)
-
-last-by : (graph : List (List ℕ)) (m : ℕ) → length graph ≤ count (reaches_through graph m (length graph)) (length graph)
-    → IsStable graph m (length graph) ⊎ (count (reaches_through graph m (length graph)) (length graph) < count (reaches_through graph m (suc (length graph))) (length graph)) → Stable graph m (length graph)
-last-by graph m h (inl stable) = record { bound = length graph; within = omega arith; is = stable }
-last-by graph m h (inr rises) = absurd (omega (arith, count-within (reaches_through graph m (suc (length graph))) (length graph)))
-
--- some bound up to the number of nodes is stable
-stable-there : (graph : List (List ℕ)) (m : ℕ) → Stable graph m (length graph)
-stable-there graph m = elim (climb graph m (length graph)) [ inl s ↦ s | inr h ↦ last-by graph m h (stable-or graph m (length graph)) ]
-
--- so what reaches is seen to
-complete : (graph : List (List ℕ)) (n m : ℕ) → Reaches graph n m → reaches_through graph m (length graph) n ≡ true
-complete graph n m way =
-    let s = stable-there graph m in
-    let e : (length graph - s.bound) + s.bound ≡ length graph = omega (arith, s.within) in
-    subst (λ k. reaches_through graph m k n ≡ true) e (more_on graph m n s.bound (length graph - s.bound) (stable-sees graph m s.bound s.is way))
 
 not-true : (b : Bool) → (b ≡ true → ⊥) → b ≡ false
 not-true true h = absurd (h refl)
@@ -255,7 +55,7 @@ found p (suc n) a i low high before here =
 no-cycle : (builds : List BuildValue) → ((edge : ℕ) → EdgeReaches builds edge edge → ⊥) → least_on_cycle (successor_lists builds) ≡ None
 no-cycle builds h =
     let graph = successor_lists builds in
-    missed (reaches_itself graph) (length graph) 0 (λ k low high. not-true (reaches_itself graph k) (λ r. h k (edge_way (sound graph k (length graph) k r))))
+    missed (reaches_itself graph) (length graph) 0 (λ k low high. not-true (reaches_itself graph k) (λ r. h k (edge_way (sound graph k r))))
 
 -- the least edge on a cycle is found
 least-found : (builds : List BuildValue) (edge : ℕ) → IsLeastOnCycle builds edge → least_on_cycle (successor_lists builds) ≡ Some edge
@@ -263,8 +63,8 @@ least-found builds edge h =
     let graph = successor_lists builds in
     let within : edge < 0 + length graph = omega (arith, h.is_edge, length-lists builds) in
     found (reaches_itself graph) (length graph) 0 edge (omega arith) within
-    (λ k low high. not-true (reaches_itself graph k) (λ r. h.least k high (edge_way (sound graph k (length graph) k r))))
-    (complete graph edge edge (node_way h.on_cycle))
+    (λ k low high. not-true (reaches_itself graph k) (λ r. h.least k high (edge_way (sound graph k r))))
+    (complete graph edge (node_way h.on_cycle))
 
 few-not : (n : ℕ) → n ≤ 262144 → nat_lt 262144 n ≡ false
 few-not n h = le-ltb 262144 n h
@@ -291,3 +91,129 @@ fault-decided builds (Cycle path) other h =
     ∙ ap (λ o. double_or o (cycle_at builds (least_on_cycle (successor_lists builds)))) h.1
     ∙ ap (cycle_at builds) (least-found builds h.2.edge h.2.least)
     ∙ ap (option_map Cycle) h.2.first_output
+
+-- THE WAY BACK
+-- where a search among numbers ends
+record Found (p : ℕ → Bool) (n a i : ℕ) : Type 0 where
+  low : a ≤ i
+  high : i < a + n
+  here : p i ≡ true
+  before : (k : ℕ) → a ≤ k → k < i → p k ≡ false
+
+-- where it finds none
+all-missed : (p : ℕ → Bool) (n a : ℕ) → find p (range_with_len a n) ≡ None → (k : ℕ) → a ≤ k → k < a + n → p k ≡ false
+all-missed p zero a h k low high = absurd (omega arith)
+all-missed p (suc n) a h k low high = by (p a) refl (all-missed p n (a + 1)) h (cases_eq a k)
+  where
+    by : (b : Bool) → p a ≡ b → (find p (range_with_len (a + 1) n) ≡ None → (m : ℕ) → a + 1 ≤ m → m < a + 1 + n → p m ≡ false)
+        → cond b (Some a) (find p (range_with_len (a + 1) n)) ≡ None → (a ≡ k) ⊎ (a ≢ k) → p k ≡ false
+    by true e rest h same = cc
+    by false e rest h (inl same) = ap p (sym same) ∙ e
+    by false e rest h (inr other) = rest h k (omega arith) (omega arith)
+
+found-at : (p : ℕ → Bool) (n a i : ℕ) → find p (range_with_len a n) ≡ Some i → Found p n a i
+found-at p zero a i h = cc
+found-at p (suc n) a i h = by (p a) refl (found-at p n (a + 1) i) h
+  where
+    wider : p a ≡ false → Found p n (a + 1) i → Found p (suc n) a i
+    wider e f =
+        record {
+          low = omega (arith, f.low);
+          high = omega (arith, f.high);
+          here = f.here;
+          before = λ k low high. elim (cases_eq a k) [ inl same ↦ ap p (sym same) ∙ e | inr other ↦ f.before k (omega arith) high ];
+        }
+
+    by : (b : Bool) → p a ≡ b → (find p (range_with_len (a + 1) n) ≡ Some i → Found p n (a + 1) i)
+        → cond b (Some a) (find p (range_with_len (a + 1) n)) ≡ Some i → Found p (suc n) a i
+    by true e rest h =
+        let same : a ≡ i = cc in
+        record { low = omega (arith, same); high = omega (arith, same); here = ap p (sym same) ∙ e; before = λ k low high. absurd (omega (arith, same)) }
+    by false e rest h = wider e (rest h)
+
+-- an edge that is not seen to reach itself does not
+no-way : (builds : List BuildValue) (edge : ℕ) → reaches_itself (successor_lists builds) edge ≡ false → EdgeReaches builds edge edge → ⊥
+no-way builds edge e way = no (sym (complete (successor_lists builds) edge (node_way way)) ∙ e)
+  where
+    no : true ≡ false → ⊥
+    no h = cc
+
+none-acyclic : (builds : List BuildValue) → least_on_cycle (successor_lists builds) ≡ None → (edge : ℕ) → EdgeReaches builds edge edge → ⊥
+none-acyclic builds h edge way =
+    let graph = successor_lists builds in
+    elim (cases_lt edge (length graph)) [
+      | inl within ↦ no-way builds edge (all-missed (reaches_itself graph) (length graph) 0 h edge (omega arith) (omega arith)) way
+      | inr out ↦ past graph edge edge (omega arith) (node_way way)
+    ]
+
+least-is : (builds : List BuildValue) (edge : ℕ) → least_on_cycle (successor_lists builds) ≡ Some edge → IsLeastOnCycle builds edge
+least-is builds edge h =
+    let graph = successor_lists builds in
+    let f = found-at (reaches_itself graph) (length graph) 0 edge h in
+    record {
+      is_edge = omega (arith, f.high, length-lists builds);
+      on_cycle = edge_way (sound graph edge f.here);
+      least = λ other lesser way. no-way builds other (f.before other (omega arith) lesser) way;
+    }
+
+some-first : (paths : List (List ℕ)) → 0 < length paths → slice_get paths 0 ≡ None → ⊥
+some-first [] h e = omega (arith, h)
+some-first (p ∷ ps) h e =
+    let no : Some p ≡ None = e in
+    cc
+
+module _ (builds : List BuildValue) where
+  of-cycle : (fault : GraphFault) (least : Option ℕ) → least_on_cycle (successor_lists builds) ≡ least → length builds ≤ 262144 → first_double builds ≡ None
+      → cycle_at builds least ≡ Some fault → Explains fault builds
+  of-cycle fault None l few single h = cc
+  of-cycle fault (Some edge) l few single h = by (slice_get (outputs_of (build_at builds edge)) 0) refl h
+    where
+      by : (o : Option (List ℕ)) → slice_get (outputs_of (build_at builds edge)) 0 ≡ o → option_map Cycle o ≡ Some fault → Explains fault builds
+      by None e h = cc
+      by (Some path) e h =
+          let same : Cycle path ≡ fault = cc in
+          subst (λ (f : GraphFault). Explains f builds) same (few, single, record { edge = edge; least = least-is builds edge l; first_output = e })
+
+  of-double : (fault : GraphFault) (double : Option (List ℕ)) → first_double builds ≡ double → length builds ≤ 262144
+      → double_or double (cycle_at builds (least_on_cycle (successor_lists builds))) ≡ Some fault → Explains fault builds
+  of-double fault None d few h = of-cycle fault (least_on_cycle (successor_lists builds)) refl few d h
+  of-double fault (Some path) d few h =
+      let same : MultipleProducers path ≡ fault = cc in subst (λ (f : GraphFault). Explains f builds) same (few, d)
+
+  of-many : (fault : GraphFault) (many : Bool) → nat_lt 262144 (length builds) ≡ many
+      → (if many then Some TooManyEdges else double_or (first_double builds) (cycle_at builds (least_on_cycle (successor_lists builds)))) ≡ Some fault → Explains fault builds
+  of-many fault true m h =
+      let same : TooManyEdges ≡ fault = cc in
+      subst (λ (f : GraphFault). Explains f builds) same (ltb-true 262144 (length builds) m)
+  of-many fault false m h =
+      let few : length builds ≤ 262144 = omega (arith, ltb-false 262144 (length builds) m) in of-double fault (first_double builds) refl few h
+
+  no-cycle-then : (least : Option ℕ) → least_on_cycle (successor_lists builds) ≡ least → length builds ≤ 262144 → first_double builds ≡ None
+      → cycle_at builds least ≡ None → IsFaultless builds
+  no-cycle-then None l few single h = record { few = few; single = single; acyclic = none-acyclic builds l }
+  no-cycle-then (Some edge) l few single h = by (slice_get (outputs_of (build_at builds edge)) 0) refl h
+    where
+      by : (o : Option (List ℕ)) → slice_get (outputs_of (build_at builds edge)) 0 ≡ o → option_map Cycle o ≡ None → IsFaultless builds
+      by None e h = absurd (some-first (outputs_of (build_at builds edge)) (reached-outputs ((least-is builds edge l).on_cycle)) e)
+      by (Some path) e h = cc
+
+  no-double-then : (double : Option (List ℕ)) → first_double builds ≡ double → length builds ≤ 262144
+      → double_or double (cycle_at builds (least_on_cycle (successor_lists builds))) ≡ None → IsFaultless builds
+  no-double-then None d few h = no-cycle-then (least_on_cycle (successor_lists builds)) refl few d h
+  no-double-then (Some path) d few h = cc
+
+  not-many-then : (many : Bool) → nat_lt 262144 (length builds) ≡ many
+      → (if many then Some TooManyEdges else double_or (first_double builds) (cycle_at builds (least_on_cycle (successor_lists builds)))) ≡ None → IsFaultless builds
+  not-many-then true m h = cc
+  not-many-then false m h =
+      let few : length builds ≤ 262144 = omega (arith, ltb-false 262144 (length builds) m) in no-double-then (first_double builds) refl few h
+
+  -- the fault that is found explains why there is no graph
+  pub decided-fault : (fault : GraphFault) → graph_fault builds ≡ Some fault → Explains fault builds
+  unfolding graph_fault
+  decided-fault fault h = of-many fault (nat_lt 262144 (length builds)) refl h
+
+  -- where none is found the edges have none
+  pub decided-faultless : graph_fault builds ≡ None → IsFaultless builds
+  unfolding graph_fault
+  decided-faultless h = not-many-then (nat_lt 262144 (length builds)) refl h

@@ -1,5 +1,6 @@
 pub mod DecidedLemmas
 pub mod EntryLemmas
 pub mod GraphLemmas
+pub mod KeptLemmas
 pub mod ProducerLemmas
 pub mod StepLemmas

@@ -1,25 +1,16 @@
 -- The fault of edges as a function, for reports. That it is the fault which the field means is a law.
-use Rattle.std.specs.Prelude.{ℕ, zero, suc, ◌==◌, Bool, ◌||◌, List, length, find, Option, Some, None, slice_get, nat_lt, if◌then◌else◌}
-use Rattle.std.specs.List.{list_any, range_with_len}
+use Rattle.std.specs.Prelude.{ℕ, Bool, List, length, find, Option, Some, None, slice_get, nat_eq, nat_lt, if◌then◌else◌}
+use Rattle.std.specs.List.{range_with_len}
 use Rattle.std.specs.Option.{option_map}
 use Rattle.rev_manifest.specs.Manifest.{BuildValue}
-use Rattle.rev_ranks.specs.Graph.{successors_of}
+use Rattle.rev_ranks.specs.Leads.{leads_to}
 use Rattle.rev_graph.specs.declared.fault.GraphFault.{GraphFault}
 use Rattle.rev_graph.specs.declared.fault.GraphFault.TheVariants.{TooManyEdges, MultipleProducers, Cycle}
 use Rattle.rev_graph.specs.Graph.{build_at, outputs_of, first_double, successor_lists}
 
--- whether a step leads from a node to another
-abbrev pub steps_to : List (List ℕ) → ℕ → ℕ → Bool
-steps_to graph node other = list_any (λ next. next == other) (successors_of graph node)
-
--- whether a way leads from a node to another which goes through at most so many nodes between them
-abbrev pub reaches_through : List (List ℕ) → ℕ → ℕ → ℕ → Bool
-reaches_through graph other zero node = steps_to graph node other
-reaches_through graph other (suc most) node = steps_to graph node other || list_any (reaches_through graph other most) (successors_of graph node)
-
--- whether a node reaches itself: a way need not go through more nodes than there are
+-- whether a node reaches itself
 abbrev pub reaches_itself : List (List ℕ) → ℕ → Bool
-reaches_itself graph node = reaches_through graph node (length graph) node
+reaches_itself graph node = leads_to graph (nat_eq node) node
 
 -- the least node that reaches itself
 abbrev pub least_on_cycle : List (List ℕ) → Option ℕ

@@ -1,7 +1,8 @@
 -- What the build lines of a manifest say of its edges. An edge's number is its place among the builds, from 0.
 use Rattle.std.specs.Prelude.{◌≡◌, ℕ, ◌+◌, ◌<◌, ◌≤◌, Bool, false, ◌||◌, ◌==◌, List, [], ◌∷◌, ◌++◌, map, length, find, Option, Some, None, is_some, slice_get, slice_index_or, bytes_eq, if◌then◌else◌}
 use Rattle.std.specs.List.{Contains, list_any, filter_map}
-use Rattle.rev_manifest.specs.Manifest.{BuildValue, ManifestValue}
+use Rattle.rev_manifest.specs.Builds.{BuildValue, ManifestValue, IsManifest}
+pub use Rattle.rev_manifest.specs.Builds.{outputs_of, inputs_of}
 
 -- a graph: a manifest without faults, and a rank for each edge
 pub record GraphValue : Type 0 where
@@ -31,14 +32,6 @@ no_build =
 -- the edge of a number; past the last, one with nothing on its build line
 abbrev pub build_at : List BuildValue → ℕ → BuildValue
 build_at builds edge = slice_index_or builds edge no_build
-
--- the outputs of an edge in reading order: explicit, then implicit
-abbrev pub outputs_of : BuildValue → List (List ℕ)
-outputs_of build = build.explicit_outs ++ build.implicit_outs
-
--- the inputs on an edge's build line in reading order: explicit, implicit, order-only
-abbrev pub inputs_of : BuildValue → List (List ℕ)
-inputs_of build = build.explicit ++ build.implicit ++ build.order_only
 
 abbrev pub has_path : List (List ℕ) → List ℕ → Bool
 has_path paths path = list_any (bytes_eq path) paths
@@ -110,8 +103,9 @@ pub record IsRanked (builds : List BuildValue) (ranks : List ℕ) : Type 0 where
   pub below : (edge : ℕ) → edge < length builds → rank_at ranks edge < length builds
   pub falls : (edge producer : ℕ) → EdgeSteps builds edge producer → rank_at ranks producer < rank_at ranks edge
 
--- What each graph is: few edges, no output that an earlier edge has, and ranks that fall along each step.
+-- What each graph is: that of a manifest, with few edges, no output that an earlier edge has, and ranks that fall along each step.
 pub record IsGraph (graph : GraphValue) : Type 0 where
+  pub kept : IsManifest graph.manifest
   pub few : length graph.manifest.builds ≤ 262144
   pub single : first_double graph.manifest.builds ≡ None
   pub ranked : IsRanked graph.manifest.builds graph.ranks

@@ -1,5 +1,5 @@
 -- What the definitions of a graph come to.
-use Rattle.std.specs.Prelude.{◌≡◌, ◌≢◌, ℕ, ◌<◌, List, Some, None}
+use Rattle.std.specs.Prelude.{◌≡◌, ◌≢◌, ℕ, ◌<◌, ◌↔◌, List, Some, None}
 use Rattle.rev_manifest.specs.Manifest.{BuildValue}
 use Rattle.rev_graph.specs.declared.fault.GraphFault.{GraphFault}
 use Rattle.rev_graph.specs.declared.fault.GraphFault.TheVariants.{Memory}
@@ -19,8 +19,7 @@ DoublesAreReal = (builds : List BuildValue) (path : List ℕ) → first_double b
 abbrev pub RankedIsAcyclic : Type 0
 RankedIsAcyclic = (builds : List BuildValue) (ranks : List ℕ) → IsRanked builds ranks → (edge : ℕ) → EdgeReaches builds edge edge → ⊥
 
--- the fault as a function is the fault that explains why edges make no graph, and none where they have none
-abbrev pub FaultIsDecided : Type 0
-FaultIsDecided =
-    ((builds : List BuildValue) (fault : GraphFault) → fault ≢ Memory → Explains fault builds → graph_fault builds ≡ Some fault)
-    × ((builds : List BuildValue) → IsFaultless builds → graph_fault builds ≡ None)
+-- the fault as a function is a fault exactly where that one explains why edges make no graph, and none exactly where they have none
+pub record FaultIsDecided : Type 0 where
+  pub fault : (builds : List BuildValue) (fault : GraphFault) → fault ≢ Memory → (graph_fault builds ≡ Some fault) ↔ Explains fault builds
+  pub faultless : (builds : List BuildValue) → (graph_fault builds ≡ None) ↔ IsFaultless builds

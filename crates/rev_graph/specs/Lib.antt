@@ -1,3 +1,4 @@
+pub mod Codes
 pub mod Decided
 pub mod Entries
 pub mod Fault

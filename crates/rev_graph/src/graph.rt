@@ -1,15 +1,13 @@
 //! Graphs of edges.
 ghost use Rattle.std.specs.Prelude.{◌≡◌, ℕ, ◌<◌, ◌↔◌, length, Some, IfSome, IfOk, IfErr, IsErrOf, OnOk};
-ghost use Rattle.rev_manifest.specs.Seen.{contents};
+ghost use Rattle.rev_manifest.specs.Seen.{seen_pools};
 ghost use Rattle.rev_graph.specs.Fault.{Explains, IsFaultless};
 ghost use Rattle.rev_graph.specs.Graph.{build_at, is_known, producer_of, pool_of, input_producers, rank_at, IsGraph, Produces};
-ghost use Rattle.rev_graph.specs.Lists.{seen_pools};
 
-use crate::edge::{Edge, edges_of, names_copy};
 use crate::fault::GraphFault;
 use crate::steps::{all_producers, ranks_of};
 use crate::table::{Table, outputs_table, producer};
-use rev_manifest::Manifest;
+use rev_manifest::{Build, Manifest};
 use rev_paths::Name;
 use std::alloc::{AllocError, Global};
 use std::marker::Model;
@@ -20,9 +18,7 @@ use std::marker::Model;
 /// Calls about one edge take a number below [`Graph::edges`]. No call but [`Graph::build`] takes memory.
 #[derive(Drop)]
 pub struct Graph {
-    edges: Vec<Edge>,
-    pools: Vec<(Vec<u8>, u32)>,
-    defaults: Vec<Name>,
+    manifest: Manifest,
     table: Table,
     producers: Vec<Vec<Option<u32>>>,
     ranks: Vec<u32>,
@@ -60,17 +56,6 @@ pub struct Outputs<'a> {
     pub implicit: &'a [Name],
 }
 
-// Copies of pools.
-fn pools_copy(alloc: Global, pools: &[(Vec<u8>, u32)]) -> Result<Vec<(Vec<u8>, u32)>, AllocError>
-    ensures { IfOk result (λ copy. seen_pools copy.items ≡ seen_pools pools.now) }
-{
-    let mut copy = Vec::with_capacity(alloc, pools.len())?;
-    for pool in pools {
-        copy.push((Vec::from_slice(alloc, &pool.0)?, pool.1))?;
-    }
-    Ok(copy)
-}
-
 impl Graph {
     /// The most edges that a graph has.
     pub const MAX_EDGES: u32 = 262_144;
@@ -84,26 +69,23 @@ impl Graph {
     /// allocation was refused.
     pub fn build(alloc: Global, manifest: &Manifest) -> Result<Graph, GraphFault>
         // The graph has the manifest's edges, pools and defaults, and these have no fault.
-        ensures value { IfOk result (λ graph. graph.manifest ≡ contents manifest.now) }
-        ensures faultless { OnOk result (IsFaultless (contents manifest.now).builds) }
+        ensures value { IfOk result (λ graph. graph.manifest ≡ manifest.now) }
+        ensures faultless { OnOk result (IsFaultless manifest.now.builds) }
 
         // A fault is the first that they have.
-        ensures fault { IfErr result (λ fault. Explains fault (contents manifest.now).builds) }
-        ensures many { IsErrOf result GraphFault.TooManyEdges ↔ (262144 < length (contents manifest.now).builds) }
+        ensures fault { IfErr result (λ fault. Explains fault manifest.now.builds) }
+        ensures many { IsErrOf result GraphFault.TooManyEdges ↔ (262144 < length manifest.now.builds) }
     {
-        if manifest.builds.len() > Self::MAX_EDGES as usize {
+        let edges = manifest.builds();
+        if edges.len() > Self::MAX_EDGES as usize {
             return Err(GraphFault::TooManyEdges);
         }
-        let edges = edges_of(alloc, &manifest.builds)?;
-        let mut table = outputs_table(alloc, &edges)?;
-        let producers = all_producers(alloc, &mut table, &edges)?;
-        let ranks = ranks_of(alloc, &edges, &producers)?;
-        let pools = pools_copy(alloc, &manifest.pools)?;
-        let defaults = names_copy(alloc, &manifest.defaults)?;
+        let mut table = outputs_table(alloc, edges)?;
+        let producers = all_producers(alloc, &mut table, edges)?;
+        let ranks = ranks_of(alloc, edges, &producers)?;
+        let manifest = manifest.copy()?;
         Ok(Graph {
-            edges,
-            pools,
-            defaults,
+            manifest,
             table,
             producers,
             ranks,
@@ -115,7 +97,7 @@ impl Graph {
         ensures edges { result ≡ length self.now.manifest.builds }
         ensures graph { IsGraph self.now }
     {
-        self.edges.len() as u32
+        self.manifest.builds().len() as u32
     }
 
     /// The edge that has the path among its outputs, if one has.
@@ -135,11 +117,11 @@ impl Graph {
     }
 
     // The edge of a number.
-    fn at(&self, edge: u32) -> &Edge
+    fn at(&self, edge: u32) -> &Build
         requires { edge < length self.now.manifest.builds }
         ensures { result.now ≡ build_at self.now.manifest.builds edge }
     {
-        &self.edges[edge as usize]
+        &self.manifest.builds()[edge as usize]
     }
 
     /// The inputs on an edge's build line.
@@ -199,7 +181,7 @@ impl Graph {
         requires { edge < length self.now.manifest.builds }
         ensures { result ≡ (build_at self.now.manifest.builds edge).phony }
     {
-        self.at(edge).is_phony()
+        self.at(edge).phony()
     }
 
     /// Whether the listing of an edge's depfile is kept.
@@ -233,7 +215,7 @@ impl Graph {
         ensures { result ≡ pool_of self.now.manifest edge }
     {
         let number = self.at(edge).pool()?;
-        let (_, depth) = self.pools.get(number as usize)?;
+        let (_, depth) = self.manifest.pools().get(number as usize)?;
         if *depth == 0 {
             return None;
         }
@@ -244,7 +226,7 @@ impl Graph {
     pub fn defaults(&self) -> &[Name]
         ensures { result.now ≡ self.now.manifest.defaults }
     {
-        &self.defaults
+        self.manifest.defaults()
     }
 
     /// The rank of an edge, which is below [`Graph::edges`] and above the ranks of the edges that produce its inputs.

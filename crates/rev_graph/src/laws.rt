@@ -16,7 +16,7 @@ pub fn ranked_is_acyclic()
     ensures { RankedIsAcyclic }
 {}
 
-/// The fault that a function of the edges gives is the one that explains why they make no graph.
+/// A function of the edges gives a fault exactly where that one explains why they make no graph, and none exactly where they have none.
 pub fn fault_is_decided()
     ensures { FaultIsDecided }
 {}

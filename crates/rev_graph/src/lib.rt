@@ -3,7 +3,6 @@
 //! An edge's number is the place of its build statement among all, from 0.
 #![tactic(auto)]
 
-mod edge;
 mod fault;
 mod graph;
 pub mod laws;

@@ -8,9 +8,9 @@ ghost use Rattle.rev_graph.specs.Fault.{Explains};
 ghost use Rattle.rev_graph.specs.Graph.{outputs_of, inputs_of, has_path, needs, or_else, input_producers, successor_lists, EdgeReaches, IsLeastOnCycle, IsRanked, build_at, first_double};
 ghost use Rattle.rev_graph.specs.Lists.{lists_of};
 
-use crate::edge::Edge;
 use crate::fault::GraphFault;
 use crate::table::{Table, add, value_or_add};
+use rev_manifest::Build;
 use rev_paths::Name;
 use rev_ranks::{RankFault, ranks};
 use std::alloc::{AllocError, Global};
@@ -34,15 +34,20 @@ fn push_producers(
 fn producers_of(
     alloc: Global,
     table: &mut Table,
-    edge: &Edge,
+    edge: &Build,
 ) -> Result<Vec<Option<u32>>, AllocError>
     ensures producers { IfOk result (λ producers. producers.items ≡ map (produced_by table.old.entries) (inputs_of edge.now)) }
     ensures entries { OnOk result ((path : List ℕ) → entry table.new.entries path ≡ or_else (entry table.old.entries path) (given (needs path edge.now) None)) }
 {
-    let mut producers = Vec::new(alloc);
-    push_producers(&mut producers, table, edge.explicit())?;
-    push_producers(&mut producers, table, edge.implicit())?;
-    push_producers(&mut producers, table, edge.order_only())?;
+    let (explicit, implicit, order_only) = (edge.explicit(), edge.implicit(), edge.order_only());
+    let inputs = explicit
+        .len()
+        .saturating_add(implicit.len())
+        .saturating_add(order_only.len());
+    let mut producers = Vec::with_capacity(alloc, inputs)?;
+    push_producers(&mut producers, table, explicit)?;
+    push_producers(&mut producers, table, implicit)?;
+    push_producers(&mut producers, table, order_only)?;
     add(table, edge.validations(), None)?;
     Ok(producers)
 }
@@ -51,7 +56,7 @@ fn producers_of(
 pub(crate) fn all_producers(
     alloc: Global,
     table: &mut Table,
-    edges: &[Edge],
+    edges: &[Build],
 ) -> Result<Vec<Vec<Option<u32>>>, AllocError>
     ensures producers { IfOk result (λ all. lists_of all.items ≡ map (λ build. map (produced_by table.old.entries) (inputs_of build)) edges.now) }
     ensures entries { OnOk result ((path : List ℕ) → entry table.new.entries path ≡ or_else (entry table.old.entries path) (given (list_any (needs path) edges.now) None)) }
@@ -88,7 +93,7 @@ fn all_successors(
 }
 
 // The first output of an edge that has one.
-fn first_output(edge: &Edge) -> Result<Name, AllocError>
+fn first_output(edge: &Build) -> Result<Name, AllocError>
     requires { 0 < length (outputs_of edge.now) }
     ensures { IfOk result (λ name. slice_get (outputs_of edge.now) 0 ≡ Some name) }
 {
@@ -102,7 +107,7 @@ fn first_output(edge: &Edge) -> Result<Name, AllocError>
 }
 
 // The fault that names the least edge on a cycle.
-fn cycle_at(edges: &[Edge], edge: u32) -> Result<GraphFault, AllocError>
+fn cycle_at(edges: &[Build], edge: u32) -> Result<GraphFault, AllocError>
     requires few { length edges.now ≤ 262144 }
     requires single { first_double edges.now ≡ None }
     requires cycle { IsLeastOnCycle edges.now edge }
@@ -113,7 +118,7 @@ fn cycle_at(edges: &[Edge], edge: u32) -> Result<GraphFault, AllocError>
 }
 
 // Ranks of the nodes, by the producers of each edge's inputs.
-fn ranks_by(alloc: Global, edges: &[Edge], successors: &[Vec<u32>]) -> Result<Vec<u32>, GraphFault>
+fn ranks_by(alloc: Global, edges: &[Build], successors: &[Vec<u32>]) -> Result<Vec<u32>, GraphFault>
     requires few { length edges.now ≤ 262144 }
     requires single { first_double edges.now ≡ None }
     requires successors { graph_of successors.now ≡ successor_lists edges.now }
@@ -134,7 +139,7 @@ fn ranks_by(alloc: Global, edges: &[Edge], successors: &[Vec<u32>]) -> Result<Ve
 /// [`GraphFault::Cycle`] with the first output of the least edge that reaches itself, and [`GraphFault::Memory`].
 pub(crate) fn ranks_of(
     alloc: Global,
-    edges: &[Edge],
+    edges: &[Build],
     producers: &[Vec<Option<u32>>],
 ) -> Result<Vec<u32>, GraphFault>
     requires few { length edges.now ≤ 262144 }

@@ -6,9 +6,9 @@ ghost use Rattle.rev_graph.specs.Entries.{entry, has_entry, produced_by, given};
 ghost use Rattle.rev_graph.specs.Fault.{Explains};
 ghost use Rattle.rev_graph.specs.Graph.{outputs_of, inputs_of, has_path, needs, or_else, producer_of, is_known, first_double};
 
-use crate::edge::Edge;
 use crate::fault::GraphFault;
 use indexmap::IndexMap;
+use rev_manifest::Build;
 use rev_paths::Name;
 use std::alloc::{AllocError, Global};
 
@@ -51,7 +51,7 @@ fn first_taken<'a>(table: &Table, names: &'a [Name]) -> Option<&'a Name>
 }
 
 // The first output of an edge that the table has.
-fn taken<'a>(table: &Table, edge: &'a Edge) -> Option<&'a Name>
+fn taken<'a>(table: &Table, edge: &'a Build) -> Option<&'a Name>
     ensures { option_copied result ≡ find (has_entry table.now.entries) (outputs_of edge.now) }
 {
     if let Some(name) = first_taken(table, edge.explicit_outs()) {
@@ -61,7 +61,7 @@ fn taken<'a>(table: &Table, edge: &'a Edge) -> Option<&'a Name>
 }
 
 // Adds the outputs of an edge.
-fn add_outputs(table: &mut Table, edge: &Edge, number: u32) -> Result<(), AllocError>
+fn add_outputs(table: &mut Table, edge: &Build, number: u32) -> Result<(), AllocError>
     ensures { OnOk result ((path : List ℕ) → entry table.new.entries path ≡ or_else (entry table.old.entries path) (given (has_path (outputs_of edge.now) path) (Some number))) }
 {
     add(table, edge.explicit_outs(), Some(number))?;
@@ -73,7 +73,7 @@ fn add_outputs(table: &mut Table, edge: &Edge, number: u32) -> Result<(), AllocE
 ///
 /// # Errors
 /// [`GraphFault::MultipleProducers`] with the first output that an earlier edge has, and [`GraphFault::Memory`].
-pub(crate) fn outputs_table(alloc: Global, edges: &[Edge]) -> Result<Table, GraphFault>
+pub(crate) fn outputs_table(alloc: Global, edges: &[Build]) -> Result<Table, GraphFault>
     requires { length edges.now ≤ 262144 }
     ensures entries { IfOk result (λ table. (path : List ℕ) → entry table.entries path ≡ option_map Some (producer_of edges.now path)) }
     ensures single { OnOk result (first_double edges.now ≡ None) }

@@ -1,85 +1,355 @@
 -- What the fields of a history show.
-use Rattle.std.proofs.Common.{◌≡◌, ℕ, ◌<◌, true, false, cond, Option, None, Some, IsSome, length, get_or, List, [], ◌∷◌, ◌++◌, sym, ap, ap₂, subst, ◌∙◌}
-use Rattle.rev_causal.specs.Machine.{footprints}
+use Rattle.std.proofs.Common.{◌≡◌, ℕ, ◌<◌, Bool, true, false, cond, Option, None, Some, IsSome, option_map, Contains, map, slice_get, length, get_or, set, List, [], ◌∷◌, ◌++◌, refl, sym, ap, ap₂, subst, subst₂, is_some, true≢false, nat_eq, ◌∙◌, inl, inr, arith, zero, suc}
+use Rattle.std.specs.List.{AllByRecursion}
+use Rattle.std.specs.Map.{lookup}
+use Rattle.std.proofs.lemmas.List.{map-set, length-map}
+use Rattle.std.proofs.Math.Seq.{map-set_same}
+use Rattle.std.proofs.lemmas.Option.{slice_get-map, slice_get-get_or}
+use Rattle.rev_causal.specs.Chosen.{chosen}
 use Rattle.rev_causal.specs.History as causal
-use Rattle.rev_causal.specs.Store.{Footprint}
+use Rattle.rev_causal.specs.KeptHistory.{nearest_in}
+use Rattle.rev_causal.specs.Stepped.{IsStepped}
+use Rattle.rev_causal.specs.Store.{Footprint, replaced, replaced_by_number}
+use Rattle.rev_causal.proofs.Beside.{IsPlace, place_within, beside_at, all_beside}
+use Rattle.rev_causal.proofs.Chosen.{AllAccepted, last_of-push, some_is, accepted_among, lookup-event_at, event_at-chosen, event_at-not_chosen}
+use Rattle.rev_causal.proofs.Runs.{either}
+use Rattle.rev_causal.proofs.KeptTables as kept_tables
+use Rattle.rev_causal.proofs.Steps as stepping
 use Rattle.rev_cells.specs.declared.cell.Cell.{Cell}
-use Rattle.rev_history.specs.declared.event.Event.{Event}
+use Rattle.rev_cells.specs.declared.value.Value.{Value}
+use Rattle.rev_cells.specs.Effects.{former_values}
+use Rattle.rev_cells.specs.Keys.{cell_cmp}
+use Rattle.rev_cells.specs.Table.{Records, Table, raised_by, written_all}
+use Rattle.rev_cells.specs.Values.{Fits}
+use Rattle.rev_cells.proofs.EntryLemmas.{cells_total, cells_exact}
+use Rattle.rev_events.specs.declared.event.Event.{Event}
+use Rattle.rev_events.specs.declared.refusal.Refusal.TheVariants.{NotKept, AlreadyKept}
+use Rattle.rev_events.specs.declared.refusal.Refusal.{Refusal}
+use Rattle.rev_events.specs.Machine.{refusal, effect, after}
+use Rattle.rev_events.specs.Refusal.{not_now}
+use Rattle.rev_manifest.specs.Manifest.{ManifestValue}
+use Rattle.rev_footprint.specs.Value as footprints
+use Rattle.rev_footprint.specs.Value.{FootprintValue}
+use Rattle.rev_footprint.specs.Footprint.{footprint}
+use Rattle.rev_footprint.specs.Machine.{machine, table}
+use Rattle.rev_footprint.proofs.Local.{table-local}
+use Rattle.rev_graph.specs.Graph.{GraphValue}
 use Rattle.rev_history.specs.declared.history.History.TheInside.{Inside}
-use Rattle.rev_history.specs.declared.refusal.Refusal.TheVariants.{NotKept, AlreadyKept}
-use Rattle.rev_history.specs.Machine.{machine, refusal, footprint, after}
-use Rattle.rev_history.specs.Nearest.{nearest_in}
-use Rattle.rev_history.specs.Sound.{timeline_of, IsSound}
-use Rattle.rev_history.specs.Timeline.{Timeline, IsHistory, event_at, kept_events, kept_entries, last_of, accept_refusal, accepted_as, state_at, is_among, depended_on, undo_refusal_of, undo_refusal, overtaken, redo_refusal_now, redo_refusal_of, redo_refusal}
-use Rattle.rev_history.proofs.Commands.{accepted_history, accepted_state, accepted_footprints}
-use Rattle.rev_history.proofs.Numbers.{last_of-push, some_is}
-use Rattle.rev_history.proofs.Places.{same_length, nearest_in-above, nearest_at}
+use Rattle.rev_history.specs.declared.steps.Step.{Step}
+use Rattle.rev_history.specs.Sound.{timeline_of, CanPutBack, IsFootprintOf, HaveFootprints, IsSound}
+use Rattle.rev_history.specs.Steps.{footprint_of, print_of, values_of, footprints_of, prints_of}
+use Rattle.rev_history.specs.Timeline.{Timeline, IsHistory, event_at, kept_events, kept_entries, last_of, state_at, is_among, depended_on, undo_refusal_of, undo_refusal, undone, without, placed, overtaken, redo_refusal_now, redo_refusal_of, redo_refusal, redone, accept_refusal, kept_footprint}
+use Rattle.rev_history.specs.Value.{cells_written}
+use Rattle.rev_history.proofs.Commands.{IsFree, is_free, IsReady, is_ready}
+use Rattle.rev_history.proofs.Effects.{set_all-is, length_stored, has_former}
+use Rattle.rev_history.proofs.Footprints.{along_is, along_none, footprints_at, footprints_set, footprints_end}
 
--- each kept number has a footprint beside it
-pub lengths : (a : Inside) → IsSound a → length a.footprints.items ≡ length a.kept.items
-lengths a s = ap length s.footprints_are ∙ same_length a.accepted.entries a.kept.items a.opening.state s.history.accepted
+pub history_of : (a : Inside) → IsSound a → IsHistory (timeline_of a)
+history_of a s = record { rising = s.stepped.rising; accepted = s.stepped.each; legal = s.stepped.history.legal }
+
+pub state_of : (a : Inside) → IsSound a → a.cells.state ≡ state_at (timeline_of a)
+state_of a s = s.stepped.history.cells_are
+
+pub as_many : (a : Inside) → IsSound a → length a.steps.items ≡ length a.accepted.entries
+as_many a s = sym (length-map a.steps.items print_of) ∙ s.stepped.as_many_prints
 
 -- the nearest above a number that conflicts with a footprint
-pub found_above : (a : Inside) → IsSound a → (n : ℕ) (f : Footprint Cell) → nearest_in n f a.kept.items a.footprints.items ≡ causal.nearest_above machine n f (kept_entries (timeline_of a))
+pub found_above : (a : Inside) → IsSound a → (n : ℕ) (f : Footprint Cell) → nearest_in cell_cmp n f (chosen (prints_of a.accepted.entries a.steps.items) a.kept.items) ≡ causal.nearest_above (machine a.graph.manifest a.opening.jobs) n f (kept_entries (timeline_of a))
 found_above a s n f =
-    ap (nearest_in n f a.kept.items) s.footprints_are
-    ∙ nearest_in-above n f a.accepted.entries a.kept.items a.opening.state s.history.accepted
+    kept_tables.found_above cells_total cells_exact (table a.graph.manifest a.opening.jobs) (table-local a.graph.manifest a.opening.jobs) a.opening.state a.cells.state (kept_events (timeline_of a))
+    (chosen (prints_of a.accepted.entries a.steps.items) a.kept.items) _ s.stepped.history n f
 
 -- the nearest that depends on a kept number
-pub found_dependent : (a : Inside) → IsSound a → (n place : ℕ) (f : Footprint Cell) → place < length a.kept.items → get_or a.kept.items place 0 ≡ n → f ≡ get_or a.footprints.items place f →
-    nearest_in n f a.kept.items a.footprints.items ≡ causal.nearest_to machine n (kept_entries (timeline_of a))
-found_dependent a s n place f lt at is =
-    found_above a s n f
-    ∙ ap (λ g. causal.nearest_above machine n g (kept_entries (timeline_of a))) (is ∙ ap (λ gs. get_or gs place f) s.footprints_are)
-    ∙ sym (nearest_at n a.accepted.entries a.kept.items a.opening.state place f s.history.rising s.history.accepted lt at)
+pub found_dependent : (a : Inside) → IsSound a → (n : ℕ) (f : Footprint Cell) → is_among a.kept.items n ≡ true → causal.event_at n (prints_of a.accepted.entries a.steps.items) ≡ Some f →
+    nearest_in cell_cmp n f (chosen (prints_of a.accepted.entries a.steps.items) a.kept.items) ≡ causal.nearest_to (machine a.graph.manifest a.opening.jobs) n (kept_entries (timeline_of a))
+found_dependent a s n f among at =
+    kept_tables.found_dependent cells_total cells_exact (table a.graph.manifest a.opening.jobs) (table-local a.graph.manifest a.opening.jobs) a.opening.state a.cells.state (kept_events (timeline_of a))
+    (chosen (prints_of a.accepted.entries a.steps.items) a.kept.items) _ s.stepped.history n f (event_at-chosen (prints_of a.accepted.entries a.steps.items) a.kept.items n f among at)
 
 -- the refusal of a kept event is that of its nearest dependent
-pub undo_refusal_kept : (t : Timeline) (n : ℕ) (e : Event) (o : Option ℕ) → event_at t n ≡ Some e → is_among t.kept n ≡ true → o ≡ causal.nearest_to machine n (kept_entries t) → depended_on o ≡ undo_refusal t n
+pub undo_refusal_kept : (t : Timeline) (n : ℕ) (e : Event) (o : Option ℕ) → event_at t n ≡ Some e → is_among t.kept n ≡ true → o ≡ causal.nearest_to (machine t.manifest t.jobs) n (kept_entries t) → depended_on o ≡ undo_refusal t n
 undo_refusal_kept t n e o at among is =
     ap depended_on is
-    ∙ sym (ap (undo_refusal_of t n) at ∙ ap (λ b. cond b (depended_on (causal.nearest_to machine n (kept_entries t))) (Some NotKept)) among)
+    ∙ sym (ap (undo_refusal_of t n) at ∙ ap (λ b. cond b (depended_on (causal.nearest_to (machine t.manifest t.jobs) n (kept_entries t))) (Some NotKept)) among)
 
 -- the refusal of an event that is not kept and is accepted now is that of the nearest in its way
-pub redo_refusal_free : (t : Timeline) (n : ℕ) (e : Event) (o : Option ℕ) → event_at t n ≡ Some e → is_among t.kept n ≡ false → refusal (state_at t) e ≡ None → o ≡ causal.nearest_above machine n (footprint (state_at t) e) (kept_entries t) → overtaken o ≡ redo_refusal t n
+pub redo_refusal_free : (t : Timeline) (n : ℕ) (e : Event) (o : Option ℕ) → event_at t n ≡ Some e → is_among t.kept n ≡ false → refusal t.manifest t.jobs (state_at t) e ≡ None → o ≡ causal.nearest_above (machine t.manifest t.jobs) n (footprints.print_of (footprint t.manifest (state_at t) e)) (kept_entries t) → overtaken o ≡ redo_refusal t n
 redo_refusal_free t n e o at apart accepts is =
     ap overtaken is
     ∙ sym (ap (redo_refusal_of t n) at
-    ∙ ap (λ b. cond b (Some AlreadyKept) (redo_refusal_now t n e (refusal (state_at t) e))) apart
+    ∙ ap (λ b. cond b (Some AlreadyKept) (redo_refusal_now t n e (refusal t.manifest t.jobs (state_at t) e))) apart
     ∙ ap (redo_refusal_now t n e) accepts)
 
--- the fields after an event is accepted
-pub accepted_sound : (a b : Inside) (n : ℕ) (e : Event) → IsSound a → last_of a.accepted.entries < n → accept_refusal (timeline_of a) e ≡ None → b.opening ≡ a.opening
-    → b.accepted.entries ≡ a.accepted.entries ++ (n, e) ∷ [] → b.kept.items ≡ a.kept.items ++ n ∷ [] → b.footprints.items ≡ a.footprints.items ++ footprint a.cells.state e ∷ []
-    → b.cells.state ≡ after a.cells.state e → b.cells.jobs ≡ a.cells.jobs → b.last ≡ n → IsSound b
-accepted_sound a b n e s lt accepts opening accepted kept prints state jobs last =
-    let t : Timeline = timeline_of a in
-    let is : timeline_of b ≡ accepted_as n e t = λ i. record { jobs = (opening i).jobs; opening = (opening i).state; accepted = accepted i; kept = kept i } in
-    record {
-      history = subst IsHistory (sym is) (accepted_history t n e s.history lt accepts);
-      state = state ∙ ap (λ u. after u e) s.state ∙ sym (accepted_state t n e s.history lt) ∙ ap state_at (sym is);
-      jobs = jobs ∙ s.jobs ∙ ap (λ (u : Timeline). u.jobs) (sym is);
-      footprints_are = prints ∙ ap₂ (λ (fs : List (Footprint Cell)) u. fs ++ footprint u e ∷ []) s.footprints_are s.state
-          ∙ sym (accepted_footprints t n e s.history lt) ∙ ap (λ (u : Timeline). footprints machine u.opening (kept_events u)) (sym is);
-      last = last ∙ sym (ap last_of accepted ∙ last_of-push a.accepted.entries n e lt);
-    }
+-- what the theory of undo sees beside a number is made of the footprint beside it
+pub prints-footprints : (n : ℕ) (es : List (ℕ × Event)) (steps : List Step) → causal.event_at n (prints_of es steps) ≡ option_map footprints.print_of (causal.event_at n (footprints_of es steps))
+prints-footprints n [] steps = refl
+prints-footprints n (e ∷ es) [] = refl
+prints-footprints n (e ∷ es) (s ∷ steps) = by (nat_eq e.0 n) s.footprint (causal.event_at n (prints_of es steps)) (causal.event_at n (footprints_of es steps)) (prints-footprints n es steps)
+  where
+    by : (b : Bool) (f : FootprintValue) (o : Option (Footprint Cell)) (q : Option FootprintValue) → o ≡ option_map footprints.print_of q → cond b (Some (footprints.print_of f)) o ≡ option_map footprints.print_of (cond b (Some f) q)
+    by true f o q h = refl
+    by false f o q h = h
 
--- the same, as the code finds it: the place of the number, and the nearest conflict with the footprint there
-pub undo_refusal_found : (a : Inside) → IsSound a → (t : Timeline) → timeline_of a ≡ t → (n place : ℕ) (f : Footprint Cell) (ks numbers : List ℕ) (prints : List (Footprint Cell)) →
-    ks ≡ a.kept.items → place < length ks → get_or ks place 0 ≡ n → is_among ks n ≡ true → f ≡ get_or a.footprints.items place f → numbers ≡ a.kept.items → prints ≡ a.footprints.items →
-    IsSome (event_at t n) → (o : Option ℕ) → o ≡ nearest_in n f numbers prints → depended_on o ≡ undo_refusal t n
-undo_refusal_found a s t view n place f ks numbers prints kept lt at among is same_numbers same_prints some o found =
-    let e = some_is (event_at t n) some in
-    let lt_kept : place < length a.kept.items = subst (λ (xs : List ℕ). place < length xs) kept lt in
-    let at_kept : get_or a.kept.items place 0 ≡ n = ap (λ xs. get_or xs place 0) (sym kept) ∙ at in
-    undo_refusal_kept t n e.0 o e.1 (ap (λ xs. is_among xs n) (sym (kept ∙ ap (λ (u : Timeline). u.kept) view)) ∙ among)
-    (found ∙ ap₂ (nearest_in n f) same_numbers same_prints ∙ found_dependent a s n place f lt_kept at_kept is ∙ ap (λ u. causal.nearest_to machine n (kept_entries u)) view)
+-- the same, as the code finds it: the footprint beside the number, and the nearest conflict with it
+pub undo_refusal_found : (a : Inside) → IsSound a → (t : Timeline) → timeline_of a ≡ t → (n : ℕ) (f : FootprintValue) (ks numbers : List ℕ) (steps : List Step) →
+    ks ≡ a.kept.items → is_among ks n ≡ true → steps ≡ a.steps.items → Some f ≡ causal.event_at n (footprints_of a.accepted.entries steps) → numbers ≡ a.kept.items →
+    IsSome (event_at t n) → (o : Option ℕ) → o ≡ nearest_in cell_cmp n (footprints.print_of f) (chosen (prints_of a.accepted.entries steps) numbers) → depended_on o ≡ undo_refusal t n
+undo_refusal_found a s t view n f ks numbers steps kept among same_steps is same_numbers some o found =
+    let u : Timeline = timeline_of a in
+    let e = some_is (event_at u n) (subst (λ (v : Timeline). IsSome (event_at v n)) (sym view) some) in
+    let among_kept : is_among a.kept.items n ≡ true = ap (λ xs. is_among xs n) (sym kept) ∙ among in
+    let print : causal.event_at n (prints_of a.accepted.entries a.steps.items) ≡ Some (footprints.print_of f) =
+    prints-footprints n a.accepted.entries a.steps.items ∙ ap (option_map footprints.print_of) (ap (λ xs. causal.event_at n (footprints_of a.accepted.entries xs)) (sym same_steps) ∙ sym is) in
+    undo_refusal_kept u n e.0 o e.1 among_kept
+    (found ∙ ap₂ (λ xs ns. nearest_in cell_cmp n (footprints.print_of f) (chosen (prints_of a.accepted.entries xs) ns)) same_steps same_numbers
+    ∙ found_dependent a s n (footprints.print_of f) among_kept print)
+    ∙ ap (λ (v : Timeline). undo_refusal v n) view
 
 -- the same for a redo
-pub redo_refusal_found : (a : Inside) → IsSound a → (t : Timeline) → timeline_of a ≡ t → (n : ℕ) (e : Event) (f : Footprint Cell) (ks numbers : List ℕ) (prints : List (Footprint Cell)) →
-    ks ≡ a.kept.items → is_among ks n ≡ false → f ≡ footprint a.cells.state e → numbers ≡ a.kept.items → prints ≡ a.footprints.items →
-    Some e ≡ event_at t n → None ≡ refusal a.cells.state e → (o : Option ℕ) → o ≡ nearest_in n f numbers prints → overtaken o ≡ redo_refusal t n
-redo_refusal_found a s t view n e f ks numbers prints kept apart is same_numbers same_prints at accepts o found =
-    let now : a.cells.state ≡ state_at t = s.state ∙ ap state_at view in
-    redo_refusal_free t n e o (sym at) (ap (λ xs. is_among xs n) (sym (kept ∙ ap (λ (u : Timeline). u.kept) view)) ∙ apart) (ap (λ u. refusal u e) (sym now) ∙ sym accepts)
-    (found ∙ ap₂ (nearest_in n f) same_numbers same_prints ∙ found_above a s n f
-    ∙ ap₂ (λ g u. causal.nearest_above machine n g (kept_entries u)) (is ∙ ap (λ u. footprint u e) now) view)
+pub redo_refusal_found : (a : Inside) → IsSound a → (t : Timeline) → timeline_of a ≡ t → (n : ℕ) (e : Event) (f : FootprintValue) (ks numbers : List ℕ) (steps : List Step) →
+    ks ≡ a.kept.items → is_among ks n ≡ false → f ≡ footprint a.graph.manifest a.cells.state e → numbers ≡ a.kept.items → steps ≡ a.steps.items →
+    Some e ≡ event_at t n → None ≡ refusal a.graph.manifest a.cells.jobs a.cells.state e → (o : Option ℕ) → o ≡ nearest_in cell_cmp n (footprints.print_of f) (chosen (prints_of a.accepted.entries steps) numbers) → overtaken o ≡ redo_refusal t n
+redo_refusal_found a s t view n e f ks numbers steps kept apart is same_numbers same_steps at accepts o found =
+    let u : Timeline = timeline_of a in
+    let now : a.cells.state ≡ state_at u = state_of a s in
+    redo_refusal_free u n e o (ap (λ (v : Timeline). event_at v n) view ∙ sym at) (ap (λ xs. is_among xs n) (sym kept) ∙ apart)
+    (ap₂ (λ j v. refusal a.graph.manifest j v e) (sym s.jobs) (sym now) ∙ sym accepts)
+    (found ∙ ap₂ (λ xs ns. nearest_in cell_cmp n (footprints.print_of f) (chosen (prints_of a.accepted.entries xs) ns)) same_steps same_numbers ∙ found_above a s n (footprints.print_of f)
+    ∙ ap (λ g. causal.nearest_above (machine a.graph.manifest a.opening.jobs) n (footprints.print_of g) (kept_entries u)) (is ∙ ap (λ v. footprint a.graph.manifest v e) now))
+    ∙ ap (λ (v : Timeline). redo_refusal v n) view
+
+-- why a redo is refused by the event itself
+pub not_now_found : (a : Inside) → IsSound a → (t : Timeline) → timeline_of a ≡ t → (n : ℕ) (e : Event) (r : Refusal) (ks : List ℕ) →
+    ks ≡ a.kept.items → is_among ks n ≡ false → Some e ≡ event_at t n → Some r ≡ refusal a.graph.manifest a.cells.jobs a.cells.state e → Some (not_now r) ≡ redo_refusal t n
+not_now_found a s t view n e r ks kept apart at refused =
+    let u : Timeline = timeline_of a in
+    let now : a.cells.state ≡ state_at u = state_of a s in
+    let is : accept_refusal u e ≡ Some r = ap₂ (λ j v. refusal a.graph.manifest j v e) (sym s.jobs) (sym now) ∙ sym refused in
+    sym (ap (redo_refusal_of u n) (ap (λ (v : Timeline). event_at v n) view ∙ sym at)
+    ∙ ap (λ b. cond b (Some AlreadyKept) (redo_refusal_now u n e (accept_refusal u e))) (ap (λ xs. is_among xs n) (sym kept) ∙ apart)
+    ∙ ap (redo_refusal_now u n e) is)
+    ∙ ap (λ (v : Timeline). redo_refusal v n) view
+
+-- why an event is refused now
+pub accept_refusal_found : (a : Inside) → IsSound a → (t : Timeline) → timeline_of a ≡ t → (e : Event) → refusal a.graph.manifest a.cells.jobs a.cells.state e ≡ accept_refusal t e
+accept_refusal_found a s t view e =
+    ap₂ (λ j v. refusal a.graph.manifest j v e) s.jobs (state_of a s) ∙ ap (λ (v : Timeline). accept_refusal v e) view
+
+-- what stands beside the events, after one of them changed
+
+all_get : {A : Type 0} (P : A → Type 0) (xs : List A) (i : ℕ) (d : A) → AllByRecursion P xs → i < length xs → P (get_or xs i d)
+all_get P [] i d h lt = absurd (omega arith)
+all_get P (x ∷ xs) zero d h lt = h.0
+all_get P (x ∷ xs) (suc i) d h lt = all_get P xs i d h.1 (omega arith)
+
+all_set : {A : Type 0} (P : A → Type 0) (xs : List A) (i : ℕ) (y : A) → AllByRecursion P xs → P y → AllByRecursion P (set xs i y)
+all_set P [] i y h p = tt
+all_set P (x ∷ xs) zero y h p = (p, h.1)
+all_set P (x ∷ xs) (suc i) y h p = (h.0, all_set P xs i y h.1 p)
+
+all_end : {A : Type 0} (P : A → Type 0) (xs : List A) (x : A) → AllByRecursion P xs → P x → AllByRecursion P (xs ++ x ∷ [])
+all_end P [] x h p = (p, tt)
+all_end P (y ∷ xs) x h p = (h.0, all_end P xs x h.1 p)
+
+more_places : (old new : List Cell) (ws : List (Cell × Value)) → ((c : Cell) → Contains old c → Contains new c) → AllByRecursion (λ (w : Cell × Value). Contains old w.0) ws → AllByRecursion (λ (w : Cell × Value). Contains new w.0) ws
+more_places old new [] more h = tt
+more_places old new (w ∷ ws) more h = (more w.0 h.0, more_places old new ws more h.1)
+
+still_ready : (old new : List Cell) (steps : List Step) → ((c : Cell) → Contains old c → Contains new c) → AllByRecursion (CanPutBack old) steps → AllByRecursion (CanPutBack new) steps
+still_ready old new [] more h = tt
+still_ready old new (s ∷ steps) more h = (record { has = more_places old new s.replaced.items more h.0.has; fits = h.0.fits }, still_ready old new steps more h.1)
+
+map_end : {A B : Type 0} (f : A → B) (xs : List A) (x : A) → map f (xs ++ x ∷ []) ≡ map f xs ++ f x ∷ []
+map_end f [] x = refl
+map_end f (y ∷ xs) x = ap (λ zs. f y ∷ zs) (map_end f xs x)
+
+-- what can be put back of a place
+pub ready_at : (a : Inside) → IsSound a → (n i : ℕ) (d : Step) → IsPlace n a.accepted.entries i → d ≡ get_or a.steps.items i d → CanPutBack a.cells.places d
+ready_at a s n i d place is =
+    let lt : i < length a.accepted.entries = place_within n a.accepted.entries i place in
+    let same : length a.steps.items ≡ length a.accepted.entries = as_many a s in
+    subst (CanPutBack a.cells.places) (sym is) (all_get (CanPutBack a.cells.places) a.steps.items i d s.ready (omega arith))
+
+-- what holds of fields that stand by the manifest and the jobs of others
+sound_by : (a b : Inside) → b.graph ≡ a.graph → b.opening ≡ a.opening
+    → IsStepped (table a.graph.manifest a.opening.jobs) b.opening.state b.cells.state b.accepted.entries b.kept.items (map print_of b.steps.items) (map values_of b.steps.items)
+    → HaveFootprints a.graph.manifest b.accepted.entries b.steps.items → AllByRecursion (CanPutBack b.cells.places) b.steps.items → b.cells.jobs ≡ a.opening.jobs → b.last ≡ last_of b.accepted.entries → IsSound b
+sound_by a b graph opening stepped own ready jobs last = record {
+  stepped = subst₂ (λ (g : GraphValue) (r : Records). IsStepped (table g.manifest r.jobs) b.opening.state b.cells.state b.accepted.entries b.kept.items (map print_of b.steps.items) (map values_of b.steps.items)) (sym graph) (sym opening) stepped;
+  footprints = subst (λ (g : GraphValue). HaveFootprints g.manifest b.accepted.entries b.steps.items) (sym graph) own;
+  ready = ready;
+  jobs = jobs ∙ ap (λ (r : Records). r.jobs) (sym opening);
+  last = last;
+}
+
+-- an accepted event
+pub accepted_sound : (a b : Inside) (n : ℕ) (e : Event) (step : Step) → IsSound a → last_of a.accepted.entries < n → refusal a.graph.manifest a.cells.jobs a.cells.state e ≡ None → b.graph ≡ a.graph → b.opening ≡ a.opening
+    → b.accepted.entries ≡ a.accepted.entries ++ (n, e) ∷ [] → b.kept.items ≡ a.kept.items ++ n ∷ [] → b.steps.items ≡ a.steps.items ++ step ∷ []
+    → step.footprint ≡ footprint a.graph.manifest a.cells.state e → values_of step ≡ replaced a.cells.state (effect a.graph.manifest a.cells.state e) → CanPutBack b.cells.places step → ((c : Cell) → Contains a.cells.places c → Contains b.cells.places c)
+    → b.cells.state ≡ after a.graph.manifest a.cells.state e → b.cells.jobs ≡ a.cells.jobs → b.last ≡ n → IsSound b
+accepted_sound a b n e step s lt accepts graph opening accepted kept steps print values ready more state jobs last =
+    let m : ManifestValue = a.graph.manifest in
+    let f : Footprint Cell = footprints.print_of (footprint m a.cells.state e) in
+    let ws : List (Cell × Option Value) = replaced a.cells.state (effect m a.cells.state e) in
+    let accepts_now : refusal m a.opening.jobs a.cells.state e ≡ None = ap (λ j. refusal m j a.cells.state e) (sym s.jobs) ∙ accepts in
+    let done : IsStepped (table m a.opening.jobs) a.opening.state (after m a.cells.state e) (a.accepted.entries ++ (n, e) ∷ []) (a.kept.items ++ n ∷ []) (map print_of a.steps.items ++ f ∷ []) (map values_of a.steps.items ++ ws ∷ []) =
+    stepping.accept_stepped cells_total cells_exact (table m a.opening.jobs) (table-local m a.opening.jobs) a.opening.state a.cells.state a.accepted.entries a.kept.items (map print_of a.steps.items) (map values_of a.steps.items) s.stepped n e lt accepts_now in
+    let prints_are : map print_of b.steps.items ≡ map print_of a.steps.items ++ f ∷ [] = ap (map print_of) steps ∙ map_end print_of a.steps.items step ∙ ap (λ g. map print_of a.steps.items ++ footprints.print_of g ∷ []) print in
+    let values_are : map values_of b.steps.items ≡ map values_of a.steps.items ++ ws ∷ [] = ap (map values_of) steps ∙ map_end values_of a.steps.items step ∙ ap (λ vs. map values_of a.steps.items ++ vs ∷ []) values in
+    sound_by a b graph opening
+    (stepping.restepped (table m a.opening.jobs) _ _ _ _ _ _ _ _ _ _ _ _ done (ap (λ r. r.state) opening) state accepted kept prints_are values_are)
+    (subst₂ (HaveFootprints m) (sym accepted) (sym steps) (footprints_end m a.accepted.entries a.steps.items n step e s.footprints (as_many a s) (record { state = a.cells.state; is = print })))
+    (subst (AllByRecursion (CanPutBack b.cells.places)) (sym steps) (all_end (CanPutBack b.cells.places) a.steps.items step (still_ready a.cells.places b.cells.places a.steps.items more s.ready) ready))
+    (jobs ∙ s.jobs)
+    (last ∙ sym (ap last_of accepted ∙ last_of-push a.accepted.entries n e lt))
+
+-- an event that is taken out
+pub record IsTakenOut (a b : Inside) (n : ℕ) : Type 0 where
+  pub sound : IsSound b
+  pub timeline : timeline_of b ≡ undone n (timeline_of a)
+  pub writes : b.cells.writes ≡ raised_by (cells_written n (timeline_of a)) a.cells.writes
+
+pub taken_out : (a b : Inside) (n i : ℕ) (d step : Step) → IsSound a → IsPlace n a.accepted.entries i → undo_refusal (timeline_of a) n ≡ None → d ≡ get_or a.steps.items i d
+    → b.graph ≡ a.graph → b.opening ≡ a.opening → b.accepted.entries ≡ a.accepted.entries → b.last ≡ a.last → b.cells ≡ written_all a.cells d.replaced.items → b.steps.items ≡ set a.steps.items i step
+    → step.footprint ≡ d.footprint → step.replaced.items ≡ former_values a.cells.state d.replaced.items → AllByRecursion (λ (w : Cell × Value). Fits w.0 w.1) step.replaced.items → b.kept.items ≡ without n a.kept.items → IsTakenOut a b n
+taken_out a b n i d step s place free is graph opening accepted last cells steps print former fits kept =
+    let t : Timeline = timeline_of a in
+    let m : ManifestValue = a.graph.manifest in
+    let f : IsFree t n = is_free t n free in
+    let lt : i < length a.steps.items = let within : i < length a.accepted.entries = place_within n a.accepted.entries i place in let same : length a.steps.items ≡ length a.accepted.entries = as_many a s in omega arith in
+    let here : slice_get (map values_of a.steps.items) i ≡ Some (values_of d) = slice_get-map values_of a.steps.items i ∙ ap (λ o. elim o [ None ↦ None | Some x ↦ Some (values_of x) ]) (slice_get-get_or a.steps.items i d lt) ∙ ap (λ x. Some (values_of x)) (sym is) in
+    let done : IsStepped (table m a.opening.jobs) a.opening.state _ a.accepted.entries (without n a.kept.items) (map print_of a.steps.items) (set (map values_of a.steps.items) i (values_of step)) =
+    stepping.undo_stepped cells_total cells_exact (table m a.opening.jobs) (table-local m a.opening.jobs) a.opening.state a.cells.state a.accepted.entries a.kept.items (map print_of a.steps.items) (map values_of a.steps.items) s.stepped n i f.event (values_of d) (values_of step) place f.at f.among f.none here in
+    let prints_are : map print_of b.steps.items ≡ map print_of a.steps.items = ap (map print_of) steps ∙ map-set_same print_of a.steps.items i step d (ap footprints.print_of print ∙ ap print_of is) in
+    let values_are : map values_of b.steps.items ≡ set (map values_of a.steps.items) i (values_of step) = ap (map values_of) steps ∙ map-set values_of a.steps.items i step in
+    let state : b.cells.state ≡ _ = ap (λ (c : Table). c.state) cells ∙ set_all-is a.cells.state d.replaced.items in
+    let before : CanPutBack a.cells.places d = ready_at a s n i d place is in
+    let ready : CanPutBack a.cells.places step = record { has = subst (AllByRecursion (λ (w : Cell × Value). Contains a.cells.places w.0)) (sym former) (has_former a.cells.places a.cells.state d.replaced.items before.has); fits = fits } in
+    let own : IsFootprintOf m f.event d.footprint = subst (λ (x : Step). IsFootprintOf m f.event x.footprint) (sym is) (footprints_at m a.accepted.entries a.steps.items n i d f.event s.footprints place f.at lt) in
+    let stored : causal.event_at n (replaced_by_number (table m a.opening.jobs) a.opening.state (kept_events t)) ≡ Some (values_of d) =
+    ap (causal.event_at n) (sym s.stepped.history.replaced_are)
+    ∙ event_at-chosen (causal.numbered_by a.accepted.entries (map values_of a.steps.items)) a.kept.items n (values_of d) f.among (beside_at n a.accepted.entries (map values_of a.steps.items) i place ∙ here) in
+    record {
+      sound = sound_by a b graph opening
+          (stepping.restepped (table m a.opening.jobs) _ _ _ _ _ _ _ _ _ _ _ _ done (ap (λ r. r.state) opening) state accepted kept prints_are values_are)
+          (subst₂ (HaveFootprints m) (sym accepted) (sym steps) (footprints_set m a.accepted.entries a.steps.items n i step f.event s.footprints place f.at (subst (IsFootprintOf m f.event) (sym print) own)))
+          (subst₂ (λ (c : Table) xs. AllByRecursion (CanPutBack c.places) xs) (sym cells) (sym steps) (all_set (CanPutBack a.cells.places) a.steps.items i step s.ready ready))
+          (ap (λ (c : Table). c.jobs) cells ∙ s.jobs)
+          (last ∙ s.last ∙ ap last_of (sym accepted));
+      timeline = λ j. record { manifest = (graph j).manifest; jobs = (opening j).jobs; opening = (opening j).state; accepted = accepted j; kept = kept j };
+      writes = ap (λ (c : Table). c.writes) cells
+          ∙ ap (λ k. raised_by k a.cells.writes) (sym (length_stored d.replaced.items) ∙ kept_tables.as_many_written cells_total cells_exact (table m a.opening.jobs) (table-local m a.opening.jobs) n a.opening.state (kept_events t) (values_of d) stored);
+    }
+
+-- an event that is put in
+pub record IsPutIn (a b : Inside) (n : ℕ) : Type 0 where
+  pub sound : IsSound b
+  pub timeline : timeline_of b ≡ redone n (timeline_of a)
+
+pub put_in : (a b : Inside) (n i : ℕ) (e : Event) (step : Step) → IsSound a → IsPlace n a.accepted.entries i → causal.event_at n a.accepted.entries ≡ Some e → redo_refusal (timeline_of a) n ≡ None
+    → b.graph ≡ a.graph → b.opening ≡ a.opening → b.accepted.entries ≡ a.accepted.entries → b.last ≡ a.last → b.steps.items ≡ set a.steps.items i step
+    → step.footprint ≡ footprint a.graph.manifest a.cells.state e → values_of step ≡ replaced a.cells.state (effect a.graph.manifest a.cells.state e) → CanPutBack b.cells.places step → ((c : Cell) → Contains a.cells.places c → Contains b.cells.places c)
+    → b.cells.state ≡ after a.graph.manifest a.cells.state e → b.cells.jobs ≡ a.cells.jobs → b.kept.items ≡ placed n a.kept.items → IsPutIn a b n
+put_in a b n i e step s place at free graph opening accepted last steps print values ready more state jobs kept =
+    let t : Timeline = timeline_of a in
+    let m : ManifestValue = a.graph.manifest in
+    let g : Footprint Cell = footprints.print_of (footprint m a.cells.state e) in
+    let ws : List (Cell × Option Value) = replaced a.cells.state (effect m a.cells.state e) in
+    let r : IsReady t n = is_ready t n free in
+    let one : Some r.event ≡ Some e = sym r.at ∙ at in
+    let same : r.event ≡ e = cc in
+    let now : state_at t ≡ a.cells.state = sym (state_of a s) in
+    let accepts : refusal m a.opening.jobs a.cells.state e ≡ None = ap₂ (refusal m a.opening.jobs) (sym now) (sym same) ∙ r.accepts in
+    let none : causal.nearest_above (machine m a.opening.jobs) n g (kept_entries t) ≡ None = ap₂ (λ u x. causal.nearest_above (machine m a.opening.jobs) n (footprints.print_of (footprint m u x)) (kept_entries t)) (sym now) (sym same) ∙ r.none in
+    let done : IsStepped (table m a.opening.jobs) a.opening.state (after m a.cells.state e) a.accepted.entries (placed n a.kept.items) (set (map print_of a.steps.items) i g) (set (map values_of a.steps.items) i ws) =
+    stepping.redo_stepped cells_total cells_exact (table m a.opening.jobs) (table-local m a.opening.jobs) a.opening.state a.cells.state a.accepted.entries a.kept.items (map print_of a.steps.items) (map values_of a.steps.items) s.stepped n i e place at r.apart accepts none in
+    let prints_are : map print_of b.steps.items ≡ set (map print_of a.steps.items) i g = ap (map print_of) steps ∙ map-set print_of a.steps.items i step ∙ ap (λ f. set (map print_of a.steps.items) i (footprints.print_of f)) print in
+    let values_are : map values_of b.steps.items ≡ set (map values_of a.steps.items) i ws = ap (map values_of) steps ∙ map-set values_of a.steps.items i step ∙ ap (set (map values_of a.steps.items) i) values in
+    record {
+      sound = sound_by a b graph opening
+          (stepping.restepped (table m a.opening.jobs) _ _ _ _ _ _ _ _ _ _ _ _ done (ap (λ r. r.state) opening) state accepted kept prints_are values_are)
+          (subst₂ (HaveFootprints m) (sym accepted) (sym steps) (footprints_set m a.accepted.entries a.steps.items n i step e s.footprints place at (record { state = a.cells.state; is = print })))
+          (subst (AllByRecursion (CanPutBack b.cells.places)) (sym steps) (all_set (CanPutBack b.cells.places) a.steps.items i step (still_ready a.cells.places b.cells.places a.steps.items more s.ready) ready))
+          (jobs ∙ s.jobs)
+          (last ∙ s.last ∙ ap last_of (sym accepted));
+      timeline = λ j. record { manifest = (graph j).manifest; jobs = (opening j).jobs; opening = (opening j).state; accepted = accepted j; kept = kept j };
+    }
+
+-- the same history in fields with more room
+pub same_sound : (a b : Inside) → IsSound a → b.graph ≡ a.graph → b.opening ≡ a.opening → b.accepted.entries ≡ a.accepted.entries → b.steps.items ≡ a.steps.items → b.kept.items ≡ a.kept.items → b.cells.state ≡ a.cells.state → b.cells.jobs ≡ a.cells.jobs → b.last ≡ a.last
+    → ((c : Cell) → Contains a.cells.places c → Contains b.cells.places c) → IsSound b
+same_sound a b s graph opening accepted steps kept state jobs last more =
+    sound_by a b graph opening
+    (stepping.restepped (table a.graph.manifest a.opening.jobs) _ _ _ _ _ _ _ _ _ _ _ _ s.stepped (ap (λ r. r.state) opening) state accepted kept (ap (map print_of) steps) (ap (map values_of) steps))
+    (subst₂ (HaveFootprints a.graph.manifest) (sym accepted) (sym steps) s.footprints)
+    (subst (AllByRecursion (CanPutBack b.cells.places)) (sym steps) (still_ready a.cells.places b.cells.places a.steps.items more s.ready))
+    (jobs ∙ s.jobs)
+    (last ∙ s.last ∙ ap last_of (sym accepted))
+
+-- a number that has an event has an index
+pub has_index : (a : Inside) (n : ℕ) (e : Event) → event_at (timeline_of a) n ≡ Some e → false ≡ is_some (lookup (nat_eq n) a.accepted.entries) → ⊥
+has_index a n e at none = true≢false (sym (none ∙ ap is_some (lookup-event_at n a.accepted.entries ∙ at)))
+
+-- a kept number has a footprint
+pub has_print : (a : Inside) → IsSound a → (n : ℕ) → is_among a.kept.items n ≡ true → None ≡ causal.event_at n (footprints_of a.accepted.entries a.steps.items) → ⊥
+has_print a s n among none =
+    let many : length (map footprint_of a.steps.items) ≡ length a.accepted.entries = length-map a.steps.items footprint_of ∙ as_many a s in
+    let all : AllAccepted (footprints_of a.accepted.entries a.steps.items) a.kept.items = all_beside a.accepted.entries (map footprint_of a.steps.items) a.kept.items many s.stepped.each in
+    let some = accepted_among (footprints_of a.accepted.entries a.steps.items) a.kept.items n all among in
+    let never : None ≡ Some some.0 = none ∙ some.1 in
+    cc
+
+-- an event whose redo is not refused is accepted now
+pub accepted_now : (a : Inside) → IsSound a → (n : ℕ) (e : Event) → redo_refusal (timeline_of a) n ≡ None → causal.event_at n a.accepted.entries ≡ Some e → refusal a.graph.manifest a.cells.jobs a.cells.state e ≡ None
+accepted_now a s n e free at =
+    let r : IsReady (timeline_of a) n = is_ready (timeline_of a) n free in
+    let one : Some r.event ≡ Some e = sym r.at ∙ at in
+    let same : r.event ≡ e = cc in
+    ap₂ (λ j v. refusal a.graph.manifest j v e) s.jobs (state_of a s) ∙ ap (refusal a.graph.manifest a.opening.jobs (state_at (timeline_of a))) (sym same) ∙ r.accepts
+
+-- what stands beside an event is a footprint of its own
+own_footprint : (m : ManifestValue) (es : List (ℕ × Event)) (steps : List Step) (n : ℕ) (f : FootprintValue) (e : Event) → HaveFootprints m es steps → Some f ≡ causal.event_at n (footprints_of es steps) → causal.event_at n es ≡ Some e → IsFootprintOf m e f
+own_footprint m [] steps n f e h is at = cc
+own_footprint m (x ∷ xs) [] n f e h is at = cc
+own_footprint m (x ∷ xs) (s ∷ steps) n f e h is at = elim (either (nat_eq x.0 n)) [
+  | inl t ↦
+      let one : Some x.1 ≡ Some e = sym (ap (λ b. cond b (Some x.1) (causal.event_at n xs)) t) ∙ at in
+      let same : x.1 ≡ e = cc in
+      let two : Some f ≡ Some s.footprint = is ∙ ap (λ b. cond b (Some s.footprint) (causal.event_at n (footprints_of xs steps))) t in
+      let print : f ≡ s.footprint = cc in
+      subst₂ (IsFootprintOf m) same (sym print) h.0
+  | inr o ↦
+      own_footprint m xs steps n f e h.1 (is ∙ ap (λ b. cond b (Some s.footprint) (causal.event_at n (footprints_of xs steps))) o) (sym (ap (λ b. cond b (Some x.1) (causal.event_at n xs)) o) ∙ at)
+]
+
+-- what stands beside a kept number is the footprint of its place
+pub kept_print : (a : Inside) → IsSound a → (t : Timeline) → timeline_of a ≡ t → (n : ℕ) (f : FootprintValue) (ks : List ℕ) (steps : List Step) → ks ≡ a.kept.items → is_among ks n ≡ true → steps ≡ a.steps.items
+    → Some f ≡ causal.event_at n (footprints_of a.accepted.entries steps) → Some f ≡ kept_footprint t n
+kept_print a s t view n f ks steps kept among_ks same_steps is_steps =
+    let u : Timeline = timeline_of a in
+    let m : ManifestValue = a.graph.manifest in
+    let among : is_among a.kept.items n ≡ true = ap (λ xs. is_among xs n) (sym kept) ∙ among_ks in
+    let is : Some f ≡ causal.event_at n (footprints_of a.accepted.entries a.steps.items) = is_steps ∙ ap (λ xs. causal.event_at n (footprints_of a.accepted.entries xs)) same_steps in
+    let e = accepted_among a.accepted.entries a.kept.items n s.stepped.each among in
+    let print : causal.event_at n (causal.footprints_by_number (machine m a.opening.jobs) a.opening.state (kept_events u)) ≡ Some (footprints.print_of f) =
+    ap (causal.event_at n) (sym s.stepped.history.footprints_are)
+    ∙ event_at-chosen (prints_of a.accepted.entries a.steps.items) a.kept.items n (footprints.print_of f) among (prints-footprints n a.accepted.entries a.steps.items ∙ ap (option_map footprints.print_of) (sym is)) in
+    sym (along_is m a.opening.jobs a.opening.state (kept_events u) n e.0 f (own_footprint m a.accepted.entries a.steps.items n f e.0 s.footprints is e.1) (event_at-chosen a.accepted.entries a.kept.items n e.0 among e.1) print)
+    ∙ ap (λ (v : Timeline). kept_footprint v n) view
+
+-- what is found there
+pub print_found : (a : Inside) → IsSound a → (t : Timeline) → timeline_of a ≡ t → (n : ℕ) (ks : List ℕ) (steps : List Step) → ks ≡ a.kept.items → is_among ks n ≡ true → steps ≡ a.steps.items
+    → causal.event_at n (footprints_of a.accepted.entries steps) ≡ kept_footprint t n
+print_found a s t view n ks steps kept among same_steps =
+    by (causal.event_at n (footprints_of a.accepted.entries steps)) refl
+  where
+    by : (o : Option FootprintValue) → causal.event_at n (footprints_of a.accepted.entries steps) ≡ o → causal.event_at n (footprints_of a.accepted.entries steps) ≡ kept_footprint t n
+    by None none =
+        absurd (has_print a s n (ap (λ xs. is_among xs n) (sym kept) ∙ among) (sym none ∙ ap (λ xs. causal.event_at n (footprints_of a.accepted.entries xs)) same_steps))
+    by (Some f) some = some ∙ kept_print a s t view n f ks steps kept among same_steps (sym some)
+
+-- and a number that is not kept has none
+pub no_print : (a : Inside) (t : Timeline) → timeline_of a ≡ t → (n : ℕ) (ks : List ℕ) → ks ≡ a.kept.items → is_among ks n ≡ false → None ≡ kept_footprint t n
+no_print a t view n ks kept apart =
+    sym (along_none a.graph.manifest a.opening.jobs a.opening.state (kept_events (timeline_of a)) n (event_at-not_chosen a.accepted.entries a.kept.items n (ap (λ xs. is_among xs n) (sym kept) ∙ apart)))
+    ∙ ap (λ (v : Timeline). kept_footprint v n) view

@@ -1,7 +1,10 @@
 pub mod Commands
+pub mod Cones
+pub mod Effects
 pub mod Fields
-pub mod Local
-pub mod Numbers
+pub mod Footprints
+pub mod Members
+pub mod Nearest
 pub mod Places
 pub mod Promises
-pub mod Replays
+pub mod Written

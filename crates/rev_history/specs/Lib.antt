@@ -1,8 +1,5 @@
-pub mod Event
-pub mod Footprint
 pub mod Laws
-pub mod Machine
-pub mod Nearest
-pub mod Refusal
 pub mod Sound
+pub mod Steps
 pub mod Timeline
+pub mod Value

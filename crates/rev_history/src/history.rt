@@ -1,72 +1,86 @@
 //! The history.
-ghost use Rattle.std.specs.Prelude.{◌≡◌, ◌↔◌, ◌<◌, IfOk, OnOk, OnErr, IsErrOf, Some, None};
+ghost use Rattle.std.specs.Prelude.{◌≡◌, ◌↔◌, ◌<◌, length, IfOk, OnOk, OnErr, IsErrOf, Some, None};
 ghost use Rattle.std.specs.Option.{option_copied};
-ghost use Rattle.rev_history.specs.declared.refusal.Refusal.{Refusal};
-ghost use Rattle.rev_history.specs.Timeline.{IsHistory, Timeline, accept_refusal, accepted_as, back_refusal, event_at, greatest_kept, last_of, opened, redo_refusal, redone, state_at, undo_refusal, undone};
+ghost use Rattle.rev_cells.specs.Table.{raised_by};
+ghost use Rattle.rev_cells.specs.Opened.{IsOpened};
+ghost use Rattle.rev_events.specs.declared.refusal.Refusal.{Refusal};
+ghost use Rattle.rev_history.specs.Timeline.{IsHistory, Timeline, accept_refusal, accepted_as, back_refusal, cone_numbers, cone_refusal, coned, event_at, greatest_kept, kept_footprint, last_of, opened, redo_refusal, redone, state_at, undo_refusal, undone};
+ghost use Rattle.rev_history.specs.Value.{cells_written};
 
-use crate::event::Event;
-use crate::footprint::Footprint;
-use crate::refusal::{Fault, Refusal};
-use crate::replay::{all_but, nearest, place_of, replay, with_number};
-use crate::step::{apply, footprint_now, refusal};
+use crate::numbers::{place_of, put_in, take_out};
+use crate::step::{effect, refusal};
+use crate::steps::{Step, cone, footprint_at, nearest};
 use indexmap::IndexMap;
 use rev_cells::{Cells, Opening};
+use rev_events::{Event, Fault, Refusal};
+use rev_footprint::{Footprint, footprint as footprint_now};
+use rev_graph::Graph;
 use std::alloc::{AllocError, Global};
 use std::marker::Model;
 
-/// An opening, the events that were accepted since under rising numbers, and those of them that are kept. The state is
-/// that which the kept events lead to from the opening, in the order of their numbers.
+/// A graph, an opening, the events that were accepted since under rising numbers, and those of them that are kept. The state is
+/// that which the kept events lead to from the opening, in the order of their numbers. Beside each event stand its footprint
+/// and what it replaced, so that an undo puts that back.
 #[derive(Drop)]
 pub struct History {
     alloc: Global,
+    graph: Graph,
     opening: Opening,
     accepted: IndexMap<u32, Event>,
+    steps: Vec<Step>,
     kept: Vec<u32>,
-    footprints: Vec<Footprint>,
     cells: Cells,
     last: u32,
 }
 
 impl Model for History {
-    ghost use Rattle.rev_history.specs.Timeline.{Timeline, timeline_code};
+    ghost use Rattle.rev_history.specs.Value.{HistoryValue, value_code};
 
-    ghost Value = { Timeline };
+    ghost Value = { HistoryValue };
 
-    ghost coded = { timeline_code };
+    ghost coded = { value_code };
 
-    ghost use Rattle.rev_history.specs.Sound.{timeline_of, IsSound};
+    ghost use Rattle.rev_history.specs.Sound.{value_of, IsSound};
 
-    ghost view = { timeline_of };
+    ghost view = { value_of };
 
     ghost invariant = { IsSound };
 }
 
 impl History {
     /// A history in which nothing was accepted yet.
-    pub fn new(alloc: Global, opening: &Opening) -> Result<History, AllocError>
-        ensures { IfOk result (λ h. h ≡ opened opening.now.jobs opening.now.state) }
+    pub fn new(alloc: Global, graph: Graph, opening: &Opening) -> Result<History, AllocError>
+        ensures { IfOk result (λ h. h ≡ record { timeline = opened graph.manifest opening.now.jobs opening.now.state; writes = 0 }) }
     {
         Ok(History {
             alloc,
+            graph,
             opening: opening.copy()?,
             accepted: IndexMap::new(alloc),
+            steps: Vec::new(alloc),
             kept: Vec::new(alloc),
-            footprints: Vec::new(alloc),
             cells: Cells::new(alloc, opening)?,
             last: 0,
         })
     }
 
+    /// The graph of the builds.
+    pub fn graph(&self) -> &Graph
+        ensures { result.now.manifest ≡ self.now.timeline.manifest }
+    {
+        &self.graph
+    }
+
     /// The greatest number under which an event was accepted, 0 at first.
     pub fn last(&self) -> u32
-        ensures { result ≡ last_of self.now.accepted }
+        ensures { result ≡ last_of self.now.timeline.accepted }
     {
         self.last
     }
 
     /// The event that was accepted under a number, whether it is kept or not.
     pub fn event(&self, number: u32) -> Option<&Event>
-        ensures { option_copied result ≡ event_at self.now number }
+        ensures { option_copied result ≡ event_at self.now.timeline number }
     {
         self.accepted.get(&number)
     }
@@ -74,120 +88,190 @@ impl History {
     /// The kept numbers. They rise, an event was accepted under each, and each of these events is accepted in the
     /// state that the kept events before it lead to.
     pub fn kept(&self) -> &[u32]
-        ensures kept { result.now ≡ self.now.kept }
-        ensures legal { IsHistory self.now }
+        ensures kept { result.now ≡ self.now.timeline.kept }
+        ensures legal { IsHistory self.now.timeline }
     {
         self.kept.as_slice()
     }
 
     /// The state that the kept events lead to from the opening.
     pub fn cells(&self) -> &Cells
-        ensures state { result.now.state ≡ state_at self.now }
-        ensures jobs { result.now.jobs ≡ self.now.jobs }
+        ensures state { result.now.state ≡ state_at self.now.timeline }
+        ensures jobs { result.now.jobs ≡ self.now.timeline.jobs }
+        ensures writes { result.now.writes ≡ self.now.writes }
+        ensures opened { IsOpened self.now.timeline.opening }
     {
+        let _jobs = self.opening.jobs();
         &self.cells
     }
 
-    /// Accepts an event under a number above all others, and keeps it. Its refusal is that of the present state.
+    /// The footprint that a kept event has in the state at its place.
+    pub fn footprint_of(&self, number: u32) -> Option<&Footprint>
+        ensures { option_copied result ≡ kept_footprint self.now.timeline number }
+    {
+        let _place = place_of(&self.kept, number)?;
+        footprint_at(&self.accepted, &self.steps, number)
+    }
+
+    /// Accepts an event under a number above all others, and keeps it. Its refusal is that of the present state. Want of memory may
+    /// be answered before that is known.
     pub fn accept(&mut self, number: u32, event: &Event) -> Result<(), Fault>
-        requires { last_of self.old.accepted < number }
-        ensures refused { (r : Refusal) → IsErrOf result (Fault.Refused r) ↔ (accept_refusal self.old event.now ≡ Some r) }
-        ensures free { OnOk result (accept_refusal self.old event.now ≡ None) }
-        ensures ok { OnOk result (self.new ≡ accepted_as number event.now self.old) }
+        requires { last_of self.old.timeline.accepted < number }
+        ensures refused { (r : Refusal) → IsErrOf result (Fault.Refused r) → accept_refusal self.old.timeline event.now ≡ Some r }
+        ensures free { OnOk result (accept_refusal self.old.timeline event.now ≡ None) }
+        ensures ok { OnOk result (self.new.timeline ≡ accepted_as number event.now self.old.timeline) }
         ensures err { OnErr result (self.new ≡ self.old) }
     {
-        if let Some(refusal) = refusal(&self.cells, event) {
+        let refused = refusal(self.alloc, &self.graph, &self.cells, event)?;
+        if let Some(refusal) = refused {
             return Err(Fault::Refused(refusal));
         }
-        let footprint = footprint_now(self.alloc, &self.cells, event)?;
+        let footprint = footprint_now(self.alloc, &self.graph, &self.cells, event)?;
+        let writes = effect(self.alloc, &self.graph, &self.cells, event)?;
         let event = event.copy()?;
         self.accepted.reserve(1)?;
+        self.steps.reserve(1)?;
         self.kept.reserve(1)?;
-        self.footprints.reserve(1)?;
-        apply(&mut self.cells, &event)?;
+        let replaced = self.cells.write_all(writes)?;
         self.accepted.insert(number, event)?;
+        self.steps.push(Step {
+            footprint,
+            replaced,
+        })?;
         self.kept.push(number)?;
-        self.footprints.push(footprint)?;
         self.last = number;
         Ok(())
     }
 
     /// Takes a kept event out, whichever it is of those on which no later kept one depends. The other events stay, and
-    /// the state is then that of these alone. It takes the time of a run of all of them.
+    /// the state is then that of these alone. It takes no memory, and writes the cells that the event wrote.
     pub fn undo(&mut self, number: u32) -> Result<(), Fault>
-        ensures refused { (r : Refusal) → IsErrOf result (Fault.Refused r) ↔ (undo_refusal self.old number ≡ Some r) }
-        ensures free { OnOk result (undo_refusal self.old number ≡ None) }
-        ensures ok { OnOk result (self.new ≡ undone number self.old) }
+        ensures refused { (r : Refusal) → IsErrOf result (Fault.Refused r) ↔ (undo_refusal self.old.timeline number ≡ Some r) }
+        ensures free { OnOk result (undo_refusal self.old.timeline number ≡ None) }
+        ensures no_memory { IsErrOf result Fault.Memory → ⊥ }
+        ensures ok { OnOk result (self.new.timeline ≡ undone number self.old.timeline) }
+        ensures writes { OnOk result (self.new.writes ≡ raised_by (cells_written number self.old.timeline) self.old.writes) }
         ensures err { OnErr result (self.new ≡ self.old) }
     {
         if let Some(refusal) = self.undo_refused(number) {
             return Err(Fault::Refused(refusal));
         }
-        let kept = all_but(self.alloc, &self.kept, number)?;
-        self.keep(kept)?;
+        self.put_back(number);
         Ok(())
     }
 
     /// Puts an event that was undone back at its number's place. Want of memory may be answered before it is known
     /// whether another event stands in the way.
     pub fn redo(&mut self, number: u32) -> Result<(), Fault>
-        ensures refused { (r : Refusal) → IsErrOf result (Fault.Refused r) → redo_refusal self.old number ≡ Some r }
-        ensures free { OnOk result (redo_refusal self.old number ≡ None) }
-        ensures ok { OnOk result (self.new ≡ redone number self.old) }
+        ensures refused { (r : Refusal) → IsErrOf result (Fault.Refused r) → redo_refusal self.old.timeline number ≡ Some r }
+        ensures free { OnOk result (redo_refusal self.old.timeline number ≡ None) }
+        ensures ok { OnOk result (self.new.timeline ≡ redone number self.old.timeline) }
         ensures err { OnErr result (self.new ≡ self.old) }
     {
         if let Some(refusal) = self.redo_refused(number)? {
             return Err(Fault::Refused(refusal));
         }
-        let kept = with_number(self.alloc, &self.kept, number)?;
-        self.keep(kept)?;
+        self.keep(number)?;
         Ok(())
     }
 
-    /// Takes out the event of the greatest kept number, and gives that number.
+    /// Takes out the event of the greatest kept number, and gives that number. It takes no memory, and writes the cells that
+    /// the event wrote.
     pub fn back(&mut self) -> Result<u32, Fault>
-        ensures refused { (r : Refusal) → IsErrOf result (Fault.Refused r) ↔ (back_refusal self.old ≡ Some r) }
-        ensures greatest { IfOk result (λ n. greatest_kept self.old ≡ Some n) }
-        ensures ok { IfOk result (λ n. self.new ≡ undone n self.old) }
+        ensures refused { (r : Refusal) → IsErrOf result (Fault.Refused r) ↔ (back_refusal self.old.timeline ≡ Some r) }
+        ensures no_memory { IsErrOf result Fault.Memory → ⊥ }
+        ensures greatest { IfOk result (λ n. greatest_kept self.old.timeline ≡ Some n) }
+        ensures ok { IfOk result (λ n. self.new.timeline ≡ undone n self.old.timeline) }
+        ensures writes { IfOk result (λ n. self.new.writes ≡ raised_by (cells_written n self.old.timeline) self.old.writes) }
         ensures err { OnErr result (self.new ≡ self.old) }
     {
         let Some(number) = self.greatest() else {
             return Err(Fault::Refused(Refusal::NothingKept));
         };
-        let kept = all_but(self.alloc, &self.kept, number)?;
-        self.keep(kept)?;
+        self.put_back(number);
         Ok(number)
+    }
+
+    /// Takes out a kept event and all later ones that depend on it, one by way of another, and gives their numbers, which rise. The other events
+    /// stay, and the state is then that of these alone.
+    pub fn cone(&mut self, number: u32) -> Result<Vec<u32>, Fault>
+        ensures refused { (r : Refusal) → IsErrOf result (Fault.Refused r) ↔ (cone_refusal self.old.timeline number ≡ Some r) }
+        ensures free { OnOk result (cone_refusal self.old.timeline number ≡ None) }
+        ensures numbers { IfOk result (λ numbers. numbers.items ≡ cone_numbers number self.old.timeline) }
+        ensures ok { OnOk result (self.new.timeline ≡ coned number self.old.timeline) }
+        ensures err { OnErr result (self.new ≡ self.old) }
+    {
+        if let Some(refusal) = self.cone_refused(number) {
+            return Err(Fault::Refused(refusal));
+        }
+        let members = self.members(number)?;
+        self.take_down(number, &members);
+        Ok(members)
+    }
+
+    // Why a cone is not taken out.
+    fn cone_refused(&self, number: u32) -> Option<Refusal>
+        ensures { result ≡ cone_refusal self.now.timeline number }
+    {
+        if self.event(number).is_none() {
+            return Some(Refusal::NoSuchEvent);
+        }
+        if place_of(&self.kept, number).is_none() {
+            return Some(Refusal::NotKept);
+        }
+        None
+    }
+
+    // The numbers of the cone of a kept event.
+    fn members(&self, number: u32) -> Result<Vec<u32>, AllocError>
+        requires { cone_refusal self.now.timeline number ≡ None }
+        ensures members { IfOk result (λ members. members.items ≡ cone_numbers number self.now.timeline) }
+        ensures legal { IsHistory self.now.timeline }
+    {
+        cone(self.alloc, number, &self.kept, &self.accepted, &self.steps)
+    }
+
+    // Takes the members of a cone out, from the last down: on the last none depends, and without it the others are the cone.
+    fn take_down(&mut self, number: u32, members: &[u32])
+        requires legal { IsHistory self.old.timeline }
+        requires members { members.now ≡ cone_numbers number self.old.timeline }
+        ensures { self.new.timeline ≡ coned number self.old.timeline }
+    {
+        let mut left = members.len();
+        while left > 0 {
+            left -= 1;
+            self.put_back(members[left]);
+        }
     }
 
     // The greatest kept number.
     fn greatest(&self) -> Option<u32>
-        ensures { result ≡ greatest_kept self.now }
+        ensures greatest { result ≡ greatest_kept self.now.timeline }
+        ensures legal { IsHistory self.now.timeline }
     {
         self.kept.last().copied()
     }
 
     // Why an undo is refused.
     fn undo_refused(&self, number: u32) -> Option<Refusal>
-        ensures { result ≡ undo_refusal self.now number }
+        ensures { result ≡ undo_refusal self.now.timeline number }
     {
         if self.event(number).is_none() {
             return Some(Refusal::NoSuchEvent);
         }
-        let Some(place) = place_of(&self.kept, number) else {
+        let Some(_place) = place_of(&self.kept, number) else {
             return Some(Refusal::NotKept);
         };
-        let dependent = nearest(
-            number,
-            &self.footprints[place],
-            &self.kept,
-            &self.footprints,
-        )?;
+        let Some(footprint) = footprint_at(&self.accepted, &self.steps, number) else {
+            unreachable!()
+        };
+        let dependent = nearest(number, footprint, &self.kept, &self.accepted, &self.steps)?;
         Some(Refusal::DependedOn(dependent))
     }
 
     // Why a redo is refused.
     fn redo_refused(&self, number: u32) -> Result<Option<Refusal>, AllocError>
-        ensures { IfOk result (λ refused. refused ≡ redo_refusal self.now number) }
+        ensures { IfOk result (λ refused. refused ≡ redo_refusal self.now.timeline number) }
     {
         let Some(event) = self.event(number) else {
             return Ok(Some(Refusal::NoSuchEvent));
@@ -195,167 +279,56 @@ impl History {
         if place_of(&self.kept, number).is_some() {
             return Ok(Some(Refusal::AlreadyKept));
         }
-        if let Some(refusal) = refusal(&self.cells, event) {
+        let refused = refusal(self.alloc, &self.graph, &self.cells, event)?;
+        if let Some(refusal) = refused {
             let [first, _] = refusal.numbers();
             return Ok(Some(Refusal::NotNow {
                 refusal: refusal.code(),
                 first,
             }));
         }
-        let footprint = footprint_now(self.alloc, &self.cells, event)?;
-        match nearest(number, &footprint, &self.kept, &self.footprints) {
+        let footprint = footprint_now(self.alloc, &self.graph, &self.cells, event)?;
+        match nearest(number, &footprint, &self.kept, &self.accepted, &self.steps) {
             Some(other) => Ok(Some(Refusal::Overtaken(other))),
             None => Ok(None),
         }
     }
 
-    // Keeps other events, which are accepted one after the other.
-    fn keep(&mut self, kept: Vec<u32>) -> Result<(), AllocError>
-        requires { IsHistory (record self.old { kept = kept.items }) }
-        ensures ok { OnOk result (self.new ≡ record self.old { kept = kept.items }) }
+    // Takes a kept event out on which none depends.
+    fn put_back(&mut self, number: u32)
+        requires { undo_refusal self.old.timeline number ≡ None }
+        ensures timeline { self.new.timeline ≡ undone number self.old.timeline }
+        ensures writes { self.new.writes ≡ raised_by (cells_written number self.old.timeline) self.old.writes }
+    {
+        let Some(index) = self.accepted.get_index_of(&number) else {
+            unreachable!()
+        };
+        let step = &mut self.steps[index];
+        self.cells.exchange(&mut step.replaced);
+        take_out(&mut self.kept, number);
+    }
+
+    // Keeps an event at its number's place that nothing stands in the way of.
+    fn keep(&mut self, number: u32) -> Result<(), AllocError>
+        requires { redo_refusal self.old.timeline number ≡ None }
+        ensures ok { OnOk result (self.new.timeline ≡ redone number self.old.timeline) }
         ensures err { OnErr result (self.new ≡ self.old) }
     {
-        let replayed = replay(self.alloc, &self.opening, &self.accepted, &kept)?;
-        self.kept = kept;
-        self.cells = replayed.cells;
-        self.footprints = replayed.footprints;
-        Ok(())
-    }
-}
-
-#[cfg(test)]
-mod tests {
-    use super::*;
-    use rev_cells::{Cell, Value};
-    use rev_paths::Name;
-    use std::test::Fail;
-
-    // A history from an opening in which a.c has the stamp 10.
-    fn opened(alloc: Global) -> Result<History, Fail> {
-        let mut opening = Opening::new(alloc, 2)?;
-        opening.add_stamp(Name::new(alloc, b"a.c")?, 10)?;
-        Ok(History::new(alloc, &opening)?)
-    }
-
-    // Touches a path under the next number.
-    fn touch(history: &mut History, path: Name, stamp: u64) -> Result<(), Fail> {
-        let event = Event::Touch { path, stamp };
-        let last = history.last();
-        if last < 9 {
-            history.accept(last + 1, &event)?;
-        }
-        Ok(())
-    }
-
-    // Touches a.c, b.c and a.c again, under the numbers 1, 2 and 3.
-    fn touched(alloc: Global) -> Result<History, Fail> {
-        let mut history = opened(alloc)?;
-        touch(&mut history, Name::new(alloc, b"a.c")?, 11)?;
-        touch(&mut history, Name::new(alloc, b"b.c")?, 21)?;
-        touch(&mut history, Name::new(alloc, b"a.c")?, 12)?;
-        Ok(history)
-    }
-
-    // The stamp that a cell holds.
-    fn stamp_of(cells: &Cells, path: Name) -> u64 {
-        match cells.get(&Cell::Stamp(path)) {
-            Some(Value::Stamp(stamp)) => *stamp,
-            _ => 0,
-        }
-    }
-
-    #[test]
-    fn events_are_accepted(rt: HostRuntime) -> Result<(), Fail> {
-        let history = touched(rt.alloc())?;
-        assert_eq!(rt; history.last(), 3);
-        assert_eq!(rt; history.kept(), [1, 2, 3].as_slice());
-        assert_eq!(rt;
-            stamp_of(history.cells(), Name::new(rt.alloc(), b"a.c")?),
-            12
-        );
-        Ok(())
-    }
-
-    #[test]
-    fn an_event_is_found_by_its_number(rt: HostRuntime) -> Result<(), Fail> {
-        let history = touched(rt.alloc())?;
-        let event = Event::Touch {
-            path: Name::new(rt.alloc(), b"./b.c")?,
-            stamp: 21,
+        let Some(index) = self.accepted.get_index_of(&number) else {
+            unreachable!()
         };
-        assert_eq!(rt; history.event(2), Some(&event.copy()?));
-        assert_eq!(rt; history.event(4), None);
-        Ok(())
-    }
-
-    #[test]
-    fn a_refused_undo_names_the_nearest(rt: HostRuntime) -> Result<(), Fail> {
-        let mut history = touched(rt.alloc())?;
-        touch(&mut history, Name::new(rt.alloc(), b"a.c")?, 13)?;
-        assert_eq!(rt;
-            history.undo(1),
-            Err(Fault::Refused(Refusal::DependedOn(3)))
-        );
-        Ok(())
-    }
-
-    #[test]
-    fn an_event_is_undone_out_of_order(rt: HostRuntime) -> Result<(), Fail> {
-        let mut history = touched(rt.alloc())?;
-        assert_eq!(rt; history.undo(2), Ok(()));
-        assert_eq!(rt; history.kept(), [1, 3].as_slice());
-        assert_eq!(rt;
-            stamp_of(history.cells(), Name::new(rt.alloc(), b"b.c")?),
-            0
-        );
-        Ok(())
-    }
-
-    #[test]
-    fn an_event_is_redone_at_its_place(rt: HostRuntime) -> Result<(), Fail> {
-        let mut history = touched(rt.alloc())?;
-        history.undo(2)?;
-        assert_eq!(rt; history.redo(2), Ok(()));
-        assert_eq!(rt; history.kept(), [1, 2, 3].as_slice());
-        Ok(())
-    }
-
-    #[test]
-    fn a_step_back_undoes_the_greatest(rt: HostRuntime) -> Result<(), Fail> {
-        let mut history = touched(rt.alloc())?;
-        assert_eq!(rt; history.back(), Ok(3));
-        assert_eq!(rt;
-            stamp_of(history.cells(), Name::new(rt.alloc(), b"a.c")?),
-            11
-        );
-        Ok(())
-    }
-
-    #[test]
-    fn a_redo_is_overtaken(rt: HostRuntime) -> Result<(), Fail> {
-        let mut history = opened(rt.alloc())?;
-        touch(&mut history, Name::new(rt.alloc(), b"a.c")?, 11)?;
-        history.undo(1)?;
-        touch(&mut history, Name::new(rt.alloc(), b"a.c")?, 12)?;
-        assert_eq!(rt; history.redo(1), Err(Fault::Refused(Refusal::Overtaken(2))));
-        Ok(())
-    }
-
-    #[test]
-    fn what_was_never_accepted_is_refused(rt: HostRuntime) -> Result<(), Fail> {
-        let mut history = opened(rt.alloc())?;
-        assert_eq!(rt; history.undo(1), Err(Fault::Refused(Refusal::NoSuchEvent)));
-        assert_eq!(rt; history.redo(1), Err(Fault::Refused(Refusal::NoSuchEvent)));
-        assert_eq!(rt; history.back(), Err(Fault::Refused(Refusal::NothingKept)));
-        Ok(())
-    }
-
-    #[test]
-    fn what_is_kept_or_not_is_refused(rt: HostRuntime) -> Result<(), Fail> {
-        let mut history = touched(rt.alloc())?;
-        assert_eq!(rt; history.redo(1), Err(Fault::Refused(Refusal::AlreadyKept)));
-        history.undo(3)?;
-        assert_eq!(rt; history.undo(3), Err(Fault::Refused(Refusal::NotKept)));
+        let Some(event) = self.accepted.get(&number) else {
+            unreachable!()
+        };
+        let footprint = footprint_now(self.alloc, &self.graph, &self.cells, event)?;
+        let writes = effect(self.alloc, &self.graph, &self.cells, event)?;
+        self.kept.reserve(1)?;
+        let replaced = self.cells.write_all(writes)?;
+        put_in(&mut self.kept, number)?;
+        self.steps[index] = Step {
+            footprint,
+            replaced,
+        };
         Ok(())
     }
 }

@@ -1,7 +1,6 @@
 //! Laws of all histories.
-ghost use Rattle.rev_causal.specs.Laws.{FreeExactlyWhereLast, SameResult};
-ghost use Rattle.rev_history.specs.Laws.{NearestIsNamed, RedoNextRestores, RedoRunsNow, StepBack, UndoExactlyWhenIndependent, UndoLeavesTheOthers};
-ghost use Rattle.rev_history.specs.Machine.{machine};
+ghost use Rattle.rev_causal.specs.Laws.{ConeIsWithin, FreeExactlyWhereLast, NeighboursExchange, SameEntries, SameRefusals, SameResult};
+ghost use Rattle.rev_history.specs.Laws.{ConeIsLeast, GreatestIsGreatest, NearestIsNamed, OfAllBuilds, OvertakingIsNamed, RedoKeepsFootprints, RedoNextRestores, RedoRunsNow, StepBack, UndoExactlyWhenIndependent, UndoKeepsFootprints, UndoLeavesTheOthers};
 
 /// Where an event is accepted and a step back follows, that event is undone, and state and kept numbers are those
 /// before.
@@ -34,12 +33,58 @@ pub fn redo_runs_now()
     ensures { RedoRunsNow }
 {}
 
-/// Lists of events that exchanges of neighbours without a conflict lead to from one another have one result.
+/// The event that a refused redo names is the one of the least number above its own that is in its way.
+pub fn overtaking_is_named()
+    ensures { OvertakingIsNamed }
+{}
+
+/// An undo changes the footprint of no other kept event.
+pub fn undo_keeps_footprints()
+    ensures { UndoKeepsFootprints }
+{}
+
+/// A redo changes the footprint of no other kept event.
+pub fn redo_keeps_footprints()
+    ensures { RedoKeepsFootprints }
+{}
+
+/// What a step back undoes has the greatest kept number.
+pub fn greatest_is_greatest()
+    ensures { GreatestIsGreatest }
+{}
+
+/// A cone is the least set that holds an event and each one that depends on a member, and what it leaves is a list of
+/// events that are accepted one after the other.
+pub fn cone_is_least()
+    ensures { ConeIsLeast }
+{}
+
+/// Every set that holds an event and each one that depends on a member has the event's cone in it.
+pub fn cone_is_within()
+    ensures { OfAllBuilds ConeIsWithin }
+{}
+
+/// Two neighbours that do not conflict can change places: the result is the same, and so is each one's footprint.
+pub fn neighbours_exchange()
+    ensures { OfAllBuilds NeighboursExchange }
+{}
+
+/// Lists of events that exchanges of neighbours without a conflict lead to from one another have one result,
 pub fn exchange()
-    ensures { SameResult machine }
+    ensures { OfAllBuilds SameResult }
+{}
+
+/// the same refusal of every further event,
+pub fn exchange_keeps_refusals()
+    ensures { OfAllBuilds SameRefusals }
+{}
+
+/// and the same footprint for each event.
+pub fn exchange_keeps_footprints()
+    ensures { OfAllBuilds SameEntries }
 {}
 
 /// No event depends on a kept one exactly where some list that such exchanges lead to ends in it.
 pub fn undo_is_causal()
-    ensures { FreeExactlyWhereLast machine }
+    ensures { OfAllBuilds FreeExactlyWhereLast }
 {}

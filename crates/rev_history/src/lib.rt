@@ -2,14 +2,11 @@
 //! events, run from the opening.
 #![tactic(auto)]
 
-mod event;
-mod footprint;
 mod history;
 pub mod laws;
-mod refusal;
-mod replay;
+mod numbers;
 mod step;
+mod steps;
 
-pub use event::Event;
 pub use history::History;
-pub use refusal::{Fault, Refusal};
+pub use rev_events::{Event, Fault, Refusal};

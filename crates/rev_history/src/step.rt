@@ -1,71 +1,48 @@
-//! What an event does to the cells.
-ghost use Rattle.std.specs.Prelude.{◌≡◌, None, IfOk, OnOk, OnErr};
-ghost use Rattle.rev_history.specs.Machine.{after, footprint, refusal as refusal_in};
-ghost use Rattle.rev_causal.specs.Store.{set_cell};
-ghost use Rattle.rev_cells.specs.declared.cell.Cell.TheVariants as cell;
-ghost use Rattle.rev_cells.specs.declared.value.Value.TheVariants as value;
+//! Whether an event can happen now, and what it does.
+ghost use Rattle.std.specs.Prelude.{◌≡◌, None, IfOk};
+ghost use Rattle.std.specs.List.{AllByRecursion, IsDistinct};
+ghost use Rattle.std.specs.Ordering.{eq_by_cmp};
+ghost use Rattle.rev_cells.specs.declared.cell.Cell.{Cell};
+ghost use Rattle.rev_cells.specs.declared.value.Value.{Value};
+ghost use Rattle.rev_cells.specs.Effects.{cells_of, stored_values};
 ghost use Rattle.rev_cells.specs.Keys.{cell_cmp};
-ghost use Rattle.rev_cells.specs.Values.{unless_default};
+ghost use Rattle.rev_cells.specs.Values.{Fits};
+ghost use Rattle.rev_events.specs.Machine.{effect as effect_in, refusal as refusal_in};
 
-use crate::event::Event;
-use crate::footprint::Footprint;
-use crate::refusal::Refusal;
 use rev_cells::{Cell, Cells, Value};
-use rev_paths::Name;
+use rev_events::{Event, Fault, Refusal, check, effect as effect_now};
+use rev_graph::Graph;
 use std::alloc::{AllocError, Global};
 
-// Gives a path a stamp.
-fn write_stamp(cells: &mut Cells, path: &Name, stamp: u64) -> Result<(), AllocError>
-    ensures ok { OnOk result (cells.new.state ≡ set_cell cell_cmp cells.old.state (cell.Stamp path.now) (unless_default (value.Stamp stamp))) }
-    ensures jobs { cells.new.jobs ≡ cells.old.jobs }
-    ensures err { OnErr result (cells.new.state ≡ cells.old.state) }
-{
-    let cell = Cell::Stamp(path.copy()?);
-    cells.reserve(&cell)?;
-    cells.swap(&cell, Value::Stamp(stamp));
-    Ok(())
-}
-
-/// Why an event is refused in the present state.
-#[tactic(auto, unfolding(crate::specs::Machine::refusal))]
-pub(crate) fn refusal(cells: &Cells, event: &Event) -> Option<Refusal>
-    ensures { result ≡ refusal_in cells.now.state event.now }
-{
-    let _ = cells;
-    match event {
-        Event::Touch { .. } => None,
-    }
-}
-
-/// The footprint of an event that the present state accepts.
-#[tactic(auto, unfolding(crate::specs::Machine::footprint))]
-pub(crate) fn footprint_now(
+/// Why an event is refused in the present state, where it is.
+pub(crate) fn refusal(
     alloc: Global,
+    graph: &Graph,
     cells: &Cells,
     event: &Event,
-) -> Result<Footprint, AllocError>
-    requires { refusal_in cells.now.state event.now ≡ None }
-    ensures { IfOk result (λ f. f ≡ footprint cells.now.state event.now) }
+) -> Result<Option<Refusal>, AllocError>
+    ensures { IfOk result (λ refused. refused ≡ refusal_in graph.now.manifest cells.now.jobs cells.now.state event.now) }
 {
-    let _ = cells;
-    match event {
-        Event::Touch { path, .. } => Ok(Footprint {
-            whole: false,
-            reads: Vec::new(alloc),
-            writes: Vec::from_array(alloc, [Cell::Stamp(path.copy()?)])?,
-        }),
+    match check(alloc, graph, cells, event) {
+        Ok(()) => Ok(None),
+        Err(Fault::Refused(refusal)) => Ok(Some(refusal)),
+        Err(Fault::Memory) => Err(AllocError),
     }
 }
 
-/// Does to the cells what an event does that the present state accepts.
-#[tactic(auto, unfolding(crate::specs::Machine::effect))]
-pub(crate) fn apply(cells: &mut Cells, event: &Event) -> Result<(), AllocError>
-    requires { refusal_in cells.old.state event.now ≡ None }
-    ensures ok { OnOk result (cells.new.state ≡ after cells.old.state event.now) }
-    ensures jobs { cells.new.jobs ≡ cells.old.jobs }
-    ensures err { OnErr result (cells.new.state ≡ cells.old.state) }
+/// What an event writes that the present state accepts: each cell once, with its new value.
+pub(crate) fn effect(
+    alloc: Global,
+    graph: &Graph,
+    cells: &Cells,
+    event: &Event,
+) -> Result<Vec<(Cell, Value)>, AllocError>
+    requires { refusal_in graph.now.manifest cells.now.jobs cells.now.state event.now ≡ None }
+    ensures writes { IfOk result (λ writes. stored_values writes.items ≡ effect_in graph.now.manifest cells.now.state event.now) }
+    ensures fits { IfOk result (λ writes. AllByRecursion (λ (w : Cell × Value). Fits w.0 w.1) writes.items) }
+    ensures once { IfOk result (λ writes. IsDistinct (eq_by_cmp cell_cmp) (cells_of writes.items)) }
 {
-    match event {
-        Event::Touch { path, stamp } => write_stamp(cells, path, *stamp),
-    }
+    let _edges = graph.edges();
+    let writes = effect_now(alloc, graph, cells, event)?;
+    Ok(writes)
 }

@@ -4,6 +4,7 @@ pub mod DepthLemmas
 pub mod EdgeLemmas
 pub mod EndLemmas
 pub mod FileLemmas
+pub mod KeptLemmas
 pub mod NameLemmas
 pub mod PoolLemmas
 pub mod ReadingLemmas

@@ -3,10 +3,20 @@ use Rattle.std.proofs.Common.{◌≡◌, ℕ, ◌<◌, Bool, true, false, not, �
 use Rattle.std.specs.List.{list_any}
 use Rattle.std.proofs.lemmas.List.Folds.{list_any-append}
 use Rattle.std.proofs.lemmas.Slice.Eq.{bytes_eq-Decides}
+use Rattle.std.proofs.Common.{map}
+use Rattle.std.specs.Borrow.{Bor}
+use Rattle.rev_syntax.specs.declared.text.Piece.{Piece}
+use Rattle.rev_syntax.specs.declared.text.Piece.TheVariants.{Literal}
+use Rattle.rev_syntax.specs.Bytes.{is_none as empty}
+use Rattle.rev_syntax.specs.Pieces.{seen_piece}
+use Rattle.rev_syntax.specs.Texts.{PieceValue, Byte}
+use Rattle.rev_scopes.specs.Expansion.{expanded}
+use Rattle.rev_scopes.proofs.ExpansionLemmas.{expanded-bytes}
 use Rattle.indexmap.specs.IndexSet.{insert_key}
-use Rattle.rev_manifest.specs.Names.{is_among, distinct}
+use Rattle.rev_manifest.specs.Names.{is_among}
+use Rattle.rev_paths.specs.Mentions.{first_mentions}
 
-pub distinct-short : (xs : List (List ℕ)) → length xs < 2 → distinct xs ≡ xs
+pub distinct-short : (xs : List (List ℕ)) → length xs < 2 → first_mentions xs ≡ xs
 distinct-short [] h = refl
 distinct-short (x ∷ []) h = refl
 distinct-short (x ∷ y ∷ ys) h = absurd (omega arith)
@@ -50,19 +60,19 @@ same-new once x y = ap not (list_any-append (bytes_eq y) once (x ∷ [])) ∙ no
 
 -- a name that is there, and one that is new
 pub distinct-old : (once rest : List (List ℕ)) (x : List ℕ) → is_among once x ≡ true
-    → once ++ filter (is_left once) (distinct rest) ≡ once ++ filter (is_left once) (distinct (x ∷ rest))
+    → once ++ filter (is_left once) (first_mentions rest) ≡ once ++ filter (is_left once) (first_mentions (x ∷ rest))
 distinct-old once rest x h =
     ap (λ t. once ++ t)
-    (sym (filter-both (is_left once) (λ other. not (bytes_eq other x)) (is_left once) (λ y. same-old once x y h) (distinct rest))
-    ∙ sym (ap (λ t. cond (not t) (x ∷ filter (is_left once) (filter (λ other. not (bytes_eq other x)) (distinct rest))) (filter (is_left once) (filter (λ other. not (bytes_eq other x)) (distinct rest)))) h))
+    (sym (filter-both (is_left once) (λ other. not (bytes_eq other x)) (is_left once) (λ y. same-old once x y h) (first_mentions rest))
+    ∙ sym (ap (λ t. cond (not t) (x ∷ filter (is_left once) (filter (λ other. not (bytes_eq other x)) (first_mentions rest))) (filter (is_left once) (filter (λ other. not (bytes_eq other x)) (first_mentions rest)))) h))
 
 pub distinct-new : (once rest : List (List ℕ)) (x : List ℕ) → is_among once x ≡ false
-    → (once ++ x ∷ []) ++ filter (is_left (once ++ x ∷ [])) (distinct rest) ≡ once ++ filter (is_left once) (distinct (x ∷ rest))
+    → (once ++ x ∷ []) ++ filter (is_left (once ++ x ∷ [])) (first_mentions rest) ≡ once ++ filter (is_left once) (first_mentions (x ∷ rest))
 distinct-new once rest x h =
-    append_assoc once (x ∷ []) (filter (is_left (once ++ x ∷ [])) (distinct rest))
-    ∙ ap (λ t. once ++ x ∷ t) (sym (filter-both (is_left once) (λ other. not (bytes_eq other x)) (is_left (once ++ x ∷ [])) (same-new once x) (distinct rest)))
+    append_assoc once (x ∷ []) (filter (is_left (once ++ x ∷ [])) (first_mentions rest))
+    ∙ ap (λ t. once ++ x ∷ t) (sym (filter-both (is_left once) (λ other. not (bytes_eq other x)) (is_left (once ++ x ∷ [])) (same-new once x) (first_mentions rest)))
     ∙ ap (λ t. once ++ t)
-    (sym (ap (λ t. cond (not t) (x ∷ filter (is_left once) (filter (λ other. not (bytes_eq other x)) (distinct rest))) (filter (is_left once) (filter (λ other. not (bytes_eq other x)) (distinct rest)))) h))
+    (sym (ap (λ t. cond (not t) (x ∷ filter (is_left once) (filter (λ other. not (bytes_eq other x)) (first_mentions rest))) (filter (is_left once) (filter (λ other. not (bytes_eq other x)) (first_mentions rest)))) h))
 
 pub filter-all : (xs : List (List ℕ)) → filter (is_left []) xs ≡ xs
 filter-all [] = refl
@@ -130,3 +140,17 @@ names_more keys first names v x y same h =
 pub filter-same : (p q : List ℕ → Bool) → ((x : List ℕ) → p x ≡ q x) → (xs : List (List ℕ)) → filter p xs ≡ filter q xs
 filter-same p q same [] = refl
 filter-same p q same (x ∷ xs) = (λ i. cond (same x i) (x ∷ filter-same p q same xs i) (filter-same p q same xs i))
+
+is-none : {A : Type 0} (xs : List A) → empty xs ≡ true → xs ≡ []
+is-none [] h = refl
+is-none (x ∷ xs) h = cc
+
+append_nil : {A : Type 0} (xs : List A) → xs ++ [] ≡ xs
+append_nil [] = refl
+append_nil (x ∷ xs) = ap (λ ys. x ∷ ys) (append_nil xs)
+
+-- a text that is one run of bytes stands for these
+pub literal-stands : (text rest : List PieceValue) (piece : Piece) (bytes : Bor (List ℕ)) → text ≡ seen_piece piece ++ rest → empty rest ≡ true → piece ≡ Literal bytes
+    → (look_up : List ℕ → List ℕ) → expanded look_up text ≡ bytes.now
+literal-stands text rest piece bytes is none literal look_up =
+    ap (expanded look_up) (is ∙ (λ i. seen_piece (literal i) ++ is-none rest none i) ∙ append_nil (map Byte bytes.now)) ∙ expanded-bytes look_up bytes.now

@@ -1,6 +1,6 @@
 -- What the types of declarations hold.
 use Rattle.std.specs.Prelude.{map, option_map}
-use Rattle.rev_manifest.specs.declared.above.EdgePaths.{EdgePaths}
+use Rattle.rev_manifest.specs.declared.edge_paths.EdgePaths.{EdgePaths}
 use Rattle.rev_manifest.specs.declared.above.Edge.{Edge}
 use Rattle.rev_manifest.specs.declared.above.Above.{Above}
 use Rattle.rev_scopes.specs.declared.edge.EdgeVariables.{EdgeVariables}

@@ -1,6 +1,7 @@
 pub mod Above
 pub mod Answers
 pub mod Blocks
+pub mod Builds
 pub mod Held
 pub mod Laws
 pub mod Depths

@@ -13,29 +13,7 @@ use Rattle.rev_manifest.specs.Pools.{PoolValue, pool_of}
 use Rattle.rev_manifest.specs.Above.{EdgeValue, AboveValue, nothing}
 use Rattle.rev_manifest.specs.Ends.{EndValues, at_end, fault_at_end, values_at_end}
 use Rattle.rev_manifest.specs.Reading.{reading}
-
--- an edge as a manifest has it
-pub record BuildValue : Type 0 where
-  pub phony : Bool
-  pub explicit_outs : List (List ℕ)
-  pub implicit_outs : List (List ℕ)
-  pub explicit : List (List ℕ)
-  pub implicit : List (List ℕ)
-  pub order_only : List (List ℕ)
-  pub validations : List (List ℕ)
-  pub command : List ℕ
-  pub keeps_deps : Bool
-  pub restat : Bool
-  pub generator : Bool
-  pub pool : Option ℕ
-  pub file : ℕ
-  pub line : ℕ
-
--- a manifest: its edges in reading order, its pools with their depths, and its defaults
-pub record ManifestValue : Type 0 where
-  pub builds : List BuildValue
-  pub pools : List (List ℕ × ℕ)
-  pub defaults : List (List ℕ)
+pub use Rattle.rev_manifest.specs.Builds.{BuildValue, ManifestValue, outputs_of, inputs_of}
 
 -- an edge without a rule's variables: a phony edge has no command, flags or pool, and its own outputs are none of its inputs
 abbrev pub phony_build : EdgeValue → BuildValue
@@ -105,17 +83,10 @@ builds_of scopes pools [] = Ok []
 builds_of scopes pools (edge ∷ edges) =
     and_then (built scopes pools edge) (λ build. and_then (builds_of scopes pools edges) (λ builds. Ok (build ∷ builds)))
 
-abbrev pub outputs : BuildValue → List (List ℕ)
-outputs build = build.explicit_outs ++ build.implicit_outs
-
--- inputs of all kinds; a validation is none
-abbrev pub inputs : BuildValue → List (List ℕ)
-inputs build = build.explicit ++ build.implicit ++ build.order_only
-
 -- what is built where nothing is named: what `default` statements name, else the outputs that are nowhere an input
 abbrev pub defaults_of : Option (List (List ℕ)) → List BuildValue → List (List ℕ)
 defaults_of (Some names) builds = names
-defaults_of None builds = without (flat_map inputs builds) (flat_map outputs builds)
+defaults_of None builds = without (flat_map inputs_of builds) (flat_map outputs_of builds)
 
 -- the manifest when all files are read
 abbrev pub ended : AboveValue → Result ManifestValue ManifestFault

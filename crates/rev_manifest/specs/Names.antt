@@ -17,11 +17,6 @@ is_none (x ∷ xs) = false
 abbrev pub is_among : List (List ℕ) → List ℕ → Bool
 is_among paths path = list_any (bytes_eq path) paths
 
--- each path once, at its first place
-abbrev pub distinct : List (List ℕ) → List (List ℕ)
-distinct [] = []
-distinct (path ∷ paths) = path ∷ filter (λ other. not (bytes_eq other path)) (distinct paths)
-
 -- the paths that are not among others
 abbrev pub without : List (List ℕ) → List (List ℕ) → List (List ℕ)
 without others paths = filter (λ path. not (is_among others path)) paths

@@ -1,5 +1,6 @@
 -- What each statement adds to what stands above it, or its first fault. Its syntax is read already.
 use Rattle.std.specs.Prelude.{ℕ, not, List, [], ◌∷◌, ◌++◌, length, Option, Some, None, is_some, Result, Ok, bytes_eq, codes, if◌then◌else◌}
+use Rattle.rev_paths.specs.Mentions.{first_mentions}
 use Rattle.rev_syntax.specs.Texts.{PieceValue}
 use Rattle.rev_syntax.specs.Statements.{BindingValue, BuildLineValue, FormValue, RuleForm, BuildForm, PoolForm, DefaultForm, IncludeForm, SubninjaForm, VariableForm}
 use Rattle.rev_scopes.specs.Scopes.{RuleValue, scope_at, empty_scope, variable_in, rule_in, with_variable, with_rule, with_scope, is_taken}
@@ -10,7 +11,7 @@ use Rattle.rev_manifest.specs.declared.fault.ManifestFault.{ManifestFault}
 use Rattle.rev_manifest.specs.declared.fault.Place.{Place}
 use Rattle.rev_manifest.specs.declared.inclusion.Inclusion.{Inclusion}
 use Rattle.rev_manifest.specs.Answers.{and_then, refused, unless, unless_then}
-use Rattle.rev_manifest.specs.Names.{distinct, without, name_of, names_of}
+use Rattle.rev_manifest.specs.Names.{without, name_of, names_of}
 use Rattle.rev_manifest.specs.Files.{FileValue, file_of}
 use Rattle.rev_manifest.specs.Pools.{pool_of, depth_of}
 use Rattle.rev_manifest.specs.Blocks.{binds, are_rule_variables, are_depths, texts_of, last_text, values_of, has_large}
@@ -87,8 +88,8 @@ paths_of place look_up build =
     and_then (names_of place look_up build.outs) (λ outs. and_then (names_of place look_up build.implicit_outs) (λ implicit_outs.
     and_then (names_of place look_up build.ins) (λ ins. and_then (names_of place look_up build.implicit) (λ implicit.
     and_then (names_of place look_up build.order_only) (λ order_only. and_then (names_of place look_up build.validations) (λ validations. Ok (record {
-      outs = distinct outs;
-      implicit_outs = without outs (distinct implicit_outs);
+      outs = first_mentions outs;
+      implicit_outs = without outs (first_mentions implicit_outs);
       ins = ins;
       implicit = implicit;
       order_only = order_only;

@@ -3,28 +3,12 @@ ghost use Rattle.std.specs.Prelude.{◌≡◌, IfOk};
 ghost use Rattle.rev_manifest.specs.Above.{nothing};
 ghost use Rattle.rev_manifest.specs.Held.{seen_above};
 
+use crate::edge_paths::EdgePaths;
 use crate::fault::Place;
 use crate::pools::Pools;
-use rev_paths::Name;
+use rev_paths::{Name, Paths};
 use rev_scopes::{Bindings, Rule, Scopes};
 use std::alloc::{AllocError, Global};
-
-/// The canonical paths of a build line.
-#[derive(Drop)]
-pub(crate) struct EdgePaths {
-    /// The outputs before `|`, each once.
-    pub(crate) outs: Vec<Name>,
-    /// The outputs after `|` that are none of those, each once.
-    pub(crate) implicit_outs: Vec<Name>,
-    /// The inputs before `|`.
-    pub(crate) ins: Vec<Name>,
-    /// The inputs after `|`.
-    pub(crate) implicit: Vec<Name>,
-    /// The inputs after `||`.
-    pub(crate) order_only: Vec<Name>,
-    /// The paths after `|@`.
-    pub(crate) validations: Vec<Name>,
-}
 
 /// An edge before all files are read.
 #[derive(Drop)]
@@ -52,6 +36,8 @@ pub(crate) struct Above {
     pub(crate) edges: Vec<Edge>,
     /// What `default` statements name, if there was one.
     pub(crate) defaults: Option<Vec<Name>>,
+    /// The paths so far, each once; equal ones share their bytes.
+    pub(crate) paths: Paths,
 }
 
 /// What stands above the first statement: the manifest's scope and the pool `console`.
@@ -65,5 +51,6 @@ pub(crate) fn nothing(alloc: Global) -> Result<Above, AllocError>
         pools: Pools::new(alloc)?,
         edges: Vec::new(alloc),
         defaults: None,
+        paths: Paths::new(alloc),
     })
 }

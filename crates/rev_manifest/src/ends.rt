@@ -3,16 +3,18 @@ ghost use Rattle.std.specs.Prelude.{◌≡◌, ◌++◌, ◌||◌, not, filter, 
 ghost use Rattle.std.specs.List.{flat_map};
 ghost use Rattle.rev_manifest.specs.Answers.{IsFault};
 ghost use Rattle.rev_manifest.specs.Names.{is_among};
-ghost use Rattle.rev_manifest.specs.Manifest.{phony_build, command_build, pool_number, variables_of, built, builds_of, inputs, outputs, defaults_of, ended};
+ghost use Rattle.rev_manifest.specs.Manifest.{phony_build, command_build, pool_number, variables_of, built, builds_of, inputs_of, outputs_of, defaults_of, ended};
 ghost use Rattle.rev_manifest.specs.Held.{seen_edge, seen_values, seen_above};
-ghost use Rattle.rev_manifest.specs.Seen.{seen_build, contents};
+ghost use Rattle.rev_manifest.specs.Builds.{IsManifest};
 
 use crate::above::{Above, Edge};
+use crate::builds::Build;
 use crate::bytes::is_none;
 use crate::fault::{FaultKind, Place, ReadFault};
-use crate::manifest::{Build, Manifest};
+use crate::manifest::{Manifest, Parts};
 use crate::names::{add_names, push_others};
 use crate::pools::Pools;
+use crate::shared_text::{SharedText, shared};
 use indexmap::IndexSet;
 use rev_paths::Name;
 use rev_scopes::{EdgeVariables, Rule, Scopes, ValueFault, compared_command, edge_variables};
@@ -38,8 +40,12 @@ fn others(alloc: Global, set: &IndexSet<Name>, names: &[Name]) -> Result<Vec<Nam
 }
 
 // A phony edge, whose own outputs are none of its inputs.
-fn phony_build(alloc: Global, edge: Edge) -> Result<Build, AllocError>
-    ensures { IfOk result (λ build. seen_build build ≡ phony_build (seen_edge edge)) }
+fn phony_build(
+    alloc: Global,
+    texts: &mut IndexSet<SharedText>,
+    edge: Edge,
+) -> Result<Build, AllocError>
+    ensures { IfOk result (λ build. build ≡ phony_build (seen_edge edge)) }
 {
     let paths = edge.paths;
     let own = set_of(alloc, &paths.outs, &paths.implicit_outs)?;
@@ -54,7 +60,7 @@ fn phony_build(alloc: Global, edge: Edge) -> Result<Build, AllocError>
         implicit,
         order_only,
         validations: paths.validations,
-        command: Vec::new(alloc),
+        command: shared(texts, Vec::new(alloc))?,
         keeps_deps: false,
         restat: false,
         generator: false,
@@ -111,13 +117,21 @@ fn variables_of(
 }
 
 // An edge with the values of its rule's variables.
-fn command_build(edge: Edge, values: EdgeVariables, pool: Option<u32>) -> Result<Build, AllocError>
-    ensures { IfOk result (λ build. seen_build build ≡ command_build (seen_edge edge) (seen_values values) pool) }
+fn command_build(
+    texts: &mut IndexSet<SharedText>,
+    edge: Edge,
+    values: EdgeVariables,
+    pool: Option<u32>,
+) -> Result<Build, AllocError>
+    ensures { IfOk result (λ build. build ≡ command_build (seen_edge edge) (seen_values values) pool) }
 {
     let keeps_deps = !is_none(&values.depfile) || !is_none(&values.deps);
     let restat = !is_none(&values.restat);
     let generator = !is_none(&values.generator);
-    let command = compared_command(values.command, &values.rspfile_content)?;
+    let command = shared(
+        texts,
+        compared_command(values.command, &values.rspfile_content)?,
+    )?;
     let paths = edge.paths;
     Ok(Build {
         phony: false,
@@ -138,18 +152,24 @@ fn command_build(edge: Edge, values: EdgeVariables, pool: Option<u32>) -> Result
 }
 
 // An edge when all files are read.
-fn built(alloc: Global, scopes: &Scopes, pools: &Pools, edge: Edge) -> Result<Build, ReadFault>
+fn built(
+    alloc: Global,
+    texts: &mut IndexSet<SharedText>,
+    scopes: &Scopes,
+    pools: &Pools,
+    edge: Edge,
+) -> Result<Build, ReadFault>
     ensures { MatchResult result
-        (λ build. built scopes.now pools.now (seen_edge edge) ≡ Ok (seen_build build))
+        (λ build. built scopes.now pools.now (seen_edge edge) ≡ Ok build)
         (λ fault. IsFault fault (built scopes.now pools.now (seen_edge edge))) }
 {
     let Some(rule) = &edge.rule else {
-        let build = phony_build(alloc, edge)?;
+        let build = phony_build(alloc, texts, edge)?;
         return Ok(build);
     };
     let values = variables_of(alloc, scopes, &edge, rule)?;
     let pool = pool_number(edge.place, pools, &values.pool)?;
-    let build = command_build(edge, values, pool)?;
+    let build = command_build(texts, edge, values, pool)?;
     Ok(build)
 }
 
@@ -161,13 +181,14 @@ fn builds_of(
     edges: Vec<Edge>,
 ) -> Result<Vec<Build>, ReadFault>
     ensures { MatchResult result
-        (λ builds. builds_of scopes.now pools.now (map seen_edge edges.items) ≡ Ok (map seen_build builds.items))
+        (λ builds. builds_of scopes.now pools.now (map seen_edge edges.items) ≡ Ok builds.items)
         (λ fault. IsFault fault (builds_of scopes.now pools.now (map seen_edge edges.items))) }
 {
-    let mut builds = Vec::new(alloc);
+    let mut texts = IndexSet::new(alloc);
+    let mut builds = Vec::with_capacity(alloc, edges.len())?;
     let mut rest = edges.into_iter();
     while let Some(edge) = rest.next() {
-        let build = built(alloc, scopes, pools, edge)?;
+        let build = built(alloc, &mut texts, scopes, pools, edge)?;
         builds.push(build)?;
     }
     Ok(builds)
@@ -175,7 +196,7 @@ fn builds_of(
 
 // Adds the inputs of an edge to a set.
 fn add_inputs(set: &mut IndexSet<Name>, build: &Build) -> Result<(), AllocError>
-    ensures { OnOk result ((path : List ℕ) → is_among set.new.keys path ≡ (is_among set.old.keys path || is_among (inputs (seen_build build.now)) path)) }
+    ensures { OnOk result ((path : List ℕ) → is_among set.new.keys path ≡ (is_among set.old.keys path || is_among (inputs_of build.now) path)) }
 {
     add_names(set, &build.explicit)?;
     add_names(set, &build.implicit)?;
@@ -185,7 +206,7 @@ fn add_inputs(set: &mut IndexSet<Name>, build: &Build) -> Result<(), AllocError>
 
 // The inputs of all edges.
 fn inputs_of(alloc: Global, builds: &[Build]) -> Result<IndexSet<Name>, AllocError>
-    ensures { IfOk result (λ set. (path : List ℕ) → is_among set.keys path ≡ is_among (flat_map inputs (map seen_build builds.now)) path) }
+    ensures { IfOk result (λ set. (path : List ℕ) → is_among set.keys path ≡ is_among (flat_map inputs_of builds.now) path) }
 {
     let mut set = IndexSet::new(alloc);
     for build in builds {
@@ -196,7 +217,7 @@ fn inputs_of(alloc: Global, builds: &[Build]) -> Result<IndexSet<Name>, AllocErr
 
 // Adds the outputs of an edge that are not in a set.
 fn push_outputs(left: &mut Vec<Name>, set: &IndexSet<Name>, build: &Build) -> Result<(), AllocError>
-    ensures { OnOk result (left.new.items ≡ left.old.items ++ filter (λ path. not (is_among set.now.keys path)) (outputs (seen_build build.now))) }
+    ensures { OnOk result (left.new.items ≡ left.old.items ++ filter (λ path. not (is_among set.now.keys path)) (outputs_of build.now)) }
 {
     push_others(left, set, &build.explicit_outs)?;
     push_others(left, set, &build.implicit_outs)?;
@@ -209,7 +230,7 @@ fn other_outputs(
     set: &IndexSet<Name>,
     builds: &[Build],
 ) -> Result<Vec<Name>, AllocError>
-    ensures { IfOk result (λ left. left.items ≡ filter (λ path. not (is_among set.now.keys path)) (flat_map outputs (map seen_build builds.now))) }
+    ensures { IfOk result (λ left. left.items ≡ filter (λ path. not (is_among set.now.keys path)) (flat_map outputs_of builds.now)) }
 {
     let mut left = Vec::new(alloc);
     for build in builds {
@@ -224,7 +245,7 @@ fn defaults_of(
     named: Option<Vec<Name>>,
     builds: &[Build],
 ) -> Result<Vec<Name>, AllocError>
-    ensures { IfOk result (λ defaults. defaults.items ≡ defaults_of (option_map (λ names. names.items) named) (map seen_build builds.now)) }
+    ensures { IfOk result (λ defaults. defaults.items ≡ defaults_of (option_map (λ names. names.items) named) builds.now) }
 {
     if let Some(names) = named {
         return Ok(names);
@@ -236,22 +257,25 @@ fn defaults_of(
 
 /// The manifest when all files are read.
 pub(crate) fn ended(alloc: Global, above: Above) -> Result<Manifest, ReadFault>
-    ensures { MatchResult result
-        (λ manifest. ended (seen_above above) ≡ Ok (contents manifest))
+    ensures meant { MatchResult result
+        (λ manifest. ended (seen_above above) ≡ Ok manifest)
         (λ fault. IsFault fault (ended (seen_above above))) }
+    ensures kept { IfOk result IsManifest }
 {
     let Above {
         scopes,
         pools,
         edges,
         defaults,
+        paths: _,
     } = above;
     let builds = builds_of(alloc, &scopes, &pools, edges)?;
     let defaults = defaults_of(alloc, defaults, &builds)?;
     let pools = pools.into_pairs(alloc)?;
-    Ok(Manifest {
+    let parts = Parts {
         builds,
         pools,
         defaults,
-    })
+    };
+    Ok(Manifest::new(alloc, parts)?)
 }

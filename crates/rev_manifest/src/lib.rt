@@ -3,8 +3,10 @@
 
 mod above;
 mod blocks;
+mod builds;
 mod bytes;
 mod depth;
+mod edge_paths;
 mod ends;
 mod fault;
 mod files;
@@ -14,7 +16,9 @@ mod manifest;
 mod names;
 mod pools;
 mod reading;
+mod shared_text;
 mod statements;
 
+pub use builds::Build;
 pub use fault::{FaultKind, ManifestFault, ReadFault};
-pub use manifest::{Build, Manifest, read};
+pub use manifest::{Manifest, read};

@@ -3,62 +3,96 @@
 ghost use Rattle.std.specs.Prelude.{◌≡◌, Ok, None, Some, IfOk, OnOk, IsErrOf, MatchResult};
 ghost use Rattle.rev_manifest.specs.Answers.{IsFault, and_then};
 ghost use Rattle.rev_manifest.specs.Manifest.{manifest_of, first_fault, declared_by, ended};
-ghost use Rattle.rev_manifest.specs.Seen.{contents, seen_files};
+ghost use Rattle.rev_manifest.specs.Builds.{IsManifest};
+ghost use Rattle.rev_manifest.specs.Seen.{seen_files, seen_parts, seen_pools};
 ghost use Rattle.rev_manifest.specs.Held.{seen_above};
 
 use crate::above::{Above, nothing};
+use crate::builds::Build;
 use crate::ends::ended;
 use crate::fault::{FaultKind, ManifestFault, Place, ReadFault};
 use crate::files::{Files, are_too_large};
 use crate::inclusion::Inclusion;
 use crate::reading::read_file;
 use rev_paths::Name;
-use std::alloc::Global;
+use std::alloc::{AllocError, Global};
+use std::marker::Model;
+use std::sync::Arc;
 
-/// What a build manifest says. Only `read` makes one.
-#[derive(Debug, Drop)]
-#[non_exhaustive]
-pub struct Manifest {
+/// What a manifest has, and its copies share.
+#[derive(Drop)]
+pub(crate) struct Parts {
     /// The edges, in the order of their build statements.
-    pub builds: Vec<Build>,
+    pub(crate) builds: Vec<Build>,
     /// The pools, with their depths, in the order of their numbers.
-    pub pools: Vec<(Vec<u8>, u32)>,
+    pub(crate) pools: Vec<(Vec<u8>, u32)>,
     /// The outputs that are built where no target is named.
-    pub defaults: Vec<Name>,
+    pub(crate) defaults: Vec<Name>,
 }
 
-/// An edge of a manifest.
-#[derive(Debug, Drop)]
-#[non_exhaustive]
-pub struct Build {
-    /// Whether its rule is `phony`.
-    pub phony: bool,
-    /// The outputs before `|`, each once, at its first place.
-    pub explicit_outs: Vec<Name>,
-    /// The outputs after `|`.
-    pub implicit_outs: Vec<Name>,
-    /// The inputs before `|`.
-    pub explicit: Vec<Name>,
-    /// The inputs after `|`.
-    pub implicit: Vec<Name>,
-    /// The inputs after `||`.
-    pub order_only: Vec<Name>,
-    /// The paths after `|@`.
-    pub validations: Vec<Name>,
-    /// The command that is compared with the recorded one.
-    pub command: Vec<u8>,
-    /// Whether the listing of a depfile is kept.
-    pub keeps_deps: bool,
-    /// Whether outputs that a command leaves alone count as unchanged (Ninja manual, restat).
-    pub restat: bool,
-    /// Whether a change of the command is no reason to run it (Ninja manual, generator).
-    pub generator: bool,
-    /// The number of its pool, if it has one.
-    pub pool: Option<u32>,
-    /// The place of its file among those given, from 0.
-    pub file: u64,
-    /// The number of the first line of its build statement, from 1.
-    pub line: u64,
+/// What a build manifest says. Only [`read`] makes one, and nothing changes it: each of its edges has an output and none twice,
+/// a pool of the manifest or none, and where it is phony nothing to run.
+#[derive(Drop)]
+pub struct Manifest {
+    parts: Arc<Parts>,
+}
+
+impl Model for Manifest {
+    ghost use Rattle.rev_manifest.specs.Builds.{ManifestValue};
+
+    ghost Value = { ManifestValue };
+
+    ghost use Rattle.rev_manifest.specs.Seen.{value_of, KeepsManifest};
+
+    ghost view = { value_of };
+
+    ghost invariant = { KeepsManifest };
+}
+
+impl Manifest {
+    /// The manifest of these parts.
+    pub(crate) fn new(alloc: Global, parts: Parts) -> Result<Manifest, AllocError>
+        requires { IsManifest (seen_parts parts) }
+        ensures value { IfOk result (λ manifest. manifest ≡ seen_parts parts) }
+        ensures kept { IfOk result IsManifest }
+    {
+        let parts = Arc::new(alloc, parts)?;
+        Ok(Manifest { parts })
+    }
+
+    /// An equal manifest, which shares what this one has.
+    ///
+    /// # Errors
+    /// [`AllocError`] where no more copies can be counted.
+    pub fn copy(&self) -> Result<Manifest, AllocError>
+        ensures equal { IfOk result (λ copy. copy ≡ self.now) }
+    {
+        Ok(Manifest {
+            parts: self.parts.clone()?,
+        })
+    }
+
+    /// The edges, in the order of their build statements.
+    pub fn builds(&self) -> &[Build]
+        ensures builds { result.now ≡ self.now.builds }
+        ensures kept { IsManifest self.now }
+    {
+        &self.parts.builds
+    }
+
+    /// The pools, with their depths, in the order of their numbers (Ninja manual, pools).
+    pub fn pools(&self) -> &[(Vec<u8>, u32)]
+        ensures { seen_pools result.now ≡ self.now.pools }
+    {
+        &self.parts.pools
+    }
+
+    /// The outputs that are built where no target is named.
+    pub fn defaults(&self) -> &[Name]
+        ensures { result.now ≡ self.now.defaults }
+    {
+        &self.parts.defaults
+    }
 }
 
 /// How many files deep files may lie in one another, the manifest among them.
@@ -86,9 +120,10 @@ fn declared_by(alloc: Global, files: &[(Vec<u8>, Vec<u8>)]) -> Result<Above, Rea
 
 // Reads files of which there is one, and which are not too large.
 fn read_all(alloc: Global, files: &[(Vec<u8>, Vec<u8>)]) -> Result<Manifest, ReadFault>
-    ensures { MatchResult result
-        (λ manifest. and_then (declared_by (seen_files files.now)) ended ≡ Ok (contents manifest))
+    ensures meant { MatchResult result
+        (λ manifest. and_then (declared_by (seen_files files.now)) ended ≡ Ok manifest)
         (λ fault. IsFault fault (and_then (declared_by (seen_files files.now)) ended)) }
+    ensures kept { IfOk result IsManifest }
 {
     let above = declared_by(alloc, files)?;
     let manifest = ended(alloc, above)?;
@@ -104,8 +139,11 @@ fn read_all(alloc: Global, files: &[(Vec<u8>, Vec<u8>)]) -> Result<Manifest, Rea
 #[tactic(auto, unfolding(crate::specs::Manifest::manifest_of))]
 pub fn read(alloc: Global, files: &[(Vec<u8>, Vec<u8>)]) -> Result<Manifest, ReadFault>
     // What is read is what the files say, and they have no fault.
-    ensures value { IfOk result (λ manifest. manifest_of (seen_files files.now) ≡ Ok (contents manifest)) }
+    ensures value { IfOk result (λ manifest. manifest_of (seen_files files.now) ≡ Ok manifest) }
     ensures faultless { OnOk result (first_fault (seen_files files.now) ≡ None) }
+
+    // Whatever the files say, each edge has outputs, none twice, a pool of the manifest or none, and where it is phony nothing to run.
+    ensures kept { IfOk result IsManifest }
 
     // A fault is their first.
     ensures fault { (fault : ManifestFault) → IsErrOf result (ReadFault.Manifest fault) → first_fault (seen_files files.now) ≡ Some fault }

@@ -1,15 +1,16 @@
 //! The paths of a statement.
-ghost use Rattle.std.specs.Prelude.{◌≡◌, ◌<◌, ◌++◌, ◌||◌, not, filter, length, List, ℕ, Ok, MatchResult, IfOk, OnOk};
+ghost use Rattle.std.specs.Prelude.{◌≡◌, ◌<◌, ◌++◌, ◌||◌, not, filter, length, List, ℕ, Ok, MatchResult, IfOk, IfSome, OnOk};
+ghost use Rattle.rev_paths.specs.Mentions.{first_mentions};
 ghost use Rattle.rev_scopes.specs.Scopes.{variable_in};
 ghost use Rattle.rev_scopes.specs.Expansion.{expanded, in_block};
 ghost use Rattle.rev_manifest.specs.Answers.{IsFault};
-ghost use Rattle.rev_manifest.specs.Names.{name_of, names_of, distinct, without, is_among};
+ghost use Rattle.rev_manifest.specs.Names.{name_of, names_of, without, is_among};
 
 use crate::fault::{FaultKind, Place, ReadFault};
 use indexmap::IndexSet;
-use rev_paths::{Name, PathFault};
+use rev_paths::{Name, PathFault, Paths};
 use rev_scopes::{Bindings, Scopes, ValueFault, expand_in_block};
-use rev_syntax::Text;
+use rev_syntax::{Piece, Text};
 use std::alloc::{AllocError, Global};
 
 /// The canonical name of a path, or its fault.
@@ -27,8 +28,8 @@ pub(crate) fn name_of(alloc: Global, place: Place, path: &[u8]) -> Result<Name, 
 }
 
 /// Each name once, at its first place.
-pub(crate) fn distinct(alloc: Global, names: Vec<Name>) -> Result<Vec<Name>, AllocError>
-    ensures { IfOk result (λ once. once.items ≡ distinct names.items) }
+pub(crate) fn first_mentions(alloc: Global, names: Vec<Name>) -> Result<Vec<Name>, AllocError>
+    ensures { IfOk result (λ once. once.items ≡ first_mentions names.items) }
 {
     if names.len() < 2 {
         return Ok(names);
@@ -69,6 +70,20 @@ pub(crate) fn push_others(
     Ok(())
 }
 
+// The bytes of a text that stands for itself, as most paths do.
+fn literal<'a>(text: &Text<'a>) -> Option<&'a [u8]>
+    ensures { IfSome result (λ bytes. (look_up : List ℕ → List ℕ) → expanded look_up text.now ≡ bytes.now) }
+{
+    let (piece, rest) = text.first_piece()?;
+    if !rest.is_empty() {
+        return None;
+    }
+    match piece {
+        Piece::Literal(bytes) => Some(bytes),
+        Piece::Variable(_) => None,
+    }
+}
+
 // The canonical name of a text, or its fault. Variables are looked up in a block and then in a scope.
 fn path_of(
     alloc: Global,
@@ -83,6 +98,9 @@ fn path_of(
         (λ name. name_of place (expanded (in_block block.now (variable_in scopes.now scope)) text.now) ≡ Ok name)
         (λ fault. IsFault fault (name_of place (expanded (in_block block.now (variable_in scopes.now scope)) text.now))) }
 {
+    if let Some(path) = literal(text) {
+        return name_of(alloc, place, path);
+    }
     match expand_in_block(alloc, text.copy(), block, scopes, scope) {
         Ok(path) => name_of(alloc, place, &path),
         Err(ValueFault::Memory) => Err(ReadFault::Memory),
@@ -92,9 +110,10 @@ fn path_of(
 }
 
 /// The canonical names of texts, or the fault of the leftmost path that has one. Variables are looked up in a block and
-/// then in a scope.
+/// then in a scope. Equal names share the bytes of the first of them.
 pub(crate) fn names_of(
     alloc: Global,
+    paths: &mut Paths,
     place: Place,
     texts: &[Text<'_>],
     block: &Bindings,
@@ -106,10 +125,10 @@ pub(crate) fn names_of(
         (λ names. names_of place (in_block block.now (variable_in scopes.now scope)) texts.now ≡ Ok names.items)
         (λ fault. IsFault fault (names_of place (in_block block.now (variable_in scopes.now scope)) texts.now)) }
 {
-    let mut names = Vec::new(alloc);
+    let mut names = Vec::with_capacity(alloc, texts.len())?;
     for text in texts {
         let name = path_of(alloc, place, text, block, scopes, scope)?;
-        names.push(name)?;
+        names.push(paths.share(name)?)?;
     }
     Ok(names)
 }
@@ -134,6 +153,7 @@ pub(crate) fn name_in_scope(
 /// The canonical names of texts, whose variables are looked up in a scope, or the fault of the leftmost path that has one.
 pub(crate) fn names_in_scope(
     alloc: Global,
+    paths: &mut Paths,
     place: Place,
     texts: &[Text<'_>],
     scopes: &Scopes,
@@ -144,7 +164,15 @@ pub(crate) fn names_in_scope(
         (λ names. names_of place (variable_in scopes.now scope) texts.now ≡ Ok names.items)
         (λ fault. IsFault fault (names_of place (variable_in scopes.now scope) texts.now)) }
 {
-    let names = names_of(alloc, place, texts, &Bindings::new(alloc), scopes, scope)?;
+    let names = names_of(
+        alloc,
+        paths,
+        place,
+        texts,
+        &Bindings::new(alloc),
+        scopes,
+        scope,
+    )?;
     Ok(names)
 }
 

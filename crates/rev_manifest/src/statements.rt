@@ -10,15 +10,16 @@ ghost use Rattle.rev_manifest.specs.Above.{more_defaults};
 ghost use Rattle.rev_manifest.specs.Statements.{rule_declared, pool_declared, depth_given, value_limited, variable_bound, defaults_named, rule_of, paths_of, edge_added, file_named, file_included, file_nested, with_form};
 ghost use Rattle.rev_manifest.specs.Held.{seen_paths, seen_above};
 
-use crate::above::{Above, Edge, EdgePaths};
+use crate::above::{Above, Edge};
 use crate::blocks::{are_depths, binds, block_of, rule_with};
 use crate::bytes::is_none;
 use crate::depth::depth_of_text;
+use crate::edge_paths::EdgePaths;
 use crate::fault::{FaultKind, Place, ReadFault};
 use crate::files::Files;
 use crate::inclusion::Inclusion;
-use crate::names::{distinct, name_in_scope, names_in_scope, names_of, without};
-use rev_paths::Name;
+use crate::names::{first_mentions, name_in_scope, names_in_scope, names_of, without};
+use rev_paths::{Name, Paths};
 use rev_scopes::{Bindings, Rule, RuleFault, Scopes, ValueFault, expand};
 use rev_syntax::{Binding, BuildLine, Form, Text};
 use std::alloc::{AllocError, Global};
@@ -180,7 +181,7 @@ fn name_defaults(
         (λ fault. IsFault fault (defaults_named place scope paths.now (seen_above above.old))) }
     ensures grows { OnOk result (length above.old.scopes ≤ length above.new.scopes) }
 {
-    let names = names_in_scope(alloc, place, paths, &above.scopes, scope)?;
+    let names = names_in_scope(alloc, &mut above.paths, place, paths, &above.scopes, scope)?;
     let all = more_defaults(above.defaults.take(), names)?;
     above.defaults = Some(all);
     Ok(())
@@ -210,6 +211,7 @@ fn rule_of(
 // The paths of a build line.
 fn paths_of(
     alloc: Global,
+    paths: &mut Paths,
     place: Place,
     build: &BuildLine<'_>,
     block: &Bindings,
@@ -221,15 +223,31 @@ fn paths_of(
         (λ paths. paths_of place (in_block block.now (variable_in scopes.now scope)) (seen_build_line build.now) ≡ Ok (seen_paths paths))
         (λ fault. IsFault fault (paths_of place (in_block block.now (variable_in scopes.now scope)) (seen_build_line build.now))) }
 {
-    let outs = names_of(alloc, place, &build.outs, block, scopes, scope)?;
-    let implicit_outs = names_of(alloc, place, &build.implicit_outs, block, scopes, scope)?;
-    let ins = names_of(alloc, place, &build.ins, block, scopes, scope)?;
-    let implicit = names_of(alloc, place, &build.implicit, block, scopes, scope)?;
-    let order_only = names_of(alloc, place, &build.order_only, block, scopes, scope)?;
-    let validations = names_of(alloc, place, &build.validations, block, scopes, scope)?;
-    let implicit_outs = distinct(alloc, implicit_outs)?;
+    let outs = names_of(alloc, paths, place, &build.outs, block, scopes, scope)?;
+    let implicit_outs = names_of(
+        alloc,
+        paths,
+        place,
+        &build.implicit_outs,
+        block,
+        scopes,
+        scope,
+    )?;
+    let ins = names_of(alloc, paths, place, &build.ins, block, scopes, scope)?;
+    let implicit = names_of(alloc, paths, place, &build.implicit, block, scopes, scope)?;
+    let order_only = names_of(alloc, paths, place, &build.order_only, block, scopes, scope)?;
+    let validations = names_of(
+        alloc,
+        paths,
+        place,
+        &build.validations,
+        block,
+        scopes,
+        scope,
+    )?;
+    let implicit_outs = first_mentions(alloc, implicit_outs)?;
     let implicit_outs = without(alloc, &outs, implicit_outs)?;
-    let outs = distinct(alloc, outs)?;
+    let outs = first_mentions(alloc, outs)?;
     Ok(EdgePaths {
         outs,
         implicit_outs,
@@ -260,7 +278,15 @@ fn add_edge(
     }
     let rule = rule_of(above, place, scope, build.rule)?;
     let block = block_of(alloc, bindings, &above.scopes, scope)?;
-    let paths = paths_of(alloc, place, build, &block.values, &above.scopes, scope)?;
+    let paths = paths_of(
+        alloc,
+        &mut above.paths,
+        place,
+        build,
+        &block.values,
+        &above.scopes,
+        scope,
+    )?;
     if block.is_large {
         return Err(place.fault(FaultKind::TooLarge));
     }

@@ -64,6 +64,26 @@ impl Paths {
         Ok(place)
     }
 
+    /// An equal name, which shares the bytes of the one that was given first. It is hashed once.
+    ///
+    /// # Errors
+    /// [`AllocError`] where an allocation failed, or no more copies can be counted.
+    pub fn share(&mut self, name: Name) -> Result<Name, AllocError>
+        ensures names { OnOk result (self.new ≡ with_name name self.old) }
+        ensures equal { IfOk result (λ shared. shared ≡ name) }
+        ensures err { OnErr result (self.new ≡ self.old) }
+    {
+        let own = name.copy()?;
+        let (place, is_new) = self.names.insert_full(name)?;
+        if is_new {
+            return Ok(own);
+        }
+        match self.names.get_index(place) {
+            Some(first) => first.copy(),
+            None => unreachable!(),
+        }
+    }
+
     /// The number of a name, if it has one.
     pub fn find(&self, name: &Name) -> Option<u64>
         ensures place { result ≡ place_of name.now self.now }

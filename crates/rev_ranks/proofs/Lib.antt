@@ -1,5 +1,8 @@
 pub mod Ways
 pub mod Marks
-pub mod Searches
+pub mod ReachableLemmas
 pub mod Counts
 pub mod Certificates
+pub mod LeadsLemmas
+pub mod SetLemmas
+pub mod ReversedLemmas

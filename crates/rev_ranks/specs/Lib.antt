@@ -3,3 +3,4 @@ pub mod Sets
 pub mod Certificate
 pub mod Walks
 pub mod Laws
+pub mod Leads

@@ -7,9 +7,11 @@ mod fault;
 pub mod laws;
 mod ranking;
 mod reach;
+mod searches;
 
 pub use fault::RankFault;
 pub use ranking::ranks;
+pub use searches::{leading_to, reachable_from, reversed};
 
 #[cfg(test)]
 mod tests;

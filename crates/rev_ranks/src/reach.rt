@@ -1,30 +1,12 @@
 //! The sets of nodes that nodes reach.
-ghost use Rattle.std.specs.Prelude.{◌≡◌, ◌<◌, ◌≤◌, ℕ, ◌^◌, length, vec_len, IfOk, IfErr, OnOk};
+ghost use Rattle.std.specs.Prelude.{◌≡◌, ◌<◌, ◌≤◌, ℕ, ◌^◌, length, IfOk};
 ghost use Rattle.std.specs.List.{All};
 ghost use Rattle.rev_ranks.specs.Graph.{graph_of, AreRanks, IsLeastOnCycle};
-ghost use Rattle.rev_ranks.specs.Sets.{IsMarking, IsReachSet, marked as marked_of};
+ghost use Rattle.rev_ranks.specs.Sets.{IsReachSet, marked as marked_of};
 
 use super::RankFault;
+use super::searches::marked_from;
 use std::alloc::{AllocError, Global};
-
-/// Gives each of the nodes a mark, and opens those that had none.
-fn mark_each(
-    nodes: &[u32],
-    marks: &mut Vec<bool>,
-    open_nodes: &mut Vec<u32>,
-) -> Result<(), AllocError>
-    requires { All (λ s. s < vec_len marks.old) nodes.now }
-    ensures { OnOk result (IsMarking nodes.now marks.old.items open_nodes.old.items marks.new.items open_nodes.new.items) }
-{
-    for node in nodes {
-        let index = *node as usize;
-        if !marks[index] {
-            marks[index] = true;
-            open_nodes.push(*node)?;
-        }
-    }
-    Ok(())
-}
 
 /// The set of nodes that the node reaches.
 pub(crate) fn reached_from(
@@ -36,12 +18,7 @@ pub(crate) fn reached_from(
     requires is_node { node < length successors.now }
     ensures { IfOk result (λ marks. IsReachSet (graph_of successors.now) node marks.items) }
 {
-    let mut marks = vec![in alloc; false; successors.len()]?;
-    let mut open_nodes = Vec::new(alloc);
-    mark_each(&successors[node], &mut marks, &mut open_nodes)?;
-    while let Some(next) = open_nodes.pop() {
-        mark_each(&successors[next as usize], &mut marks, &mut open_nodes)?;
-    }
+    let marks = marked_from(alloc, successors, &successors[node])?;
     Ok(marks)
 }
 

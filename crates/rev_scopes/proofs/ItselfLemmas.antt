@@ -11,6 +11,7 @@ use Rattle.rev_scopes.specs.Bindings.{value_of}
 use Rattle.rev_scopes.specs.Scopes.{RuleValue, variable_in}
 use Rattle.rev_scopes.specs.Edges.{EdgeValue, paths_named, source, Source, Known, Needs, HasValue, Given, Expanded, IsExpanded, Nothing, Plain, Named}
 use Rattle.rev_scopes.specs.Laws.{Names, LeadsTo, AtOnce, Through, LeadsToALoop}
+use Rattle.rev_scopes.proofs.LawLemmas.{loop_has_none}
 use Rattle.rev_scopes.proofs.SlotLemmas.{needs-rule}
 
 -- a name that the rule binds is among its names
@@ -111,3 +112,7 @@ module _ (edge : EdgeValue) where
       by : Outcome name → LeadsToALoop edge name
       by (inl (value, has)) = absurd (none value has)
       by (inr loop) = loop
+
+pub no_value_is_a_loop : (edge : EdgeValue) (name : List ℕ)
+    → (((value : List ℕ) → HasValue edge name value → ⊥) → LeadsToALoop edge name) × (LeadsToALoop edge name → (value : List ℕ) → HasValue edge name value → ⊥)
+no_value_is_a_loop edge name = (no_value_leads edge name, loop_has_none edge name)

@@ -4,7 +4,7 @@ use Rattle.rev_syntax.specs.Texts.{PieceValue, Byte, Variable}
 use Rattle.rev_scopes.specs.Bindings.{value_of}
 use Rattle.rev_scopes.specs.Scopes.{ScopeValue, scope_at, AreNested, or_else, or_empty, find_up, variable_in}
 use Rattle.rev_scopes.specs.Edges.{EdgeValue, paths_named, first_source, source, Known, Needs, HasValue, Given, Expanded, IsExpanded, Nothing, Plain, Named}
-use Rattle.rev_scopes.specs.Laws.{parent_variable, own_or, Here, Above, AreSameFrom, Names, LeadsTo, AtOnce, Through}
+use Rattle.rev_scopes.specs.Laws.{parent_variable, own_or, Here, Above, AreSameFrom, Names, LeadsTo, AtOnce, Through, LeadsToALoop}
 use Rattle.rev_scopes.specs.Slots.{Waits}
 use Rattle.rev_scopes.proofs.SlotLemmas.{no_value}
 use Rattle.rev_scopes.proofs.ScopeLemmas.{above, found_in-step}
@@ -90,3 +90,8 @@ module _ (edge : EdgeValue) (name : List ℕ) where
 
   pub needs_itself : (value : List ℕ) → LeadsTo edge name name → HasValue edge name value → ⊥
   needs_itself value itself has = no_value edge (λ n. LeadsTo edge n name) (leads_on itself) has itself
+
+-- what leads to a loop has no value, also where it is on none itself
+pub loop_has_none : (edge : EdgeValue) (name : List ℕ) → LeadsToALoop edge name → (value : List ℕ) → HasValue edge name value → ⊥
+loop_has_none edge name (other, inl same, itself) value has = needs_itself edge other value itself (subst (λ (n : List ℕ). HasValue edge n value) same has)
+loop_has_none edge name (other, inr way, itself) value has = no_value edge (λ n. LeadsTo edge n other) (leads_on edge other itself) has way

@@ -1,9 +1,11 @@
 -- What holds of values at every edge.
-use Rattle.std.specs.Prelude.{◌≡◌, ℕ, ◌<◌, ◌⊎◌, List, [], ◌∷◌, length, Option, None, Some}
+use Rattle.std.specs.Prelude.{◌≡◌, ℕ, ◌<◌, ◌⊎◌, ◌↔◌, IsTrue, List, [], ◌∷◌, length, Option, None, Some}
 use Rattle.rev_syntax.specs.Texts.{PieceValue, Byte, Variable}
 use Rattle.rev_scopes.specs.Bindings.{value_of}
 use Rattle.rev_scopes.specs.Scopes.{ScopeValue, scope_at, AreNested, variable_in}
-use Rattle.rev_scopes.specs.Edges.{EdgeValue, source, Needs, HasValue}
+use Rattle.rev_scopes.specs.declared.rule_variable.RuleVariable.{RuleVariable}
+use Rattle.rev_scopes.specs.RuleNames.{name_of, is_needed}
+use Rattle.rev_scopes.specs.Edges.{EdgeValue, source, Needs, HasValue, SomeNeedsItself}
 
 -- a name has at most one value at an edge
 abbrev pub OneValue : Type 0
@@ -62,3 +64,11 @@ LeadsToALoop edge name = (other : List ℕ) × ((name ≡ other) ⊎ LeadsTo edg
 -- a name that has no value leads to one that needs itself, so there is no other reason
 abbrev pub NoValueMeansALoop : Type 0
 NoValueMeansALoop = (edge : EdgeValue) (name : List ℕ) → ((value : List ℕ) → HasValue edge name value → ⊥) → LeadsToALoop edge name
+
+-- A name has no value exactly where it leads to a name that needs itself, also where it does not need itself.
+abbrev pub NoValueIsALoop : Type 0
+NoValueIsALoop = (edge : EdgeValue) (name : List ℕ) → ((value : List ℕ) → HasValue edge name value → ⊥) ↔ LeadsToALoop edge name
+
+-- an edge is refused for a variable without a value exactly where one that it needs leads to a loop
+abbrev pub TheFaultIsALoop : Type 0
+TheFaultIsALoop = (edge : EdgeValue) → SomeNeedsItself edge ↔ ((variable : RuleVariable) × IsTrue (is_needed variable) × LeadsToALoop edge (name_of variable))

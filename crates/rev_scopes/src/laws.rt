@@ -1,5 +1,5 @@
 //! Laws of scopes and values.
-ghost use Rattle.rev_scopes.specs.Laws.{OneValue, ScopesHideTheirParents, OtherScopesChangeNothing, WhatNeedsItselfHasNoValue, NoValueMeansALoop};
+ghost use Rattle.rev_scopes.specs.Laws.{NoValueIsALoop, NoValueMeansALoop, OneValue, OtherScopesChangeNothing, ScopesHideTheirParents, TheFaultIsALoop, WhatNeedsItselfHasNoValue};
 
 /// A name has at most one value at an edge.
 pub fn one_value()
@@ -24,4 +24,14 @@ pub fn what_needs_itself_has_no_value()
 /// A name that has no value leads to one that needs itself, so there is no other reason.
 pub fn no_value_means_a_loop()
     ensures { NoValueMeansALoop }
+{}
+
+/// A name has no value exactly where it leads to one that needs itself, also where it does not need itself.
+pub fn no_value_is_a_loop()
+    ensures { NoValueIsALoop }
+{}
+
+/// An edge is refused for a variable without a value exactly where one that it needs leads to a loop.
+pub fn the_fault_is_a_loop()
+    ensures { TheFaultIsALoop }
 {}

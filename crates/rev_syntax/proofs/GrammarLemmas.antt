@@ -19,7 +19,7 @@ not_true true h = cc
 not_true false h = refl
 
 -- a byte of a name is no byte that is none
-other : (c k : ℕ) → is_in_bare_name c ≡ true → is_in_bare_name k ≡ false → (c == k) ≡ false
+pub other : (c k : ℕ) → is_in_bare_name c ≡ true → is_in_bare_name k ≡ false → (c == k) ≡ false
 other c k h none = by (c == k) refl
   where
     by : (t : Bool) → (c == k) ≡ t → t ≡ false
@@ -30,7 +30,7 @@ other c k h none = by (c == k) refl
 one-more : (n : ℕ) → 1 + n ≡ suc n
 one-more n = omega arith
 
-run-len : (test : ℕ → Bool) (name text : List ℕ) → is_run test name ≡ true → prefix_len test text ≡ 0 → prefix_len test (name ++ text) ≡ length name
+pub run-len : (test : ℕ → Bool) (name text : List ℕ) → is_run test name ≡ true → prefix_len test text ≡ 0 → prefix_len test (name ++ text) ≡ length name
 run-len test [] text h stops = stops
 run-len test (b ∷ bs) text h stops =
     let parts = both (test b) (is_run test bs) h in
@@ -59,7 +59,7 @@ read-escape rest text escape pieces is left h = (
   ap (λ e. pieces_after e (λ taken. pieces_from taken rest)) is ∙ ap (λ ps. escape.piece ∷ ps) (pieces_from-drop escape.taken rest ∙ ap pieces_of left ∙ h.1),
 )
 
-bare-escape : (name text : List ℕ) → is_name is_in_bare_name name ≡ true → ends_name text ≡ true → escape_of (name ++ text) ≡ Some (record { piece = Variable name; taken = length name })
+pub bare-escape : (name text : List ℕ) → is_name is_in_bare_name name ≡ true → ends_name text ≡ true → escape_of (name ++ text) ≡ Some (record { piece = Variable name; taken = length name })
 bare-escape [] text h e = cc
 bare-escape (c ∷ cs) text h e =
     let parts = both (is_in_bare_name c) (is_run is_in_bare_name cs) h in
@@ -80,7 +80,7 @@ braced-named : (name text : List ℕ) → is_none name ≡ false → braced name
 braced-named [] text h = cc
 braced-named (b ∷ bs) text h = refl
 
-braced-escape : (name text : List ℕ) → is_name is_in_name name ≡ true → escape_of (123 ∷ name ++ 125 ∷ text) ≡ Some (record { piece = Variable name; taken = length name + 2 })
+pub braced-escape : (name text : List ℕ) → is_name is_in_name name ≡ true → escape_of (123 ∷ name ++ 125 ∷ text) ≡ Some (record { piece = Variable name; taken = length name + 2 })
 braced-escape name text h =
     let parts = both (not (is_none name)) (is_run is_in_name name) h in
     let rest = name ++ 125 ∷ text in
@@ -116,7 +116,7 @@ take_drop zero xs = refl
 take_drop (suc n) [] = refl
 take_drop (suc n) (x ∷ xs) = ap (λ t. x ∷ t) (take_drop n xs)
 
-run-of : (test : ℕ → Bool) (xs : List ℕ) → is_run test (take_while test xs) ≡ true
+pub run-of : (test : ℕ → Bool) (xs : List ℕ) → is_run test (take_while test xs) ≡ true
 run-of test [] = refl
 run-of test (b ∷ bs) = by (test b) refl (run-of test bs)
   where
@@ -124,7 +124,7 @@ run-of test (b ∷ bs) = by (test b) refl (run-of test bs)
     by true e rest = ap (λ n. is_run test (take n (b ∷ bs))) (one-more (prefix_len test bs)) ∙ (λ i. e i && rest i)
     by false e rest = refl
 
-run-ends : (text : List ℕ) → ends_name (drop (prefix_len is_in_bare_name text) text) ≡ true
+pub run-ends : (text : List ℕ) → ends_name (drop (prefix_len is_in_bare_name text) text) ≡ true
 run-ends [] = refl
 run-ends (b ∷ bs) = by (is_in_bare_name b) refl (run-ends bs)
   where
@@ -136,14 +136,14 @@ abbrev escape_or : EscapeValue → Option EscapeValue → EscapeValue
 escape_or e None = e
 escape_or e (Some f) = f
 
-same : (e f : EscapeValue) → Some e ≡ Some f → e ≡ f
+pub same : (e f : EscapeValue) → Some e ≡ Some f → e ≡ f
 same e f h = ap (escape_or e) h
 
-bare-is : (name : List ℕ) (e : EscapeValue) → bare name ≡ Some e → (is_none name ≡ false) × (record { piece = Variable name; taken = length name } ≡ e)
+pub bare-is : (name : List ℕ) (e : EscapeValue) → bare name ≡ Some e → (is_none name ≡ false) × (record { piece = Variable name; taken = length name } ≡ e)
 bare-is [] e h = cc
 bare-is (b ∷ bs) e h = (refl, same (record { piece = Variable (b ∷ bs); taken = length (b ∷ bs) }) e h)
 
-braced-is : (name rest : List ℕ) (e : EscapeValue) → braced name rest ≡ Some e
+pub braced-is : (name rest : List ℕ) (e : EscapeValue) → braced name rest ≡ Some e
     → (text : List ℕ) × (rest ≡ 125 ∷ text) × (is_none name ≡ false) × (record { piece = Variable name; taken = length name + 2 } ≡ e)
 braced-is [] rest e h = cc
 braced-is (b ∷ bs) [] e h = cc

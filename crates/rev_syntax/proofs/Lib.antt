@@ -1,6 +1,10 @@
 pub mod AnswerLemmas
 pub mod ApartLemmas
 pub mod ByteLemmas
+pub mod CutLemmas
+pub mod FormLemmas
+pub mod RefusalLemmas
+pub mod StatementLemmas
 pub mod GrammarLemmas
 pub mod GroupLemmas
 pub mod LineLemmas

@@ -34,7 +34,7 @@ no-end PathEnd b h = h
 no-end ListEnd b h = (λ i. (either (b == 32) (b == 58) (either (b == 32 || b == 58) (b == 124) h).0).1 i || (either (b == 32 || b == 58) (b == 124) h).1 i)
 
 -- whether a `$` takes along the byte after these
-abbrev flag : Bool → List ℕ → Bool
+abbrev pub flag : Bool → List ℕ → Bool
 flag taken [] = taken
 flag true (b ∷ bs) = flag false bs
 flag false (b ∷ bs) = flag (b == 36) bs
@@ -56,7 +56,7 @@ flag-bare : (name text : List ℕ) → is_name is_in_bare_name name ≡ true →
 flag-bare [] text h f = cc
 flag-bare (c ∷ cs) text h f = flag-run is_in_bare_name cs text refl (both (is_in_bare_name c) (is_run is_in_bare_name cs) h).1 ∙ f
 
-flag-text : {raw : List ℕ} {path : List PieceValue} → ReadsAs raw path → flag false raw ≡ false
+pub flag-text : {raw : List ℕ} {path : List PieceValue} → ReadsAs raw path → flag false raw ≡ false
 flag-text text.Nothing = refl
 flag-text (Plain {b} {text} {pieces} h r) = ap (λ t. flag t text) (not_true (b == 36) (both (not (b == 36)) (not (is_no_text b)) h).0) ∙ flag-text r
 flag-text (Escaped {b} {text} {pieces} h r) = flag-text r
@@ -73,7 +73,7 @@ walk-step end b bs more m false e w rest =
     let one : suc (free_len end (b == 36) (bs ++ more)) ≡ suc (length bs) + m = omega (arith, same) in
     ap (λ t. if t then 0 else suc (free_len end (b == 36) (bs ++ more))) (no-end end b e) ∙ one
 
-walk : (end : End) (taken : Bool) (raw more : List ℕ) (m : ℕ) → free_len PathEnd taken raw ≡ length raw → flag taken raw ≡ false → free_len end false more ≡ m
+pub walk : (end : End) (taken : Bool) (raw more : List ℕ) (m : ℕ) → free_len PathEnd taken raw ≡ length raw → flag taken raw ≡ false → free_len end false more ≡ m
     → free_len end taken (raw ++ more) ≡ length raw + m
 walk end true [] more m w f h = cc
 walk end false [] more m w f h = omega (arith, h)
@@ -201,7 +201,7 @@ rest-free false (b ∷ bs) w = let free = free-byte b bs (ends_at ListEnd b) ref
     by false e rest = rest
 
 -- answers that are values
-text-ok : (line : LineValue) (fault : Option SyntaxKind) (pieces path : List PieceValue) → text_or_fault line fault pieces ≡ Ok path → (fault ≡ None) × (pieces ≡ path)
+pub text-ok : (line : LineValue) (fault : Option SyntaxKind) (pieces path : List PieceValue) → text_or_fault line fault pieces ≡ Ok path → (fault ≡ None) × (pieces ≡ path)
 text-ok line None pieces path h = (refl, cc)
 text-ok line (Some kind) pieces path h = cc
 

@@ -1,7 +1,9 @@
 pub mod Bytes
+pub mod Cutting
 pub mod Ends
 pub mod Fault
 pub mod Faults
+pub mod Forms
 pub mod Grammar
 pub mod Joining
 pub mod Laws
@@ -9,6 +11,7 @@ pub mod Lines
 pub mod Lists
 pub mod Paths
 pub mod Pieces
+pub mod Refusals
 pub mod Seen
 pub mod Statements
 pub mod Texts

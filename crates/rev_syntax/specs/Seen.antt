@@ -8,7 +8,7 @@ use Rattle.rev_syntax.specs.declared.statement.Form.TheVariants.{Rule, Build, Po
 use Rattle.rev_syntax.specs.declared.statement.Statement.{Statement}
 use Rattle.rev_syntax.specs.declared.forms.Header.{Header}
 use Rattle.rev_syntax.specs.declared.forms.Header.TheVariants as code
-use Rattle.rev_syntax.specs.declared.forms.Outputs.{Outputs}
+use Rattle.rev_syntax.specs.declared.outputs.Outputs.{Outputs}
 use Rattle.rev_syntax.specs.declared.forms.Inputs.{Inputs}
 use Rattle.rev_syntax.specs.declared.fault.SyntaxFault.{SyntaxFault}
 use Rattle.rev_syntax.specs.declared.fault.ReadFault.{ReadFault}

@@ -7,6 +7,7 @@ ghost use Rattle.rev_syntax.specs.Seen.{seen_binding, seen_outputs, seen_inputs,
 use crate::bytes::{Class, begins_with, split_run, without_spaces};
 use crate::fault::{ReadFault, SyntaxKind};
 use crate::lines::Line;
+use crate::outputs::Outputs;
 use crate::paths::{Mark, list, list_after, path, stuck, text_at};
 use crate::statement::{Binding, BuildLine};
 use crate::text::Text;
@@ -29,15 +30,6 @@ pub(crate) enum Header<'a> {
     Subninja(Text<'a>),
     /// `NAME = value`.
     Variable(Binding<'a>),
-}
-
-/// The outputs of a build line.
-#[derive(Debug, Drop)]
-pub(crate) struct Outputs<'a> {
-    outs: Vec<Text<'a>>,
-    implicit_outs: Vec<Text<'a>>,
-    // What follows the colon and its spaces.
-    rest: &'a [u8],
 }
 
 /// The inputs of a build line.

@@ -10,6 +10,7 @@ mod fault;
 mod forms;
 pub mod laws;
 mod lines;
+mod outputs;
 mod paths;
 mod reader;
 mod statement;

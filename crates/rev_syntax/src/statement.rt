@@ -1,4 +1,5 @@
 //! Statements as they stand in the file.
+ghost use Rattle.std.specs.Prelude.{◌<◌, ◌+◌, length};
 
 use crate::text::Text;
 
@@ -30,6 +31,8 @@ pub struct BuildLine<'a> {
     pub order_only: Vec<Text<'a>>,
     /// The paths behind `|@`.
     pub validations: Vec<Text<'a>>,
+    // There is an output.
+    pub ghost has_output: { 0 < length outs.items + length implicit_outs.items },
 }
 
 /// What a statement says. Bindings stand in the order of their lines, also those that a later one of

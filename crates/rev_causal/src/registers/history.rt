@@ -483,7 +483,7 @@ mod tests {
             shifted.as_slice(),
             [(Cell::Register(0), Some(7)), (Cell::Register(1), None)].as_slice()
         );
-        assert!(rt; footprint_of(alloc, &cells, Event::Shift { count: 2 })?.touches(Cell::Lock));
+        assert!(rt; footprint_of(alloc, &cells, Event::Shift { count: 2 })?.accesses(Cell::Lock));
         Ok(())
     }
 

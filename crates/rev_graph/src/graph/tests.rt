@@ -17,30 +17,31 @@ const ORDER_ONLY_CYCLE: &[u8; 52] = b"rule r\n  command = r\nbuild x: r || y\nbu
 const POOLS: &[u8; 124] =
     b"pool any\n  depth = 0\npool one\n  depth = 2\nrule r\n  command = r\nbuild x | w: r a |@ v\n  pool = any\nbuild v: r b\n  pool = one\n";
 
-fn built(alloc: Global, content: &[u8]) -> Result<Graph, GraphFault> {
+fn manifest_of(alloc: Global, content: &[u8]) -> Result<Manifest, Fail> {
     let name = Vec::from_slice(alloc, b"build.ninja")?;
     let content = Vec::from_slice(alloc, content)?;
     let files = vec![in alloc; (name, content)]?;
-    match read(alloc, &files) {
-        Ok(manifest) => Graph::build(alloc, &manifest),
-        Err(_) => Err(GraphFault::Memory),
-    }
+    let manifest = read(alloc, &files)?;
+    Ok(manifest)
 }
 
-fn named(alloc: Global, path: &[u8]) -> Result<Name, GraphFault> {
-    match Name::new(alloc, path) {
-        Ok(name) => Ok(name),
-        Err(_) => Err(GraphFault::Memory),
-    }
+fn built(alloc: Global, content: &[u8]) -> Result<Graph, Fail> {
+    let graph = Graph::build(alloc, &manifest_of(alloc, content)?)?;
+    Ok(graph)
 }
 
-// The number of a fault and the path that it names.
-fn fault_of(alloc: Global, content: &[u8]) -> Result<(u16, Name), AllocError> {
-    match built(alloc, content) {
-        Err(GraphFault::MultipleProducers(path)) => Ok((40, path)),
-        Err(GraphFault::Cycle(path)) => Ok((41, path)),
-        _ => Err(AllocError),
-    }
+fn named(alloc: Global, path: &[u8]) -> Result<Name, Fail> {
+    let name = Name::new(alloc, path)?;
+    Ok(name)
+}
+
+// The fault of a manifest that has no graph.
+fn fault_of(alloc: Global, content: &[u8]) -> Result<GraphFault, Fail> {
+    let fault = match Graph::build(alloc, &manifest_of(alloc, content)?) {
+        Ok(_) => None,
+        Err(fault) => Some(fault),
+    };
+    Ok(fault.ok_or("a graph")?)
 }
 
 #[test]
@@ -66,12 +67,11 @@ fn paths_are_known(rt: HostRuntime) -> Result<(), Fail> {
 fn edges_have_inputs(rt: HostRuntime) -> Result<(), Fail> {
     let alloc = rt.alloc();
     let graph = built(alloc, CHAIN)?;
-    if graph.edges() == 2 {
-        let inputs = graph.inputs(1);
-        assert_eq!(rt; inputs.explicit.first(), Some(&named(alloc, b"b.o")?));
-        assert_eq!(rt; inputs.implicit.len() + inputs.order_only.len(), 0);
-        assert_eq!(rt; graph.producers(1), [Some(0)].as_slice());
-    }
+    assert_eq!(rt; graph.edges(), 2);
+    let inputs = graph.inputs(1);
+    assert_eq!(rt; inputs.explicit.first(), Some(&named(alloc, b"b.o")?));
+    assert_eq!(rt; inputs.implicit.len() + inputs.order_only.len(), 0);
+    assert_eq!(rt; graph.producers(1), [Some(0)].as_slice());
     Ok(())
 }
 
@@ -79,12 +79,11 @@ fn edges_have_inputs(rt: HostRuntime) -> Result<(), Fail> {
 fn edges_have_outputs(rt: HostRuntime) -> Result<(), Fail> {
     let alloc = rt.alloc();
     let graph = built(alloc, CHAIN)?;
-    if graph.edges() == 2 {
-        let outputs = graph.outputs(0);
-        assert_eq!(rt; outputs.explicit.first(), Some(&named(alloc, b"b.o")?));
-        assert_eq!(rt; outputs.implicit.len(), 0);
-        assert!(rt; graph.rank(0) < graph.rank(1));
-    }
+    assert_eq!(rt; graph.edges(), 2);
+    let outputs = graph.outputs(0);
+    assert_eq!(rt; outputs.explicit.first(), Some(&named(alloc, b"b.o")?));
+    assert_eq!(rt; outputs.implicit.len(), 0);
+    assert!(rt; graph.rank(0) < graph.rank(1));
     Ok(())
 }
 
@@ -92,23 +91,21 @@ fn edges_have_outputs(rt: HostRuntime) -> Result<(), Fail> {
 fn edges_have_commands(rt: HostRuntime) -> Result<(), Fail> {
     let alloc = rt.alloc();
     let graph = built(alloc, CHAIN)?;
-    if graph.edges() == 2 {
-        assert_eq!(rt; graph.command(0), b"cc b.c -o b.o".as_slice());
-        assert_eq!(rt; graph.pool(0), None);
-        assert!(rt; graph.validations(0).is_empty());
-    }
+    assert_eq!(rt; graph.edges(), 2);
+    assert_eq!(rt; graph.command(0), b"cc b.c -o b.o".as_slice());
+    assert_eq!(rt; graph.pool(0), None);
+    assert!(rt; graph.validations(0).is_empty());
     Ok(())
 }
 
 #[test]
 fn edges_have_no_flags_by_themselves(rt: HostRuntime) -> Result<(), Fail> {
     let graph = built(rt.alloc(), CHAIN)?;
-    if graph.edges() == 2 {
-        assert!(rt; !graph.is_phony(0));
-        assert!(rt; !graph.keeps_deps(0));
-        assert!(rt; !graph.restat(0));
-        assert!(rt; !graph.generator(0));
-    }
+    assert_eq!(rt; graph.edges(), 2);
+    assert!(rt; !graph.is_phony(0));
+    assert!(rt; !graph.keeps_deps(0));
+    assert!(rt; !graph.restat(0));
+    assert!(rt; !graph.generator(0));
     Ok(())
 }
 
@@ -123,24 +120,31 @@ fn last_outputs_are_defaults(rt: HostRuntime) -> Result<(), Fail> {
 #[test]
 fn first_second_producer_is_named(rt: HostRuntime) -> Result<(), Fail> {
     let alloc = rt.alloc();
-    assert_eq!(rt; fault_of(alloc, TWO_PRODUCERS)?, (40, named(alloc, b"y")?));
+    let fault = fault_of(alloc, TWO_PRODUCERS)?;
+    assert_eq!(rt; fault.code(), Some(40));
+    assert_eq!(rt; fault.path(), Some(&named(alloc, b"y")?));
     Ok(())
 }
 
 #[test]
 fn least_edge_on_a_cycle_is_named(rt: HostRuntime) -> Result<(), Fail> {
     let alloc = rt.alloc();
-    assert_eq!(rt; fault_of(alloc, CYCLE)?, (41, named(alloc, b"x")?));
-    assert_eq!(rt; fault_of(alloc, BELOW_A_CYCLE)?, (41, named(alloc, b"y")?));
+    assert_eq!(rt;
+        fault_of(alloc, CYCLE)?,
+        GraphFault::Cycle(named(alloc, b"x")?)
+    );
+    assert_eq!(rt;
+        fault_of(alloc, BELOW_A_CYCLE)?,
+        GraphFault::Cycle(named(alloc, b"y")?)
+    );
     Ok(())
 }
 
 #[test]
 fn order_only_inputs_close_a_cycle(rt: HostRuntime) -> Result<(), Fail> {
     let alloc = rt.alloc();
-    let (code, path) = fault_of(alloc, ORDER_ONLY_CYCLE)?;
-    assert_eq!(rt; code, 41);
-    assert_eq!(rt; path, named(alloc, b"x")?);
+    let fault = fault_of(alloc, ORDER_ONLY_CYCLE)?;
+    assert_eq!(rt; fault, GraphFault::Cycle(named(alloc, b"x")?));
     Ok(())
 }
 
@@ -159,10 +163,8 @@ fn a_pool_of_depth_0_has_no_slots(rt: HostRuntime) -> Result<(), Fail> {
     let alloc = rt.alloc();
     let graph = built(alloc, POOLS)?;
     assert_eq!(rt; graph.edges(), 2);
-    if graph.edges() == 2 {
-        assert_eq!(rt; graph.pool(0), None);
-        assert_eq!(rt; graph.pool(1), Some((2, 2)));
-        assert_eq!(rt; graph.validations(0).first(), Some(&named(alloc, b"v")?));
-    }
+    assert_eq!(rt; graph.pool(0), None);
+    assert_eq!(rt; graph.pool(1), Some((2, 2)));
+    assert_eq!(rt; graph.validations(0).first(), Some(&named(alloc, b"v")?));
     Ok(())
 }

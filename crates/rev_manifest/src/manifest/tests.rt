@@ -29,9 +29,9 @@ fn answer_to(alloc: Global, contents: &[(&[u8], &[u8])]) -> Result<Answer, Alloc
     let files = given(alloc, contents)?;
     Ok(match read(alloc, &files) {
         Ok(manifest) => Read(
-            manifest.builds.len(),
-            manifest.pools.len(),
-            manifest.defaults.len(),
+            manifest.builds().len(),
+            manifest.pools().len(),
+            manifest.defaults().len(),
         ),
         Err(ReadFault::Memory) => Answer::Memory,
         Err(ReadFault::Manifest(fault)) => Fault(fault.code(), fault.file, fault.line),
@@ -42,8 +42,8 @@ fn answer_to(alloc: Global, contents: &[(&[u8], &[u8])]) -> Result<Answer, Alloc
 fn first_command(alloc: Global, contents: &[(&[u8], &[u8])]) -> Result<Vec<u8>, AllocError> {
     let files = given(alloc, contents)?;
     if let Ok(manifest) = read(alloc, &files) {
-        for build in manifest.builds {
-            return Ok(build.command);
+        for build in manifest.builds() {
+            return Vec::from_slice(alloc, build.command());
         }
     }
     Ok(Vec::new(alloc))
@@ -199,7 +199,7 @@ fn an_edge(rt: HostRuntime) -> Result<(), Fail> {
     let files = given(rt.alloc(), &[(b"build.ninja", main)])?;
     match read(rt.alloc(), &files) {
         Ok(manifest) => {
-            for build in &manifest.builds {
+            for build in manifest.builds() {
                 assert_eq!(rt;
                     (build.explicit_outs.len(), build.implicit_outs.len()),
                     (1, 1)

@@ -1,7 +1,7 @@
 use Rattle.std.proofs.Common.{ap, bytes_eq, ◌∙◌}
 use Rattle.std.specs.List.{list_any}
 use Rattle.indexmap.specs.IndexSet.{insert_key}
-use Rattle.rev_depfile.proofs.MentionLemmas.{members-more}
+use Rattle.rev_paths.proofs.MentionLemmas.{members-more}
 use Rattle.rev_depfile.proofs.reader.name_set.Goals as goal
 
 pub loop-name-preserved : goal.loop-name-preserved

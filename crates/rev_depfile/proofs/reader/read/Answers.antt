@@ -6,7 +6,7 @@ use Rattle.rev_depfile.specs.Lines.{is_line_end, lines, parts}
 use Rattle.rev_depfile.specs.Value.{first_fault, first_fault_in, line_paths}
 use Rattle.rev_depfile.proofs.FaultLemmas.{first_fault-same}
 use Rattle.rev_depfile.proofs.LineLemmas.{fault-passed, fault-same}
-use Rattle.rev_depfile.proofs.MentionLemmas.{mentions-all}
+use Rattle.rev_paths.proofs.MentionLemmas.{mentions-all}
 use Rattle.rev_depfile.proofs.reader.read.Goals as goal
 
 pub returns-in_err-found-clause-fault : goal.returns-in_err-found-clause-fault

@@ -21,16 +21,16 @@ know-requires-clause-phony c =
     (all-phony builds state (inputs state (build_at builds c.args.edge))) in
     phony
 
-pub returns : goal.returns
-returns c =
+pub returns-clause-reasons : goal.returns-clause-reasons
+returns-clause-reasons c =
     let builds = c.args.graph.now.manifest.builds in
     let state = c.args.cells.now.state in
     let build = build_at builds c.args.edge in
-    let entries = c.in_ok-known.known.entries in
+    let entries = c.know.new.known.entries in
     let facts = map (facts_of_input builds state) (inputs state build) in
     let inputs-are : c.deref-3.result.now ≡ facts = c.deref-3.ensures.value ∙ c.in_ok-inputs.ensures in
     let there : (other : ℕ) → Contains (filter_map (λ (input : Input). input.through) facts) other → is_some (known entries other) ≡ true =
-    λ other at. c.in_ok-known.ensures.all other (subst (λ (fs : List Input). Contains (filter_map (λ (input : Input). input.through) fs) other) (sym inputs-are) at) in
+    λ other at. c.in_ok-know.ensures.all other (subst (λ (fs : List Input). Contains (filter_map (λ (input : Input). input.through) fs) other) (sym inputs-are) at) in
     let lacks : c.lacks_deps-lacks_deps.result ≡ lacks_deps state build =
     c.lacks_deps-lacks_deps.ensures ∙ (λ i. c.keeps_deps.ensures i && is_none (c.in_ok-deps.ensures i)) in
     let old : c.are_old-has_old_deps.result ≡ has_old_deps state build =
@@ -38,6 +38,6 @@ returns c =
     ∙ (λ i. holds (λ (deps : DepsRecord). nat_lt deps.stamp (stamp_of_first ((c.deref-4.ensures.value ∙ c.in_ok-outputs.ensures) i))) (c.in_ok-deps.ensures i))
     ∙ has-old-deps state build in
     c.in_ok-reasons.ensures
-    ∙ (λ i. all_reasons entries ((c.deref-5.ensures.value ∙ c.in_ok-outputs.ensures) i) ((c.deref-6.ensures.value ∙ c.in_ok-inputs.ensures) i) ((c.deref-7.ensures.value ∙ c.in_ok-changes.ensures) i)
+    ∙ (λ i. all_reasons entries ((c.deref-5.ensures.value ∙ c.in_ok-outputs.ensures) i) ((c.deref-6.ensures.value ∙ c.in_ok-inputs.ensures) i) ((c.deref-7.ensures.value ∙ c.in_ok-changes.ensures.changes) i)
     (lacks i) (old i))
-    ∙ command-are builds c.args.graph.now.ranks state c.args.edge entries c.requires.graph.ranked c.in_ok-known.ensures.knowledge there c.requires.command
+    ∙ command-are builds c.args.graph.now.ranks state c.args.edge entries c.requires.graph.ranked c.in_ok-know.ensures.knowledge there c.requires.command

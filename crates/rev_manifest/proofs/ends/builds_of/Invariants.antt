@@ -2,13 +2,12 @@ use Rattle.std.proofs.Common.{◌≡◌, map, length}
 use Rattle.std.specs.Vec.Iter.{into_iter_items}
 use Rattle.rev_manifest.specs.Manifest.{builds_of}
 use Rattle.rev_manifest.specs.Held.{seen_edge}
-use Rattle.rev_manifest.specs.Seen.{seen_build}
 use Rattle.rev_manifest.proofs.AnswerLemmas.{onto_list}
 use Rattle.rev_manifest.proofs.ends.builds_of.Given as goal
 
 abbrev pub invariant-loop-edge : goal.invariant-loop-edge
 invariant-loop-edge l =
-    onto_list (map seen_build l.builds.items) (builds_of l.scopes l.pools (map seen_edge (into_iter_items l.rest))) ≡ builds_of l.scopes l.pools (map seen_edge l.fn.edges.items)
+    onto_list l.builds.items (builds_of l.scopes l.pools (map seen_edge (into_iter_items l.rest))) ≡ builds_of l.scopes l.pools (map seen_edge l.fn.edges.items)
 
 abbrev pub decreases-loop-edge : goal.decreases-loop-edge
 decreases-loop-edge l = length (into_iter_items l.rest)

@@ -5,7 +5,7 @@ use Rattle.rev_graph.proofs.ProducerLemmas.{producer-only, producer-produces}
 use Rattle.rev_graph.proofs.graph.Graph.producer.Goals as goal
 
 value : (c : goal.After-producer) → c.producer.result ≡ producer_of c.args.self.now.manifest.builds c.args.path.now
-value c = c.producer.ensures ∙ produced-by c.self.inside.table.entries c.self.inside.edges.items c.args.path.now (c.self.invariant.entries c.args.path.now)
+value c = c.producer.ensures ∙ produced-by c.self.inside.table.entries c.self.inside.manifest.builds c.args.path.now (c.self.invariant.entries c.args.path.now)
     ∙ ap (λ (g : GraphValue). producer_of g.manifest.builds c.args.path.now) c.self.view_is
 
 pub returns-clause-has : goal.returns-clause-has

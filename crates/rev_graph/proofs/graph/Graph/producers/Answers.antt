@@ -7,7 +7,7 @@ use Rattle.rev_graph.proofs.graph.Graph.producers.Goals as goal
 
 pub returns : goal.returns
 returns c =
-    let builds = c.self.inside.edges.items in
+    let builds = c.self.inside.manifest.builds in
     let edge = c.args.edge in
     let count : length builds ≡ length c.args.self.now.manifest.builds = ap (λ (g : GraphValue). length g.manifest.builds) c.self.view_is in
     let same : length (lists_of c.self.inside.producers.items) ≡ length (map (input_producers builds) builds) = ap length c.self.invariant.producers in

@@ -1,8 +1,0 @@
-use Rattle.std.proofs.Common.{◌≡◌, drop}
-use Rattle.rebug.specs.Fields.{all_texts}
-use Rattle.rebug.specs.Parts.{slices_of, vectors_of}
-use Rattle.rebug.proofs.FieldLemmas.{joined}
-use Rattle.rebug.proofs.lines.fields.read_fields.Given as goal
-
-abbrev pub invariant-loop-field : goal.invariant-loop-field
-invariant-loop-field l = joined (vectors_of l.texts.items) (all_texts (drop l.field-index (slices_of l.field-items))) ≡ all_texts (slices_of l.field-items)

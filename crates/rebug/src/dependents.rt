@@ -1,0 +1,109 @@
+//! What depends on a kept event.
+ghost use Rattle.std.specs.Prelude.{◌≡◌, ◌++◌, codes, decimal, is_some, IfOk, OnOk};
+ghost use Rattle.std.specs.List.{flat_map};
+ghost use Rattle.rebug.specs.Dependents.{conflicts, dependent_text, dependents, depends};
+ghost use Rattle.rebug.specs.Report.{dependents_line, dependents_text};
+ghost use Rattle.rev_history.specs.Timeline.{event_at, is_among, kept_footprint};
+
+use crate::text::refused_line;
+use rev_events::Refusal;
+use rev_fields::push_number;
+use rev_footprint::conflict;
+use rev_history::History;
+use std::alloc::{AllocError, Global};
+
+// Whether two events are kept and conflict.
+fn conflict_between(history: &History, first: u32, second: u32) -> bool
+    ensures { result ≡ conflicts (kept_footprint history.now.timeline first) (kept_footprint history.now.timeline second) }
+{
+    let Some(first) = history.footprint_of(first) else {
+        return false;
+    };
+    let Some(second) = history.footprint_of(second) else {
+        return false;
+    };
+    conflict(first, second)
+}
+
+// Whether a kept event depends on another.
+fn depends(history: &History, earlier: u32, later: u32) -> bool
+    ensures { result ≡ depends history.now.timeline earlier later }
+{
+    earlier < later && conflict_between(history, earlier, later)
+}
+
+// Adds a kept number with a space before it, where its event depends on another.
+fn push_dependent(
+    text: &mut Vec<u8>,
+    history: &History,
+    earlier: u32,
+    later: u32,
+) -> Result<(), AllocError>
+    ensures { OnOk result (text.new.items ≡ text.old.items ++ dependent_text history.now.timeline earlier later) }
+{
+    if !depends(history, earlier, later) {
+        return Ok(());
+    }
+    text.extend_from_slice(b" ")?;
+    push_number(text, u64::from(later))
+}
+
+// Adds the kept numbers whose events depend on another.
+fn push_each(text: &mut Vec<u8>, history: &History, number: u32) -> Result<(), AllocError>
+    ensures { OnOk result (text.new.items ≡ text.old.items ++ flat_map (dependent_text history.now.timeline number) history.now.timeline.kept) }
+{
+    for later in history.kept() {
+        push_dependent(text, history, number, *later)?;
+    }
+    Ok(())
+}
+
+// Adds the numbers of the kept events that depend on a kept one, each with a space before it.
+fn push_dependents(text: &mut Vec<u8>, history: &History, number: u32) -> Result<(), AllocError>
+    ensures { OnOk result (text.new.items ≡ text.old.items ++ flat_map (λ m. codes " " ++ decimal m) (dependents history.now.timeline number)) }
+{
+    push_each(text, history, number)
+}
+
+// Whether a number is that of a kept event.
+fn is_kept(history: &History, number: u32) -> bool
+    ensures { result ≡ is_among history.now.timeline.kept number }
+{
+    history.kept().iter().any(|kept| number == *kept)
+}
+
+// Whether an event was accepted under a number.
+fn is_accepted(history: &History, number: u32) -> bool
+    ensures { result ≡ is_some (event_at history.now.timeline number) }
+{
+    history.event(number).is_some()
+}
+
+// `dependents N M...`
+fn answered(alloc: Global, history: &History, number: u32) -> Result<Vec<u8>, AllocError>
+    ensures { IfOk result (λ text. text.items ≡ dependents_line number (dependents history.now.timeline number)) }
+{
+    let mut text = Vec::from_slice(alloc, b"dependents ")?;
+    push_number(&mut text, u64::from(number))?;
+    push_dependents(&mut text, history, number)?;
+    text.extend_from_slice(b"\n")?;
+    Ok(text)
+}
+
+/// The line `dependents N M...` with the kept events that depend on a kept one, or `refused` with the number of the refusal where no event
+/// was accepted under the number or it is not kept.
+pub(crate) fn dependents_text(
+    alloc: Global,
+    history: &History,
+    number: u32,
+) -> Result<Vec<u8>, AllocError>
+    ensures { IfOk result (λ text. text.items ≡ dependents_text history.now.timeline number) }
+{
+    if !is_accepted(history, number) {
+        return refused_line(alloc, Refusal::NoSuchEvent.code());
+    }
+    if !is_kept(history, number) {
+        return refused_line(alloc, Refusal::NotKept.code());
+    }
+    answered(alloc, history, number)
+}

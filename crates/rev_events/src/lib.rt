@@ -1,0 +1,20 @@
+//! Events of a build: when each is refused, and what each does to the state.
+#![tactic(auto)]
+
+mod checks;
+mod edge;
+mod effects;
+mod event;
+mod fault;
+pub mod laws;
+mod refusal;
+mod stamps;
+mod words;
+mod writes;
+
+pub use checks::check;
+pub use effects::effect;
+pub use event::{Event, Listing};
+pub use fault::Fault;
+pub use refusal::Refusal;
+pub use stamps::Stamps;

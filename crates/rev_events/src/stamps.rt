@@ -1,0 +1,68 @@
+//! Stamps that an event gives.
+ghost use Rattle.std.specs.Prelude.{◌≡◌, IfOk, bytes_eq};
+ghost use Rattle.std.specs.Cmp.{partial_equiv_from_equiv};
+ghost use Rattle.std.specs.Cmp.Lexicographic.{nat_list_eq_equiv};
+
+use std::alloc::AllocError;
+use std::marker::Model;
+
+/// Stamps of an edge's outputs, in the order of the outputs.
+#[derive(Debug, Drop)]
+pub struct Stamps {
+    items: Vec<u64>,
+}
+
+impl Model for Stamps {
+    ghost use Rattle.std.specs.Prelude.{List, ℕ};
+
+    ghost Value = { List ℕ };
+
+    ghost view = { λ s. s.items.items };
+}
+
+impl Stamps {
+    /// The stamps of a vector, which is taken over with its memory.
+    pub fn new(items: Vec<u64>) -> Stamps
+        ensures { result ≡ items.items }
+    {
+        Stamps { items }
+    }
+
+    /// The stamps in their order.
+    pub fn as_slice(&self) -> &[u64]
+        ensures { result.now ≡ self.now }
+    {
+        self.items.as_slice()
+    }
+
+    /// Equal stamps.
+    pub fn copy(&self) -> Result<Stamps, AllocError>
+        ensures { IfOk result (λ copy. copy ≡ self.now) }
+    {
+        self.clone()
+    }
+}
+
+impl Clone for Stamps {
+    ghost is_clone = { λ stamps copy. copy ≡ stamps };
+
+    fn clone(&self) -> Result<Stamps, AllocError> {
+        Ok(Stamps {
+            items: self.items.clone()?,
+        })
+    }
+}
+
+impl PartialEq for Stamps {
+    ghost eq = { bytes_eq };
+
+    ghost laws = { partial_equiv_from_equiv nat_list_eq_equiv };
+
+    fn eq(&self, other: &Stamps) -> bool {
+        self.items == other.items
+    }
+}
+
+impl Eq for Stamps {
+    ghost laws = { nat_list_eq_equiv };
+}

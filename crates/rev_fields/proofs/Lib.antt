@@ -1,0 +1,10 @@
+pub mod AnswerLemmas
+pub mod FaultLemmas
+pub mod FieldLemmas
+pub mod InverseLemmas
+pub mod ListLemmas
+pub mod NumberLemmas
+pub mod SaidLemmas
+pub mod SliceLemmas
+pub mod EachLemmas
+pub mod LawLemmas

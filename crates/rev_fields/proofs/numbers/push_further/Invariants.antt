@@ -1,0 +1,7 @@
+use Rattle.std.proofs.Common.{◌≡◌, ◌++◌, ◌∷◌, take}
+use Rattle.std.specs.Prelude.{decimal}
+use Rattle.std.specs.List.{flat_map}
+use Rattle.rev_fields.proofs.numbers.push_further.Given as goal
+
+abbrev pub invariant-loop-number : goal.invariant-loop-number
+invariant-loop-number l = l.line.items ≡ l.initial.line.items ++ flat_map (λ n. 44 ∷ decimal n) (take l.number-index l.numbers)

@@ -1,0 +1,11 @@
+pub mod AddsLemmas
+pub mod BehindLemmas
+pub mod ConflictLemmas
+pub mod EqualLemmas
+pub mod HeldRuns
+pub mod KindLemmas
+pub mod Local
+pub mod MadeLemmas
+pub mod RowLemmas
+pub mod SeenStamps
+pub mod WritesLemmas

@@ -1,0 +1,17 @@
+use Rattle.std.proofs.Common.{◌++◌, ◌∷◌, [], ap, ◌∙◌}
+use Rattle.rev_cells.specs.State.{mark_of}
+use Rattle.rev_cells.specs.declared.cell.Cell.TheVariants as cell
+use Rattle.rev_dirty.specs.Seen.{stamp_cells}
+use Rattle.rev_events.specs.Edge.{held_cells}
+use Rattle.rev_events.specs.Written.{end_writes}
+use Rattle.rev_graph.specs.Graph.{build_at, outputs_of, pool_of}
+use Rattle.rev_footprint.proofs.writes.end_writes.Goals as goal
+
+pub returns : goal.returns
+unfolding end_writes
+returns c =
+    let manifest = c.args.graph.now.manifest in
+    let held = held_cells (pool_of manifest c.args.edge) (mark_of c.args.cells.now.state c.args.edge) in
+    let stamps = stamp_cells (outputs_of (build_at manifest.builds c.args.edge)) in
+    c.in_ok-push_output_stamps.ensures ∙ ap (λ cs. cs ++ stamps) c.in_ok-push_held.ensures
+    ∙ ap (λ cs. (cs ++ held) ++ stamps) c.in_ok-push.ensures.items ∙ ap (λ cs. ((cs ++ cell.Mark c.args.edge ∷ []) ++ held) ++ stamps) c.new-writes.ensures.items

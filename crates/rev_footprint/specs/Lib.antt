@@ -1,0 +1,9 @@
+pub mod Adds
+pub mod Behind
+pub mod Footprint
+pub mod Laws
+pub mod Machine
+pub mod Reads
+pub mod Run
+pub mod Sound
+pub mod Value

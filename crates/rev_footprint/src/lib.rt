@@ -1,0 +1,12 @@
+//! The cells that an event of a build reads and writes, and when two events conflict.
+#![tactic(auto)]
+
+mod behind;
+mod footprints;
+pub mod laws;
+mod of_event;
+mod reads;
+mod writes;
+
+pub use footprints::{Footprint, conflict};
+pub use of_event::footprint;

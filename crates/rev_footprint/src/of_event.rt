@@ -1,0 +1,238 @@
+//! The footprint of an event.
+ghost use Rattle.std.specs.Prelude.{◌≡◌, ◌<◌, [], length, IfOk, OnOk};
+ghost use Rattle.rev_events.specs.Machine.{of_edge, edge_of};
+ghost use Rattle.rev_graph.specs.Graph.{build_at};
+ghost use Rattle.rev_dirty.specs.Inputs.{paths_in, deps_record};
+ghost use Rattle.rev_dirty.specs.Seen.{stamp_cells, built_cells, deps_cells};
+ghost use Rattle.rev_graph.specs.Graph.{outputs_of};
+ghost use Rattle.rev_footprint.specs.Adds.{Adds};
+ghost use Rattle.rev_footprint.specs.Footprint.{footprint as footprint_of, is_plan as is_plan_event};
+ghost use Rattle.rev_footprint.specs.Reads.{start_reads, clean_reads, pass_reads, reads_besides};
+
+use crate::footprints::Footprint;
+use crate::reads::{add, add_all, add_built, add_producer_marks, add_seen_stamps, add_stamps};
+use crate::writes::{deps_cell, written};
+use indexmap::IndexSet;
+use rev_cells::{Cell, Cells};
+use rev_dirty::listed_inputs;
+use rev_events::Event;
+use rev_graph::Graph;
+use rev_paths::Name;
+use std::alloc::{AllocError, Global};
+
+// Adds the stamps of an edge's outputs.
+fn add_output_stamps(graph: &Graph, reads: &mut IndexSet<Cell>, edge: u32) -> Result<(), AllocError>
+    requires { edge < length graph.now.manifest.builds }
+    ensures { OnOk result (Adds reads.old.keys reads.new.keys (stamp_cells (outputs_of (build_at graph.now.manifest.builds edge)))) }
+{
+    let outputs = graph.outputs(edge);
+    add_stamps(reads, outputs.explicit)?;
+    add_stamps(reads, outputs.implicit)?;
+    Ok(())
+}
+
+// Adds the built records of an edge's outputs.
+fn add_output_records(
+    graph: &Graph,
+    reads: &mut IndexSet<Cell>,
+    edge: u32,
+) -> Result<(), AllocError>
+    requires { edge < length graph.now.manifest.builds }
+    ensures { OnOk result (Adds reads.old.keys reads.new.keys (built_cells (outputs_of (build_at graph.now.manifest.builds edge)))) }
+{
+    let outputs = graph.outputs(edge);
+    add_built(reads, outputs.explicit)?;
+    add_built(reads, outputs.implicit)?;
+    Ok(())
+}
+
+// Adds the deps record of an edge that keeps one.
+fn add_deps(graph: &Graph, reads: &mut IndexSet<Cell>, edge: u32) -> Result<(), AllocError>
+    requires { edge < length graph.now.manifest.builds }
+    ensures { OnOk result (Adds reads.old.keys reads.new.keys (deps_cells (build_at graph.now.manifest.builds edge))) }
+{
+    match deps_cell(graph, edge)? {
+        Some(cell) => {
+            add(reads, cell)?;
+            Ok(())
+        }
+        None => Ok(()),
+    }
+}
+
+// Adds what the reasons of an edge depend on.
+fn add_reason_cells(
+    alloc: Global,
+    graph: &Graph,
+    cells: &Cells,
+    reads: &mut IndexSet<Cell>,
+    edge: u32,
+) -> Result<(), AllocError>
+    requires { edge < length graph.now.manifest.builds }
+    ensures { OnOk result (Adds reads.old.keys reads.new.keys (clean_reads graph.now.manifest edge cells.now.state)) }
+{
+    let listed = listed_inputs(graph, cells, edge)?;
+    add_producer_marks(graph, cells, reads, edge, listed)?;
+    add_seen_stamps(alloc, graph, cells, reads, edge, listed)?;
+    add_output_stamps(graph, reads, edge)?;
+    add_output_records(graph, reads, edge)?;
+    add_deps(graph, reads, edge)?;
+    Ok(())
+}
+
+// Adds what a start of an edge reads besides.
+fn add_start_cells(
+    alloc: Global,
+    graph: &Graph,
+    cells: &Cells,
+    reads: &mut IndexSet<Cell>,
+    edge: u32,
+) -> Result<(), AllocError>
+    requires { edge < length graph.now.manifest.builds }
+    ensures { OnOk result (Adds reads.old.keys reads.new.keys (start_reads graph.now.manifest edge cells.now.state)) }
+{
+    add(reads, Cell::Halted)?;
+    add_reason_cells(alloc, graph, cells, reads, edge)?;
+    Ok(())
+}
+
+// Adds what a pass of an edge reads besides.
+fn add_pass_cells(
+    graph: &Graph,
+    cells: &Cells,
+    reads: &mut IndexSet<Cell>,
+    edge: u32,
+) -> Result<(), AllocError>
+    requires { edge < length graph.now.manifest.builds }
+    ensures { OnOk result (Adds reads.old.keys reads.new.keys (pass_reads graph.now.manifest edge cells.now.state)) }
+{
+    let listed = listed_inputs(graph, cells, edge)?;
+    add_producer_marks(graph, cells, reads, edge, listed)?;
+    add_output_stamps(graph, reads, edge)?;
+    add_deps(graph, reads, edge)?;
+    Ok(())
+}
+
+// Adds what a start reads besides of the edge that has the output.
+fn of_start(
+    alloc: Global,
+    graph: &Graph,
+    cells: &Cells,
+    reads: &mut IndexSet<Cell>,
+    out: &Name,
+) -> Result<(), AllocError>
+    ensures { OnOk result (Adds reads.old.keys reads.new.keys (of_edge [] (λ edge. start_reads graph.now.manifest edge cells.now.state) (edge_of graph.now.manifest out.now))) }
+{
+    match graph.producer(out) {
+        Some(edge) => {
+            add_start_cells(alloc, graph, cells, reads, edge)?;
+            Ok(())
+        }
+        None => Ok(()),
+    }
+}
+
+// Adds what a clean reads besides of the edge that has the output.
+fn of_clean(
+    alloc: Global,
+    graph: &Graph,
+    cells: &Cells,
+    reads: &mut IndexSet<Cell>,
+    out: &Name,
+) -> Result<(), AllocError>
+    ensures { OnOk result (Adds reads.old.keys reads.new.keys (of_edge [] (λ edge. clean_reads graph.now.manifest edge cells.now.state) (edge_of graph.now.manifest out.now))) }
+{
+    match graph.producer(out) {
+        Some(edge) => {
+            add_reason_cells(alloc, graph, cells, reads, edge)?;
+            Ok(())
+        }
+        None => Ok(()),
+    }
+}
+
+// Adds what a pass reads besides of the edge that has the output.
+fn of_pass(
+    graph: &Graph,
+    cells: &Cells,
+    reads: &mut IndexSet<Cell>,
+    out: &Name,
+) -> Result<(), AllocError>
+    ensures { OnOk result (Adds reads.old.keys reads.new.keys (of_edge [] (λ edge. pass_reads graph.now.manifest edge cells.now.state) (edge_of graph.now.manifest out.now))) }
+{
+    match graph.producer(out) {
+        Some(edge) => {
+            add_pass_cells(graph, cells, reads, edge)?;
+            Ok(())
+        }
+        None => Ok(()),
+    }
+}
+
+// Adds what an event reads besides the cells that it writes.
+fn add_besides(
+    alloc: Global,
+    graph: &Graph,
+    cells: &Cells,
+    reads: &mut IndexSet<Cell>,
+    event: &Event,
+) -> Result<(), AllocError>
+    ensures { OnOk result (Adds reads.old.keys reads.new.keys (reads_besides graph.now.manifest cells.now.state event.now)) }
+{
+    match event {
+        Event::Start {
+            out,
+            job: _,
+            slot: _,
+        } => of_start(alloc, graph, cells, reads, out),
+        Event::Clean { out } => of_clean(alloc, graph, cells, reads, out),
+        Event::Pass { out } => of_pass(graph, cells, reads, out),
+        Event::Abort { out: _, stamps: _ } => add(reads, Cell::Halted),
+        Event::Plan(_) => Ok(()),
+        Event::Finish {
+            out: _,
+            stamps: _,
+            listing: _,
+        } => Ok(()),
+        Event::Fail { out: _, stamps: _ } => Ok(()),
+        Event::Touch { path: _, stamp: _ } => Ok(()),
+        Event::Interrupt => Ok(()),
+    }
+}
+
+// Whether an event is a plan.
+fn is_plan(event: &Event) -> bool
+    ensures { result ≡ is_plan_event event.now }
+{
+    match event {
+        Event::Plan(_) => true,
+        _ => false,
+    }
+}
+
+/// The footprint of an event in a state: exactly the cells that an accepted event of its kind reads and writes there. A plan is
+/// whole.
+///
+/// A start or a clean reads the marks of the producers of the edge's inputs, the stamps and built records of its outputs, its
+/// deps record where it keeps one, and the stamps that are seen of its inputs that are not order-only, through phony edges
+/// whatever the stamps are; a start whether the build is halted, too. A pass reads no visible stamp. An abort reads whether the
+/// build is halted.
+///
+/// It takes time linear in the cells and in what the phony edges behind the inputs have, up to hashing.
+///
+/// # Errors
+/// [`AllocError`] only where an allocation was refused.
+pub fn footprint(
+    alloc: Global,
+    graph: &Graph,
+    cells: &Cells,
+    event: &Event,
+) -> Result<Footprint, AllocError>
+    ensures { IfOk result (λ footprint. footprint ≡ footprint_of graph.now.manifest cells.now.state event.now) }
+{
+    let writes = written(alloc, graph, cells, event)?;
+    let mut reads = IndexSet::new(alloc);
+    add_all(&mut reads, &writes)?;
+    add_besides(alloc, graph, cells, &mut reads, event)?;
+    Ok(Footprint::of(reads, writes, is_plan(event)))
+}

@@ -1,0 +1,41 @@
+use Rattle.std.proofs.Common.{◌≡◌, None, sym, refl, ap, ◌∙◌}
+use Rattle.std.specs.Vec.{with_item}
+use Rattle.rev_causal.proofs.Beside.{place_found}
+use Rattle.rev_cells.specs.Table.{raised_by}
+use Rattle.rev_history.specs.declared.history.History.TheInside.{Inside}
+use Rattle.rev_history.specs.declared.steps.Step.{Step}
+use Rattle.rev_history.specs.Sound.{timeline_of}
+use Rattle.rev_history.specs.Timeline.{undo_refusal}
+use Rattle.rev_history.specs.Value.{HistoryValue, cells_written}
+use Rattle.rev_history.proofs.Commands.{is_free}
+use Rattle.rev_history.proofs.Fields.{taken_out, ready_at, has_index}
+use Rattle.rev_history.proofs.history.History.put_back.Goals as goal
+
+pub unreachable-requires : goal.unreachable-requires
+unreachable-requires c =
+    let f = is_free (timeline_of c.self.inside) c.args.number (ap (λ (h : HistoryValue). undo_refusal h.timeline c.args.number) c.self.view_is ∙ c.requires) in
+    has_index c.self.inside c.args.number f.event f.at c.in_default.ensures.found
+
+pub exchange-requires-clause-has : goal.exchange-requires-clause-has
+exchange-requires-clause-has c =
+    (ready_at c.self.inside c.self.invariant c.args.number c.in-Some.index c.index_mut-step.result.now (place_found c.args.number c.self.inside.accepted.entries c.in-Some.index (sym c.in-Some.ensures.index)) c.index_mut-step.ensures.value).has
+
+pub exchange-requires-clause-fits : goal.exchange-requires-clause-fits
+exchange-requires-clause-fits c =
+    (ready_at c.self.inside c.self.invariant c.args.number c.in-Some.index c.index_mut-step.result.now (place_found c.args.number c.self.inside.accepted.entries c.in-Some.index (sym c.in-Some.ensures.index)) c.index_mut-step.ensures.value).fits
+
+pub invariant_of-self : goal.invariant_of-self
+invariant_of-self c =
+    let free : undo_refusal (timeline_of c.self.inside) c.args.number ≡ None = ap (λ (h : HistoryValue). undo_refusal h.timeline c.args.number) c.self.view_is ∙ c.requires in
+    let step : Step = record { footprint = c.index_mut-step.result.now.footprint; replaced = c.exchange.new.writes } in
+    (taken_out c.self.inside _ c.args.number c.in-Some.index c.index_mut-step.result.now step c.self.invariant (place_found c.args.number c.self.inside.accepted.entries c.in-Some.index (sym c.in-Some.ensures.index))
+    free c.index_mut-step.ensures.value refl refl refl refl c.exchange.ensures.after refl refl c.exchange.ensures.former c.exchange.ensures.former_fits c.take_out.ensures).sound
+
+pub returns-clause-writes : goal.returns-clause-writes
+returns-clause-writes c =
+    let free : undo_refusal (timeline_of c.self.inside) c.args.number ≡ None = ap (λ (h : HistoryValue). undo_refusal h.timeline c.args.number) c.self.view_is ∙ c.requires in
+    let step : Step = record { footprint = c.index_mut-step.result.now.footprint; replaced = c.exchange.new.writes } in
+    let after : Inside = record c.self.inside { steps = with_item c.self.inside.steps c.in-Some.index step; kept = c.take_out.new.kept; cells = c.exchange.new.self } in
+    (taken_out c.self.inside after c.args.number c.in-Some.index c.index_mut-step.result.now step c.self.invariant (place_found c.args.number c.self.inside.accepted.entries c.in-Some.index (sym c.in-Some.ensures.index))
+    free c.index_mut-step.ensures.value refl refl refl refl c.exchange.ensures.after refl refl c.exchange.ensures.former c.exchange.ensures.former_fits c.take_out.ensures).writes
+    ∙ ap (λ (h : HistoryValue). raised_by (cells_written c.args.number h.timeline) h.writes) c.self.view_is

@@ -1,0 +1,3 @@
+pub mod CellLemmas
+pub mod InputLemmas
+pub mod LineLemmas

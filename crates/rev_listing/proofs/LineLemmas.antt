@@ -1,0 +1,64 @@
+-- Lines, cell by cell.
+use Rattle.std.proofs.Common.{◌≡◌, ℕ, ◌<◌, ◌≤◌, ◌+◌, List, [], ◌∷◌, ◌++◌, length, get_or, take, map, refl, sym, ap, ◌∙◌, append_assoc, append-nil, Result, Ok, Err, IfOk, OnOk}
+use Rattle.std.proofs.lemmas.List.{take_more, take_all, map-append}
+use Rattle.std.specs.Prelude.{codes}
+use Rattle.std.specs.Global.{Vec}
+use Rattle.std.specs.List.{flat_map}
+use Rattle.rev_cells.specs.declared.cell.Cell.{Cell}
+use Rattle.rev_cells.specs.declared.value.Value.{Value}
+use Rattle.rev_cells.specs.State.{State, value_at}
+use Rattle.rev_fields.specs.Fields.{field_text, line_of, spaced}
+use Rattle.rev_listing.specs.Listing.{cells_there, line, listed, told}
+
+-- fields of paths, each with a space before it
+pub fields_of_paths : (paths : List (List ℕ)) → flat_map (λ path. spaced (field_text path)) paths ≡ flat_map spaced (map field_text paths)
+fields_of_paths [] = refl
+fields_of_paths (path ∷ paths) = ap (λ l. spaced (field_text path) ++ l) (fields_of_paths paths)
+
+abbrev Entry : Type 0
+Entry = Cell × Unit {0}
+
+-- the cells of entries
+abbrev pub cells_of : List (Cell × Unit {0}) → List Cell
+cells_of entries = map (λ e. e.0) entries
+
+told-append : (text : Cell → Value → List ℕ) (s : State) (cs ds : List Cell) → told text s (cs ++ ds) ≡ told text s cs ++ told text s ds
+told-append text s [] ds = refl
+told-append text s (c ∷ cs) ds = ap (λ l. text c (value_at s c) ++ l) (told-append text s cs ds) ∙ sym (append_assoc (text c (value_at s c)) (told text s cs) (told text s ds))
+
+cells-append : (es : List Entry) (e : Entry) → cells_of (es ++ e ∷ []) ≡ cells_of es ++ e.0 ∷ []
+cells-append [] e = refl
+cells-append (d ∷ es) e = ap (λ l. d.0 ∷ l) (cells-append es e)
+
+-- one more cell
+pub told-more : (text : Cell → Value → List ℕ) (s : State) (es : List (Cell × Unit {0})) (i : ℕ) (e : Cell × Unit {0}) (out next : List ℕ) → i < length es → e ≡ get_or es i e → out ≡ told text s (cells_of (take i es)) → next ≡ out ++ text e.0 (value_at s e.0) → next ≡ told text s (cells_of (take (i + 1) es))
+told-more text s es i e out next lt at before step =
+    let one : told text s (cells_of (take i es)) ++ text e.0 (value_at s e.0) ≡ told text s (cells_of (take i es) ++ e.0 ∷ []) =
+    ap (λ l. told text s (cells_of (take i es)) ++ l) (sym (append-nil (text e.0 (value_at s e.0)))) ∙ sym (told-append text s (cells_of (take i es)) (e.0 ∷ [])) in
+    step ∙ ap (λ l. l ++ text e.0 (value_at s e.0)) before ∙ one ∙ ap (told text s) (sym (cells-append (take i es) e))
+    ∙ ap (λ l. told text s (cells_of l)) (sym (take_more es i e lt ∙ ap (λ x. take i es ++ x ∷ []) (sym at)))
+
+-- all cells that are there
+pub told-all : (text : Cell → Value → List ℕ) (s : State) (es given : List (Cell × Unit {0})) (i : ℕ) (out : List ℕ) → length es ≤ i → es ≡ given → cells_of given ≡ cells_there s → out ≡ told text s (cells_of (take i es)) → out ≡ listed text s
+told-all text s es given i out le same there before = before ∙ ap (λ l. told text s (cells_of l)) (take_all i es le ∙ same) ∙ ap (told text s) there
+
+-- a line by its first field and the others
+pub line-from : (word : List ℕ) (fields : List (List ℕ)) (out before mid : List ℕ) → mid ≡ before ++ word → out ≡ mid ++ flat_map spaced fields → out ++ codes "\n" ≡ before ++ line (word ∷ fields)
+line-from word fields out before mid first further =
+    ap (λ l. l ++ codes "\n") (further ∙ ap (λ l. l ++ flat_map spaced fields) first ∙ append_assoc before word (flat_map spaced fields)) ∙ append_assoc before (word ++ flat_map spaced fields) (codes "\n")
+
+-- entries that are these have their cells
+pub cells_from : {E : Type 0} (r : Result (Vec (Cell × Unit {0})) E) (es : List (Cell × Unit {0})) (s : State) → IfOk r (λ there. there.items ≡ es) → cells_of es ≡ cells_there s → IfOk r (λ there. cells_of there.items ≡ cells_there s)
+cells_from (Ok there) es s same whole = ap cells_of same ∙ whole
+cells_from (Err e) es s same whole = tt
+
+-- the bytes of an output or an input
+pub fact-at : {E : Type 0} (r : Result (Unit {0}) E) (new text bytes wanted : List ℕ) → bytes ≡ wanted → OnOk r (new ≡ text ++ spaced (field_text bytes)) → OnOk r (new ≡ text ++ spaced (field_text wanted))
+fact-at (Ok x) new text bytes wanted e h = h ∙ ap (λ b. text ++ spaced (field_text b)) e
+fact-at (Err x) new text bytes wanted e h = tt
+
+-- a reason of one part, as it is written
+pub one-part : {E : Type 0} (r : Result (Unit {0}) E) (new text word part : List ℕ) (fields : List (List ℕ)) → word ∷ part ∷ [] ≡ fields → OnOk r (new ≡ text ++ spaced word ++ spaced part) → OnOk r (new ≡ text ++ flat_map spaced fields)
+one-part (Ok x) new text word part fields e h =
+    h ∙ append_assoc text (spaced word) (spaced part) ∙ ap (λ l. text ++ (spaced word ++ l)) (sym (append-nil (spaced part))) ∙ ap (λ fs. text ++ flat_map spaced fs) e
+one-part (Err x) new text word part fields e h = tt

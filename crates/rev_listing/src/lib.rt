@@ -1,0 +1,14 @@
+//! What a state is told as: the lines of its files, its marks, its logs, and why an edge is dirty.
+#![tactic(auto)]
+
+mod logs;
+mod marks;
+mod output;
+mod reasons;
+mod stamps;
+mod there;
+
+pub use logs::logs_text;
+pub use marks::marks_text;
+pub use reasons::why_text;
+pub use stamps::stamps_text;

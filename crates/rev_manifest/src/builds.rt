@@ -1,0 +1,148 @@
+//! The edges of a manifest.
+ghost use Rattle.std.specs.Prelude.{◌≡◌};
+
+use crate::shared_text::SharedText;
+use rev_paths::Name;
+use std::marker::Model;
+
+/// An edge of a manifest: the paths of its build line, and the values of its rule's variables.
+#[derive(Drop)]
+pub struct Build {
+    pub(crate) phony: bool,
+    pub(crate) explicit_outs: Vec<Name>,
+    pub(crate) implicit_outs: Vec<Name>,
+    pub(crate) explicit: Vec<Name>,
+    pub(crate) implicit: Vec<Name>,
+    pub(crate) order_only: Vec<Name>,
+    pub(crate) validations: Vec<Name>,
+    pub(crate) command: SharedText,
+    pub(crate) keeps_deps: bool,
+    pub(crate) restat: bool,
+    pub(crate) generator: bool,
+    pub(crate) pool: Option<u32>,
+    pub(crate) file: u64,
+    pub(crate) line: u64,
+}
+
+impl Model for Build {
+    ghost use Rattle.rev_manifest.specs.Builds.{BuildValue};
+
+    ghost Value = { BuildValue };
+
+    ghost view = { λ build. record {
+      phony = build.phony;
+      explicit_outs = build.explicit_outs.items;
+      implicit_outs = build.implicit_outs.items;
+      explicit = build.explicit.items;
+      implicit = build.implicit.items;
+      order_only = build.order_only.items;
+      validations = build.validations.items;
+      command = build.command;
+      keeps_deps = build.keeps_deps;
+      restat = build.restat;
+      generator = build.generator;
+      pool = build.pool;
+      file = build.file;
+      line = build.line;
+    } };
+}
+
+impl Build {
+    /// Whether its rule is `phony`.
+    pub fn phony(&self) -> bool
+        ensures { result ≡ self.now.phony }
+    {
+        self.phony
+    }
+
+    /// The outputs before `|`, each once, at its first place.
+    pub fn explicit_outs(&self) -> &[Name]
+        ensures { result.now ≡ self.now.explicit_outs }
+    {
+        &self.explicit_outs
+    }
+
+    /// The outputs after `|` that are none of those, each once.
+    pub fn implicit_outs(&self) -> &[Name]
+        ensures { result.now ≡ self.now.implicit_outs }
+    {
+        &self.implicit_outs
+    }
+
+    /// The inputs before `|`.
+    pub fn explicit(&self) -> &[Name]
+        ensures { result.now ≡ self.now.explicit }
+    {
+        &self.explicit
+    }
+
+    /// The inputs after `|`.
+    pub fn implicit(&self) -> &[Name]
+        ensures { result.now ≡ self.now.implicit }
+    {
+        &self.implicit
+    }
+
+    /// The inputs after `||`, which come first but are no reason to run (Ninja manual, order-only dependencies).
+    pub fn order_only(&self) -> &[Name]
+        ensures { result.now ≡ self.now.order_only }
+    {
+        &self.order_only
+    }
+
+    /// The paths after `|@`.
+    pub fn validations(&self) -> &[Name]
+        ensures { result.now ≡ self.now.validations }
+    {
+        &self.validations
+    }
+
+    /// The command that is compared with the recorded one. A phony edge has none.
+    pub fn command(&self) -> &[u8]
+        ensures { result.now ≡ self.now.command }
+    {
+        self.command.as_bytes()
+    }
+
+    /// Whether the listing of a depfile is kept.
+    pub fn keeps_deps(&self) -> bool
+        ensures { result ≡ self.now.keeps_deps }
+    {
+        self.keeps_deps
+    }
+
+    /// Whether outputs that a command leaves alone count as unchanged (Ninja manual, restat).
+    pub fn restat(&self) -> bool
+        ensures { result ≡ self.now.restat }
+    {
+        self.restat
+    }
+
+    /// Whether a change of the command is no reason to run it (Ninja manual, generator).
+    pub fn generator(&self) -> bool
+        ensures { result ≡ self.now.generator }
+    {
+        self.generator
+    }
+
+    /// The number of its pool, if it has one, which is below the number of the manifest's pools.
+    pub fn pool(&self) -> Option<u32>
+        ensures { result ≡ self.now.pool }
+    {
+        self.pool
+    }
+
+    /// The place of its file among those given, from 0.
+    pub fn file(&self) -> u64
+        ensures { result ≡ self.now.file }
+    {
+        self.file
+    }
+
+    /// The number of the first line of its build statement, from 1.
+    pub fn line(&self) -> u64
+        ensures { result ≡ self.now.line }
+    {
+        self.line
+    }
+}

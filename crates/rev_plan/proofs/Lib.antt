@@ -1,0 +1,5 @@
+pub mod LeastLemmas
+pub mod CycleLemmas
+pub mod StepsLemmas
+pub mod PlanLemmas
+pub mod ChainLemmas

@@ -1,0 +1,25 @@
+use Rattle.std.proofs.Common.{◌≡◌, ◌&&◌, ◌++◌, ◌∷◌, [], ◌∙◌, ap, arith, sym}
+use Rattle.std.proofs.lemmas.List.FromFn.{map-range_with_len_more}
+use Rattle.rev_ranks.specs.Sets.{is_marked}
+use Rattle.rev_dirty.specs.ScanValue.{ScanValue}
+use Rattle.rev_plan.specs.Plan.{is_dirty}
+use Rattle.rev_plan.proofs.PlanLemmas.{dirty-are}
+use Rattle.rev_plan.proofs.marks.dirty_among.Goals as goal
+
+pub loop-edge-preserved : goal.loop-edge-preserved
+loop-edge-preserved c =
+    let edge = c.loop-edge.edge in
+    let is : c.in_ok-is_dirty_where.field-0 ≡ (is_marked c.args.marks.now edge && is_dirty c.args.graph.now.manifest.builds c.args.cells.now.state edge) =
+    c.in_ok-is_dirty_where.ensures.dirty ∙ (λ i. is_marked c.args.marks.now edge && is_dirty (c.loop-edge.invariant.graph i).manifest.builds (c.loop-edge.invariant.state i) edge) in
+    record {
+      graph = ap (λ (s : ScanValue). s.graph) c.in_ok-is_dirty_where.ensures.same ∙ c.loop-edge.invariant.graph;
+      state = ap (λ (s : ScanValue). s.state) c.in_ok-is_dirty_where.ensures.same ∙ c.loop-edge.invariant.state;
+      dirty =
+          c.in_ok-push.ensures.items ∙ (λ i. c.loop-edge.invariant.dirty i ++ is i ∷ [])
+          ∙ sym (map-range_with_len_more (λ edge. is_marked c.args.marks.now edge && is_dirty c.args.graph.now.manifest.builds c.args.cells.now.state edge) 0 edge edge (omega arith));
+    }
+
+pub returns : goal.returns
+returns c =
+    dirty-are c.args.graph.now.manifest.builds c.args.cells.now.state c.args.marks.now c.loop-edge.dirty.items c.loop-edge.edge c.requires.each (omega (arith, c.loop-edge-test.false, c.requires.each))
+    c.loop-edge.invariant.dirty

@@ -1,0 +1,12 @@
+use Rattle.std.proofs.Common.{◌≡◌, ◌&&◌, map}
+use Rattle.std.specs.List.{range_with_len}
+use Rattle.rev_ranks.specs.Sets.{is_marked}
+use Rattle.rev_plan.specs.Plan.{is_dirty}
+use Rattle.rev_plan.proofs.marks.dirty_among.Given as goal
+
+abbrev pub invariant-loop-edge : goal.invariant-loop-edge
+invariant-loop-edge l = record {
+  graph : l.scan.graph ≡ l.graph;
+  state : l.scan.state ≡ l.cells.state;
+  dirty : l.dirty.items ≡ map (λ edge. is_marked l.marks edge && is_dirty l.graph.manifest.builds l.cells.state edge) (range_with_len 0 l.edge);
+}

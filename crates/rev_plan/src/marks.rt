@@ -1,0 +1,213 @@
+//! The marks of a plan.
+ghost use Rattle.std.specs.Prelude.{◌≡◌, ◌<◌, ◌≤◌, ◌^◌, ℕ, None, not, ◌&&◌, find, map, length, IfOk, IfErr, OnOk, if◌then◌else◌};
+ghost use Rattle.std.specs.List.{All, list_any, position, range_with_len};
+ghost use Rattle.rev_graph.specs.Graph.{is_known};
+ghost use Rattle.rev_cells.specs.declared.mark.Mark.TheVariants as mark;
+ghost use Rattle.rev_ranks.specs.Graph.{graph_of, Reaches};
+ghost use Rattle.rev_plan.specs.Fault.{Explains, NamesCycle};
+ghost use Rattle.rev_plan.specs.Plan.{edge_numbers, is_dirty, is_own_reason, is_running as is_running_in, mark_for, marks_of, needs_refusal, plan_refusal, targets_or};
+ghost use Rattle.rev_plan.specs.Steps.{AreDirty, AreReached, mark_by};
+
+use crate::fault::PlanFault;
+use crate::lacking::missing_input_among;
+use crate::steps::{Along, producers_of, steps_among};
+use rev_cells::{Cell, Cells, Mark, Value};
+use rev_dirty::{DependencyScan, Reason};
+use rev_graph::Graph;
+use rev_paths::Name;
+use rev_ranks::{RankFault, leading_to, ranks, reachable_from};
+use std::alloc::{AllocError, Global};
+
+// Whether the command of an edge runs.
+fn is_running(cells: &Cells, edge: u32) -> bool
+    ensures { result ≡ is_running_in cells.now.state edge }
+{
+    match cells.get(&Cell::Mark(edge)) {
+        Some(Value::Mark(Mark::Running { .. })) => true,
+        _ => false,
+    }
+}
+
+// The least edge whose command runs.
+fn first_running(graph: &Graph, cells: &Cells) -> Option<u32>
+    ensures { result ≡ find (is_running_in cells.now.state) (edge_numbers graph.now.manifest.builds) }
+{
+    for edge in 0..graph.edges() {
+        if is_running(cells, edge) {
+            return Some(edge);
+        }
+    }
+    None
+}
+
+// The targets, or the graph's defaults where none is named.
+fn targets_or_defaults<'a>(graph: &'a Graph, targets: &'a [Name]) -> &'a [Name]
+    ensures { result.now ≡ targets_or graph.now.manifest.defaults targets.now }
+{
+    if targets.is_empty() {
+        graph.defaults()
+    } else {
+        targets
+    }
+}
+
+// The position of the first target that stands on no build line.
+fn first_unknown(graph: &Graph, targets: &[Name]) -> Option<usize>
+    ensures { result ≡ position (λ path. not (is_known graph.now.manifest.builds path)) targets.now }
+{
+    targets.iter().position(|target| !graph.known(target))
+}
+
+// Whether an edge has a reason that its producers did not give it.
+fn has_own_reason(reasons: &[Reason]) -> bool
+    ensures { result ≡ list_any is_own_reason reasons.now }
+{
+    reasons.iter().any(|reason| reason.kind() != 4)
+}
+
+// Whether an edge that has a mark has a reason of its own.
+fn is_dirty_where(scan: &mut DependencyScan, edge: u32, is_marked: bool) -> Result<bool, AllocError>
+    requires { edge < length scan.old.graph.manifest.builds }
+    ensures dirty { IfOk result (λ dirty. dirty ≡ (is_marked && is_dirty scan.old.graph.manifest.builds scan.old.state edge)) }
+    ensures same { scan.new ≡ scan.old }
+{
+    if !is_marked {
+        return Ok(false);
+    }
+    let reasons = scan.reasons(edge)?;
+    Ok(has_own_reason(&reasons))
+}
+
+// The edges that have a mark and a reason of their own. Each is asked for its reasons once.
+fn dirty_among(
+    alloc: Global,
+    graph: &Graph,
+    cells: &Cells,
+    marks: &[bool],
+) -> Result<Vec<bool>, AllocError>
+    requires each { length marks.now ≡ length graph.now.manifest.builds }
+    requires few { length graph.now.manifest.builds ≤ 262144 }
+    ensures { IfOk result (λ dirty. AreDirty graph.now.manifest.builds cells.now.state marks.now dirty.items) }
+{
+    let mut scan = DependencyScan::new(alloc, graph, cells);
+    let mut dirty = Vec::with_capacity(alloc, marks.len())?;
+    for edge in 0..marks.len() {
+        dirty.push(is_dirty_where(&mut scan, edge as u32, marks[edge])?)?;
+    }
+    Ok(dirty)
+}
+
+// The mark of an edge that is wanted, or waits for one that is, or neither.
+fn mark_of(is_wanted: bool, is_waiting: bool) -> Mark
+    ensures { result ≡ (if is_wanted then mark.Wanted else if is_waiting then mark.Through else mark.Idle) }
+{
+    match (is_wanted, is_waiting) {
+        (true, _) => Mark::Wanted,
+        (false, true) => Mark::Through,
+        (false, false) => Mark::Idle,
+    }
+}
+
+// The marks of edges of which some are wanted, and some wait for these.
+fn marks_by(alloc: Global, wanted: &[bool], waiting: &[bool]) -> Result<Vec<Mark>, AllocError>
+    requires { length waiting.now ≡ length wanted.now }
+    ensures { IfOk result (λ marks. marks.items ≡ map (mark_by wanted.now waiting.now) (range_with_len 0 (length wanted.now))) }
+{
+    let mut marks = Vec::with_capacity(alloc, wanted.len())?;
+    for edge in 0..wanted.len() {
+        marks.push(mark_of(wanted[edge], waiting[edge]))?;
+    }
+    Ok(marks)
+}
+
+// The edges that are one of the roots or that these need.
+fn reached_from(
+    alloc: Global,
+    graph: &Graph,
+    cells: &Cells,
+    roots: &[u32],
+) -> Result<Vec<bool>, AllocError>
+    requires nodes { All (λ edge. edge < length graph.now.manifest.builds) roots.now }
+    requires few { length graph.now.manifest.builds ≤ 262144 }
+    ensures { IfOk result (λ reached. AreReached graph.now.manifest.builds cells.now.state roots.now reached.items) }
+{
+    let all = vec![in alloc; true; graph.edges() as usize]?;
+    let needs = steps_among(alloc, graph, cells, &all, Along::Needs)?;
+    let reached = reachable_from(alloc, &needs, roots)?;
+    Ok(reached)
+}
+
+// Names the least edge that reaches itself, if one does.
+fn refuse_cycle(alloc: Global, steps: &[Vec<u32>]) -> Result<(), PlanFault>
+    requires inside { All (λ v. All (λ s. s < length steps.now) v.items) steps.now }
+    requires small { length steps.now < 2 ^ 32 }
+    ensures acyclic { OnOk result ((edge : ℕ) → Reaches (graph_of steps.now) edge edge → ⊥) }
+    ensures cycle { IfErr result (λ fault. NamesCycle fault (graph_of steps.now)) }
+{
+    match ranks(alloc, steps) {
+        Ok(_) => Ok(()),
+        Err(RankFault::Memory) => Err(PlanFault::Memory),
+        Err(RankFault::Cycle(edge)) => Err(PlanFault::DepsCycle(edge)),
+    }
+}
+
+// The marks of a plan for the edges that produce its targets.
+fn plan_for(
+    alloc: Global,
+    graph: &Graph,
+    cells: &Cells,
+    roots: &[u32],
+) -> Result<Vec<Mark>, PlanFault>
+    requires nodes { All (λ edge. edge < length graph.now.manifest.builds) roots.now }
+    requires few { length graph.now.manifest.builds ≤ 262144 }
+    ensures marks { IfOk result (λ marks. marks.items ≡ map (mark_for graph.now.manifest.builds cells.now.state roots.now) (edge_numbers graph.now.manifest.builds)) }
+    ensures accepted { OnOk result (needs_refusal graph.now.manifest.builds cells.now.state roots.now ≡ None) }
+    ensures refused { IfErr result (λ fault. Explains fault (needs_refusal graph.now.manifest.builds cells.now.state roots.now)) }
+{
+    let reached = reached_from(alloc, graph, cells, roots)?;
+    if let Some((position, edge)) = missing_input_among(graph, cells, &reached)? {
+        return Err(PlanFault::MissingInput(position, edge));
+    }
+    let inputs = steps_among(alloc, graph, cells, &reached, Along::Inputs)?;
+    refuse_cycle(alloc, &inputs)?;
+    let dirty = dirty_among(alloc, graph, cells, &reached)?;
+    let counted = steps_among(alloc, graph, cells, &reached, Along::Counted)?;
+    let wanted = leading_to(alloc, &counted, &dirty)?;
+    let waiting = leading_to(alloc, &inputs, &wanted)?;
+    let marks = marks_by(alloc, &wanted, &waiting)?;
+    Ok(marks)
+}
+
+/// A mark for each edge: `Wanted` where its command is to be run, `Through` where it only waits for such an edge, and `Idle`.
+/// Where no target is named the graph's defaults are the targets.
+///
+/// The edges that produce the targets are reached, and those that produce an input or a validation of a reached edge (Ninja
+/// manual, validations). A reached edge is wanted where it is dirty, and where an input that is not order-only is produced by
+/// a wanted edge. An edge that only has to wait for such an edge is a way through.
+///
+/// It takes time linear in edges, inputs and deps records, up to hashing: each reached edge is asked for its reasons once.
+///
+/// # Errors
+/// The first of: [`PlanFault::StillRunning`], [`PlanFault::UnknownTarget`], [`PlanFault::MissingInput`],
+/// [`PlanFault::DepsCycle`]. [`PlanFault::Memory`] only where an allocation was refused.
+pub fn plan(
+    alloc: Global,
+    graph: &Graph,
+    cells: &Cells,
+    targets: &[Name],
+) -> Result<Vec<Mark>, PlanFault>
+    ensures marks { IfOk result (λ marks. marks.items ≡ marks_of graph.now.manifest cells.now.state targets.now) }
+    ensures accepted { OnOk result (plan_refusal graph.now.manifest cells.now.state targets.now ≡ None) }
+    ensures refused { IfErr result (λ fault. Explains fault (plan_refusal graph.now.manifest cells.now.state targets.now)) }
+{
+    let targets = targets_or_defaults(graph, targets);
+    if let Some(edge) = first_running(graph, cells) {
+        return Err(PlanFault::StillRunning(edge));
+    }
+    if let Some(position) = first_unknown(graph, targets) {
+        return Err(PlanFault::UnknownTarget(position as u64));
+    }
+    let _edges = graph.edges();
+    let roots = producers_of(alloc, graph, targets)?;
+    plan_for(alloc, graph, cells, &roots)
+}

@@ -1,0 +1,74 @@
+//! Commands of lines.
+ghost use Rattle.std.specs.Prelude.{◌≡◌};
+ghost use Rattle.rev_fields.specs.Faults.{Answers};
+ghost use Rattle.rev_fields.specs.Parts.{vectors_of};
+ghost use Rattle.rev_trace.specs.Commands.{command_line, bare_of, command_of, taken_by};
+
+use crate::command::Command;
+use crate::events::{BAD_LINE, abort, clean, event_number, fail, finish, pass, plan, start, touch};
+use crate::verb::Verb;
+use rev_cells::Names;
+use rev_events::Event;
+use rev_fields::{LineFault, read_fields};
+use std::alloc::Global;
+
+// A word that stands alone.
+fn bare(command: Command, texts: &[Vec<u8>]) -> Result<Command, LineFault>
+    ensures { Answers result (λ c. c) (bare_of command (vectors_of texts.now)) }
+{
+    if texts.is_empty() {
+        return Ok(command);
+    }
+    Err(BAD_LINE)
+}
+
+// What a word takes.
+fn taken_by(
+    alloc: Global,
+    targets: &Names,
+    verb: Verb,
+    texts: &[Vec<u8>],
+) -> Result<Command, LineFault>
+    ensures { Answers result (λ c. c) (taken_by targets.now verb (vectors_of texts.now)) }
+{
+    match verb {
+        Verb::Plan => plan(alloc, targets, texts),
+        Verb::Start => start(alloc, texts),
+        Verb::Finish => finish(alloc, texts),
+        Verb::Fail => fail(alloc, texts),
+        Verb::Abort => abort(alloc, texts),
+        Verb::Clean => clean(alloc, texts),
+        Verb::Pass => pass(alloc, texts),
+        Verb::Touch => touch(alloc, texts),
+        Verb::Interrupt => bare(Command::Event(Event::Interrupt), texts),
+        Verb::Undo => Ok(Command::Undo(event_number(texts)?)),
+        Verb::Redo => Ok(Command::Redo(event_number(texts)?)),
+        Verb::Cone => Ok(Command::Cone(event_number(texts)?)),
+        Verb::Back => bare(Command::Back, texts),
+    }
+}
+
+/// The command that the texts of a line's fields are, where `plan` without a path means these targets.
+pub fn command_of_texts(
+    alloc: Global,
+    targets: &Names,
+    texts: &[Vec<u8>],
+) -> Result<Command, LineFault>
+    ensures { Answers result (λ c. c) (command_of targets.now (vectors_of texts.now)) }
+{
+    let Some((word, rest)) = texts.split_first() else {
+        return Err(BAD_LINE);
+    };
+    match Verb::of_word(word) {
+        None => Err(BAD_LINE),
+        Some(verb) => taken_by(alloc, targets, verb, rest),
+    }
+}
+
+/// The command that a line is, where `plan` without a path means these targets.
+pub fn read_command(alloc: Global, targets: &Names, line: &[u8]) -> Result<Command, LineFault>
+    ensures { Answers result (λ c. c) (command_line targets.now line.now) }
+{
+    let texts = read_fields(alloc, line)?;
+    command_of_texts(alloc, targets, &texts)
+}

@@ -1,0 +1,206 @@
+//! What words take: the parts of commands, from the texts of their fields.
+ghost use Rattle.std.specs.Prelude.{◌∷◌};
+ghost use Rattle.rev_events.specs.declared.event.Event.TheVariants as event;
+ghost use Rattle.rev_fields.specs.Faults.{Answers};
+ghost use Rattle.rev_fields.specs.Parts.{vectors_of};
+ghost use Rattle.rev_trace.specs.Commands.{alone_of, depfile_of, ended_of, ending_of, event_number_of, finish_of, list_of, listing_of, plan_of, settled_of, start_of, touch_of};
+
+use crate::command::Command;
+use rev_cells::{Names, Text};
+use rev_events::{Event, Listing, Stamps};
+use rev_fields::{FaultKind, LineFault, number, path, paths, wide_number, wide_numbers};
+use rev_paths::Name;
+use std::alloc::Global;
+
+pub(crate) const BAD_LINE: LineFault = LineFault::Kind(FaultKind::Syntax);
+
+/// `plan PATH...`; without a path these targets are meant.
+pub(crate) fn plan(alloc: Global, targets: &Names, texts: &[Vec<u8>]) -> Result<Command, LineFault>
+    ensures { Answers result (λ c. c) (plan_of targets.now (vectors_of texts.now)) }
+{
+    if texts.is_empty() {
+        return Ok(Command::Event(Event::Plan(targets.copy()?)));
+    }
+    let paths = paths(alloc, texts)?;
+    Ok(Command::Event(Event::Plan(Names::new(paths))))
+}
+
+// `start OUT JOB [SLOT]`, by its parts
+fn started(alloc: Global, out: &[u8], job: &[u8], rest: &[Vec<u8>]) -> Result<Command, LineFault>
+    ensures { Answers result (λ c. c) (start_of (out.now ∷ job.now ∷ vectors_of rest.now)) }
+{
+    match rest {
+        [] => {
+            let out = path(alloc, out)?;
+            let job = number(job)?;
+            let slot = None;
+            Ok(Command::Event(Event::Start { out, job, slot }))
+        }
+        [slot] => {
+            let out = path(alloc, out)?;
+            let job = number(job)?;
+            let slot = Some(number(slot)?);
+            Ok(Command::Event(Event::Start { out, job, slot }))
+        }
+        _ => Err(BAD_LINE),
+    }
+}
+
+/// `start OUT JOB [SLOT]`
+pub(crate) fn start(alloc: Global, texts: &[Vec<u8>]) -> Result<Command, LineFault>
+    ensures { Answers result (λ c. c) (start_of (vectors_of texts.now)) }
+{
+    let Some((out, after_out)) = texts.split_first() else {
+        return Err(BAD_LINE);
+    };
+    let Some((job, rest)) = after_out.split_first() else {
+        return Err(BAD_LINE);
+    };
+    started(alloc, out, job, rest)
+}
+
+// `depfile TEXT`
+fn depfile(alloc: Global, texts: &[Vec<u8>]) -> Result<Listing, LineFault>
+    ensures { Answers result (λ l. l) (depfile_of (vectors_of texts.now)) }
+{
+    match texts {
+        [text] => Ok(Listing::Depfile(Text::new(Vec::from_slice(alloc, text)?))),
+        _ => Err(BAD_LINE),
+    }
+}
+
+// `list PATH...`
+fn list(alloc: Global, texts: &[Vec<u8>]) -> Result<Listing, LineFault>
+    ensures { Answers result (λ l. l) (list_of (vectors_of texts.now)) }
+{
+    let paths = paths(alloc, texts)?;
+    Ok(Listing::Paths(Names::new(paths)))
+}
+
+// Nothing, `depfile TEXT` or `list PATH...`
+fn listing(alloc: Global, texts: &[Vec<u8>]) -> Result<Listing, LineFault>
+    ensures { Answers result (λ l. l) (listing_of (vectors_of texts.now)) }
+{
+    let Some((word, rest)) = texts.split_first() else {
+        return Ok(Listing::Nothing);
+    };
+    if word.as_slice() == b"depfile".as_slice() {
+        return depfile(alloc, rest);
+    }
+    if word.as_slice() == b"list".as_slice() {
+        return list(alloc, rest);
+    }
+    Err(BAD_LINE)
+}
+
+// `finish OUT N,N...` and a listing, by its parts
+fn finished(
+    alloc: Global,
+    out: &[u8],
+    stamps: &[u8],
+    rest: &[Vec<u8>],
+) -> Result<Command, LineFault>
+    ensures { Answers result (λ c. c) (finish_of (out.now ∷ stamps.now ∷ vectors_of rest.now)) }
+{
+    let out = path(alloc, out)?;
+    let listing = listing(alloc, rest)?;
+    let stamps = Stamps::new(wide_numbers(alloc, stamps)?);
+    Ok(Command::Event(Event::Finish {
+        out,
+        stamps,
+        listing,
+    }))
+}
+
+/// `finish OUT N,N...` and a listing
+pub(crate) fn finish(alloc: Global, texts: &[Vec<u8>]) -> Result<Command, LineFault>
+    ensures { Answers result (λ c. c) (finish_of (vectors_of texts.now)) }
+{
+    let Some((out, after_out)) = texts.split_first() else {
+        return Err(BAD_LINE);
+    };
+    let Some((stamps, rest)) = after_out.split_first() else {
+        return Err(BAD_LINE);
+    };
+    finished(alloc, out, stamps, rest)
+}
+
+// An output and stamps: `OUT N,N...`
+fn ended(alloc: Global, texts: &[Vec<u8>]) -> Result<(Name, Stamps), LineFault>
+    ensures { Answers result (λ e. e) (ending_of (vectors_of texts.now)) }
+{
+    match texts {
+        [out, stamps] => {
+            let out = path(alloc, out)?;
+            let stamps = wide_numbers(alloc, stamps)?;
+            Ok((out, Stamps::new(stamps)))
+        }
+        _ => Err(BAD_LINE),
+    }
+}
+
+/// `fail OUT N,N...`
+pub(crate) fn fail(alloc: Global, texts: &[Vec<u8>]) -> Result<Command, LineFault>
+    ensures { Answers result (λ c. c) (ended_of event.Fail (vectors_of texts.now)) }
+{
+    let (out, stamps) = ended(alloc, texts)?;
+    Ok(Command::Event(Event::Fail { out, stamps }))
+}
+
+/// `abort OUT N,N...`
+pub(crate) fn abort(alloc: Global, texts: &[Vec<u8>]) -> Result<Command, LineFault>
+    ensures { Answers result (λ c. c) (ended_of event.Abort (vectors_of texts.now)) }
+{
+    let (out, stamps) = ended(alloc, texts)?;
+    Ok(Command::Event(Event::Abort { out, stamps }))
+}
+
+// A path alone.
+fn alone(alloc: Global, texts: &[Vec<u8>]) -> Result<Name, LineFault>
+    ensures { Answers result (λ name. name) (alone_of (vectors_of texts.now)) }
+{
+    match texts {
+        [text] => path(alloc, text),
+        _ => Err(BAD_LINE),
+    }
+}
+
+/// `clean OUT`
+pub(crate) fn clean(alloc: Global, texts: &[Vec<u8>]) -> Result<Command, LineFault>
+    ensures { Answers result (λ c. c) (settled_of event.Clean (vectors_of texts.now)) }
+{
+    let out = alone(alloc, texts)?;
+    Ok(Command::Event(Event::Clean { out }))
+}
+
+/// `pass OUT`
+pub(crate) fn pass(alloc: Global, texts: &[Vec<u8>]) -> Result<Command, LineFault>
+    ensures { Answers result (λ c. c) (settled_of event.Pass (vectors_of texts.now)) }
+{
+    let out = alone(alloc, texts)?;
+    Ok(Command::Event(Event::Pass { out }))
+}
+
+/// `touch PATH N`
+pub(crate) fn touch(alloc: Global, texts: &[Vec<u8>]) -> Result<Command, LineFault>
+    ensures { Answers result (λ c. c) (touch_of (vectors_of texts.now)) }
+{
+    match texts {
+        [text, stamp] => {
+            let path = path(alloc, text)?;
+            let stamp = wide_number(stamp)?;
+            Ok(Command::Event(Event::Touch { path, stamp }))
+        }
+        _ => Err(BAD_LINE),
+    }
+}
+
+/// The number of an event.
+pub(crate) fn event_number(texts: &[Vec<u8>]) -> Result<u32, LineFault>
+    ensures { Answers result (λ n. n) (event_number_of (vectors_of texts.now)) }
+{
+    match texts {
+        [text] => number(text),
+        _ => Err(BAD_LINE),
+    }
+}

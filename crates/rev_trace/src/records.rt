@@ -1,0 +1,152 @@
+//! Opening lines, from the texts of their fields.
+ghost use Rattle.std.specs.Prelude.{◌≡◌, ◌∷◌};
+ghost use Rattle.rev_fields.specs.Faults.{Answers};
+ghost use Rattle.rev_fields.specs.Parts.{vectors_of};
+ghost use Rattle.rev_trace.specs.declared.record.Record.{Record};
+ghost use Rattle.rev_trace.specs.Records.{built_of, deps_of, gives_jobs, jobs_of, lane_of, record_of, stamp_of, target_of};
+
+use crate::events::BAD_LINE;
+use crate::record::Record;
+use rev_cells::{Names, Text};
+use rev_fields::{FaultKind, LineFault, number, path, paths, wide_number};
+use std::alloc::Global;
+
+const BAD_LANE: LineFault = LineFault::Kind(FaultKind::Lane);
+
+// `jobs N`
+fn jobs(texts: &[Vec<u8>]) -> Result<Record, LineFault>
+    ensures { Answers result (λ r. r) (jobs_of (vectors_of texts.now)) }
+{
+    match texts {
+        [text] => Ok(Record::Jobs(number(text)?)),
+        _ => Err(BAD_LINE),
+    }
+}
+
+// `stamp PATH N`
+fn stamp(alloc: Global, texts: &[Vec<u8>]) -> Result<Record, LineFault>
+    ensures { Answers result (λ r. r) (stamp_of (vectors_of texts.now)) }
+{
+    match texts {
+        [text, stamp] => {
+            let path = path(alloc, text)?;
+            let stamp = wide_number(stamp)?;
+            Ok(Record::Stamp(path, stamp))
+        }
+        _ => Err(BAD_LINE),
+    }
+}
+
+// `built PATH N COMMAND`, by its parts
+fn logged(alloc: Global, text: &[u8], stamp: &[u8], rest: &[Vec<u8>]) -> Result<Record, LineFault>
+    ensures { Answers result (λ r. r) (built_of (text.now ∷ stamp.now ∷ vectors_of rest.now)) }
+{
+    match rest {
+        [] => Err(BAD_LINE),
+        [command] => {
+            let path = path(alloc, text)?;
+            let stamp = wide_number(stamp)?;
+            let command = Text::new(Vec::from_slice(alloc, command)?);
+            Ok(Record::Built(path, stamp, command))
+        }
+        _ => Err(BAD_LINE),
+    }
+}
+
+// `built PATH N COMMAND`
+fn built(alloc: Global, texts: &[Vec<u8>]) -> Result<Record, LineFault>
+    ensures { Answers result (λ r. r) (built_of (vectors_of texts.now)) }
+{
+    let Some((text, after_path)) = texts.split_first() else {
+        return Err(BAD_LINE);
+    };
+    let Some((stamp, rest)) = after_path.split_first() else {
+        return Err(BAD_LINE);
+    };
+    logged(alloc, text, stamp, rest)
+}
+
+// `deps PATH N PATH...`, by its parts
+fn listed(alloc: Global, text: &[u8], stamp: &[u8], rest: &[Vec<u8>]) -> Result<Record, LineFault>
+    ensures { Answers result (λ r. r) (deps_of (text.now ∷ stamp.now ∷ vectors_of rest.now)) }
+{
+    let path = path(alloc, text)?;
+    let paths = Names::new(paths(alloc, rest)?);
+    let stamp = wide_number(stamp)?;
+    Ok(Record::Deps(path, stamp, paths))
+}
+
+// `deps PATH N PATH...`
+fn deps(alloc: Global, texts: &[Vec<u8>]) -> Result<Record, LineFault>
+    ensures { Answers result (λ r. r) (deps_of (vectors_of texts.now)) }
+{
+    let Some((text, after_path)) = texts.split_first() else {
+        return Err(BAD_LINE);
+    };
+    let Some((stamp, rest)) = after_path.split_first() else {
+        return Err(BAD_LINE);
+    };
+    listed(alloc, text, stamp, rest)
+}
+
+// `target PATH`
+fn target(alloc: Global, texts: &[Vec<u8>]) -> Result<Record, LineFault>
+    ensures { Answers result (λ r. r) (target_of (vectors_of texts.now)) }
+{
+    match texts {
+        [text] => Ok(Record::Target(path(alloc, text)?)),
+        _ => Err(BAD_LINE),
+    }
+}
+
+/// What is wrong with a line `lane N` that may not stand at its place, where this lane comes next.
+pub(crate) fn bad_lane(next: u32, texts: &[Vec<u8>]) -> LineFault
+    ensures { Answers (Err result) (λ (r : Record). r) (lane_of next (vectors_of texts.now)) }
+{
+    match texts {
+        [text] => match number(text) {
+            Ok(number) if number == next => BAD_LINE,
+            Ok(_) => BAD_LANE,
+            Err(fault) => fault,
+        },
+        _ => BAD_LINE,
+    }
+}
+
+/// The opening line that has these texts in its fields.
+pub(crate) fn record(alloc: Global, texts: &[Vec<u8>]) -> Result<Record, LineFault>
+    ensures { Answers result (λ r. r) (record_of (vectors_of texts.now)) }
+{
+    let Some((word, rest)) = texts.split_first() else {
+        return Err(BAD_LINE);
+    };
+    if word.as_slice() == b"jobs".as_slice() {
+        return jobs(rest);
+    }
+    if word.as_slice() == b"stamp".as_slice() {
+        return stamp(alloc, rest);
+    }
+    if word.as_slice() == b"built".as_slice() {
+        return built(alloc, rest);
+    }
+    if word.as_slice() == b"deps".as_slice() {
+        return deps(alloc, rest);
+    }
+    if word.as_slice() == b"target".as_slice() {
+        return target(alloc, rest);
+    }
+    if word.as_slice() == b"lane".as_slice() {
+        return Err(bad_lane(0, rest));
+    }
+    Err(BAD_LINE)
+}
+
+/// Whether the texts are those of a line that gives the number of jobs.
+pub(crate) fn gives_jobs(texts: &[Vec<u8>]) -> bool
+    ensures { result ≡ gives_jobs (vectors_of texts.now) }
+{
+    match texts.split_first() {
+        None => false,
+        Some((word, _)) => word.as_slice() == b"jobs".as_slice(),
+    }
+}

@@ -1,0 +1,3 @@
+#include "version.h"
+
+int about(void) { return VERSION; }

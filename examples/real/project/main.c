@@ -1,0 +1,5 @@
+#include "words.h"
+
+const char *about(void);
+
+int main(void) { return *hello() + *goodbye() + *about() == 0; }

@@ -1,0 +1,3 @@
+const char *hello(void);
+const char *goodbye(void);
+/* both are plain ASCII */

@@ -1,0 +1,115 @@
+"""Runs rebug on a recording and tells in words what it accepted."""
+
+import os
+import subprocess
+
+# What a refusal of a recorded command says of the recording, by its number.
+MEANINGS = {
+    50: "a second plan came while an edge was running",
+    51: "this target stands on no build line of the manifest",
+    52: "an input of a build line is missing and no edge makes it. Ninja stops at that too, but for order-only "
+        "inputs of edges "
+        "that are up to date",
+    53: "an edge needs itself through a recorded deps list. Ninja does not look at a list that is older than its "
+        "output",
+    60: "no edge of the manifest has this output",
+    61: "a phony edge runs no command",
+    62: "this edge has a command, so it is not passed by",
+    63: "the build was interrupted before this start",
+    64: "an abort without an interrupt before it",
+    65: "a second interrupt",
+    66: "rebug's plan does not want this edge (or has settled it), and Ninja ran it. Most often the last build's "
+        "command failed and "
+        "left its output, so that Ninja's log is older than the input while the file is not",
+    67: "this edge was not running: its start was refused",
+    68: "an input's producer had not settled: rebug takes it to be dirty and Ninja did not run it, or the order of "
+        "the trace is wrong",
+    69: "rebug finds no reason to run this edge once its inputs are settled, and Ninja ran it",
+    70: "rebug still has a reason to run this edge, and Ninja took it to be clean",
+    71: "more jobs ran side by side than the trace's line `jobs` says",
+    72: "this job was still held by another edge: the order of starts and ends could not be recorded right",
+    73: "the edge's pool has no such slot",
+    74: "this slot was still held by another edge: the order of starts and ends could not be recorded right",
+    75: "the number of stamps is not that of the edge's outputs",
+    76: "a list of headers came for an edge that keeps none",
+    77: "the depfile cannot be read by rebug's grammar",
+}
+REASONS = {1: "an output is missing", 2: "there is no deps record", 3: "the deps record is older than the output",
+           4: "an input was rebuilt",
+           5: "a listed header is missing", 6: "an output is older than an input", 7: "no built record",
+           8: "another command"}
+
+
+def check(folder, program=None, say=print):
+    """Replays the recording, says how it went, and gives the exit status: 0 where every command was accepted."""
+    replay = os.path.join(folder, "replay")
+    if not os.path.exists(replay):
+        say(f"{folder} has no recording: there is no file {replay}")
+        return 3
+    environment = {**os.environ, **({"REBUG": os.path.abspath(program)} if program else {})}
+    # what the launcher says while it builds the program, and what rebug says of a fault, goes through to the user
+    done = subprocess.run(["sh", replay], stdin=subprocess.DEVNULL, stdout=subprocess.PIPE, env=environment)
+    report = done.stdout.split(b"\n")
+    if done.returncode or report[0].startswith(b"fault "):
+        say("rebug did not replay the recording:")
+        for text in done.stdout.decode("utf-8", "backslashreplace").splitlines()[-5:]:
+            say("  " + text)
+        say("docs/CODES.md says what each number means")
+        return 1
+    return _judge(folder, report, say)
+
+
+def read_commands(folder):
+    """The recorded commands: lane -> list of (line number, text); the script's commands are those of lane None."""
+    lanes, lane = {}, None
+    with open(os.path.join(folder, "trace"), "rb") as file:
+        for number, text in enumerate(file.read().split(b"\n"), 1):
+            if text.startswith(b"lane "):
+                lane = int(text[5:])
+                lanes[lane] = []
+            elif lane is not None and text:
+                lanes[lane].append((number, text))
+    with open(os.path.join(folder, "script"), "rb") as file:
+        words = (b"plan", b"interrupt", b"abort")
+        lanes[None] = [(at, text) for at, text in enumerate(file.read().split(b"\n"), 1)
+                       if text.split(b" ")[0] in words]
+    return lanes
+
+
+def _judge(folder, report, say):
+    lanes = read_commands(folder)
+    count = len(lanes) - 1
+    taken, accepted, refused = {}, 0, []
+    for text in report:
+        parts = text.split(b" ")
+        if len(parts) < 3 or not parts[0].isdigit() or parts[2] not in (b"ok", b"refused"):
+            continue
+        lane = int(parts[1]) if int(parts[1]) < count else None
+        at = taken[lane] = taken.get(lane, -1) + 1
+        number, command = lanes[lane][at]
+        if parts[2] == b"ok":
+            accepted += 1
+        else:
+            refused.append((lane, number, command, [int(it) for it in parts[3:]]))
+    for it in refused:
+        _say_refusal(*it, say)
+    everything = sum(map(len, lanes.values()))
+    if accepted == everything:
+        say(f"rebug accepted every command: {accepted} of {everything}")
+        return 0
+    say(f"rebug accepted {accepted} of {everything} commands, and refused {len(refused)}")
+    if refused:
+        say("where one command is refused, those that stand on it are refused as well: look at the first one")
+    return 1
+
+
+def _say_refusal(lane, number, command, numbers, say):
+    where = f"trace:{number}" if lane is not None else f"script:{number}"
+    shown = command.decode("utf-8", "backslashreplace")
+    say(f"{where}: refused {' '.join(map(str, numbers))}: {shown[:200]}")
+    meaning = MEANINGS.get(numbers[0], "see docs/CODES.md")
+    if numbers[0] == 70 and len(numbers) > 1:
+        meaning += f" (its first reason: {REASONS.get(numbers[1], numbers[1])})"
+    if numbers[0] == 68 and len(numbers) > 1:
+        meaning += f" (the input at position {numbers[1]}, counted from 0)"
+    say(f"  {meaning}")

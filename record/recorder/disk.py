@@ -1,0 +1,100 @@
+"""What Ninja and the disk show at one moment: stamps, the build log, the deps records."""
+
+import os
+import subprocess
+from dataclasses import dataclass
+
+from .depfiles import read_depfile
+from .fields import canonical
+from .logs import HASHED_VERSIONS, BuildLog, hash_of, read_build_log, read_deps
+
+
+def stamp_of(folder, path):
+    """A file's modification time in nanoseconds, as Ninja takes it: 0 is a missing file, and a time of 0 is 1."""
+    try:
+        return max(1, os.stat(os.path.join(folder, path)).st_mtime_ns)
+    except (OSError, ValueError):
+        return 0
+
+
+@dataclass
+class Snapshot:
+    """The state of a build folder; paths are canonical."""
+
+    stamps: dict
+    log: BuildLog
+    deps: dict
+    without_deps_log: dict
+
+
+def take_snapshot(folder, manifest, ninja):
+    """Reads the logs as far as they go, the depfiles that Ninja keeps no record of, and the stamp of every path."""
+    log = read_build_log(read_file(os.path.join(folder, manifest.log_folder(), b".ninja_log")))
+    deps = _deps_records(folder, manifest, ninja)
+    texts = {}
+    for edge in manifest.edges:
+        if edge.depfile and not edge.deps:
+            texts[edge.name] = read_file(os.path.join(folder, edge.depfile))
+    paths = manifest.known_paths()
+    for _, listed in deps.values():
+        paths.update(dict.fromkeys(listed))
+    for name, text in texts.items():
+        paths.update(dict.fromkeys(read_depfile(text, manifest.producer[name].outputs) or ()))
+    return Snapshot({it: stamp_of(folder, it) for it in paths}, log, deps, texts)
+
+
+def read_file(path):
+    """A file's content, empty where there is none."""
+    try:
+        with open(path, "rb") as file:
+            return file.read()
+    except OSError:
+        return b""
+
+
+def _deps_records(folder, manifest, ninja):
+    """The records of `ninja -t deps` for first outputs. Of other outputs neither Ninja nor rebug reads one."""
+    if not os.path.exists(os.path.join(folder, manifest.log_folder(), b".ninja_deps")):
+        return {}
+    # as a dry run, so that Ninja does not write its logs anew
+    done = subprocess.run([ninja, "-n", "-f", manifest.files[0][0], "-t", "deps"], cwd=folder, capture_output=True,
+                          stdin=subprocess.DEVNULL)
+    records = {}
+    for output, (stamp, paths) in read_deps(done.stdout).items():
+        edge = manifest.producer.get(canonical(output))
+        if edge is not None and edge.name == canonical(output) and edge.keeps_deps:
+            records[edge.name] = stamp, [canonical(it) for it in paths]
+    return records
+
+
+def built_records(manifest, log):
+    """The built records of the log, output -> (stamp, command), and the outputs whose hash could not be looked at."""
+    records, unhashed = {}, []
+    hashes = {}
+    for entry in log.last().values():
+        path = canonical(entry.output)
+        edge = manifest.producer.get(path)
+        if edge is None or edge.phony:
+            continue
+        if edge.number not in hashes:
+            hashes[edge.number] = hash_of(edge.ninja_command)
+        if log.version not in HASHED_VERSIONS:
+            unhashed.append(path)
+        is_same = log.version not in HASHED_VERSIONS or hashes[edge.number] == entry.hash
+        records[path] = entry.stamp, edge.command if is_same else stand_in(entry.hash)
+    return records, unhashed
+
+
+def stand_in(value):
+    """What stands for a command of which only Ninja's hash is known; no manifest has it."""
+    return b"another command, of which Ninja's log has the hash %016x" % value
+
+
+def deps_records(manifest, snapshot):
+    """The deps records, with those that rebug keeps for edges with `depfile` and without `deps`."""
+    records = dict(snapshot.deps)
+    for name, text in snapshot.without_deps_log.items():
+        listed = read_depfile(text, manifest.producer[name].outputs) if text else None
+        if listed is not None:
+            records[name] = snapshot.stamps.get(name, 0), listed
+    return records

@@ -1,0 +1,47 @@
+"""Paths and fields as rebug's texts have them. Everything here is bytes: paths need not be UTF-8."""
+
+import re
+
+LONGEST_PATH = 4096
+_PLAIN = re.compile(rb"[A-Za-z0-9_+\-./]+")
+_ESCAPES = {b" ": b"\\s", b"\t": b"\\t", b"\n": b"\\n", b"\r": b"\\r", b"\\": b"\\\\"}
+_TO_ESCAPE = re.compile(rb"[ \t\n\r\\]")
+
+
+def canonical(path):
+    """The canonical form of a path, as rebug compares paths."""
+    if not (b"//" in path or b"./" in path or path.endswith((b"/", b"."))):
+        return path
+    kept = []
+    is_rooted = path.startswith(b"/")
+    for part in path.split(b"/"):
+        if part in (b"", b"."):
+            continue
+        if part != b"..":
+            kept.append(part)
+        elif kept and kept[-1] != b"..":
+            kept.pop()
+        elif not is_rooted:
+            kept.append(part)
+    text = b"/".join(kept)
+    return b"/" + text if is_rooted else text or b"."
+
+
+def quoted(path):
+    """A path as it stands in a command."""
+    return path if _PLAIN.fullmatch(path) else b"'" + path.replace(b"'", b"'\\''") + b"'"
+
+
+def field(text):
+    """A text as one field of a trace line."""
+    return _TO_ESCAPE.sub(lambda it: _ESCAPES[it[0]], text) or b"\\0"
+
+
+def line(*parts):
+    """A trace line: bytes are fields, numbers are written in decimal, and words are words."""
+    return b" ".join(field(it) if isinstance(it, bytes) else str(it).encode() for it in parts)
+
+
+def shown(text):
+    """Bytes as they are shown to a reader in a sentence."""
+    return text.decode("utf-8", "backslashreplace")

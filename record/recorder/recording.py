@@ -1,0 +1,246 @@
+"""From what was there before and after a run of Ninja to the events of a trace."""
+
+from dataclasses import dataclass, field
+
+from .disk import built_records, deps_records, stamp_of
+from .fields import canonical, shown
+from .logs import new_entries
+from .rules import Build
+from .sequence import EdgeRun, Sequence, sequence
+
+_NANOSECONDS = 1_000_000
+# The last version of the build log whose stamps are those of outputs.
+_LOG_OF_OUTPUTS = 5
+_NAMED_EDGES = 10
+# Ninja's clock starts with its process; a stamp that asks for a later beginning was not set by the clock.
+_LONGEST_BEGINNING = 500 * _NANOSECONDS
+
+
+@dataclass
+class Recording:
+    """Everything that is written of one build."""
+
+    manifest: object
+    jobs: int
+    targets: list
+    stamps: dict
+    built: dict
+    deps: dict
+    found: Sequence = None
+    notes: list = field(default_factory=list)
+
+
+def record(folder, manifest, words, jobs, before, after, ran):
+    """Works out the opening and the events. Notes say what could not be known, and what rebug will refuse."""
+    built, unhashed = built_records(manifest, before.log)
+    it = Recording(manifest, jobs, _targets(manifest, words.targets), dict(before.stamps), built,
+                   deps_records(manifest, before))
+    if unhashed:
+        it.notes.append(f"this Ninja's log (version {before.log.version}) has hashes that the recorder does not "
+                        f"know: its "
+                        "commands are taken to be the manifest's")
+    _note_what_is_outside(it)
+    runs, begin = _runs(it, before, after, ran)
+    touches = _touches(it, before, after, runs, begin, ran.begin, folder)
+    build = Build(manifest, jobs, it.stamps, it.built, it.deps)
+    it.found = sequence(build, it.targets, runs, touches, words.failures, ran.interrupted)
+    it.jobs = max(jobs, it.found.jobs, 1)
+    _note_order(it, runs)
+    if ran.interrupted and not any(run.word == "abort" for run in runs):
+        it.notes.append("the build was interrupted, and no command was seen running then: the trace has the "
+                        "interrupt alone")
+    _note_refusals(it)
+    return it
+
+
+def _targets(manifest, targets):
+    """The targets as paths; `SOURCE^` names the first output of the first edge that has SOURCE as an input."""
+    found = []
+    for text in targets:
+        if text.endswith(b"^"):
+            source = canonical(text[:-1])
+            users = [edge for edge in manifest.edges if source in edge.inputs]
+            found.append(users[0].name if users else source)
+        else:
+            found.append(canonical(text))
+    return found
+
+
+def _note_what_is_outside(it):
+    edges = it.manifest.edges
+    _note_edges(it, [edge for edge in edges if edge.dyndep], "a dyndep, which rebug does not read: it refuses the "
+                                                             "manifest (22)")
+    _note_edges(it, [edge for edge in edges if edge.deps == b"msvc"], "deps = msvc: the list is taken from Ninja's "
+                                                                      "deps log")
+    _note_edges(it, [edge for edge in edges if edge.ninja_command != edge.command],
+                "another command in Ninja than in rebug, since a variable of the file has the name of one of the "
+                "rule's")
+
+
+def _note_edges(it, edges, what):
+    """Names the edges, the first ones one by one."""
+    for edge in edges[:_NAMED_EDGES]:
+        it.notes.append(f"{shown(edge.file)}:{edge.line}: {shown(edge.name)} has {what}")
+    if edges[_NAMED_EDGES:]:
+        it.notes.append(f"and {len(edges) - _NAMED_EDGES} more edges have that")
+
+
+def _runs(it, before, after, ran):
+    """The commands that ran, and when Ninja began (nanoseconds of the disk's clock)."""
+    manifest, entries = it.manifest, new_entries(before.log, after.log)
+    entries = _without_manifest_edges(it, entries)
+    begin = ran.begin
+    runs = {}
+    for entry in entries:
+        edge = manifest.producer.get(canonical(entry.output))
+        if edge is None or edge.phony:
+            it.notes.append(f"Ninja's log has {shown(entry.output)}, which no edge of the manifest makes: left out")
+            continue
+        if edge.number in runs and (runs[edge.number].start, runs[edge.number].end) != (entry.start, entry.end):
+            it.notes.append(f"{shown(edge.name)} ended twice in Ninja's log: its last end counts")
+            del runs[edge.number]
+        if edge.number not in runs:
+            runs[edge.number] = _finished(it, edge, entry, after)
+        latest = entry.stamp - (entry.end + 1) * _NANOSECONDS
+        if not edge.restat and begin < latest < ran.begin + _LONGEST_BEGINNING:
+            begin = latest
+    seen = _seen_commands(ran, begin)
+    _add_failed(it, runs, after, ran, begin, seen)
+    if ran.interrupted:
+        _add_interrupted(it, runs, before, after, seen)
+    return list(runs.values()), begin
+
+
+def _without_manifest_edges(it, entries):
+    """Drops what Ninja ran to bring the manifest up to date: its times count from another beginning."""
+    maker = it.manifest.producer.get(canonical(it.manifest.files[0][0]))
+    places = [at for at, entry in enumerate(entries) if maker is not None and canonical(entry.output) in maker.outputs]
+    if not places:
+        return entries
+    it.notes.append(f"Ninja ran {shown(maker.name)} first, to bring the manifest up to date: that is no part of "
+                    f"the trace")
+    return entries[places[-1] + 1 :]
+
+
+def _finished(it, edge, entry, after):
+    """A command that ended well.
+
+    Logs of version 5 have the greatest stamp of its outputs as it ended; a later one came later. Newer ones have the
+    time of its start, which says nothing of the outputs.
+    """
+    stamps = [after.stamps.get(path, 0) for path in edge.outputs]
+    if after.log.version <= _LOG_OF_OUTPUTS and not edge.restat:
+        stamps = [min(stamp, entry.stamp) if entry.stamp else stamp for stamp in stamps]
+        if len(stamps) == 1:
+            stamps = [entry.stamp]
+    listing = None
+    if edge.depfile and not edge.deps:
+        listing = after.without_deps_log.get(edge.name) or None
+        if listing is None:
+            it.notes.append(f"{shown(edge.name)}: its depfile {shown(edge.depfile)} is not there: Ninja will run "
+                            f"it again, rebug will not")
+    elif edge.keeps_deps:
+        listing = after.deps.get(edge.name, (0, []))[1]
+    return EdgeRun(edge, "finish", entry.start, entry.end, stamps, listing)
+
+
+def _add_failed(it, runs, after, ran, begin, seen):
+    by_outputs = {b" ".join(edge.outputs): edge for edge in it.manifest.edges if not edge.phony}
+    for text, time, came in ran.failed:
+        edge = by_outputs.get(text)
+        if edge is None or edge.number in runs:
+            continue
+        end = time if time is not None else max(0, (came - begin) // _NANOSECONDS)
+        _add_unlogged(it, runs, edge, "fail", end, after, seen)
+
+
+def _add_interrupted(it, runs, before, after, seen):
+    """The edges that were running: they were seen, or their outputs are not as they were."""
+    end = max([run.end for run in runs.values()], default=0) + 1
+    for edge in it.manifest.edges:
+        if edge.phony or edge.number in runs:
+            continue
+        is_other = any(before.stamps.get(path, 0) != after.stamps.get(path, 0) for path in edge.outputs)
+        if is_other or _seen_at(edge, seen) is not None:
+            _add_unlogged(it, runs, edge, "abort", end, after, seen)
+
+
+def _add_unlogged(it, runs, edge, word, end, after, seen):
+    """A command that Ninja's log does not have. It starts when it was seen, else as late as can be."""
+    start = _seen_at(edge, seen)
+    stamps = [after.stamps.get(path, 0) for path in edge.outputs]
+    found = runs[edge.number] = EdgeRun(edge, word, end, end, stamps, is_start_known=start is not None)
+    if start is not None:
+        found.start = min(end, max(start, _last_end_below(it.manifest, runs, edge)))
+
+
+def _last_end_below(manifest, runs, edge):
+    """When the last of the commands ended that the edge stands on, seen through phony edges."""
+    todo, known, last = [edge], set(), 0
+    while todo:
+        for path in todo.pop().inputs:
+            maker = manifest.producer.get(path)
+            if maker is None or maker.number in known:
+                continue
+            known.add(maker.number)
+            if maker.number in runs:
+                last = max(last, runs[maker.number].end)
+            else:
+                todo.append(maker)
+    return last
+
+
+def _seen_commands(ran, begin):
+    """When each command was first seen running, in milliseconds. A shell may have put the command in its own place."""
+    seen = {}
+    for child in ran.children:
+        is_shell = child.words[1:2] == [b"-c"] and len(child.words) == 3
+        command = child.words[2] if is_shell else b" ".join(child.words)
+        seen.setdefault(command, max(0, (child.seen - begin) // _NANOSECONDS))
+    return seen
+
+
+def _seen_at(edge, seen):
+    return seen.get(edge.ninja_command.split(b";rspfile=")[0])
+
+
+def _touches(it, before, after, runs, begin, ran_begin, folder):
+    """What changed and was no output of a command that ran, or changed again after its end: (time, path, stamp)."""
+    last = dict(before.stamps)
+    for path, stamp in after.stamps.items():
+        if path not in last:
+            is_older = 0 < stamp < ran_begin
+            last[path] = stamp if is_older else 0
+            if is_older:
+                it.stamps[path] = stamp
+    for run in runs:
+        last.update(zip(run.edge.outputs, run.stamps))
+    touches = []
+    for path in last:
+        stamp = after.stamps[path] if path in after.stamps else stamp_of(folder, path)
+        if stamp != last[path]:
+            time = (stamp - begin) // _NANOSECONDS if stamp >= begin else None
+            touches.append((time, path, stamp))
+    return touches
+
+
+def _note_order(it, runs):
+    if it.found.tied:
+        names = ", ".join(shown(edge.name) for edge in it.found.tied[:3])
+        it.notes.append(f"{len(it.found.tied)} starts fell into the millisecond of another command's end, and are "
+                        f"taken to be after it: {names}")
+    guessed = [run for run in runs if run.word != "finish"]
+    if guessed:
+        seen = sum(run.is_start_known for run in guessed)
+        names = ", ".join(f"{shown(run.edge.name)} ({run.word})" for run in guessed[:5])
+        it.notes.append(f"Ninja's log has no commands that did not end well: {names}. {seen} of {len(guessed)} "
+                        f"start where they were "
+                        "first seen running, the others right before their end")
+
+
+def _note_refusals(it):
+    for event, refusal in it.found.refused[:1]:
+        words = " ".join([event[0], *(shown(part) for part in event[1:2] if isinstance(part, bytes))])
+        it.notes.append(f"rebug's rules differ here from what Ninja did: they refuse '{words}' "
+                        f"({' '.join(map(str, refusal))}); "
+                        f"{len(it.found.refused)} in all. --check says more")

@@ -1,0 +1,308 @@
+"""rebug's rules of a build, as docs/FORMATS.md states them: reasons, the plan, and what each event asks and does.
+
+The recorder needs them to say where restat left an edge clean and where phony edges are passed, which no log of
+Ninja's has, and to tell at once where rebug will refuse what Ninja did. The judge is always rebug itself.
+"""
+
+from .depfiles import read_depfile
+
+IDLE, WANTED, THROUGH, RUNNING = "idle", "wanted", "through", "running"
+DONE, CLEAN, FAILED, STOPPED = "done", "clean", "failed", "stopped"
+SETTLED = frozenset((IDLE, DONE, CLEAN))
+
+
+class Build:
+    """The state of a build over a manifest: stamps, marks, jobs and slots, both logs, and whether it was halted."""
+
+    def __init__(self, manifest, jobs=1, stamps=None, built=None, deps=None):
+        self.manifest, self.edges, self.producer = manifest, manifest.edges, manifest.producer
+        self.job_count = jobs
+        self.stamps, self.built, self.deps = dict(stamps or {}), dict(built or {}), dict(deps or {})
+        self.marks = [IDLE] * len(self.edges)
+        self.running, self.changed = {}, {}
+        self.jobs, self.slots, self.halted = {}, {}, False
+
+    # What the state shows.
+
+    def listed(self, edge):
+        """The paths of the edge's deps record."""
+        record = self.deps.get(edge.outputs[0]) if edge.keeps_deps else None
+        return record[1] if record else []
+
+    def inputs(self, edge):
+        return edge.inputs + self.listed(edge)
+
+    def dirtying_inputs(self, edge):
+        """(position, path) of the inputs that are not order-only."""
+        yield from enumerate(edge.explicit + edge.implicit)
+        yield from enumerate(self.listed(edge), len(edge.inputs))
+
+    def visible(self, path, known=None):
+        """The stamp that a path shows: of a missing output of a phony edge the greatest of that edge's inputs."""
+        stamp = self.stamps.get(path, 0)
+        maker = None if stamp else self.producer.get(path)
+        if maker is None or not maker.phony:
+            return stamp
+        known = {} if known is None else known
+        if path not in known:
+            known[path] = max((self.visible(it, known) for it in maker.explicit + maker.implicit), default=0)
+        return known[path]
+
+    def is_changed(self, path):
+        maker = self.producer.get(path)
+        if maker is None or self.marks[maker.number] != DONE:
+            return False
+        return maker.outputs.index(path) in self.changed[maker.number]
+
+    def reasons(self, edge, known=None):
+        """Why the edge would run, as a list of tuples that begin with the reason's word."""
+        stamp = self.stamps.get
+        if edge.phony:
+            return [] if edge.inputs else [("missing", it) for it in edge.outputs if not stamp(it, 0)]
+        found = [("missing", it) for it in edge.outputs if not stamp(it, 0)]
+        record = self.deps.get(edge.outputs[0]) if edge.keeps_deps else None
+        if edge.keeps_deps and record is None:
+            found.append(("no-deps",))
+        if record and record[0] < stamp(edge.outputs[0], 0):
+            found.append(("deps-old",))
+        inputs = list(self.dirtying_inputs(edge))
+        found += [("rebuilt", it) for _, it in inputs if self.is_changed(it)]
+        known, newest, first = {} if known is None else known, 0, None
+        for place, path in inputs:
+            shows = self.visible(path, known)
+            if not shows and place >= len(edge.inputs) and path not in self.producer:
+                found.append(("missing-dep", path))
+            if shows > newest:
+                newest, first = shows, path
+        found += [("older", it, first) for it in edge.outputs if self.effective(edge, it) < newest]
+        return found + self.record_reasons(edge)
+
+    def effective(self, edge, path):
+        record = self.built.get(path) if edge.restat else None
+        return max(self.stamps.get(path, 0), record[0] if record else 0)
+
+    def record_reasons(self, edge):
+        if edge.generator:
+            return []
+        records = [(it, self.built.get(it)) for it in edge.outputs]
+        found = [("no-record", it) for it, record in records if record is None]
+        return found + [("command", it) for it, record in records if record and record[1] != edge.command]
+
+    # Plan.
+
+    def reached(self, targets):
+        """The edges that the targets lead to, in rising number."""
+        todo = [self.producer[it] for it in targets if it in self.producer]
+        found = {}
+        while todo:
+            edge = todo.pop()
+            if edge.number not in found:
+                found[edge.number] = edge
+                todo += self.producers(edge)
+                todo += [self.producer[it] for it in edge.validations if it in self.producer]
+        return [found[it] for it in sorted(found)]
+
+    def producers(self, edge):
+        return [self.producer[it] for it in self.inputs(edge) if it in self.producer]
+
+    def plan_refusal(self, targets):
+        running = [it.number for it in self.edges if self.marks[it.number] == RUNNING]
+        if running:
+            return 50, running[0]
+        known = None
+        for place, path in enumerate(targets):
+            if path not in self.producer:
+                known = self.manifest.known_paths() if known is None else known
+                if path not in known:
+                    return 51, place
+        reached = self.reached(targets)
+        for edge in reached:
+            for place, path in enumerate(edge.inputs):
+                if path not in self.producer and not self.stamps.get(path, 0):
+                    return 52, place, edge.number
+        left = self.in_order(reached)[1]
+        for edge in left:
+            if edge in self.reached_from_inputs(edge):
+                return 53, edge.number
+        return None
+
+    def reached_from_inputs(self, edge):
+        todo, found = self.producers(edge), []
+        seen = set()
+        while todo:
+            it = todo.pop()
+            if it.number not in seen:
+                seen.add(it.number)
+                found.append(it)
+                todo += self.producers(it)
+        return found
+
+    def in_order(self, reached):
+        """The edges with each behind the producers of its inputs, and those left over where some need themselves."""
+        waits = {it.number: {p.number for p in self.producers(it)} for it in reached}
+        users = {}
+        for number, found in waits.items():
+            for it in found:
+                users.setdefault(it, []).append(number)
+        ready = [number for number, found in waits.items() if not found]
+        ordered = []
+        for number in ready:
+            ordered.append(self.edges[number])
+            for user in users.get(number, ()):
+                waits[user].discard(number)
+                if not waits[user]:
+                    ready.append(user)
+        done = {it.number for it in ordered}
+        return ordered, [it for it in reached if it.number not in done]
+
+    def plan(self, targets):
+        """Marks what the targets want; the plan must not be refused."""
+        ordered, _ = self.in_order(self.reached(targets))
+        marks, known = [IDLE] * len(self.edges), {}
+        mark_of = lambda path: marks[self.producer[path].number] if path in self.producer else IDLE
+        for edge in ordered:
+            if any(it[0] != "rebuilt" for it in self.reasons(edge, known)):
+                marks[edge.number] = WANTED
+            elif any(mark_of(path) == WANTED for _, path in self.dirtying_inputs(edge)):
+                marks[edge.number] = WANTED
+            elif any(mark_of(path) in (WANTED, THROUGH) for path in self.inputs(edge)):
+                marks[edge.number] = THROUGH
+        self.marks, self.halted = marks, False
+
+    # Events. `refusal` gives the first refusal as a tuple that begins with its number, or None; `do` is the event.
+
+    def refusal(self, event):
+        word = event[0]
+        if word == "plan":
+            return self.plan_refusal(event[1] or self.manifest.defaults())
+        if word == "touch":
+            return None
+        if word == "interrupt":
+            return (65,) if self.halted else None
+        edge = self.producer.get(event[1])
+        if edge is None:
+            return (60,)
+        if word == "pass":
+            return self.pass_refusal(edge)
+        if edge.phony:
+            return (61,)
+        return getattr(self, f"{word}_refusal")(edge, *event[2:])
+
+    def blocked(self, edge):
+        for place, path in enumerate(self.inputs(edge)):
+            maker = self.producer.get(path)
+            if maker is not None and self.marks[maker.number] not in SETTLED:
+                return 68, place
+        return None
+
+    def pass_refusal(self, edge):
+        mark = self.marks[edge.number]
+        if mark == WANTED and not edge.phony:
+            return (62,)
+        return self.blocked(edge) if mark in (WANTED, THROUGH) else (66,)
+
+    def start_refusal(self, edge, job, slot=None):
+        if self.halted:
+            return (63,)
+        if self.marks[edge.number] != WANTED:
+            return (66,)
+        depth = self.manifest.depth(edge)
+        if self.blocked(edge):
+            return self.blocked(edge)
+        if not self.reasons(edge):
+            return (69,)
+        if job >= self.job_count:
+            return (71,)
+        if job in self.jobs:
+            return 72, self.jobs[job]
+        if (slot is None) != (depth is None) or slot is not None and slot >= depth:
+            return (73,)
+        if slot is not None and (edge.pool, slot) in self.slots:
+            return 74, self.slots[edge.pool, slot]
+        return None
+
+    def clean_refusal(self, edge):
+        if self.marks[edge.number] != WANTED:
+            return (66,)
+        if self.blocked(edge):
+            return self.blocked(edge)
+        found = self.reasons(edge)
+        kinds = "missing no-deps deps-old rebuilt missing-dep older no-record command".split()
+        return (70, kinds.index(found[0][0]) + 1) if found else None
+
+    def finish_refusal(self, edge, stamps, listing=None):
+        found = self.end_refusal(edge, stamps)
+        if found or listing is None:
+            return found
+        if not edge.keeps_deps:
+            return (76,)
+        return (77,) if isinstance(listing, bytes) and read_depfile(listing, edge.outputs) is None else None
+
+    def fail_refusal(self, edge, stamps):
+        return self.end_refusal(edge, stamps)
+
+    def abort_refusal(self, edge, stamps):
+        return self.end_refusal(edge, stamps) if self.halted else (64,)
+
+    def end_refusal(self, edge, stamps):
+        if self.marks[edge.number] != RUNNING:
+            return (67,)
+        return (75, len(edge.outputs)) if len(stamps) != len(edge.outputs) else None
+
+    def do(self, event):
+        word = event[0]
+        if word == "plan":
+            self.plan(event[1] or self.manifest.defaults())
+        elif word == "touch":
+            self.stamps[event[1]] = event[2]
+        elif word == "interrupt":
+            self.halted = True
+        else:
+            getattr(self, f"do_{word}")(self.producer[event[1]], *event[2:])
+
+    def do_start(self, edge, job, slot=None):
+        seen = max((self.visible(path) for _, path in self.dirtying_inputs(edge)), default=0)
+        self.marks[edge.number], self.running[edge.number] = RUNNING, (job, slot, seen)
+        self.jobs[job] = edge.number
+        if slot is not None:
+            self.slots[edge.pool, slot] = edge.number
+
+    def end(self, edge, mark, stamps):
+        job, slot, seen = self.running.pop(edge.number)
+        del self.jobs[job]
+        if slot is not None:
+            del self.slots[edge.pool, slot]
+        self.marks[edge.number] = mark
+        before = [self.stamps.get(it, 0) for it in edge.outputs]
+        self.stamps.update(zip(edge.outputs, stamps))
+        return seen, [was != now for was, now in zip(before, stamps)]
+
+    def do_finish(self, edge, stamps, listing=None):
+        seen, differs = self.end(edge, DONE, stamps)
+        self.changed[edge.number] = {at for at, it in enumerate(differs) if it or not edge.restat}
+        for at, (path, stamp) in enumerate(zip(edge.outputs, stamps)):
+            is_changed = at in self.changed[edge.number]
+            self.built[path] = (stamp if is_changed else seen, edge.command)
+        if edge.keeps_deps:
+            paths = read_depfile(listing, edge.outputs) if isinstance(listing, bytes) else listing or []
+            self.deps[edge.outputs[0]] = (stamps[0], list(dict.fromkeys(paths)))
+
+    def do_fail(self, edge, stamps):
+        self.end(edge, FAILED, stamps)
+
+    def do_abort(self, edge, stamps):
+        self.end(edge, STOPPED, stamps)
+
+    def do_clean(self, edge):
+        self.marks[edge.number] = CLEAN
+
+    def do_pass(self, edge):
+        if self.marks[edge.number] == THROUGH:
+            changed = set()
+        elif not edge.inputs:
+            changed = {at for at, it in enumerate(edge.outputs) if not self.stamps.get(it, 0)}
+        elif any(self.is_changed(it) for it in edge.explicit + edge.implicit):
+            changed = set(range(len(edge.outputs)))
+        else:
+            changed = set()
+        self.marks[edge.number], self.changed[edge.number] = DONE, changed

@@ -1,0 +1,314 @@
+"""Real builds that the tests record: chains of runs in one build folder, each run recorded.
+
+A chain is made once, in the folder that REBUG_RECORDINGS names or in one of its own, so that ./test can record before
+the program is built and replay when it is. Beside each recording stands `expected`: what the disk and Ninja's logs
+said right after the run.
+"""
+
+import atexit
+import json
+import os
+import pathlib
+import shutil
+import signal
+import subprocess
+import sys
+import tempfile
+import time
+
+from recorder.disk import stamp_of
+from recorder.logs import hash_of, read_build_log, read_deps
+from recorder.manifest import Manifest
+
+RECORDER = pathlib.Path(__file__).resolve().parent.parent / "rebug-record"
+
+
+def missing_tools(*names):
+    """A sentence that says which of the tools are not on this machine, or None."""
+    found = [it for it in names if not shutil.which(it)]
+    return f"not on this machine: {', '.join(found)}" if found else None
+
+
+def recordings():
+    """The folder that the recordings are made in."""
+    if "REBUG_RECORDINGS" not in os.environ:
+        folder = tempfile.mkdtemp(prefix="rebug-recordings-")
+        os.environ["REBUG_RECORDINGS"] = folder
+        atexit.register(shutil.rmtree, folder, ignore_errors=True)
+    return pathlib.Path(os.environ["REBUG_RECORDINGS"])
+
+
+class Chain:
+    """A build folder, and the recordings of the runs in it."""
+
+    def __init__(self, name):
+        self.folder = recordings() / name
+        self.build = self.folder / "build"
+        self.build.mkdir(parents=True)
+        self.logs = self.build
+
+    def write(self, path, text):
+        path = os.path.join(os.fsencode(self.build), path if isinstance(path, bytes) else path.encode())
+        os.makedirs(os.path.dirname(path), exist_ok=True)
+        with open(path, "wb") as file:
+            file.write(text if isinstance(text, bytes) else text.encode())
+        time.sleep(0.02)  # a file system's clock may tick every ten milliseconds
+
+    def record(self, name, *words, status=0, jobs=4, own=(), interrupt_when=None):
+        """Records a run, and what the disk and Ninja's logs say after it."""
+        words = [sys.executable, RECORDER, self.build, self.folder / name, "-j", str(jobs), *own, "--", *words]
+        with open(self.folder / f"{name}.said", "wb") as said:
+            process = subprocess.Popen(words, stdin=subprocess.DEVNULL, stdout=said, stderr=subprocess.STDOUT)
+            if interrupt_when:
+                wait_for(self.build / interrupt_when)
+                time.sleep(0.5)  # the recorder looks at Ninja's children from time to time, on a busy machine seldom
+                process.send_signal(signal.SIGINT)
+            got = process.wait(timeout=60)
+        assert got == status, f"{name}: status {got}, not {status}: {(self.folder / f'{name}.said').read_text()}"
+        self.expect(name)
+
+    def expect(self, name):
+        build = os.fsencode(self.build)
+        log = read_build_log(read(self.logs / ".ninja_log")).last()
+        deps = read_deps(subprocess.run(["ninja", "-n", "-t", "deps"], cwd=build, capture_output=True).stdout)
+        commands = subprocess.run(["ninja", "-t", "compdb"], cwd=build, capture_output=True).stdout
+        hashes = {}
+        for it in json.loads(commands.decode("latin-1")):
+            if ".rsp" not in it["command"]:
+                hashes[it["output"]] = hash_of(it["command"].encode("latin-1"))
+        text = lambda it: it.decode("latin-1")
+        (self.folder / f"{name}.expected").write_text(json.dumps({
+            "stamps": {text(it): stamp_of(build, it) for it in self.paths(name, deps)},
+            "built": {text(it): [entry.stamp, entry.hash == hashes[text(it)] if text(it) in hashes else None] for it,
+                      entry in log.items()},
+            "deps": {text(it): [stamp, *map(text, paths)] for it, (stamp, paths) in deps.items()},
+        }))
+
+
+    def paths(self, name, deps):
+        """The paths of the manifest, of the deps lists, and of the recording's opening."""
+        found = set(Manifest(b"build.ninja", lambda it: read(self.build / os.fsdecode(it))).known_paths())
+        return found.union(stamped(self.folder / name), *(listed for _, listed in deps.values()))
+
+
+def read(path):
+    return path.read_bytes() if path.exists() else b""
+
+
+def wait_for(path):
+    """Waits for a file that a running command makes."""
+    for _ in range(1000):
+        if path.exists():
+            return
+        time.sleep(0.01)
+    raise AssertionError(f"{path} did not come")
+
+
+def stamped(recording):
+    """The paths that the opening of a recording has stamps of."""
+    for line in (recording / "trace").read_bytes().split(b"\n"):
+        if line.startswith(b"stamp "):
+            yield unescaped(line.split(b" ")[1])
+
+
+def unescaped(text):
+    """The text that a field stands for."""
+    if text == b"\\0":
+        return b""
+    for escape, byte in ((b"\\s", b" "), (b"\\t", b"\t"), (b"\\n", b"\n"), (b"\\r", b"\r")):
+        parts = text.split(b"\\\\")
+        text = b"\\\\".join(part.replace(escape, byte) for part in parts)
+    return text.replace(b"\\\\", b"\\")
+
+
+# A C project as CMake writes it for Ninja.
+
+CMAKE_LISTS = """cmake_minimum_required(VERSION 3.13)
+project(greeting C)
+add_custom_command(OUTPUT version.h COMMAND ${CMAKE_COMMAND} -E copy ${CMAKE_SOURCE_DIR}/version.in version.h
+                   DEPENDS version.in)
+add_custom_target(version DEPENDS version.h)
+add_library(words STATIC w1.c w2.c w3.c w4.c)
+add_library(tools STATIC t1.c t2.c t3.c)
+add_dependencies(tools version)
+target_include_directories(tools PRIVATE ${CMAKE_BINARY_DIR})
+add_executable(greet greet.c)
+target_link_libraries(greet words tools)
+"""
+
+
+def cmake_chain():
+    """A first build, a touch, a header added, a failed compile, its repair, an interrupted build, the next one."""
+    it = Chain("cmake")
+    it.write("src/CMakeLists.txt", CMAKE_LISTS)
+    it.write("src/version.in", "#define VERSION 1\n")
+    for name in ("w1", "w2", "w3", "w4"):
+        it.write(f"src/{name}.c", f"int {name}(void) {{ return 1; }}\n")
+    for name in ("t1", "t2", "t3"):
+        it.write(f"src/{name}.c", f'#include "version.h"\nint {name}(void) {{ return VERSION; }}\n')
+    it.write("src/greet.c", "int w1(void);\nint t1(void);\nint main(void) { return w1() - t1(); }\n")
+    out = it.build
+    subprocess.run(["cmake", "-G", "Ninja", "-S", out / "src", "-B", out], check=True, capture_output=True)
+    it.record("first_build")
+    it.write("src/w2.c", "int w2(void) { return 2; }\n")
+    it.record("rebuilt_after_a_touch")
+    it.write("src/numbers.h", "#define ONE 1\n")
+    it.write("src/w3.c", '#include "numbers.h"\nint w3(void) { return ONE; }\n')
+    it.record("header_added")
+    it.write("src/numbers.h", "#define ONE (1\n")
+    it.write("src/w4.c", "int w4(void) { return 4; }\n")
+    it.record("failed_compile", "-k", "0", status=1)
+    it.write("src/numbers.h", "#define ONE (1)\n")
+    it.record("repaired")
+    it.write("src/version.in", "#define VERSION 2\n")
+    it.record("generated_header_changed")
+    slow = 'add_custom_target(slow ALL COMMAND touch ${CMAKE_BINARY_DIR}/begun && sleep 20)\n'
+    it.write("src/CMakeLists.txt", CMAKE_LISTS + slow)
+    subprocess.run(["cmake", out], check=True, capture_output=True)
+    it.write("src/w1.c", "int w1(void) { return 7; }\n")
+    it.record("interrupted", status=2, interrupt_when="begun")
+    it.write("src/CMakeLists.txt", CMAKE_LISTS)
+    it.record("after_the_interrupt_with_another_manifest")
+
+
+# Edges of every kind, with commands of the shell alone.
+
+SHELL_MANIFEST = """# edges of every kind
+where = sub
+builddir = $where/kept
+pool two
+  depth = 2
+rule copy
+  command = sleep 0.05; cat $in > $out
+rule pooled
+  command = sleep 0.1; cat $in > $out
+  pool = two
+rule talk
+  command = echo talking; cat $in > $out
+  pool = console
+rule keep
+  command = cmp -s $in $out || cp $in $out
+  restat = 1
+rule list
+  command = cat $in > $out && echo "$out: $in list.h" > $out.d
+  depfile = $out.d
+  deps = gcc
+rule slow
+  command = touch begun; sleep $seconds; cat $in > $out
+rule answer
+  command = cat $out.rsp > $out
+  rspfile = $out.rsp
+  rspfile_content = $in $more
+rule twice
+  command = cat $in > $out_one && cat $in > $out_two
+build a b c d: phony
+build o/kept: keep s1
+build o/kept2: keep o/kept
+build alias: phony o/kept2
+build o/user: copy alias_source | o/kept2
+build o/p1: pooled s1
+build o/p2: pooled s1
+build o/p3: pooled s1 || o/p1
+build o/talk1: talk s1
+build o/talk2: talk s2
+build o/listed: list s2
+build o/answer: answer s1 s2
+  more = and more
+build o/one | o/two: twice s2
+  out_one = o/one
+  out_two = o/two
+build a$ file$:of$$dollars#and$ more: copy $ name s1
+build group: phony o/p1 o/p2 o/p3
+build o/last: copy o/listed || group alias
+build o/checked: copy s1 |@ o/valid
+build o/valid: copy s2
+build o/never: copy s2
+include $where/more.ninja
+subninja $where/less.ninja
+"""
+
+
+def shell_chain():
+    """Restat, pools, the console, response files, several outputs, validations, odd names, an interrupt, failures."""
+    it = Chain("shell")
+    it.logs = it.build / "sub/kept"
+    it.write("build.ninja", SHELL_MANIFEST)
+    it.write("sub/more.ninja", b"build o/\xff\xfe: copy s1\nseconds = 0\n")
+    it.write("sub/less.ninja", "seconds = 30\nbuild o/slow: slow s2\n  seconds = $wait\nwait = 0\n")
+    for name in ("s1", "s2", "alias_source", " name", "list.h"):
+        it.write(name, name + "\n")
+    everything = ["o/user", "o/p3", "o/p2", "o/talk1", "o/talk2", "o/answer", "o/one", "a file:of$dollars#and more",
+                  "o/last",
+                  "o/checked", "o/slow", os.fsdecode(b"o/\xff\xfe")]
+    it.record("every_kind_of_edge", *everything)
+    it.write("s1", "s1\n")
+    it.record("restat_cleans", "o/user", "o/last", "alias")
+    it.write("list.h", "more\n")
+    it.record("listed_header_changed", *everything)
+    it.record("one_lane_for_each_job", "o/never", "o/user", own=["--lanes"])
+    it.write("s2", "s2 again\n")
+    it.record("source_named_with_a_caret", "s2^")
+    it.record("nothing_to_do", "o/listed")
+    (it.build / "begun").unlink()
+    it.write("sub/less.ninja", "build o/slow: slow s2\n  seconds = 20\nbuild o/behind: copy o/slow\n")
+    it.record("interrupted_while_slow", "o/behind", "o/p1", "o/p3", status=2, interrupt_when="begun")
+    it.write("sub/less.ninja", "build o/slow: slow s2\n  seconds = 0.2\nbuild o/behind: copy o/slow\n")
+    it.record("resumed", "o/behind", "o/p3")
+
+
+FAILING_MANIFEST = """rule make
+  command = sleep $time; test ! -e stop && cat $in > $out
+rule break
+  command = sleep $time; exit 1
+rule shout
+  command = echo shouting; exit 3
+  pool = console
+time = 0.02
+build x: make s
+build y: make s
+  time = 0.1
+build z: break s
+build u: make z
+build v: phony u y
+build w: make x || v
+build t: shout s
+"""
+
+
+def failing_chain():
+    """Failures: the first one ends the build, any number of them, one on the console, a missing source."""
+    it = Chain("failing")
+    it.write("build.ninja", FAILING_MANIFEST)
+    it.write("s", "s\n")
+    it.record("first_failure_ends", "w", status=1)
+    it.record("keep_going", "-k0", "w", "t", status=1)
+    it.record("console_failure", "t", "y", status=1, jobs=1)
+    it.write("build.ninja", FAILING_MANIFEST.replace("break s", "make s"))
+    it.record("repaired", "w")
+    it.record("recorded_with_lanes", "-k0", "t", "w", status=1, own=["--lanes"])
+
+
+# chain -> the function that makes it, what it needs, its recordings
+CHAINS = {
+    "cmake": (cmake_chain, ("ninja", "cmake", "cc"), (
+        "first_build", "rebuilt_after_a_touch", "header_added", "failed_compile", "repaired",
+        "generated_header_changed",
+        "interrupted", "after_the_interrupt_with_another_manifest")),
+    "shell": (shell_chain, ("ninja",), (
+        "every_kind_of_edge", "restat_cleans", "listed_header_changed", "one_lane_for_each_job",
+        "source_named_with_a_caret",
+        "nothing_to_do", "interrupted_while_slow", "resumed")),
+    "failing": (failing_chain, ("ninja",), (
+        "first_failure_ends", "keep_going", "console_failure", "repaired", "recorded_with_lanes")),
+}
+
+
+def made(chain):
+    """The folder of a chain's recordings, which are made where they are not there yet."""
+    folder = recordings() / chain
+    if not folder.exists():
+        CHAINS[chain][0]()
+        (folder / "made").touch()
+    if not (folder / "made").exists():
+        raise AssertionError(f"the builds of the chain {chain} could not be recorded to their end")
+    return folder

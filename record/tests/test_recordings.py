@@ -1,0 +1,174 @@
+"""Records real builds, and looks at each recording by the recorder's own reading of rebug's rules."""
+
+import os
+import pathlib
+import pty
+import sys
+import tempfile
+import unittest
+
+import builds
+from builds import CHAINS, missing_tools, unescaped
+
+
+class Recordings(unittest.TestCase):
+    pass
+
+
+def _test(chain, name):
+    def test(self):
+        lacking = missing_tools(*CHAINS[chain][1])
+        if lacking:
+            self.skipTest(lacking)
+        folder = builds.made(chain)
+        said = (folder / f"{name}.said").read_bytes()
+        self.assertNotIn(b"rules differ", said)
+        self.assertIn(b"events of this build", said)
+        lines = (folder / name / "trace").read_bytes().split(b"\n")
+        self.assertEqual(lines[0], b"rebug-trace 1")
+        self.assertTrue(os.access(folder / name / "replay", os.X_OK))
+
+    return test
+
+
+for _chain, (_, _, _names) in CHAINS.items():
+    for _name in _names:
+        setattr(Recordings, f"test_{_chain}_{_name}", _test(_chain, _name))
+
+
+class Commands(unittest.TestCase):
+    """What stands in the traces of single recordings."""
+
+    def lines(self, chain, name):
+        lacking = missing_tools(*CHAINS[chain][1])
+        if lacking:
+            self.skipTest(lacking)
+        text = (builds.made(chain) / name / "trace").read_bytes()
+        return text[text.index(b"\nlane 0\n") + 8 :].split(b"\n")[:-1]
+
+    def words(self, chain, name):
+        return [b" ".join(line.split(b" ")[:2]) for line in self.lines(chain, name)]
+
+    def test_failed_compile_is_a_fail_and_what_stands_on_it_never_starts(self):
+        words = self.words("cmake", "failed_compile")
+        self.assertIn(b"fail CMakeFiles/words.dir/w3.c.o", words)
+        self.assertIn(b"finish CMakeFiles/words.dir/w4.c.o", words)
+        self.assertNotIn(b"start libwords.a", words)
+
+    def test_added_header_stands_in_the_list(self):
+        lines = self.lines("cmake", "header_added")
+        finish = [it for it in lines if it.startswith(b"finish CMakeFiles/words.dir/w3.c.o")]
+        self.assertTrue(finish and finish[0].endswith(b"src/numbers.h"))
+
+    def test_restat_leaves_users_clean(self):
+        words = self.words("shell", "restat_cleans")
+        self.assertEqual(words.count(b"start o/kept"), 1)
+        self.assertIn(b"clean o/kept2", words)
+        self.assertIn(b"clean o/user", words)
+
+    def test_pooled_edges_have_slots_and_others_none(self):
+        starts = {it.split(b" ")[1]: it.split(b" ") for it in self.lines("shell", "every_kind_of_edge")
+                  if it.startswith(b"start ")}
+        self.assertEqual({len(starts[it]) for it in (b"o/p1", b"o/p2", b"o/talk1", b"o/talk2")}, {4})
+        self.assertEqual(len(starts[b"o/kept"]), 3)
+        self.assertLessEqual({int(starts[it][3]) for it in (b"o/p1", b"o/p2", b"o/p3")}, {0, 1})
+
+    def test_names_with_blanks_dollars_and_no_text_are_fields(self):
+        words = self.words("shell", "every_kind_of_edge")
+        self.assertIn(b"finish a\\sfile:of$dollars#and\\smore", words)
+        self.assertIn(b"finish o/\xff\xfe", words)
+
+    def test_interrupted_edges_are_aborted_and_others_not_started(self):
+        words = self.words("shell", "interrupted_while_slow")
+        self.assertIn(b"interrupt", words)
+        self.assertIn(b"abort o/slow", words)
+        self.assertNotIn(b"start o/behind", words)
+
+    def test_first_failure_ends_what_is_passed(self):
+        words = self.words("failing", "first_failure_ends")
+        self.assertIn(b"fail z", words)
+        self.assertIn(b"finish y", words)
+        self.assertNotIn(b"pass v", words)
+        self.assertNotIn(b"start w", words)
+
+    def test_console_failure_is_found_in_the_output(self):
+        words = self.words("failing", "console_failure")
+        self.assertIn(b"fail t", words)
+
+    def test_no_two_edges_hold_one_job(self):
+        for chain, (_, _, names) in CHAINS.items():
+            for name in names:
+                held = {}
+                for line in self.lines(chain, name):
+                    word, *rest = line.split(b" ")
+                    if word == b"start":
+                        self.assertNotIn(rest[1], held.values(), f"{chain} {name}")
+                        held[rest[0]] = rest[1]
+                    elif word in (b"finish", b"fail", b"abort"):
+                        del held[rest[0]]
+
+    def test_ends_stand_in_the_order_of_the_log(self):
+        folder = builds.made("shell") if not missing_tools("ninja") else self.skipTest("not on this machine: ninja")
+        ends = [unescaped(it.split(b" ")[1]) for it in self.lines("shell", "resumed") if it.startswith(b"finish ")]
+        log = (folder / "build/sub/kept/.ninja_log").read_bytes().split(b"\n")
+        places = [max(at for at, line in enumerate(log) if line.split(b"\t")[3:4] == [it]) for it in ends]
+        self.assertEqual(places, sorted(places))
+
+
+AT_A_TERMINAL = """rule slow
+  command = touch begun$n; sleep 20; touch $out
+rule shown
+  command = touch begun$n; sleep 20; touch $out
+  pool = console
+build a: slow
+  n = 1
+build b: shown
+  n = 2
+"""
+
+
+class Terminals(unittest.TestCase):
+    """A recording at a terminal: Ninja writes as it does to one, and Ctrl-C interrupts it once."""
+
+    def setUp(self):
+        lacking = missing_tools("ninja")
+        if lacking:
+            self.skipTest(lacking)
+
+    def run_at_a_terminal(self, folder, keys):
+        child, terminal = pty.fork()
+        if not child:
+            os.environ["TERM"] = "xterm"
+            os.execv(sys.executable, [sys.executable, builds.RECORDER, folder / "build", folder / "recorded"])
+        for name in ("begun1", "begun2"):
+            builds.wait_for(folder / "build" / name)
+        builds.time.sleep(0.5)
+        os.write(terminal, keys)
+        shown = b""
+        while data := _read(terminal):
+            shown += data
+        os.close(terminal)
+        return os.waitstatus_to_exitcode(os.waitpid(child, 0)[1]), shown
+
+    def test_an_interrupt_by_a_key(self):
+        with tempfile.TemporaryDirectory() as folder:
+            folder = pathlib.Path(folder)
+            (folder / "build").mkdir()
+            (folder / "build/build.ninja").write_text(AT_A_TERMINAL)
+            status, shown = self.run_at_a_terminal(folder, b"\x03")
+            trace = (folder / "recorded/trace").read_text()
+        self.assertEqual(status, 2)
+        self.assertIn(b"[0/2] touch begun1; sleep 20; touch a\x1b[K", shown)
+        self.assertNotIn(b"\x1e", shown)
+        self.assertTrue(trace.endswith("interrupt\nabort a 0\nabort b 0\n"), trace)
+
+
+def _read(descriptor):
+    try:
+        return os.read(descriptor, 4096)
+    except OSError:  # the other end is closed
+        return b""
+
+
+if __name__ == "__main__":
+    unittest.main()

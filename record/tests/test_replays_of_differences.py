@@ -1,0 +1,56 @@
+"""rebug does what docs/NINJA.md says of it."""
+
+import pathlib
+import subprocess
+import tempfile
+import unittest
+
+import differences
+from builds import missing_tools
+from recorder.checking import check
+from test_replays import program, why_not
+
+
+class ReplaysOfDifferences(unittest.TestCase):
+    @classmethod
+    def setUpClass(cls):
+        cls.unable = why_not()
+
+    def setUp(self):
+        if self.unable:
+            self.skipTest(self.unable)
+
+    def report(self, manifest):
+        with tempfile.TemporaryDirectory() as folder:
+            for name, text in (("build.ninja", manifest), ("trace", "rebug-trace 1\nlane 0\n"), ("script", "plan\n")):
+                (pathlib.Path(folder) / name).write_text(text)
+            words = [program(), "--manifest", "build.ninja", "--trace", "trace", "--script", "script"]
+            return subprocess.run(words, cwd=folder, stdin=subprocess.DEVNULL, capture_output=True, text=True).stdout
+
+
+def _build_test(name):
+    _, refusal, _ = differences.BUILDS[name]
+
+    def test(self):
+        lacking = missing_tools("ninja")
+        if lacking:
+            self.skipTest(lacking)
+        said = []
+        status = check(str(differences.made(name) / "recorded"), program(), said.append)
+        if refusal is None:
+            self.assertEqual(status, 0, said)
+        else:
+            self.assertIn(f"refused {' '.join(map(str, refusal))}:", said[0])
+
+    return test
+
+
+def _line_test(name):
+    manifest, _, rebug = differences.LINES[name]
+    return lambda self: self.assertEqual(self.report(manifest), rebug + "\n")
+
+
+for _name in differences.BUILDS:
+    setattr(ReplaysOfDifferences, f"test_{_name}", _build_test(_name))
+for _name in differences.LINES:
+    setattr(ReplaysOfDifferences, f"test_line_{_name.replace(' ', '_')}", _line_test(_name))

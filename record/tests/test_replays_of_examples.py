@@ -1,0 +1,62 @@
+"""The recorded examples: rebug accepts each recording, answers each story as its report has it, and the README
+beside it quotes lines that are there."""
+
+import os
+import pathlib
+import subprocess
+import unittest
+
+from recorder.checking import check
+from test_replays import program, why_not
+
+EXAMPLES = pathlib.Path(__file__).resolve().parents[2] / "examples"
+
+
+class ReplaysOfExamples(unittest.TestCase):
+    def program(self):
+        unable = why_not()
+        if unable:
+            self.skipTest(unable)
+        return os.path.abspath(program())
+
+
+def _check_test(folder):
+    def test(self):
+        said = []
+        self.assertEqual(check(str(folder), self.program(), said.append), 0, said)
+
+    return test
+
+
+def _story_test(folder):
+    def test(self):
+        words = (folder / "replay").read_text().splitlines()[-1].split()[2:]
+        words[words.index("--script") + 1] = "story"
+        done = subprocess.run([self.program(), *words], cwd=folder, stdin=subprocess.DEVNULL, capture_output=True)
+        self.assertEqual(done.stdout, (folder / "report").read_bytes())
+        self.assertEqual(done.returncode, 0)
+
+    return test
+
+
+def _quote_test(readme):
+    """Each indented line of a README that reads as an answer stands in a report or a trace beside it."""
+
+    def test(self):
+        files = [it for name in ("report", "trace") for it in readme.parent.glob(f"*/{name}")]
+        known = {line for it in files for line in it.read_text().splitlines()}
+        words = ("why ", "mark ", "job ", "dependents ", "start ", "finish ", "fail ", "kept ", "stamp ")
+        quoted = [line[4:] for line in readme.read_text().splitlines() if line.startswith("    ")]
+        answers = [it for it in quoted if it.startswith(words) or it[:1].isdigit()]
+        self.assertGreater(len(answers), 5)
+        self.assertEqual([it for it in answers if it not in known], [])
+
+    return test
+
+
+for _story in sorted(EXAMPLES.glob("*/*/story")):
+    _name = "_".join(_story.parent.relative_to(EXAMPLES).parts)
+    setattr(ReplaysOfExamples, f"test_{_name}_is_accepted", _check_test(_story.parent))
+    setattr(ReplaysOfExamples, f"test_{_name}_story", _story_test(_story.parent))
+for _example in sorted({it.parents[1] for it in EXAMPLES.glob("*/*/story")}):
+    setattr(ReplaysOfExamples, f"test_{_example.name}_quotes_what_is_there", _quote_test(_example / "README.md"))

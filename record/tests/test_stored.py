@@ -1,0 +1,386 @@
+"""The recorder's readers and its order, on stored logs and manifests. Nothing here runs Ninja."""
+
+import pathlib
+import re
+import tempfile
+import unittest
+
+from recorder.checking import check
+from recorder.depfiles import read_depfile
+from recorder.disk import Snapshot, built_records
+from recorder.fields import canonical, field, line, quoted
+from recorder.files import command, opening, write_recording
+from recorder.logs import BuildLog, LogEntry, hash_of, new_entries, read_build_log, read_deps
+from recorder.manifest import BadManifest, Manifest
+from recorder.recording import record
+from recorder.rules import Build
+from recorder.running import Child, Ran, _Output
+from recorder.sequence import EdgeRun, sequence
+from recorder.words import BadWords, read_words
+
+# Written by Ninja 1.11.1.
+LOG = (b"# ninja log v5\n"
+       b"3\t38\t1795373768887092529\tCMakeFiles/hello.dir/hello.c.o\tc5a2815e17565f5b\n"
+       b"1\t38\t1795373768887092529\tCMakeFiles/greet.dir/greet.c.o\t36359ae688246a3d\n"
+       b"38\t450\t1795373769292199035\tlibgreet.a\t9193c598d01a078e\n")
+COMPILE = (b"/usr/bin/cc    -MD -MT CMakeFiles/hello.dir/hello.c.o -MF CMakeFiles/hello.dir/hello.c.o.d "
+           b"-o CMakeFiles/hello.dir/hello.c.o -c /tmp/cm/hello.c")
+ARCHIVE = (b": && /usr/bin/cmake -E rm -f libgreet.a && /usr/bin/ar qc libgreet.a  CMakeFiles/greet.dir/greet.c.o "
+           b"&& /usr/bin/ranlib libgreet.a && :")
+DEPS = (b"a b.o: #deps 2, deps mtime 17 (VALID)\n    a b.c\n    /usr/include/x.h\n\n"
+        b"none.o: #deps 0, deps mtime 3 (STALE)\n\n")
+
+
+def manifest(text, **files):
+    contents = {b"build.ninja": text, **{name.replace("_", ".").encode(): it for name, it in files.items()}}
+    return Manifest(b"build.ninja", contents.__getitem__)
+
+
+class Fields(unittest.TestCase):
+    def test_paths_are_canonical(self):
+        for path, wanted in ((b"./a//b/../c", b"a/c"), (b"/..", b"/"), (b"a/..", b"."), (b"../../a", b"../../a"),
+                             (b"a/", b"a"),
+                             (b"a.b/..c", b"a.b/..c"), (b"/a/../../b", b"/b")):
+            self.assertEqual(canonical(path), wanted)
+
+    def test_fields_escape_what_ends_a_field(self):
+        self.assertEqual(field(b"a b\tc\nd\re\\f"), b"a\\sb\\tc\\nd\\re\\\\f")
+        self.assertEqual(field(b""), b"\\0")
+        self.assertEqual(line("stamp", b"\xff #$", 7), b"stamp \xff\\s#$ 7")
+
+    def test_paths_are_quoted_for_the_shell(self):
+        self.assertEqual(quoted(b"a-b/c.d_+"), b"a-b/c.d_+")
+        self.assertEqual(quoted(b"it's"), b"'it'\\''s'")
+
+
+class Logs(unittest.TestCase):
+    def test_hashes_are_those_that_ninja_wrote(self):
+        entries = read_build_log(LOG).last()
+        self.assertEqual(hash_of(COMPILE), entries[b"CMakeFiles/hello.dir/hello.c.o"].hash)
+        self.assertEqual(hash_of(ARCHIVE), entries[b"libgreet.a"].hash)
+        self.assertNotEqual(hash_of(ARCHIVE + b" "), entries[b"libgreet.a"].hash)
+
+    def test_a_line_that_was_being_written_is_left_out(self):
+        for cut in range(len(LOG) - 40, len(LOG)):
+            self.assertEqual(len(read_build_log(LOG[:cut]).entries), 2)
+        self.assertEqual(read_build_log(b"").entries, [])
+        self.assertEqual(read_build_log(b"# ninja log v5").entries, [])
+
+    def test_lines_that_are_no_entries_are_skipped(self):
+        log = read_build_log(b"# ninja log v5\nx\t1\n1\t2\t0\tout\tzz\n1\t2\t0\tout name\tff\n")
+        self.assertEqual(log.entries, [LogEntry(1, 2, 0, b"out name", 255)])
+
+    def test_the_appended_entries_are_the_new_ones(self):
+        one, two, again = LogEntry(0, 1, 5, b"a", 1), LogEntry(1, 2, 6, b"b", 2), LogEntry(0, 3, 9, b"a", 1)
+        log = lambda *entries: BuildLog(5, list(entries))
+        self.assertEqual(new_entries(log(one, two), log(one, two, again)), [again])
+        self.assertEqual(new_entries(log(one, two), log(one, two)), [])
+        self.assertEqual(new_entries(log(), log(one)), [one])
+
+    def test_a_log_that_was_written_anew_keeps_its_old_entries_first(self):
+        old, one, two, again = (LogEntry(0, 1, 4, b"a", 1), LogEntry(0, 1, 5, b"a", 1), LogEntry(1, 2, 6, b"b", 2),
+                                LogEntry(0, 3, 9, b"b", 2))
+        before = BuildLog(5, [old, one, two])
+        self.assertEqual(new_entries(before, BuildLog(5, [two, one, again])), [again])
+        self.assertEqual(new_entries(before, BuildLog(5, [two, one])), [])
+
+    def test_deps_lists_are_read_as_ninja_prints_them(self):
+        self.assertEqual(read_deps(DEPS), {b"a b.o": (17, [b"a b.c", b"/usr/include/x.h"]), b"none.o": (3, [])})
+
+    def test_another_command_has_a_stand_in(self):
+        found = manifest(b"rule r\n  command = new $in\nbuild o: r i\nbuild p: r i\n")
+        entries = [LogEntry(0, 1, 8, b"o", hash_of(b"old i")), LogEntry(0, 1, 9, b"p", hash_of(b"new i")),
+                   LogEntry(0, 1, 9, b"gone", 1)]
+        records, unhashed = built_records(found, BuildLog(5, entries))
+        self.assertEqual(records[b"p"], (9, b"new i"))
+        self.assertEqual(records[b"o"][0], 8)
+        self.assertNotEqual(records[b"o"][1], b"new i")
+        self.assertNotIn(b"gone", records)
+        self.assertEqual(unhashed, [])
+
+
+class Manifests(unittest.TestCase):
+    def test_files_are_found_by_their_expanded_names(self):
+        found = manifest(b"d = x\ninclude $d.ninja\nsubninja y.ninja\nbuild c: r $v\n",
+                         x_ninja=b"v = 1\nrule r\n  command = $v $in\n", y_ninja=b"v = 2\nbuild b: r $v\n")
+        self.assertEqual([name for name, _, _ in found.files], [b"build.ninja", b"x.ninja", b"y.ninja"])
+        self.assertEqual([edge.command for edge in found.edges], [b"2 2", b"1 1"])
+
+    def test_lists_of_a_build_line(self):
+        edge = manifest(b"rule r\n  command = r $out < $in\nbuild a$ b | c: r d$:e $\n    f | g || h |@ v\n").edges[0]
+        self.assertEqual((edge.outputs, edge.explicit, edge.implicit, edge.order_only, edge.validations),
+                         ([b"a b", b"c"], [b"d:e", b"f"], [b"g"], [b"h"], [b"v"]))
+        self.assertEqual(edge.command, b"r 'a b' < 'd:e' f")
+
+    def test_response_files_are_part_of_the_command(self):
+        edge = manifest(b"rule r\n  command = r @$out.rsp\n  rspfile = $out.rsp\n  rspfile_content = $in\nbuild o: "
+                        b"r a b\n").edges[0]
+        self.assertEqual(edge.command, b"r @o.rsp;rspfile=a b")
+
+    def test_a_variable_of_the_file_wins_in_ninja_where_a_build_line_has_no_block(self):
+        found = manifest(b"command = wrong\nrule r\n  command = right\nbuild o: r\nbuild p: r\n  x = 1\n")
+        self.assertEqual([(it.command, it.ninja_command) for it in found.edges],
+                         [(b"right", b"wrong"), (b"right", b"right")])
+
+    def test_a_phony_edge_loses_its_own_outputs(self):
+        self.assertEqual(manifest(b"build a: phony a b\n").edges[0].explicit, [b"b"])
+
+    def test_pools_and_defaults(self):
+        found = manifest(b"pool p\n  depth = 2\nrule r\n  command = r\nbuild a: r\n  pool = p\nbuild b: r a\n  "
+                         b"pool = console\nbuild c: r\n")
+        self.assertEqual([found.depth(it) for it in found.edges], [2, 1, None])
+        self.assertEqual(found.defaults(), [b"b", b"c"])
+
+    def test_lines_that_ninja_refuses_are_named(self):
+        for text, place in ((b"\nbuild x: nope\n", ":2"), (b"rule\n", ":1"), (b"a = b\nc = $%\n", ":2")):
+            with self.assertRaises(BadManifest) as caught:
+                manifest(text)
+            self.assertIn(f"build.ninja{place}: ", str(caught.exception))
+
+
+class Outside(unittest.TestCase):
+    """What rebug does not take is named with its edge."""
+
+    def notes(self, text):
+        found = manifest(text)
+        empty = Snapshot({}, BuildLog(5, []), {}, {})
+        return record("nowhere", found, read_words([]), 1, empty, empty, Ran(0, 0)).notes
+
+    def test_dyndep(self):
+        notes = self.notes(b"rule r\n  command = r\nbuild dd: r\nbuild o: r || dd\n  dyndep = dd\n")
+        self.assertTrue(notes[0].startswith("build.ninja:4: o has a dyndep"), notes)
+
+    def test_list_of_another_compiler(self):
+        notes = self.notes(b"rule r\n  command = r\n  deps = msvc\nbuild o.obj: r\n")
+        self.assertTrue(notes[0].startswith("build.ninja:4: o.obj has deps = msvc"), notes)
+
+    def test_another_command_in_ninja(self):
+        notes = self.notes(b"command = x\nrule r\n  command = r\nbuild o: r\n")
+        self.assertTrue(notes[0].startswith("build.ninja:4: o has another command in Ninja"), notes)
+
+    def test_log_of_an_unknown_version(self):
+        found = manifest(b"rule r\n  command = r\nbuild o: r\n")
+        before = Snapshot({b"o": 9}, BuildLog(7, [LogEntry(0, 1, 8, b"o", 1)]), {}, {})
+        it = record("nowhere", found, read_words([]), 1, before, before, Ran(0, 0))
+        self.assertIn("(version 7)", it.notes[0])
+        self.assertEqual(it.built, {b"o": (8, b"r")})
+
+
+class Depfiles(unittest.TestCase):
+    def test_prerequisites_as_compilers_write_them(self):
+        text = b"a.o: a.c \\\n my\\ h.h $$x C:/k.h\nmy\\ h.h:\n"
+        self.assertEqual(read_depfile(text, [b"a.o"]), [b"a.c", b"my h.h", b"$x", b"C:/k.h"])
+
+    def test_texts_that_rebug_refuses(self):
+        for text in (b"a.o", b"b.o: x\n", b": x\n"):
+            self.assertIsNone(read_depfile(text, [b"a.o"]))
+
+
+FOUR = b"""rule r
+  command = r $in $out
+build a: r s
+build b: r s
+build c: r a
+build all: phony c b
+"""
+
+
+class Orders(unittest.TestCase):
+    """`runs` are (output, start, end) in the order of the log; an end may have another word than finish."""
+
+    def events(self, text, runs, touches=(), failures=1, stamps=None, targets=(), **options):
+        self.manifest = manifest(text)
+        built = [EdgeRun(self.manifest.producer[out], (word or ["finish"])[0], start, end, [100 + end])
+                 for out, start, end, *word in runs]
+        self.build = Build(self.manifest, 8, stamps or {b"s": 1})
+        self.found = sequence(self.build, list(targets), built, list(touches), failures, **options)
+        self.assertEqual(self.found.refused, [])
+        return [b" ".join(command(it).split(b" ")[:3]).decode() for it in self.found.events]
+
+    def test_ends_go_first_in_one_millisecond(self):
+        found = self.events(FOUR, [(b"a", 0, 5), (b"b", 0, 9), (b"c", 5, 9)])
+        self.assertEqual(found, ["plan", "start a 0", "start b 1", "finish a 105", "start c 0", "finish b 109",
+                                 "finish c 109", "pass all"])
+        self.assertEqual(self.found.tied, [])
+
+    def test_commands_of_no_length_end_before_what_stands_on_them(self):
+        found = self.events(FOUR, [(b"a", 3, 3), (b"c", 3, 3), (b"b", 3, 3)])
+        self.assertEqual(found[1:], ["start a 0", "finish a 103", "start c 0", "finish c 103", "start b 1",
+                                     "finish b 103", "pass all"])
+        self.assertEqual(self.found.jobs, 2)
+
+    def test_an_order_that_is_not_known_is_told(self):
+        self.events(FOUR, [(b"a", 0, 5), (b"b", 5, 9), (b"c", 5, 9)])
+        self.assertEqual([it.name for it in self.found.tied], [b"b"])
+
+    def test_a_failure_ends_what_is_passed(self):
+        found = self.events(FOUR, [(b"a", 0, 2, "fail"), (b"b", 0, 5)])
+        self.assertEqual(found[1:], ["start a 0", "start b 1", "fail a 102", "finish b 105"])
+
+    def test_an_interrupt_comes_before_its_aborts(self):
+        found = self.events(FOUR, [(b"a", 0, 2), (b"b", 0, 9, "abort")], interrupted=True)
+        self.assertEqual(found[-2:], ["interrupt", "abort b 109"])
+
+    def test_an_interrupt_of_nothing_that_was_seen(self):
+        self.assertEqual(self.events(FOUR, [], interrupted=True), ["plan", "interrupt"])
+
+    def test_edges_that_restat_left_alone_are_clean(self):
+        text = b"rule r\n  command = r\n  restat = 1\nbuild a: r s\nbuild b: r a\nbuild c: r || b\nbuild d: phony c\n"
+        self.manifest = manifest(text)
+        stamps = {b"s": 50, b"a": 10, b"b": 20, b"c": 5, b"d": 0}
+        built = {it: (10, b"r") for it in (b"a", b"b", b"c")}
+        build = Build(self.manifest, 1, stamps, built)
+        run = EdgeRun(self.manifest.producer[b"a"], "finish", 0, 4, [10])
+        found = sequence(build, [b"d"], [run], [], 1)
+        self.assertEqual([command(it).decode() for it in found.events],
+                         ["plan", "start a 0", "finish a 10", "clean b", "pass c", "pass d"])
+
+    def test_places_that_add_least_are_taken(self):
+        text = b"pool p\n  depth = 2\nrule r\n  command = r\n  pool = p\nbuild a: r\nbuild b: r\nbuild c: r\n"
+        self.manifest = manifest(text)
+        runs = [EdgeRun(self.manifest.producer[out], "finish", start, end, [end + 1]) for out, start, end in
+                ((b"a", 0, 3), (b"c", 3, 5), (b"b", 1, 9))]
+        found = sequence(Build(self.manifest, 4), [], runs, [], 1)
+        starts = [it[1:] for it in found.events if it[0] == "start"]
+        self.assertEqual(starts, [(b"a", 0, 0), (b"b", 1, 1), (b"c", 2, 0)])
+
+    def test_touches_stand_where_they_came(self):
+        found = self.events(FOUR, [(b"a", 0, 5), (b"b", 0, 9), (b"c", 6, 9)], touches=[(7, b"s", 90), (None, b"t", 3)])
+        self.assertEqual(found[4:6], ["start c 0", "touch s 90"])
+        self.assertEqual(found[-1], "touch t 3")
+
+    def test_a_start_that_rebug_refuses_is_kept_and_told(self):
+        self.manifest = manifest(b"rule r\n  command = r\nbuild a: r s\n")
+        build = Build(self.manifest, 1, {b"s": 1, b"a": 2}, {b"a": (2, b"r")})
+        found = sequence(build, [], [EdgeRun(self.manifest.producer[b"a"], "finish", 0, 1, [3])], [], 1)
+        self.assertEqual([refusal for _, refusal in found.refused], [(66,), (67,)])
+        self.assertEqual(len(found.events), 3)
+
+
+class Outputs(unittest.TestCase):
+    """What Ninja writes, read in pieces of every length."""
+
+    SAID = (b"\x1e0.004\x1f[1/3] MAKE x\n\x1e1.250\x1f[2/3] MAKE y\nFAILED: y o/z \ncc y\nFAILED: not me\n"
+            b"\x1e2.000\x1f[3/3] w\n\x1b[31mFAILED: \x1b[0mw \nninja: build stopped: interrupted by user.\n")
+
+    def test_marks_go_and_failures_stay(self):
+        for size in (1, 2, 3, 7, 1000):
+            ran, shown = Ran(2, 0), []
+            output = _Output(ran, shown.append)
+            for at in range(0, len(self.SAID), size):
+                output.take(self.SAID[at : at + size])
+            output.end()
+            text = b"".join(shown)
+            self.assertNotIn(b"\x1e", text)
+            self.assertEqual(text, re.sub(b"\x1e.....\x1f", b"", self.SAID))
+            self.assertEqual([it[:2] for it in ran.failed], [(b"y o/z", 1250), (b"not me", None), (b"w", 2000)])
+            self.assertTrue(ran.interrupted)
+
+    def test_other_control_bytes_stay(self):
+        shown = []
+        output = _Output(Ran(0, 0), shown.append)
+        output.take(b"a\x1eb\x1f\n\x1e")
+        output.end()
+        self.assertEqual(b"".join(shown), b"a\x1eb\x1f\n\x1e")
+
+
+class Words(unittest.TestCase):
+    def test_targets_and_options_may_be_mixed(self):
+        found = read_words(["a", "-j8", "-f", "x.ninja", "b", "-k", "0", "-v", "--", "-c"])
+        self.assertEqual((found.targets, found.jobs, found.manifest), ([b"a", b"b", b"-c"], 8, b"x.ninja"))
+        self.assertGreater(found.failures, 1 << 30)
+
+    def test_words_that_run_no_build_are_refused(self):
+        for words in (["-t", "clean"], ["-n"], ["-vn"], ["-C", "x"], ["--quiet"], ["--version"]):
+            with self.assertRaises(BadWords):
+                read_words(words)
+
+
+MILLISECOND = 1_000_000
+
+
+class Whole(unittest.TestCase):
+    """A recording from stored snapshots, and what is written of it."""
+
+    TEXT = (b"rule cc\n  command = cc $in\n  depfile = $out.d\n  deps = gcc\nrule ld\n  command = ld $in\n"
+            b"build a.o: cc a.c\nbuild b.o: cc b.c\nbuild app: ld a.o b.o\ninclude /far/away.ninja\n")
+
+    def setUp(self):
+        contents = {b"build.ninja": self.TEXT, b"/far/away.ninja": b"default app\n"}
+        self.manifest = Manifest(b"build.ninja", contents.__getitem__)
+        self.begin = 1_000_000 * MILLISECOND
+        at = lambda time: self.begin + time * MILLISECOND
+        old = [LogEntry(0, 9, 7, b"a.o", hash_of(b"cc a.c"))]
+        hashes = {it.name: hash_of(it.ninja_command) for it in self.manifest.edges}
+        new = [LogEntry(2, 40, at(39), b"b.o", hashes[b"b.o"]), LogEntry(1, 60, at(59), b"a.o", hashes[b"a.o"])]
+        before = {b"a.c": at(-5), b"b.c": 5, b"a.o": 7, b"b.o": 0, b"app": 0}
+        after = {**before, b"a.o": at(59), b"b.o": at(39), b"x.h": 4, b"made.h": at(20), b"app": 0}
+        deps = {b"a.o": (at(59), [b"a.c", b"x.h"]), b"b.o": (at(39), [b"b.c", b"made.h"])}
+        ran = Ran(1, self.begin, failed=[(b"app", 90, 0)], children=[Child([b"/bin/sh", b"-c", b"ld a.o b.o"], at(65))])
+        self.found = record("nowhere", self.manifest, read_words([]), 2,
+                            Snapshot(before, BuildLog(5, old), {b"a.o": (7, [b"a.c"])}, {}),
+                            Snapshot(after, BuildLog(5, old + new), deps, {}), ran)
+
+    def test_opening_has_stamps_records_and_headers_that_were_there(self):
+        lines = [it.decode() for it in opening(self.found)]
+        self.assertEqual(lines, ["jobs 2", f"stamp a.c {self.begin - 5 * MILLISECOND}", "stamp a.o 7", "stamp b.c 5",
+                                 "stamp x.h 4",
+                                 "built a.o 7 cc\\sa.c", "deps a.o 7 a.c"])
+
+    def test_events_are_those_of_the_log_and_the_failure(self):
+        at = lambda time: self.begin + time * MILLISECOND
+        self.assertEqual([command(it).decode() for it in self.found.found.events], [
+            "plan", "start a.o 0", "start b.o 1", f"touch made.h {at(20)}", f"finish b.o {at(39)} list b.c made.h",
+            f"finish a.o {at(59)} list a.c x.h", "start app 0", "fail app 0"])
+        self.assertEqual(self.found.found.refused, [])
+
+    def test_lanes_have_a_job_each_and_the_plan_stands_in_the_script(self):
+        with tempfile.TemporaryDirectory() as folder:
+            write_recording(self.found, folder, True, "/nowhere/rebug")
+            room = pathlib.Path(folder)
+            lanes = (room / "trace").read_text().split("lane ")[1:]
+            self.assertEqual([it.split("\n")[1].split(" ")[:2] for it in lanes], [["start", "a.o"], ["start", "b.o"]])
+            self.assertEqual((room / "script").read_text(), "plan\nrun\nkept\nmarks\n")
+            self.assertIn("--workers", (room / "replay").read_text())
+
+    def test_files_from_outside_get_a_name_inside(self):
+        with tempfile.TemporaryDirectory() as folder:
+            names = write_recording(self.found, folder, False, "/nowhere/rebug")
+            self.assertEqual(names, [b"build.ninja", b"outside/1.ninja"])
+            self.assertTrue((pathlib.Path(folder) / "build.ninja").read_bytes().endswith(b"\ninclude "
+                                                                                         b"outside/1.ninja\n"))
+
+    def test_what_rebug_said_is_told_in_words(self):
+        answers = ("ok", "refused 66", "ok", "ok", "refused 67", "refused 70 6", "ok", "ok")
+        report = "".join(f"{at} 0 {it}\n" for at, it in enumerate(answers, 1)) + "mark 0 a.o wanted\n"
+        status, said = self.checked(f"cat <<'E'\n{report}E\n")
+        self.assertEqual(status, 1)
+        self.assertEqual(said[-2], "rebug accepted 5 of 8 commands, and refused 3")
+        self.assertIn("refused 66: start a.o 0", said[0])
+        self.assertIn("an output is older than an input", said[5])
+
+    def test_a_report_without_refusals_is_accepted(self):
+        report = "".join(f"{at} 0 ok\n" for at in range(1, 9))
+        self.assertEqual(self.checked(f"printf '{report}'\n"), (0, ["rebug accepted every command: 8 of 8"]))
+
+    def test_a_report_that_ends_early_is_not_accepted(self):
+        status, said = self.checked("printf '1 0 ok\\n'\n")
+        self.assertEqual((status, said[0]), (1, "rebug accepted 1 of 8 commands, and refused 0"))
+
+    def test_a_fault_is_told(self):
+        status, said = self.checked("echo fault trace 2 101; exit 1\n")
+        self.assertEqual((status, said[1]), (1, "  fault trace 2 101"))
+
+    def checked(self, stand_in):
+        """What `check` gives and says where rebug is a script."""
+        with tempfile.TemporaryDirectory() as folder:
+            write_recording(self.found, folder, False, "/nowhere/rebug")
+            program = pathlib.Path(folder) / "program"
+            program.write_text("#!/bin/sh\n" + stand_in)
+            program.chmod(0o755)
+            said = []
+            return check(folder, str(program), said.append), said
+
+
+if __name__ == "__main__":
+    unittest.main()
