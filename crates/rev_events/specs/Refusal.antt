@@ -15,7 +15,7 @@ use Rattle.rev_plan.specs.Plan.{PlanRefusal.StillRunning as Running, PlanRefusal
 use Rattle.rev_events.specs.declared.event.Listing.{Listing}
 use Rattle.rev_events.specs.declared.event.Listing.TheVariants as listing
 use Rattle.rev_events.specs.declared.refusal.Refusal.{Refusal}
-use Rattle.rev_events.specs.declared.refusal.Refusal.TheVariants.{StillRunning, UnknownTarget, MissingInput, DepsCycle, NoSuchEdge, Phony, NotPhony, Halted, NotHalted, AlreadyHalted, NotWanted, NotRunning, Blocked, NotDirty, Dirty, NoSuchJob, JobBusy, PoolSlot, SlotBusy, WrongOutputs, UnexpectedDepfile, Depfile, NoSuchEvent, NotKept, DependedOn, AlreadyKept, NotNow, Overtaken, NothingKept}
+use Rattle.rev_events.specs.declared.refusal.Refusal.TheVariants.{StillRunning, UnknownTarget, MissingInput, DepsCycle, NoSuchEdge, Phony, NotPhony, Halted, NotHalted, AlreadyHalted, NotWanted, NotRunning, Blocked, NotDirty, Dirty, NoSuchJob, JobBusy, PoolSlot, SlotBusy, WrongOutputs, UnexpectedDepfile, Depfile, NoSuchEvent, NotKept, DependedOn, AlreadyKept, NotNow, Overtaken, NothingKept, Paused, NoSuchBreak}
 
 -- the number of a refusal
 abbrev pub code_of : Refusal → ℕ
@@ -48,6 +48,8 @@ code_of AlreadyKept = 83
 code_of (NotNow refusal first) = 84
 code_of (Overtaken number) = 85
 code_of NothingKept = 86
+code_of Paused = 92
+code_of NoSuchBreak = 93
 
 -- the first number that a refusal carries
 abbrev pub first_number : Refusal → Option ℕ

@@ -9,6 +9,8 @@ mod fault;
 pub mod laws;
 mod refusal;
 mod stamps;
+#[cfg(test)]
+mod tests;
 mod words;
 mod writes;
 

@@ -67,6 +67,10 @@ pub enum Refusal {
     Overtaken(u32),
     /// No event is kept.
     NothingKept,
+    /// A break point was met, so no event happens until the next `continue`.
+    Paused,
+    /// No break of this number stands.
+    NoSuchBreak,
 }
 
 impl Refusal {
@@ -104,6 +108,8 @@ impl Refusal {
             Refusal::NotNow { .. } => 84,
             Refusal::Overtaken(_) => 85,
             Refusal::NothingKept => 86,
+            Refusal::Paused => 92,
+            Refusal::NoSuchBreak => 93,
         }
     }
 

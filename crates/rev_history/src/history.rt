@@ -209,8 +209,25 @@ impl History {
         Ok(members)
     }
 
-    // Why a cone is not taken out.
-    fn cone_refused(&self, number: u32) -> Option<Refusal>
+    /// Why `accept` would refuse an event now, where it would.
+    pub fn accept_refused(&self, event: &Event) -> Result<Option<Refusal>, AllocError>
+        ensures { IfOk result (λ refused. refused ≡ accept_refusal self.now.timeline event.now) }
+    {
+        refusal(self.alloc, &self.graph, &self.cells, event)
+    }
+
+    /// Why `back` would be refused now, where it would. It takes no memory.
+    pub fn back_refused(&self) -> Option<Refusal>
+        ensures { result ≡ back_refusal self.now.timeline }
+    {
+        match self.greatest() {
+            Some(_number) => None,
+            None => Some(Refusal::NothingKept),
+        }
+    }
+
+    /// Why `cone` would refuse a number now, where it would. It takes no memory.
+    pub fn cone_refused(&self, number: u32) -> Option<Refusal>
         ensures { result ≡ cone_refusal self.now.timeline number }
     {
         if self.event(number).is_none() {
@@ -222,8 +239,8 @@ impl History {
         None
     }
 
-    // The numbers of the cone of a kept event.
-    fn members(&self, number: u32) -> Result<Vec<u32>, AllocError>
+    /// The numbers of the events that `cone` would take out now, which rise.
+    pub fn members(&self, number: u32) -> Result<Vec<u32>, AllocError>
         requires { cone_refusal self.now.timeline number ≡ None }
         ensures members { IfOk result (λ members. members.items ≡ cone_numbers number self.now.timeline) }
         ensures legal { IsHistory self.now.timeline }
@@ -252,8 +269,8 @@ impl History {
         self.kept.last().copied()
     }
 
-    // Why an undo is refused.
-    fn undo_refused(&self, number: u32) -> Option<Refusal>
+    /// Why `undo` would refuse a number now, where it would. It takes no memory.
+    pub fn undo_refused(&self, number: u32) -> Option<Refusal>
         ensures { result ≡ undo_refusal self.now.timeline number }
     {
         if self.event(number).is_none() {
@@ -269,8 +286,8 @@ impl History {
         Some(Refusal::DependedOn(dependent))
     }
 
-    // Why a redo is refused.
-    fn redo_refused(&self, number: u32) -> Result<Option<Refusal>, AllocError>
+    /// Why `redo` would refuse a number now, where it would.
+    pub fn redo_refused(&self, number: u32) -> Result<Option<Refusal>, AllocError>
         ensures { IfOk result (λ refused. refused ≡ redo_refusal self.now.timeline number) }
     {
         let Some(event) = self.event(number) else {

@@ -7,6 +7,8 @@ pub mod laws;
 mod numbers;
 mod step;
 mod steps;
+#[cfg(test)]
+mod tests;
 
 pub use history::History;
 pub use rev_events::{Event, Fault, Refusal};
