@@ -1,0 +1,7 @@
+pub mod BenchLemmas
+pub mod BreakLemmas
+pub mod DeskLemmas
+pub mod JournalLemmas
+pub mod Promises
+pub mod Rising
+pub mod SpotLemmas

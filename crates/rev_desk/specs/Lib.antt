@@ -1,0 +1,11 @@
+pub mod Bench
+pub mod Breaks
+pub mod Codes
+pub mod Fault
+pub mod Inside
+pub mod Journal
+pub mod Laws
+pub mod Machine
+pub mod Names
+pub mod Sound
+pub mod Spots

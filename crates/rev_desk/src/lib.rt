@@ -1,0 +1,20 @@
+//! The desk: lanes say commands to one history, each is answered at once, and a journal keeps them all. Breaks pause
+//! it; labels name events by the lane that said them.
+#![tactic(auto)]
+
+mod bench;
+mod breaks;
+mod desk;
+mod fault;
+mod journal;
+pub mod laws;
+mod numbers;
+mod reply;
+mod spot;
+#[cfg(test)]
+mod tests;
+
+pub use desk::Desk;
+pub use fault::{DeskFault, Unsaid, Why};
+pub use reply::{Entry, Reply};
+pub use rev_commands::{Command, Point, Which};

@@ -1,0 +1,393 @@
+// Small builds told line by line: what the journal says then, as reports have it.
+use crate::{Command, Desk, Entry, Point, Reply, Which};
+use rev_cells::{Names, Opening};
+use rev_events::{Event, Listing, Stamps};
+use rev_graph::Graph;
+use rev_manifest::{Manifest, read};
+use rev_paths::Name;
+use std::alloc::{AllocError, Global};
+use std::test::Fail;
+
+// Two objects and a program.
+const BUILD: &[u8; 104] =
+    b"rule cc\n  command = cc\nrule ld\n  command = ld\nbuild a.o: cc a.c\nbuild b.o: cc b.c\nbuild app: ld a.o b.o\n";
+
+fn manifest_of(alloc: Global) -> Result<Manifest, AllocError> {
+    let name = Vec::from_slice(alloc, b"build.ninja")?;
+    let content = Vec::from_slice(alloc, BUILD)?;
+    let files = vec![in alloc; (name, content)]?;
+    match read(alloc, &files) {
+        Ok(manifest) => Ok(manifest),
+        Err(_) => Err(AllocError),
+    }
+}
+
+fn graph_of(alloc: Global) -> Result<Graph, AllocError> {
+    let manifest = manifest_of(alloc)?;
+    match Graph::build(alloc, &manifest) {
+        Ok(graph) => Ok(graph),
+        Err(_) => Err(AllocError),
+    }
+}
+
+fn path_of(alloc: Global, path: &[u8]) -> Result<Name, AllocError> {
+    match Name::new(alloc, path) {
+        Ok(name) => Ok(name),
+        Err(_) => Err(AllocError),
+    }
+}
+
+// Two jobs, and the stamps of both sources.
+fn opening_of(alloc: Global) -> Result<Opening, AllocError> {
+    let Ok(mut opening) = Opening::new(alloc, 2) else {
+        return Err(AllocError);
+    };
+    let sources: [(&[u8], u64); 2] = [(b"a.c", 10), (b"b.c", 20)];
+    for (path, stamp) in sources {
+        if opening.add_stamp(path_of(alloc, path)?, stamp).is_err() {
+            return Err(AllocError);
+        }
+    }
+    Ok(opening)
+}
+
+// A desk of three lanes.
+fn desk_of(alloc: Global) -> Result<Desk, AllocError> {
+    let graph = graph_of(alloc)?;
+    let opening = opening_of(alloc)?;
+    match Desk::new(alloc, graph, &opening, 3) {
+        Ok(desk) => Ok(desk),
+        Err(_) => Err(AllocError),
+    }
+}
+
+// What stands before and behind the first byte of this value.
+fn cut(text: &[u8], byte: u8) -> (&[u8], &[u8]) {
+    match text.iter().position(|it| *it == byte) {
+        Some(at) => (&text[..at], &text[at + 1..]),
+        None => (text, &[]),
+    }
+}
+
+fn number(text: &[u8]) -> u32 {
+    let mut number = 0_u32;
+    for byte in text {
+        let digit = u32::from(byte.wrapping_sub(b'0'));
+        number = number.wrapping_mul(10).wrapping_add(digit);
+    }
+    number
+}
+
+// A number, or a label: a lane, a colon and a place.
+fn which(text: &[u8]) -> Which {
+    let (first, second) = cut(text, b':');
+    if second.is_empty() {
+        return Which::Number(number(first));
+    }
+    Which::Label {
+        lane: number(first),
+        place: number(second),
+    }
+}
+
+fn plan_of(alloc: Global, target: &[u8]) -> Result<Event, AllocError> {
+    let mut names = Vec::new(alloc);
+    names.push(path_of(alloc, target)?)?;
+    Ok(Event::Plan(Names::new(names)))
+}
+
+fn finish_of(alloc: Global, out: &[u8], stamp: u32) -> Result<Event, AllocError> {
+    let mut stamps = Vec::new(alloc);
+    stamps.push(u64::from(stamp))?;
+    Ok(Event::Finish {
+        out: path_of(alloc, out)?,
+        stamps: Stamps::new(stamps),
+        listing: Listing::Nothing,
+    })
+}
+
+fn event_of(alloc: Global, word: &[u8], said: &[u8]) -> Result<Event, AllocError> {
+    let (out, rest) = cut(said, b' ');
+    match word {
+        b"plan" => plan_of(alloc, out),
+        b"start" => Ok(Event::Start {
+            out: path_of(alloc, out)?,
+            job: number(rest),
+            slot: None,
+        }),
+        b"finish" => finish_of(alloc, out, number(rest)),
+        _ => Ok(Event::Interrupt),
+    }
+}
+
+// The command that a line says; of breaks, those of finishes.
+fn command_of(alloc: Global, line: &[u8]) -> Result<Command, AllocError> {
+    let (word, said) = cut(line, b' ');
+    match word {
+        b"undo" => Ok(Command::Undo(which(said))),
+        b"redo" => Ok(Command::Redo(which(said))),
+        b"cone" => Ok(Command::Cone(which(said))),
+        b"back" => Ok(Command::Back),
+        b"break" => {
+            let (_kind, out) = cut(said, b' ');
+            Ok(Command::Break(Point::Finish(path_of(alloc, out)?)))
+        }
+        b"unbreak" => Ok(Command::Unbreak(number(said))),
+        b"continue" => Ok(Command::Continue),
+        _ => Ok(Command::Event(event_of(alloc, word, said)?)),
+    }
+}
+
+// A lane says a line.
+fn say(alloc: Global, desk: &mut Desk, lane: u32, line: &[u8]) -> Result<(), AllocError> {
+    let command = command_of(alloc, line)?;
+    if lane >= desk.lanes() || desk.apply(lane, command).is_err() {
+        return Err(AllocError);
+    }
+    Ok(())
+}
+
+// A space and a number below 100.
+fn push_number(text: &mut Vec<u8>, number: u64) -> Result<(), AllocError> {
+    text.push(b' ')?;
+    if number >= 10 {
+        text.push(sign(number / 10))?;
+    }
+    text.push(sign(number % 10))?;
+    Ok(())
+}
+
+// The sign of a digit.
+fn sign(digit: u64) -> u8 {
+    match u8::try_from(digit) {
+        Ok(digit) => digit.wrapping_add(b'0'),
+        Err(_) => b'?',
+    }
+}
+
+fn push_accepted(text: &mut Vec<u8>, met: Option<u32>) -> Result<(), AllocError> {
+    text.extend_from_slice(b" ok")?;
+    match met {
+        Some(met) => {
+            text.extend_from_slice(b" break")?;
+            push_number(text, u64::from(met))
+        }
+        None => Ok(()),
+    }
+}
+
+// A reply as in a report, and the end of its line.
+fn push_reply(text: &mut Vec<u8>, reply: Reply) -> Result<(), AllocError> {
+    match reply {
+        Reply::Accepted(_, met) => push_accepted(text, met)?,
+        Reply::Coned(_, count) => {
+            text.extend_from_slice(b" cone")?;
+            push_number(text, count)?;
+        }
+        Reply::Refused(refusal) => {
+            text.extend_from_slice(b" refused")?;
+            push_number(text, u64::from(refusal.code()))?;
+            for number in refusal.numbers() {
+                if let Some(number) = number {
+                    push_number(text, number)?;
+                }
+            }
+        }
+    }
+    text.push(b'\n')?;
+    Ok(())
+}
+
+// Each entry's lane and reply, a line for each, in the journal's order.
+fn push_report(text: &mut Vec<u8>, entries: &[Entry]) -> Result<(), AllocError> {
+    for entry in entries {
+        push_number(text, u64::from(entry.lane))?;
+        push_reply(text, entry.reply)?;
+    }
+    Ok(())
+}
+
+// What a label names.
+fn push_named(text: &mut Vec<u8>, named: Option<u32>) -> Result<(), AllocError> {
+    match named {
+        Some(number) => push_number(text, u64::from(number))?,
+        None => text.extend_from_slice(b" -")?,
+    }
+    text.push(b'\n')?;
+    Ok(())
+}
+
+// Whether the desk is paused, how many breaks stand, and the kept events.
+fn push_state(text: &mut Vec<u8>, desk: &Desk) -> Result<(), AllocError> {
+    push_number(text, u64::from(desk.paused()))?;
+    push_number(text, desk.breaks().len() as u64)?;
+    for number in desk.history().kept() {
+        push_number(text, u64::from(*number))?;
+    }
+    text.push(b'\n')?;
+    Ok(())
+}
+
+// The reply that a line would have.
+fn verdict(alloc: Global, desk: &Desk, line: &[u8]) -> Result<Reply, AllocError> {
+    let command = command_of(alloc, line)?;
+    desk.verdict(&command)
+}
+
+// A line asks for a name, for a verdict or for the state, or it is a command that a lane says.
+fn tell(
+    alloc: Global,
+    desk: &mut Desk,
+    text: &mut Vec<u8>,
+    lane: u32,
+    line: &[u8],
+) -> Result<(), AllocError> {
+    let (word, said) = cut(line, b' ');
+    match word {
+        b"named" => push_named(text, desk.named(which(said))),
+        b"verdict" => push_reply(text, verdict(alloc, desk, said)?),
+        b"state" => push_state(text, desk),
+        _ => say(alloc, desk, lane, line),
+    }
+}
+
+// The answers to these lines, and behind them the journal's report.
+fn answers(alloc: Global, desk: &mut Desk, lines: &[(u32, &[u8])]) -> Result<Vec<u8>, AllocError> {
+    let mut text = Vec::new(alloc);
+    for (lane, line) in lines {
+        tell(alloc, desk, &mut text, *lane, line)?;
+    }
+    push_report(&mut text, desk.journal())?;
+    Ok(text)
+}
+
+// What a new desk answers to these lines.
+fn answered(alloc: Global, lines: &[(u32, &[u8])]) -> Result<Vec<u8>, AllocError> {
+    let mut desk = desk_of(alloc)?;
+    answers(alloc, &mut desk, lines)
+}
+
+// Whether a new desk answers this.
+fn reports(alloc: Global, lines: &[(u32, &[u8])], text: &[u8]) -> Result<bool, AllocError> {
+    let answers = answered(alloc, lines)?;
+    Ok(answers.as_slice() == text)
+}
+
+#[test]
+fn a_break_pauses_and_continue_goes_on(rt: HostRuntime) -> Result<(), Fail> {
+    let alloc = rt.alloc();
+    assert!(rt;
+        reports(
+            alloc,
+            &[
+                (0, b"plan app"),
+                (1, b"break finish a.o"),
+                (0, b"start a.o 0"),
+                (1, b"start b.o 1"),
+                (0, b"finish a.o 100"),
+                (1, b"finish b.o 110"),
+                (2, b"undo 5"),
+                (2, b"continue"),
+                (2, b"finish b.o 110"),
+            ],
+            b" 0 ok\n 1 ok\n 0 ok\n 1 ok\n 0 ok break 2\n 1 refused 92\n 2 ok\n 2 ok\n 2 ok\n"
+        )?
+    );
+    Ok(())
+}
+
+#[test]
+fn a_refused_undo_names_the_nearest(rt: HostRuntime) -> Result<(), Fail> {
+    let alloc = rt.alloc();
+    assert!(rt;
+        reports(
+            alloc,
+            &[
+                (0, b"plan app"),
+                (0, b"start a.o 0"),
+                (0, b"start b.o 1"),
+                (0, b"finish a.o 100"),
+                (0, b"finish b.o 110"),
+                (0, b"start app 0"),
+                (1, b"verdict undo 4"),
+                (1, b"verdict undo 1"),
+                (1, b"verdict cone 3"),
+            ],
+            b" refused 82 6\n refused 82 2\n cone 3\n 0 ok\n 0 ok\n 0 ok\n 0 ok\n 0 ok\n 0 ok\n"
+        )?
+    );
+    Ok(())
+}
+
+#[test]
+fn a_label_names_an_accepted_event(rt: HostRuntime) -> Result<(), Fail> {
+    let alloc = rt.alloc();
+    assert!(rt;
+        reports(
+            alloc,
+            &[
+                (0, b"plan app"),
+                (1, b"break finish a.o"),
+                (0, b"start a.o 0"),
+                (1, b"start b.o 1"),
+                (0, b"finish a.o 100"),
+                (1, b"finish b.o 110"),
+                (2, b"state"),
+                (2, b"named 0:3"),
+                (2, b"named 1:1"),
+                (2, b"named 1:2"),
+                (2, b"named 1:3"),
+                (2, b"named 3:1"),
+            ],
+            b" 1 1 1 3 4 5\n 5\n -\n 4\n -\n -\n 0 ok\n 1 ok\n 0 ok\n 1 ok\n 0 ok break 2\n 1 refused 92\n"
+        )?
+    );
+    Ok(())
+}
+
+#[test]
+fn redoing_comes_in_the_order_of_undoing(rt: HostRuntime) -> Result<(), Fail> {
+    let alloc = rt.alloc();
+    assert!(rt;
+        reports(
+            alloc,
+            &[
+                (0, b"plan app"),
+                (0, b"start a.o 0"),
+                (0, b"start b.o 1"),
+                (0, b"finish a.o 100"),
+                (0, b"finish b.o 110"),
+                (1, b"undo 0:5"),
+                (1, b"undo 3"),
+                (1, b"redo 5"),
+                (1, b"redo 3"),
+                (1, b"redo 5"),
+                (1, b"redo 5"),
+            ],
+            b" 0 ok\n 0 ok\n 0 ok\n 0 ok\n 0 ok\n 1 ok\n 1 ok\n 1 refused 84 67\n 1 ok\n 1 ok\n 1 refused 83\n"
+        )?
+    );
+    Ok(())
+}
+
+#[test]
+fn a_cone_and_a_break_that_stands_no_more(rt: HostRuntime) -> Result<(), Fail> {
+    let alloc = rt.alloc();
+    assert!(rt;
+        reports(
+            alloc,
+            &[
+                (0, b"plan app"),
+                (0, b"start a.o 0"),
+                (1, b"break finish a.o"),
+                (1, b"unbreak 3"),
+                (0, b"finish a.o 100"),
+                (1, b"cone 2"),
+                (1, b"back"),
+                (1, b"unbreak 3"),
+            ],
+            b" 0 ok\n 0 ok\n 1 ok\n 1 ok\n 0 ok\n 1 cone 2\n 1 ok\n 1 refused 93\n"
+        )?
+    );
+    Ok(())
+}
