@@ -1,11 +1,10 @@
 -- Records in an opening.
-use Rattle.std.proofs.Common.{◌≡◌, ℕ, ◌<◌, Bool, true, false, ◌&&◌, cond, List, [], ◌∷◌, length, get_or, refl, sym, ap, ◌∙◌, arith, Option, Some, None, Result, Ok, Err}
+use Rattle.std.proofs.Common.{◌≡◌, ℕ, Bool, true, false, ◌&&◌, cond, List, get_or, refl, sym, ap, ◌∙◌, Option, Some, Result, Ok, Err}
 use Rattle.std.proofs.lemmas.Bool.{false_from_ne_true}
 use Rattle.std.proofs.lemmas.Slice.Eq.{bytes_eq-Decides}
 use Rattle.std.specs.List.{Contains}
 use Rattle.std.specs.Str.{bytes_eq}
 use Rattle.rev_cells.specs.declared.cell.Cell.{Cell}
-use Rattle.rev_cells.specs.declared.cell.Cell.TheVariants as cell
 use Rattle.rev_cells.specs.Keys.{cell_key, cell_of, cell_of-cell_key}
 use Rattle.rev_cells.specs.Table.{Records}
 use Rattle.std.specs.Result.{OnOk}

@@ -1,3 +1,5 @@
 pub mod TextLemmas
+pub mod LaneLemmas
 pub mod TraceLemmas
 pub mod HeadLemmas
+pub mod GrammarLemmas

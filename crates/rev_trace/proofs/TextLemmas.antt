@@ -1,9 +1,16 @@
 -- Lines of commands, read again.
-use Rattle.std.proofs.Common.{◌≡◌, ℕ, zero, suc, ◌<◌, ◌≤◌, ◌^◌, Bool, true, false, ◌||◌, cond, nat_lt, List, [], ◌∷◌, ◌++◌, length, map, refl, sym, ap, ◌∙◌, arith, append_assoc, Option, Some, None, Result, Ok, Err}
-use Rattle.std.proofs.lemmas.Bool.{le-ltb}
+use Rattle.std.proofs.Common.{◌≡◌, ℕ, zero, suc, ◌<◌, ◌^◌, ◌==◌, true, false, cond, List, [], ◌∷◌, ◌++◌, length, map, refl, sym, ap, ◌∙◌, arith, inl, inr, append_assoc, length-append, Some, None, Result, Ok, Err}
+use Rattle.std.proofs.lemmas.Bool.{and_parts, cases_Bool, eqb-true, false≢true, le-ltb}
+use Rattle.std.proofs.lemmas.Fmt.{decimal_nonempty, digits_decimal}
+use Rattle.std.proofs.lemmas.List.Concat.{flat_map-append}
+use Rattle.std.proofs.lemmas.List.Splits.{slice_split_at, slice_split_none}
+use Rattle.std.proofs.lemmas.Str.Parse.{IsNumeralModel, numerals_by_value, tells_all_ascii_digits}
+use Rattle.std.specs.Char.{is_ascii_digit}
+use Rattle.std.specs.Str.{all_ascii_digits}
+use Rattle.std.specs.Str.Parse.{digits_value}
 use Rattle.std.specs.Prelude.{codes}
 use Rattle.std.specs.Fmt.{decimal}
-use Rattle.std.specs.List.{All, flat_map}
+use Rattle.std.specs.List.{All, flat_map, list_all}
 use Rattle.rev_paths.specs.Canonical.{IsCanonical, canonical}
 use Rattle.rev_events.specs.declared.event.Event.{Event}
 use Rattle.rev_events.specs.declared.event.Event.TheVariants as event
@@ -11,17 +18,21 @@ use Rattle.rev_events.specs.declared.event.Listing.{Listing}
 use Rattle.rev_events.specs.declared.event.Listing.TheVariants as listing
 use Rattle.rev_fields.specs.declared.faults.FaultKind.{FaultKind}
 use Rattle.rev_fields.specs.declared.faults.FaultKind.TheVariants.{Syntax}
-use Rattle.rev_fields.specs.Faults.{◌>>=◌, each_of}
-use Rattle.rev_fields.specs.Fields.{field_text, line_of, spaced, texts_of}
-use Rattle.rev_fields.specs.Lines.{is_blank, path_of, paths_of, read_as}
-use Rattle.rev_fields.specs.Numbers.{number_below, numbers_below, numbers_text}
+use Rattle.rev_fields.specs.Faults.{◌>>=◌}
+use Rattle.rev_fields.specs.Fields.{field_text, line_of, spaced, written_byte}
+use Rattle.rev_fields.specs.Lines.{path_of, paths_of, read_as}
+use Rattle.rev_fields.specs.Numbers.{numbers_below, numbers_text}
 use Rattle.rev_fields.proofs.LawLemmas.{lines-are-read, numbers-are-read, number-lists-are-read, number-field, numbers-field}
-use Rattle.rev_trace.specs.declared.command.Command.{Command}
-use Rattle.rev_trace.specs.declared.command.Command.TheVariants as command
-use Rattle.rev_trace.specs.declared.verb.Verb.TheVariants as verb
-use Rattle.rev_trace.specs.Commands.{alone_of, command_line, command_of, ended_of, ending_of, finish_of, listing_of, list_of, long, plan_of, short, start_of, touch_of, word_of}
+use Rattle.rev_commands.specs.declared.command.Command.{Command}
+use Rattle.rev_commands.specs.declared.command.Command.TheVariants as command
+use Rattle.rev_commands.specs.declared.point.Point.{Point}
+use Rattle.rev_commands.specs.declared.point.Point.TheVariants as point
+use Rattle.rev_commands.specs.declared.which.Which.{Which}
+use Rattle.rev_commands.specs.declared.which.Which.TheVariants as which
+use Rattle.rev_fields.proofs.NumberLemmas.{list_all-digits}
+use Rattle.rev_trace.specs.Commands.{command_line, command_of, ended_of, listing_of, long, plan_of, point_of, short, which_in, which_of}
 use Rattle.rev_trace.specs.Laws.{CommandsAreRead}
-use Rattle.rev_trace.specs.Texts.{HasStamps, IsCommand, IsEvent, IsListing, IsLong, IsShort, command_fields, command_text, event_fields, event_text, listing_fields, path_fields}
+use Rattle.rev_trace.specs.Texts.{HasStamps, IsCommand, IsListing, IsLong, IsPoint, IsShort, IsWhich, command_fields, command_text, event_text, listing_fields, path_fields, point_fields, which_text}
 
 -- fields of paths, each with a space before it
 pub fields_of_paths : (paths : List (List ℕ)) → flat_map (λ path. spaced (field_text path)) paths ≡ flat_map spaced (path_fields paths)
@@ -143,17 +154,102 @@ read-touch path stamp p n =
     (ap (λ f. codes "touch" ∷ field_text path ∷ f ∷ []) (long-field stamp n))
     (ap (λ r. r >>= λ p. long (decimal stamp) >>= λ n. Ok (command.Event (event.Touch p n))) (path-read path p) ∙ ap (λ r. r >>= λ n. Ok (command.Event (event.Touch path n))) (long-read stamp n))
 
-read-undo : (n : ℕ) → IsShort n → command_line [] (command_text (command.Undo n)) ≡ Ok (command.Undo n)
-read-undo n h =
-    read-from (codes "undo" ∷ decimal n ∷ []) (command.Undo n) (omega arith) (ap (λ f. codes "undo" ∷ f ∷ []) (short-field n h)) (ap (λ r. r >>= λ n. Ok (command.Undo n)) (short-read n h))
+All-none : {X : Type 0} (P : X → Type 0) → All P []
+All-none P k d lt = absurd (omega arith)
 
-read-redo : (n : ℕ) → IsShort n → command_line [] (command_text (command.Redo n)) ≡ Ok (command.Redo n)
-read-redo n h =
-    read-from (codes "redo" ∷ decimal n ∷ []) (command.Redo n) (omega arith) (ap (λ f. codes "redo" ∷ f ∷ []) (short-field n h)) (ap (λ r. r >>= λ n. Ok (command.Redo n)) (short-read n h))
+All-next : {X : Type 0} (P : X → Type 0) (x : X) (xs : List X) → P x → All P xs → All P (x ∷ xs)
+All-next P x xs h rest zero d lt = h
+All-next P x xs h rest (suc k) d lt = rest k d (omega arith)
 
-read-cone : (n : ℕ) → IsShort n → command_line [] (command_text (command.Cone n)) ≡ Ok (command.Cone n)
-read-cone n h =
-    read-from (codes "cone" ∷ decimal n ∷ []) (command.Cone n) (omega arith) (ap (λ f. codes "cone" ∷ f ∷ []) (short-field n h)) (ap (λ r. r >>= λ n. Ok (command.Cone n)) (short-read n h))
+-- decimal digits, among which no colon is
+abbrev own : IsNumeralModel (λ ds. all_ascii_digits ds ≡ true) (digits_value 10)
+own = numerals_by_value (λ ds. all_ascii_digits ds ≡ true) tells_all_ascii_digits
+
+digits-of : (n : ℕ) → IsShort n → list_all is_ascii_digit (decimal n) ≡ true
+digits-of n h = sym (list_all-digits (decimal n)) ∙ digits_decimal own n (omega arith)
+
+abbrev NoColon : ℕ → Type 0
+NoColon b = (b == 58) ≡ false
+
+no-colon : (b : ℕ) → is_ascii_digit b ≡ true → NoColon b
+no-colon b h =
+    elim (cases_Bool (b == 58)) [
+      | inl same ↦ let e : b ≡ 58 = eqb-true b 58 same in let never : false ≡ true = sym (ap is_ascii_digit e) ∙ h in absurd (false≢true never)
+      | inr other ↦ other
+    ]
+
+digits-no-colon : (ds : List ℕ) → list_all is_ascii_digit ds ≡ true → All NoColon ds
+digits-no-colon [] h = All-none NoColon
+digits-no-colon (d ∷ ds) h =
+    let parts = and_parts (is_ascii_digit d) (list_all is_ascii_digit ds) h in
+    All-next NoColon d ds (no-colon d parts.0) (digits-no-colon ds parts.1)
+
+decimal-no-colon : (n : ℕ) → IsShort n → All NoColon (decimal n)
+decimal-no-colon n h = digits-no-colon (decimal n) (digits-of n h)
+
+-- the name of an event is read as that name
+which-read : (w : Which) → IsWhich w → which_of (which_text w) ≡ Ok w
+which-read (which.Number n) h =
+    ap which_in (slice_split_none (λ b. b == 58) (decimal n) (decimal-no-colon n h)) ∙ ap (λ r. r >>= λ n. Ok (which.Number n)) (short-read n h)
+which-read (which.Label lane place) h =
+    ap which_in (slice_split_at (λ b. b == 58) (decimal lane) 58 (decimal place) (decimal-no-colon lane h.0) refl)
+    ∙ ap (λ parts. which_in (decimal lane ∷ parts)) (slice_split_none (λ b. b == 58) (decimal place) (decimal-no-colon place h.1))
+    ∙ ap (λ r. r >>= λ l. short (decimal place) >>= λ p. Ok (which.Label l p)) (short-read lane h.0)
+    ∙ ap (λ r. r >>= λ p. Ok (which.Label lane p)) (short-read place h.1)
+
+-- and its bytes stand for themselves
+field-bytes : (bs : List ℕ) → 0 < length bs → field_text bs ≡ flat_map written_byte bs
+field-bytes [] some = absurd (omega arith)
+field-bytes (b ∷ bs) some = refl
+
+decimal-bytes : (n : ℕ) → IsShort n → flat_map written_byte (decimal n) ≡ decimal n
+decimal-bytes n h = sym (field-bytes (decimal n) (decimal_nonempty n (omega arith))) ∙ number-field n (omega arith)
+
+which-field : (w : Which) → IsWhich w → which_text w ≡ field_text (which_text w)
+which-field (which.Number n) h = short-field n h
+which-field (which.Label lane place) h =
+    let some : 0 < length (decimal lane ++ 58 ∷ decimal place) = omega (arith, length-append (decimal lane) (58 ∷ decimal place)) in
+    sym (field-bytes (decimal lane ++ 58 ∷ decimal place) some
+    ∙ flat_map-append written_byte (decimal lane) (58 ∷ decimal place)
+    ∙ ap (λ bs. bs ++ 58 ∷ flat_map written_byte (decimal place)) (decimal-bytes lane h.0)
+    ∙ ap (λ bs. decimal lane ++ 58 ∷ bs) (decimal-bytes place h.1))
+
+read-undo : (w : Which) → IsWhich w → command_line [] (command_text (command.Undo w)) ≡ Ok (command.Undo w)
+read-undo w h =
+    read-from (codes "undo" ∷ which_text w ∷ []) (command.Undo w) (omega arith) (ap (λ f. codes "undo" ∷ f ∷ []) (which-field w h)) (ap (λ r. r >>= λ w. Ok (command.Undo w)) (which-read w h))
+
+read-redo : (w : Which) → IsWhich w → command_line [] (command_text (command.Redo w)) ≡ Ok (command.Redo w)
+read-redo w h =
+    read-from (codes "redo" ∷ which_text w ∷ []) (command.Redo w) (omega arith) (ap (λ f. codes "redo" ∷ f ∷ []) (which-field w h)) (ap (λ r. r >>= λ w. Ok (command.Redo w)) (which-read w h))
+
+read-cone : (w : Which) → IsWhich w → command_line [] (command_text (command.Cone w)) ≡ Ok (command.Cone w)
+read-cone w h =
+    read-from (codes "cone" ∷ which_text w ∷ []) (command.Cone w) (omega arith) (ap (λ f. codes "cone" ∷ f ∷ []) (which-field w h)) (ap (λ r. r >>= λ w. Ok (command.Cone w)) (which-read w h))
+
+read-unbreak : (n : ℕ) → IsShort n → command_line [] (command_text (command.Unbreak n)) ≡ Ok (command.Unbreak n)
+read-unbreak n h =
+    read-from (codes "unbreak" ∷ decimal n ∷ []) (command.Unbreak n) (omega arith) (ap (λ f. codes "unbreak" ∷ f ∷ []) (short-field n h)) (ap (λ r. r >>= λ n. Ok (command.Unbreak n)) (short-read n h))
+
+abbrev broken : Result Point FaultKind → Result Command FaultKind
+broken r = r >>= λ p. Ok (command.Break p)
+
+-- a break at one edge or path
+read-pointed : (make : List ℕ → Point) (word name : List ℕ) → point_fields (make name) ≡ word ∷ field_text name ∷ [] → field_text word ≡ word → point_of (word ∷ name ∷ []) ≡ (path_of name >>= λ n. Ok (make n)) → IsCanonical name → command_line [] (command_text (command.Break (make name))) ≡ Ok (command.Break (make name))
+read-pointed make word name fields own_field said h =
+    read-from (codes "break" ∷ word ∷ name ∷ []) (command.Break (make name)) (omega arith)
+    (ap (λ fs. codes "break" ∷ fs) (fields ∙ ap (λ f. f ∷ field_text name ∷ []) (sym own_field)))
+    (ap broken said ∙ ap (λ r. broken (r >>= λ n. Ok (make n))) (path-read name h))
+
+points-read : (p : Point) → IsPoint p → command_line [] (command_text (command.Break p)) ≡ Ok (command.Break p)
+points-read (point.Start out) h = read-pointed point.Start (codes "start") out refl refl refl h
+points-read (point.Finish out) h = read-pointed point.Finish (codes "finish") out refl refl refl h
+points-read (point.Fail out) h = read-pointed point.Fail (codes "fail") out refl refl refl h
+points-read (point.Abort out) h = read-pointed point.Abort (codes "abort") out refl refl refl h
+points-read (point.Clean out) h = read-pointed point.Clean (codes "clean") out refl refl refl h
+points-read (point.Pass out) h = read-pointed point.Pass (codes "pass") out refl refl refl h
+points-read (point.Touch path) h = read-pointed point.Touch (codes "touch") path refl refl refl h
+points-read point.Plan h = read-from (codes "break" ∷ codes "plan" ∷ []) (command.Break point.Plan) (omega arith) refl refl
+points-read point.Interrupt h = read-from (codes "break" ∷ codes "interrupt" ∷ []) (command.Break point.Interrupt) (omega arith) refl refl
 
 events-read : (e : Event) → IsCommand (command.Event e) → HasStamps (command.Event e) → command_line [] (command_text (command.Event e)) ≡ Ok (command.Event e)
 events-read (event.Plan targets) h some = read-plan targets h
@@ -169,10 +265,13 @@ events-read event.Interrupt h some = read-from (codes "interrupt" ∷ []) (comma
 
 pub commands-are-read : CommandsAreRead
 commands-are-read (command.Event e) h some = events-read e h some
-commands-are-read (command.Undo n) h some = read-undo n h
-commands-are-read (command.Redo n) h some = read-redo n h
-commands-are-read (command.Cone n) h some = read-cone n h
+commands-are-read (command.Undo w) h some = read-undo w h
+commands-are-read (command.Redo w) h some = read-redo w h
+commands-are-read (command.Cone w) h some = read-cone w h
 commands-are-read command.Back h some = read-from (codes "back" ∷ []) command.Back (omega arith) refl refl
+commands-are-read (command.Break p) h some = points-read p h
+commands-are-read (command.Unbreak n) h some = read-unbreak n h
+commands-are-read command.Continue h some = read-from (codes "continue" ∷ []) command.Continue (omega arith) refl refl
 
 -- `plan PATH...` as it is written
 pub plan-text : (line mid out : List ℕ) (targets : List (List ℕ)) → mid ≡ line ++ codes "plan" → out ≡ mid ++ flat_map (λ path. spaced (field_text path)) targets → out ≡ line ++ event_text (event.Plan targets)

@@ -1,24 +1,30 @@
--- The two parts of a trace after its first line.
-use Rattle.std.proofs.Common.{◌≡◌, ℕ, zero, suc, ◌<◌, ◌≤◌, ◌+◌, ◌-◌, true, false, cond, List, [], ◌∷◌, ◌++◌, length, get_or, take, drop, refl, sym, ap, ◌∙◌, arith, inl, inr, subst, Option, Some, None}
+-- The opening lines of a trace, and the lanes behind these.
+use Rattle.std.proofs.Common.{◌≡◌, ℕ, zero, suc, ◌<◌, ◌≤◌, ◌+◌, ◌-◌, true, false, cond, List, [], ◌∷◌, ◌++◌, length, get_or, take, drop, refl, sym, ap, ◌∙◌, arith, inl, inr, subst, map, Option, Some, None, Ok, Err}
 use Rattle.std.proofs.lemmas.Bool.{false≢true, cases_eq, cases_lt}
-use Rattle.std.proofs.lemmas.List.{get_or-take, get_or-drop, length-take-le, length-drop}
-use Rattle.std.proofs.lemmas.List.Sums.{position_or_len_is}
+use Rattle.std.proofs.lemmas.List.{get_or-take, get_or-drop, length-take-le, length-drop, take_all}
+use Rattle.std.proofs.lemmas.List.Splits.{slice_split_first, slice_split_none}
+use Rattle.std.proofs.lemmas.List.Sums.{count_by_more_yes, position_or_len_is}
 use Rattle.std.specs.Prelude.{codes}
 use Rattle.std.specs.Result.{result_err}
 use Rattle.std.specs.List.{position_or_len}
 use Rattle.std.specs.Str.{bytes_eq}
+use Rattle.std.specs.Global.{Vec}
+use Rattle.rev_commands.specs.declared.command.Command.{Command}
 use borrow.Author.Count.{below_more}
 use Rattle.rev_fields.specs.declared.faults.FaultKind.{FaultKind}
 use Rattle.rev_fields.specs.declared.faults.FaultKind.TheVariants.{Syntax, Header}
 use Rattle.rev_fields.specs.declared.faults.TextFault.{TextFault}
 use Rattle.rev_fields.specs.Faults.{IsFirstWrong, fault_in, first_fault}
-use Rattle.rev_fields.specs.Lines.{is_blank, wrong_by}
+use Rattle.rev_fields.specs.Lines.{is_blank}
 use Rattle.rev_fields.proofs.FaultLemmas.{first_fault-none, first_fault-some}
 use Rattle.rev_fields.proofs.ListLemmas.{list_any_true, list_any_false}
 use Rattle.rev_fields.proofs.SaidLemmas.{said-blank, said_step, unsaid_step}
 use Rattle.rev_trace.specs.Heads.{IsAdded}
 use Rattle.rev_trace.specs.Records.{HeadValue, head_of, head_with, empty_head, opening_wrong, record_line}
-use Rattle.rev_trace.specs.Traces.{IsOpened, command_wrong, commands_in, has_lane, head_in, lane_line, opening_lines, opens_lane, records_in, targets_in, trace_wrong, value_of, wrong_after, wrong_at}
+use Rattle.rev_trace.specs.Commands.{command_line}
+use Rattle.rev_trace.specs.Lanes.{lane_line, opens_lane}
+use Rattle.rev_trace.specs.Traces.{IsOpened, commands_in, has_lane, head_in, lane_count, lane_wrong, lanes_of, opening_lines, parts_of, records_in, targets_in, trace_wrong, value_of, wrong_after, wrong_at, wrong_in_lane}
+use Rattle.rev_trace.proofs.LaneLemmas.{all_fail, count_from, count_none}
 use Rattle.std.proofs.lemmas.Grind.{fold-append}
 use Rattle.rev_trace.specs.declared.record.Record.{Record}
 
@@ -32,7 +38,7 @@ opens_lane-blank : (line : List ℕ) → is_blank line ≡ true → opens_lane l
 opens_lane-blank [] blank = refl
 opens_lane-blank (b ∷ bs) blank = absurd (false≢true blank)
 
-filled_from_lane : (line : List ℕ) → opens_lane line ≡ true → is_blank line ≡ false
+pub filled_from_lane : (line : List ℕ) → opens_lane line ≡ true → is_blank line ≡ false
 filled_from_lane [] h = absurd (false≢true h)
 filled_from_lane (b ∷ bs) h = refl
 
@@ -46,6 +52,11 @@ lane_before lines i k lt h opens =
     let n : length (take k lines) ≡ k = length-take-le k lines h in
     list_any_true opens_lane (take k lines) i [] (omega arith) (ap opens_lane (get_or-take k lines i [] lt) ∙ opens)
 
+count_before : (lines : List (List ℕ)) (i : ℕ) → i ≤ length lines → ((k : ℕ) → k < i → opens_lane (get_or lines k []) ≡ false) → lane_count (take i lines) ≡ 0
+count_before lines i h none =
+    let n : length (take i lines) ≡ i = length-take-le i lines h in
+    count_none opens_lane (take i lines) [] (λ k lt. let below : k < i = omega arith in ap opens_lane (get_or-take i lines k [] below) ∙ none k below)
+
 -- what is wrong with a line, by its kind
 wrong_at-blank : (lines : List (List ℕ)) (i : ℕ) → is_blank (get_or lines i []) ≡ true → wrong_at lines i ≡ None
 wrong_at-blank lines i blank = ap (λ b. cond b None (wrong_after (targets_in lines) (take i lines) (get_or lines i []))) blank
@@ -53,23 +64,29 @@ wrong_at-blank lines i blank = ap (λ b. cond b None (wrong_after (targets_in li
 wrong_at-filled : (lines : List (List ℕ)) (i : ℕ) → is_blank (get_or lines i []) ≡ false → wrong_at lines i ≡ wrong_after (targets_in lines) (take i lines) (get_or lines i [])
 wrong_at-filled lines i filled = ap (λ b. cond b None (wrong_after (targets_in lines) (take i lines) (get_or lines i []))) filled
 
-wrong_at-command : (lines : List (List ℕ)) (i : ℕ) → has_lane (take i lines) ≡ true → wrong_at lines i ≡ command_wrong (targets_in lines) lines i
+-- where a lane is open
+abbrev in_lane_wrong : List (List ℕ) → ℕ → List ℕ → Option FaultKind
+in_lane_wrong targets count line = cond (is_blank line) None (wrong_in_lane targets count line)
+
+wrong_at-command : (lines : List (List ℕ)) (i : ℕ) → has_lane (take i lines) ≡ true → wrong_at lines i ≡ in_lane_wrong (targets_in lines) (lane_count (take i lines)) (get_or lines i [])
 wrong_at-command lines i lane =
     let line = get_or lines i [] in
-    ap (λ b. cond (is_blank line) None (cond b (result_err (lane_line (targets_in lines) line)) (cond (opens_lane line) None (opening_wrong (head_in (take i lines)) line)))) lane
+    ap (λ b. cond (is_blank line) None (cond (opens_lane line) (result_err (lane_line (lane_count (take i lines)) line)) (cond b (result_err (command_line (targets_in lines) line)) (opening_wrong (head_in (take i lines)) line)))) lane
 
-before_lane : (lines : List (List ℕ)) (i : ℕ) → has_lane (take i lines) ≡ false → wrong_after (targets_in lines) (take i lines) (get_or lines i []) ≡ cond (opens_lane (get_or lines i [])) None (opening_wrong (head_in (take i lines)) (get_or lines i []))
-before_lane lines i none =
-    let line = get_or lines i [] in
-    ap (λ b. cond b (result_err (lane_line (targets_in lines) line)) (cond (opens_lane line) None (opening_wrong (head_in (take i lines)) line))) none
-
-wrong_at-lane : (lines : List (List ℕ)) (i : ℕ) → has_lane (take i lines) ≡ false → opens_lane (get_or lines i []) ≡ true → wrong_at lines i ≡ None
+-- the line that opens the first lane
+wrong_at-lane : (lines : List (List ℕ)) (i : ℕ) → lane_count (take i lines) ≡ 0 → opens_lane (get_or lines i []) ≡ true → wrong_at lines i ≡ result_err (lane_line 0 (get_or lines i []))
 wrong_at-lane lines i none opens =
-    wrong_at-filled lines i (filled_from_lane (get_or lines i []) opens) ∙ before_lane lines i none ∙ ap (λ b. cond b None (opening_wrong (head_in (take i lines)) (get_or lines i []))) opens
+    let line = get_or lines i [] in
+    wrong_at-filled lines i (filled_from_lane line opens)
+    ∙ ap (λ b. cond b (result_err (lane_line (lane_count (take i lines)) line)) (cond (has_lane (take i lines)) (result_err (command_line (targets_in lines) line)) (opening_wrong (head_in (take i lines)) line))) opens
+    ∙ ap (λ n. result_err (lane_line n line)) none
 
 wrong_at-opening : (lines : List (List ℕ)) (i : ℕ) → has_lane (take i lines) ≡ false → is_blank (get_or lines i []) ≡ false → opens_lane (get_or lines i []) ≡ false → wrong_at lines i ≡ opening_wrong (head_in (take i lines)) (get_or lines i [])
 wrong_at-opening lines i none filled opens =
-    wrong_at-filled lines i filled ∙ before_lane lines i none ∙ ap (λ b. cond b None (opening_wrong (head_in (take i lines)) (get_or lines i []))) opens
+    let line = get_or lines i [] in
+    wrong_at-filled lines i filled
+    ∙ ap (λ b. cond b (result_err (lane_line (lane_count (take i lines)) line)) (cond (has_lane (take i lines)) (result_err (command_line (targets_in lines) line)) (opening_wrong (head_in (take i lines)) line))) opens
+    ∙ ap (λ b. cond b (result_err (command_line (targets_in lines) line)) (opening_wrong (head_in (take i lines)) line)) none
 
 -- one more line before the lane
 pub reads_blank : (lines : List (List ℕ)) (head : HeadValue) (i : ℕ) → i < length lines → is_blank (get_or lines i []) ≡ true → ReadsHead lines head i → ReadsHead lines head (i + 1)
@@ -94,8 +111,8 @@ reads_line lines head next i lt filled opens added inv =
           ∙ ap head_of (said_step record_line lines (records_in (take i lines)) i added.added lt added.said_is refl);
     }
 
-pub line_at_fault : (lines : List (List ℕ)) (head : HeadValue) (i : ℕ) (kind : FaultKind) (f : TextFault) → i < length lines → is_blank (get_or lines i []) ≡ false → opens_lane (get_or lines i []) ≡ false → opening_wrong head (get_or lines i []) ≡ Some kind → f ≡ fault_in (i + 1) kind → ReadsHead lines head i → IsFirstWrong (wrong_at lines) (length lines) 1 f
-line_at_fault lines head i kind f lt filled opens wrong is inv =
+pub opening_at_fault : (lines : List (List ℕ)) (head : HeadValue) (i : ℕ) (kind : FaultKind) (f : TextFault) → i < length lines → is_blank (get_or lines i []) ≡ false → opens_lane (get_or lines i []) ≡ false → opening_wrong head (get_or lines i []) ≡ Some kind → f ≡ fault_in (i + 1) kind → ReadsHead lines head i → IsFirstWrong (wrong_at lines) (length lines) 1 f
+opening_at_fault lines head i kind f lt filled opens wrong is inv =
     let within : i ≤ length lines = omega arith in
     let same : i + 1 ≡ 1 + i = omega arith in
     record {
@@ -107,15 +124,34 @@ line_at_fault lines head i kind f lt filled opens wrong is inv =
       is = is ∙ ap (λ p. fault_in p kind) same;
     }
 
-pub opened_at_lane : (lines : List (List ℕ)) (head : HeadValue) (i : ℕ) → i < length lines → opens_lane (get_or lines i []) ≡ true → ReadsHead lines head i → IsOpened lines head i
-opened_at_lane lines head i lt opens inv =
-    record { within = omega arith; no_lane = inv.no_lane; ends = λ _. opens; sound = inv.sound; head_is = inv.head_is }
+pub opened_at_lane : (lines : List (List ℕ)) (head : HeadValue) (i n : ℕ) → i < length lines → opens_lane (get_or lines i []) ≡ true → lane_line 0 (get_or lines i []) ≡ Ok n → ReadsHead lines head i → IsOpened lines head i
+opened_at_lane lines head i n lt opens said inv =
+    record {
+      within = omega arith;
+      no_lane = inv.no_lane;
+      ends = λ _. opens;
+      opens = λ _. wrong_at-lane lines i (count_before lines i (omega arith) inv.no_lane) opens ∙ ap result_err said;
+      sound = inv.sound;
+      head_is = inv.head_is;
+    }
+
+pub lane_at_fault : (lines : List (List ℕ)) (head : HeadValue) (i : ℕ) (kind : FaultKind) (f : TextFault) → i < length lines → opens_lane (get_or lines i []) ≡ true → lane_line 0 (get_or lines i []) ≡ Err kind → f ≡ fault_in (i + 1) kind → ReadsHead lines head i → IsFirstWrong (wrong_at lines) (length lines) 1 f
+lane_at_fault lines head i kind f lt opens said is inv =
+    let same : i + 1 ≡ 1 + i = omega arith in
+    record {
+      place = i;
+      within = lt;
+      earlier = inv.sound;
+      kind = kind;
+      wrong = wrong_at-lane lines i (count_before lines i (omega arith) inv.no_lane) opens ∙ ap result_err said;
+      is = is ∙ ap (λ p. fault_in p kind) same;
+    }
 
 pub opened_at_end : (lines : List (List ℕ)) (head : HeadValue) (i n : ℕ) → n ≡ i → length lines ≡ n → ReadsHead lines head i → IsOpened lines head n
 opened_at_end lines head i n e whole inv =
     let P : ℕ → Type 0 = λ m. ReadsHead lines head m in
     let at_n : ReadsHead lines head n = subst P (sym e) inv in
-    record { within = omega arith; no_lane = at_n.no_lane; ends = λ lt. absurd (omega arith); sound = at_n.sound; head_is = at_n.head_is }
+    record { within = omega arith; no_lane = at_n.no_lane; ends = λ lt. absurd (omega arith); opens = λ lt. absurd (omega arith); sound = at_n.sound; head_is = at_n.head_is }
 
 -- the first line that opens the lane
 first_lane : (lines : List (List ℕ)) (head : HeadValue) (end : ℕ) → IsOpened lines head end → position_or_len opens_lane lines ≡ end
@@ -126,28 +162,36 @@ value_head lines head end h = h.head_is ∙ ap (λ n. head_in (take n lines)) (s
 
 pub value_no_lane : (lines : List (List ℕ)) (head : HeadValue) (end : ℕ) → IsOpened lines head end → length lines ≤ end → (value_of lines).lanes ≡ []
 value_no_lane lines head end h all =
-    let none : has_lane lines ≡ false = list_any_false opens_lane lines [] (λ k lt. h.no_lane k (omega arith)) in
-    ap (λ b. cond b (commands_in (targets_in lines) (drop (position_or_len opens_lane lines + 1) lines) ∷ []) []) none
+    ap (λ parts. map (commands_in (targets_in lines)) (drop 1 parts)) (slice_split_none opens_lane lines (all_fail opens_lane lines [] (λ k lt. h.no_lane k (omega arith))))
 
-pub value_lane : (lines after : List (List ℕ)) (head : HeadValue) (end : ℕ) → IsOpened lines head end → end < length lines → after ≡ drop (end + 1) lines → (value_of lines).lanes ≡ commands_in (targets_in lines) after ∷ []
-value_lane lines after head end h lt is =
-    let some : has_lane lines ≡ true = list_any_true opens_lane lines end [] lt (h.ends lt) in
-    ap (λ b. cond b (commands_in (targets_in lines) (drop (position_or_len opens_lane lines + 1) lines) ∷ []) []) some
-    ∙ ap (λ n. commands_in (targets_in lines) (drop (n + 1) lines) ∷ []) (first_lane lines head end h) ∙ ap (λ l. commands_in (targets_in lines) l ∷ []) (sym is)
+pub value_lanes : (lines after : List (List ℕ)) (head : HeadValue) (end : ℕ) → IsOpened lines head end → end < length lines → after ≡ drop (end + 1) lines → (value_of lines).lanes ≡ map (commands_in (targets_in lines)) (parts_of after)
+value_lanes lines after head end h lt is =
+    let place = first_lane lines head end h in
+    ap (λ parts. map (commands_in (targets_in lines)) (drop 1 parts)) (slice_split_first opens_lane lines [] (omega (arith, place, lt)))
+    ∙ ap (λ n. map (commands_in (targets_in lines)) (parts_of (drop (n + 1) lines))) place ∙ ap (λ l. map (commands_in (targets_in lines)) (parts_of l)) (sym is)
 
 pub sound_no_lane : (lines : List (List ℕ)) (head : HeadValue) (end : ℕ) → IsOpened lines head end → length lines ≤ end → (k : ℕ) → k < length lines → wrong_at lines k ≡ None
 sound_no_lane lines head end h all k lt = h.sound k (omega arith)
 
--- a line of the lane
-command_after : (lines after : List (List ℕ)) (head : HeadValue) (end j : ℕ) → IsOpened lines head end → end + 1 + j < length lines → after ≡ drop (end + 1) lines → wrong_at lines (end + 1 + j) ≡ command_wrong (targets_in lines) after j
+-- how many lanes are open at a line behind the one that opens the first
+count_after : (lines after : List (List ℕ)) (head : HeadValue) (end j : ℕ) → IsOpened lines head end → end + 1 + j < length lines → after ≡ drop (end + 1) lines → lane_count (take (end + 1 + j) lines) ≡ 1 + lane_count (take j after)
+count_after lines after head end j h lt is =
+    let before : lane_count (take end lines) ≡ 0 = count_before lines end h.within h.no_lane in
+    let first : lane_count (take (end + 1) lines) ≡ lane_count (take end lines) + 1 = count_by_more_yes opens_lane lines end [] (omega arith) (h.ends (omega arith)) in
+    let same : lane_count (take j after) ≡ lane_count (take j (drop (end + 1) lines)) = ap (λ l. lane_count (take j l)) is in
+    omega (arith, before, first, same, count_from lines (end + 1) j (omega arith))
+
+-- a line behind the one that opens the first lane
+command_after : (lines after : List (List ℕ)) (head : HeadValue) (end j : ℕ) → IsOpened lines head end → end + 1 + j < length lines → after ≡ drop (end + 1) lines → wrong_at lines (end + 1 + j) ≡ lane_wrong (targets_in lines) after j
 command_after lines after head end j h lt is =
     wrong_at-command lines (end + 1 + j) (lane_before lines end (end + 1 + j) (omega arith) (omega arith) (h.ends (omega arith)))
-    ∙ ap (wrong_by (lane_line (targets_in lines))) (sym (ap (λ l. get_or l j []) is ∙ get_or-drop (end + 1) lines j []))
+    ∙ ap (λ n. in_lane_wrong (targets_in lines) n (get_or lines (end + 1 + j) [])) (count_after lines after head end j h lt is)
+    ∙ ap (in_lane_wrong (targets_in lines) (1 + lane_count (take j after))) (sym (ap (λ l. get_or l j []) is ∙ get_or-drop (end + 1) lines j []))
 
 opened_line : (lines : List (List ℕ)) (head : HeadValue) (end : ℕ) → IsOpened lines head end → end < length lines → wrong_at lines end ≡ None
-opened_line lines head end h lt = wrong_at-lane lines end (no_lane_before lines end h.within h.no_lane) (h.ends lt)
+opened_line lines head end h lt = h.opens lt
 
-before_place : (lines after : List (List ℕ)) (head : HeadValue) (end n : ℕ) → IsOpened lines head end → end < length lines → after ≡ drop (end + 1) lines → end + 1 + n ≤ length lines → ((j : ℕ) → j < n → command_wrong (targets_in lines) after j ≡ None) → (k : ℕ) → k < end + 1 + n → wrong_at lines k ≡ None
+before_place : (lines after : List (List ℕ)) (head : HeadValue) (end n : ℕ) → IsOpened lines head end → end < length lines → after ≡ drop (end + 1) lines → end + 1 + n ≤ length lines → ((j : ℕ) → j < n → lane_wrong (targets_in lines) after j ≡ None) → (k : ℕ) → k < end + 1 + n → wrong_at lines k ≡ None
 before_place lines after head end n h lt is within sound k below =
     elim (cases_lt k end) [
       | inl early ↦ h.sound k early
@@ -158,16 +202,16 @@ before_place lines after head end n h lt is within sound k below =
           ]
     ]
   where
-    in_lane : (lines after : List (List ℕ)) (head : HeadValue) (end j k : ℕ) → IsOpened lines head end → k ≡ end + 1 + j → k < length lines → after ≡ drop (end + 1) lines → command_wrong (targets_in lines) after j ≡ None → wrong_at lines k ≡ None
+    in_lane : (lines after : List (List ℕ)) (head : HeadValue) (end j k : ℕ) → IsOpened lines head end → k ≡ end + 1 + j → k < length lines → after ≡ drop (end + 1) lines → lane_wrong (targets_in lines) after j ≡ None → wrong_at lines k ≡ None
     in_lane lines after head end j k h e lt is none = ap (wrong_at lines) e ∙ command_after lines after head end j h (omega arith) is ∙ none
 
-pub sound_lane : (lines after : List (List ℕ)) (head : HeadValue) (end : ℕ) → IsOpened lines head end → end < length lines → after ≡ drop (end + 1) lines → ((j : ℕ) → j < length after → command_wrong (targets_in lines) after j ≡ None) → (k : ℕ) → k < length lines → wrong_at lines k ≡ None
+pub sound_lane : (lines after : List (List ℕ)) (head : HeadValue) (end : ℕ) → IsOpened lines head end → end < length lines → after ≡ drop (end + 1) lines → ((j : ℕ) → j < length after → lane_wrong (targets_in lines) after j ≡ None) → (k : ℕ) → k < length lines → wrong_at lines k ≡ None
 sound_lane lines after head end h lt is sound k below =
     let n : length after ≡ length (drop (end + 1) lines) = ap length is in
     let m : length (drop (end + 1) lines) ≡ length lines - (end + 1) = length-drop (end + 1) lines in
     before_place lines after head end (length after) h lt is (omega arith) sound k (omega arith)
 
-pub fault_lane : (lines after : List (List ℕ)) (head : HeadValue) (end : ℕ) (f : TextFault) → IsOpened lines head end → end < length lines → after ≡ drop (end + 1) lines → IsFirstWrong (command_wrong (targets_in lines) after) (length after) (end + 2) f → IsFirstWrong (wrong_at lines) (length lines) 1 f
+pub fault_lane : (lines after : List (List ℕ)) (head : HeadValue) (end : ℕ) (f : TextFault) → IsOpened lines head end → end < length lines → after ≡ drop (end + 1) lines → IsFirstWrong (lane_wrong (targets_in lines) after) (length after) (end + 2) f → IsFirstWrong (wrong_at lines) (length lines) 1 f
 fault_lane lines after head end f h lt is first =
     let n : length after ≡ length (drop (end + 1) lines) = ap length is in
     let m : length (drop (end + 1) lines) ≡ length lines - (end + 1) = length-drop (end + 1) lines in
@@ -207,3 +251,32 @@ pub IsFirstWrong-length : (lines : List (List ℕ)) (n : ℕ) (f : TextFault) �
 IsFirstWrong-length lines n f e h =
     let P : ℕ → Type 0 = λ m. IsFirstWrong (wrong_at lines) m 1 f in
     subst P e h
+
+-- what is wrong with a line of a lane, by its kind
+pub lane_wrong-blank : (targets lines : List (List ℕ)) (i : ℕ) → is_blank (get_or lines i []) ≡ true → lane_wrong targets lines i ≡ None
+lane_wrong-blank targets lines i blank = ap (λ b. cond b None (wrong_in_lane targets (1 + lane_count (take i lines)) (get_or lines i []))) blank
+
+pub lane_wrong-lane : (targets lines : List (List ℕ)) (i count : ℕ) → opens_lane (get_or lines i []) ≡ true → count ≡ 1 + lane_count (take i lines) → lane_wrong targets lines i ≡ result_err (lane_line count (get_or lines i []))
+lane_wrong-lane targets lines i count opens is =
+    let line = get_or lines i [] in
+    ap (λ b. cond b None (wrong_in_lane targets (1 + lane_count (take i lines)) line)) (filled_from_lane line opens)
+    ∙ ap (λ b. cond b (result_err (lane_line (1 + lane_count (take i lines)) line)) (result_err (command_line targets line))) opens ∙ ap (λ n. result_err (lane_line n line)) (sym is)
+
+pub lane_wrong-command : (targets lines : List (List ℕ)) (i : ℕ) → is_blank (get_or lines i []) ≡ false → opens_lane (get_or lines i []) ≡ false → lane_wrong targets lines i ≡ result_err (command_line targets (get_or lines i []))
+lane_wrong-command targets lines i filled closed =
+    let line = get_or lines i [] in
+    ap (λ b. cond b None (wrong_in_lane targets (1 + lane_count (take i lines)) line)) filled
+    ∙ ap (λ b. cond b (result_err (lane_line (1 + lane_count (take i lines)) line)) (result_err (command_line targets line))) closed
+
+pub closed_from_blank : (line : List ℕ) → is_blank line ≡ true → opens_lane line ≡ false
+closed_from_blank line blank = opens_lane-blank line blank
+
+-- so many lines of the lanes are read
+pub record ReadsLanes (targets lines : List (List ℕ)) (lanes : List (Vec Command)) (lane : List Command) (count : ℕ) : Type 0 where
+  pub lanes_are : lanes_of lanes ++ lane ∷ [] ≡ map (commands_in targets) (parts_of (take count lines))
+  pub few : length lanes + 1 ≤ 63
+  pub sound : (k : ℕ) → k < count → lane_wrong targets lines k ≡ None
+
+-- all lines of the lanes are read
+pub lanes_all : (targets lines : List (List ℕ)) (lanes : List (List Command)) (count : ℕ) → length lines ≤ count → lanes ≡ map (commands_in targets) (parts_of (take count lines)) → lanes ≡ map (commands_in targets) (parts_of lines)
+lanes_all targets lines lanes count all inv = inv ∙ ap (λ l. map (commands_in targets) (parts_of l)) (take_all count lines all)

@@ -1,17 +1,22 @@
 -- What a line says that is a command: a word, and then what that word takes.
-use Rattle.std.specs.Prelude.{ℕ, ◌^◌, if◌then◌else◌, bytes_eq, codes, find, List, [], ◌∷◌, Option, Some, None, Result, Ok, Err}
+use Rattle.std.specs.Prelude.{ℕ, ◌^◌, ◌==◌, if◌then◌else◌, bytes_eq, codes, find, List, [], ◌∷◌, Option, Some, None, Result, Ok, Err}
+use Rattle.std.specs.List.{slice_split}
+use Rattle.rev_commands.specs.declared.command.Command.{Command}
+use Rattle.rev_commands.specs.declared.command.Command.TheVariants as command
+use Rattle.rev_commands.specs.declared.point.Point.{Point}
+use Rattle.rev_commands.specs.declared.point.Point.TheVariants as point
+use Rattle.rev_commands.specs.declared.which.Which.{Which}
+use Rattle.rev_commands.specs.declared.which.Which.TheVariants as which
 use Rattle.rev_events.specs.declared.event.Event.{Event}
 use Rattle.rev_events.specs.declared.event.Event.TheVariants as event
 use Rattle.rev_events.specs.declared.event.Listing.{Listing}
 use Rattle.rev_events.specs.declared.event.Listing.TheVariants as listing
 use Rattle.rev_fields.specs.declared.faults.FaultKind.{FaultKind}
-use Rattle.rev_fields.specs.declared.faults.FaultKind.TheVariants.{Syntax}
+use Rattle.rev_fields.specs.declared.faults.FaultKind.TheVariants.{Syntax, Number}
 use Rattle.rev_fields.specs.Faults.{◌>>=◌}
 use Rattle.rev_fields.specs.Fields.{texts_of}
 use Rattle.rev_fields.specs.Lines.{path_of, paths_of, read_as}
 use Rattle.rev_fields.specs.Numbers.{number_below, numbers_below}
-use Rattle.rev_trace.specs.declared.command.Command.{Command}
-use Rattle.rev_trace.specs.declared.command.Command.TheVariants as command
 use Rattle.rev_trace.specs.declared.verb.Verb.{Verb}
 use Rattle.rev_trace.specs.declared.verb.Verb.TheVariants as verb
 
@@ -31,9 +36,14 @@ word_of verb.Undo = codes "undo"
 word_of verb.Redo = codes "redo"
 word_of verb.Cone = codes "cone"
 word_of verb.Back = codes "back"
+word_of verb.Break = codes "break"
+word_of verb.Unbreak = codes "unbreak"
+word_of verb.Continue = codes "continue"
 
 abbrev pub verbs : List Verb
-verbs = verb.Plan ∷ verb.Start ∷ verb.Finish ∷ verb.Fail ∷ verb.Abort ∷ verb.Clean ∷ verb.Pass ∷ verb.Touch ∷ verb.Interrupt ∷ verb.Undo ∷ verb.Redo ∷ verb.Cone ∷ verb.Back ∷ []
+verbs =
+    verb.Plan ∷ verb.Start ∷ verb.Finish ∷ verb.Fail ∷ verb.Abort ∷ verb.Clean ∷ verb.Pass ∷ verb.Touch ∷ verb.Interrupt
+    ∷ verb.Undo ∷ verb.Redo ∷ verb.Cone ∷ verb.Back ∷ verb.Break ∷ verb.Unbreak ∷ verb.Continue ∷ []
 
 abbrev pub verb_of : List ℕ → Option Verb
 verb_of word = find (λ v. bytes_eq word (word_of v)) verbs
@@ -108,19 +118,76 @@ touch_of (path ∷ []) = Err Syntax
 touch_of (path ∷ stamp ∷ []) = path_of path >>= λ p. long stamp >>= λ n. Ok (command.Event (event.Touch p n))
 touch_of (path ∷ stamp ∷ more ∷ rest) = Err Syntax
 
--- the number of an event
-abbrev pub event_number_of : List (List ℕ) → Result ℕ FaultKind
-event_number_of [] = Err Syntax
-event_number_of (number ∷ []) = short number
-event_number_of (number ∷ more ∷ rest) = Err Syntax
-
-abbrev pub numbered_of : (ℕ → Command) → List (List ℕ) → Result Command FaultKind
-numbered_of make texts = event_number_of texts >>= λ n. Ok (make n)
+-- nothing more
+abbrev pub nothing_of : List (List ℕ) → Result (Unit {0}) FaultKind
+nothing_of [] = Ok tt
+nothing_of (more ∷ rest) = Err Syntax
 
 -- a word that stands alone
-abbrev pub bare_of : Command → List (List ℕ) → Result Command FaultKind
-bare_of said [] = Ok said
-bare_of said (more ∷ rest) = Err Syntax
+abbrev pub bare_of : {T : Type 0} → T → List (List ℕ) → Result T FaultKind
+bare_of said texts = nothing_of texts >>= λ none. Ok said
+
+-- `LANE:PLACE`, the place of an entry among those of a lane, by its parts
+abbrev pub label_of : List ℕ → List ℕ → Result Which FaultKind
+label_of lane place = short lane >>= λ l. short place >>= λ p. Ok (which.Label l p)
+
+-- the name of an event, by the parts of its text between colons: `N` is its number, `LANE:PLACE` a label
+abbrev pub which_in : List (List ℕ) → Result Which FaultKind
+which_in [] = Err Number
+which_in (number ∷ []) = short number >>= λ n. Ok (which.Number n)
+which_in (lane ∷ place ∷ []) = label_of lane place
+which_in (lane ∷ place ∷ more ∷ rest) = Err Number
+
+abbrev pub which_of : List ℕ → Result Which FaultKind
+which_of text = which_in (slice_split (λ b. b == 58) text)
+
+-- `undo WHICH` and the like: the name of an event alone
+abbrev pub name_of : List (List ℕ) → Result Which FaultKind
+name_of [] = Err Syntax
+name_of (text ∷ []) = which_of text
+name_of (text ∷ more ∷ rest) = Err Syntax
+
+abbrev pub named_of : (Which → Command) → List (List ℕ) → Result Command FaultKind
+named_of make texts = name_of texts >>= λ w. Ok (make w)
+
+-- the number of a break alone
+abbrev pub break_number_of : List (List ℕ) → Result ℕ FaultKind
+break_number_of [] = Err Syntax
+break_number_of (number ∷ []) = short number
+break_number_of (number ∷ more ∷ rest) = Err Syntax
+
+-- `unbreak N`
+abbrev pub unbreak_of : List (List ℕ) → Result Command FaultKind
+unbreak_of texts = break_number_of texts >>= λ n. Ok (command.Unbreak n)
+
+-- a kind of event, and the output or path of its edge or file
+abbrev pub pointed_of : (List ℕ → Point) → List (List ℕ) → Result Point FaultKind
+pointed_of make texts = alone_of texts >>= λ name. Ok (make name)
+
+-- what a break waits for, by the word of the events that it is for
+abbrev pub point_by : Verb → List (List ℕ) → Result Point FaultKind
+point_by verb.Plan texts = bare_of point.Plan texts
+point_by verb.Start texts = pointed_of point.Start texts
+point_by verb.Finish texts = pointed_of point.Finish texts
+point_by verb.Fail texts = pointed_of point.Fail texts
+point_by verb.Abort texts = pointed_of point.Abort texts
+point_by verb.Clean texts = pointed_of point.Clean texts
+point_by verb.Pass texts = pointed_of point.Pass texts
+point_by verb.Touch texts = pointed_of point.Touch texts
+point_by verb.Interrupt texts = bare_of point.Interrupt texts
+point_by _ texts = Err Syntax
+
+abbrev pub point_by_any : Option Verb → List (List ℕ) → Result Point FaultKind
+point_by_any None texts = Err Syntax
+point_by_any (Some v) texts = point_by v texts
+
+abbrev pub point_of : List (List ℕ) → Result Point FaultKind
+point_of [] = Err Syntax
+point_of (word ∷ texts) = point_by_any (verb_of word) texts
+
+-- `break KIND OUT`, `break touch PATH`, `break plan`, `break interrupt`
+abbrev pub break_of : List (List ℕ) → Result Command FaultKind
+break_of texts = point_of texts >>= λ p. Ok (command.Break p)
 
 -- what a word takes
 abbrev pub taken_by : List (List ℕ) → Verb → List (List ℕ) → Result Command FaultKind
@@ -133,10 +200,13 @@ taken_by targets verb.Clean texts = settled_of event.Clean texts
 taken_by targets verb.Pass texts = settled_of event.Pass texts
 taken_by targets verb.Touch texts = touch_of texts
 taken_by targets verb.Interrupt texts = bare_of (command.Event event.Interrupt) texts
-taken_by targets verb.Undo texts = numbered_of command.Undo texts
-taken_by targets verb.Redo texts = numbered_of command.Redo texts
-taken_by targets verb.Cone texts = numbered_of command.Cone texts
+taken_by targets verb.Undo texts = named_of command.Undo texts
+taken_by targets verb.Redo texts = named_of command.Redo texts
+taken_by targets verb.Cone texts = named_of command.Cone texts
 taken_by targets verb.Back texts = bare_of command.Back texts
+taken_by targets verb.Break texts = break_of texts
+taken_by targets verb.Unbreak texts = unbreak_of texts
+taken_by targets verb.Continue texts = bare_of command.Continue texts
 
 abbrev pub taken_by_any : List (List ℕ) → Option Verb → List (List ℕ) → Result Command FaultKind
 taken_by_any targets None texts = Err Syntax

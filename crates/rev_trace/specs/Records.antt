@@ -1,5 +1,5 @@
 -- The opening lines of a trace: what each says, and what they make together.
-use Rattle.std.specs.Prelude.{ℕ, ◌^◌, ◌==◌, Bool, true, false, ◌&&◌, if◌then◌else◌, nat_lt, nat_le, bytes_eq, codes, fold, List, [], ◌∷◌, ◌++◌, Option, Some, None, Result, Ok, Err}
+use Rattle.std.specs.Prelude.{ℕ, Bool, true, false, ◌&&◌, if◌then◌else◌, nat_lt, nat_le, bytes_eq, codes, fold, List, [], ◌∷◌, ◌++◌, Option, Some, None, Result, Ok, Err}
 use Rattle.std.specs.List.{list_any}
 use Rattle.rev_cells.specs.declared.cell.Cell.{Cell}
 use Rattle.rev_cells.specs.declared.cell.Cell.TheVariants as cell
@@ -7,7 +7,7 @@ use Rattle.rev_cells.specs.declared.value.Value.TheVariants as value
 use Rattle.rev_cells.specs.Keys.{cell_key}
 use Rattle.rev_cells.specs.Table.{Records, no_records, with_record}
 use Rattle.rev_fields.specs.declared.faults.FaultKind.{FaultKind}
-use Rattle.rev_fields.specs.declared.faults.FaultKind.TheVariants.{Syntax, Number, Lane, DoubleRecord}
+use Rattle.rev_fields.specs.declared.faults.FaultKind.TheVariants.{Syntax, Number, DoubleRecord}
 use Rattle.rev_fields.specs.Faults.{◌>>=◌}
 use Rattle.rev_fields.specs.Fields.{texts_of}
 use Rattle.rev_fields.specs.Lines.{path_of, paths_of, read_as}
@@ -48,19 +48,13 @@ target_of [] = Err Syntax
 target_of (path ∷ []) = path_of path >>= λ p. Ok (Target p)
 target_of (path ∷ more ∷ rest) = Err Syntax
 
--- a line `lane N` that may not stand at its place: only the lane that comes next is in its turn, and there is one lane
-abbrev pub lane_of : {T : Type 0} → ℕ → List (List ℕ) → Result T FaultKind
-lane_of next [] = Err Syntax
-lane_of next (number ∷ []) = short number >>= λ n. if n == next then Err Syntax else Err Lane
-lane_of next (number ∷ more ∷ rest) = Err Syntax
-
 -- what an opening line says, where its fields have these texts
 abbrev pub record_of : List (List ℕ) → Result Record FaultKind
 record_of [] = Err Syntax
 record_of (word ∷ texts) =
     if bytes_eq word (codes "jobs") then jobs_of texts else (if bytes_eq word (codes "stamp") then stamp_of texts
     else (if bytes_eq word (codes "built") then built_of texts else (if bytes_eq word (codes "deps") then deps_of texts
-    else (if bytes_eq word (codes "target") then target_of texts else (if bytes_eq word (codes "lane") then lane_of 0 texts else Err Syntax)))))
+    else (if bytes_eq word (codes "target") then target_of texts else Err Syntax))))
 
 abbrev pub record_line : List ℕ → Result Record FaultKind
 record_line line = read_as record_of (texts_of line)

@@ -7,8 +7,12 @@ use Rattle.rev_events.specs.declared.event.Listing.{Listing}
 use Rattle.rev_events.specs.declared.event.Listing.TheVariants as listing
 use Rattle.rev_fields.specs.Fields.{field_text, line_of}
 use Rattle.rev_fields.specs.Numbers.{numbers_text}
-use Rattle.rev_trace.specs.declared.command.Command.{Command}
-use Rattle.rev_trace.specs.declared.command.Command.TheVariants as command
+use Rattle.rev_commands.specs.declared.command.Command.{Command}
+use Rattle.rev_commands.specs.declared.command.Command.TheVariants as command
+use Rattle.rev_commands.specs.declared.point.Point.{Point}
+use Rattle.rev_commands.specs.declared.point.Point.TheVariants as point
+use Rattle.rev_commands.specs.declared.which.Which.{Which}
+use Rattle.rev_commands.specs.declared.which.Which.TheVariants as which
 use Rattle.rev_trace.specs.declared.verb.Verb.TheVariants as verb
 use Rattle.rev_trace.specs.Commands.{word_of}
 
@@ -37,12 +41,32 @@ event_fields (event.Pass out) = word_of verb.Pass ∷ field_text out ∷ []
 event_fields (event.Touch path stamp) = word_of verb.Touch ∷ field_text path ∷ decimal stamp ∷ []
 event_fields event.Interrupt = word_of verb.Interrupt ∷ []
 
+-- the name of an event
+abbrev pub which_text : Which → List ℕ
+which_text (which.Number n) = decimal n
+which_text (which.Label lane place) = decimal lane ++ 58 ∷ decimal place
+
+-- what a break waits for
+abbrev pub point_fields : Point → List (List ℕ)
+point_fields (point.Start out) = word_of verb.Start ∷ field_text out ∷ []
+point_fields (point.Finish out) = word_of verb.Finish ∷ field_text out ∷ []
+point_fields (point.Fail out) = word_of verb.Fail ∷ field_text out ∷ []
+point_fields (point.Abort out) = word_of verb.Abort ∷ field_text out ∷ []
+point_fields (point.Clean out) = word_of verb.Clean ∷ field_text out ∷ []
+point_fields (point.Pass out) = word_of verb.Pass ∷ field_text out ∷ []
+point_fields (point.Touch path) = word_of verb.Touch ∷ field_text path ∷ []
+point_fields point.Plan = word_of verb.Plan ∷ []
+point_fields point.Interrupt = word_of verb.Interrupt ∷ []
+
 abbrev pub command_fields : Command → List (List ℕ)
 command_fields (command.Event e) = event_fields e
-command_fields (command.Undo n) = word_of verb.Undo ∷ decimal n ∷ []
-command_fields (command.Redo n) = word_of verb.Redo ∷ decimal n ∷ []
-command_fields (command.Cone n) = word_of verb.Cone ∷ decimal n ∷ []
+command_fields (command.Undo w) = word_of verb.Undo ∷ which_text w ∷ []
+command_fields (command.Redo w) = word_of verb.Redo ∷ which_text w ∷ []
+command_fields (command.Cone w) = word_of verb.Cone ∷ which_text w ∷ []
 command_fields command.Back = word_of verb.Back ∷ []
+command_fields (command.Break p) = word_of verb.Break ∷ point_fields p
+command_fields (command.Unbreak n) = word_of verb.Unbreak ∷ decimal n ∷ []
+command_fields command.Continue = word_of verb.Continue ∷ []
 
 -- the line that says a command
 abbrev pub command_text : Command → List ℕ
@@ -75,12 +99,30 @@ IsEvent (event.Pass out) = IsCanonical out
 IsEvent (event.Touch path stamp) = IsCanonical path × IsLong stamp
 IsEvent event.Interrupt = Unit {0}
 
+abbrev pub IsWhich : Which → Type 0
+IsWhich (which.Number n) = IsShort n
+IsWhich (which.Label lane place) = IsShort lane × IsShort place
+
+abbrev pub IsPoint : Point → Type 0
+IsPoint (point.Start out) = IsCanonical out
+IsPoint (point.Finish out) = IsCanonical out
+IsPoint (point.Fail out) = IsCanonical out
+IsPoint (point.Abort out) = IsCanonical out
+IsPoint (point.Clean out) = IsCanonical out
+IsPoint (point.Pass out) = IsCanonical out
+IsPoint (point.Touch path) = IsCanonical path
+IsPoint point.Plan = Unit {0}
+IsPoint point.Interrupt = Unit {0}
+
 abbrev pub IsCommand : Command → Type 0
 IsCommand (command.Event e) = IsEvent e
-IsCommand (command.Undo n) = IsShort n
-IsCommand (command.Redo n) = IsShort n
-IsCommand (command.Cone n) = IsShort n
+IsCommand (command.Undo w) = IsWhich w
+IsCommand (command.Redo w) = IsWhich w
+IsCommand (command.Cone w) = IsWhich w
 IsCommand command.Back = Unit {0}
+IsCommand (command.Break p) = IsPoint p
+IsCommand (command.Unbreak n) = IsShort n
+IsCommand command.Continue = Unit {0}
 
 -- no list of stamps is empty
 abbrev pub EventHasStamps : Event → Type 0

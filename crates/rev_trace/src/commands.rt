@@ -1,13 +1,17 @@
 //! Commands of lines.
-ghost use Rattle.std.specs.Prelude.{◌≡◌};
+ghost use Rattle.std.specs.Prelude.{[]};
 ghost use Rattle.rev_fields.specs.Faults.{Answers};
 ghost use Rattle.rev_fields.specs.Parts.{vectors_of};
-ghost use Rattle.rev_trace.specs.Commands.{command_line, bare_of, command_of, taken_by};
+ghost use Rattle.rev_trace.specs.Commands.{bare_of, command_line, command_of, taken_by};
 
-use crate::command::Command;
-use crate::events::{BAD_LINE, abort, clean, event_number, fail, finish, pass, plan, start, touch};
+use crate::events::{
+    BAD_LINE, abort, break_number, clean, event_name, fail, finish, nothing, pass, plan, start,
+    touch,
+};
+use crate::points::point;
 use crate::verb::Verb;
 use rev_cells::Names;
+use rev_commands::Command;
 use rev_events::Event;
 use rev_fields::{LineFault, read_fields};
 use std::alloc::Global;
@@ -16,10 +20,8 @@ use std::alloc::Global;
 fn bare(command: Command, texts: &[Vec<u8>]) -> Result<Command, LineFault>
     ensures { Answers result (λ c. c) (bare_of command (vectors_of texts.now)) }
 {
-    if texts.is_empty() {
-        return Ok(command);
-    }
-    Err(BAD_LINE)
+    nothing(texts)?;
+    Ok(command)
 }
 
 // What a word takes.
@@ -41,10 +43,13 @@ fn taken_by(
         Verb::Pass => pass(alloc, texts),
         Verb::Touch => touch(alloc, texts),
         Verb::Interrupt => bare(Command::Event(Event::Interrupt), texts),
-        Verb::Undo => Ok(Command::Undo(event_number(texts)?)),
-        Verb::Redo => Ok(Command::Redo(event_number(texts)?)),
-        Verb::Cone => Ok(Command::Cone(event_number(texts)?)),
+        Verb::Undo => Ok(Command::Undo(event_name(alloc, texts)?)),
+        Verb::Redo => Ok(Command::Redo(event_name(alloc, texts)?)),
+        Verb::Cone => Ok(Command::Cone(event_name(alloc, texts)?)),
         Verb::Back => bare(Command::Back, texts),
+        Verb::Break => Ok(Command::Break(point(alloc, texts)?)),
+        Verb::Unbreak => Ok(Command::Unbreak(break_number(texts)?)),
+        Verb::Continue => bare(Command::Continue, texts),
     }
 }
 
@@ -66,9 +71,21 @@ pub fn command_of_texts(
 }
 
 /// The command that a line is, where `plan` without a path means these targets.
-pub fn read_command(alloc: Global, targets: &Names, line: &[u8]) -> Result<Command, LineFault>
+pub(crate) fn read_command(
+    alloc: Global,
+    targets: &Names,
+    line: &[u8],
+) -> Result<Command, LineFault>
     ensures { Answers result (λ c. c) (command_line targets.now line.now) }
 {
     let texts = read_fields(alloc, line)?;
     command_of_texts(alloc, targets, &texts)
+}
+
+/// The command that a line is, which stands without its end. `plan` without a path has no targets.
+pub fn read_line(alloc: Global, line: &[u8]) -> Result<Command, LineFault>
+    ensures { Answers result (λ c. c) (command_line [] line.now) }
+{
+    let none = Names::new(Vec::new(alloc));
+    read_command(alloc, &none, line)
 }

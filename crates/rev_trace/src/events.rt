@@ -3,10 +3,11 @@ ghost use Rattle.std.specs.Prelude.{◌∷◌};
 ghost use Rattle.rev_events.specs.declared.event.Event.TheVariants as event;
 ghost use Rattle.rev_fields.specs.Faults.{Answers};
 ghost use Rattle.rev_fields.specs.Parts.{vectors_of};
-ghost use Rattle.rev_trace.specs.Commands.{alone_of, depfile_of, ended_of, ending_of, event_number_of, finish_of, list_of, listing_of, plan_of, settled_of, start_of, touch_of};
+ghost use Rattle.rev_trace.specs.Commands.{alone_of, break_number_of, depfile_of, ended_of, ending_of, finish_of, list_of, listing_of, name_of, nothing_of, plan_of, settled_of, start_of, touch_of};
 
-use crate::command::Command;
+use crate::labels::which_of;
 use rev_cells::{Names, Text};
+use rev_commands::{Command, Which};
 use rev_events::{Event, Listing, Stamps};
 use rev_fields::{FaultKind, LineFault, number, path, paths, wide_number, wide_numbers};
 use rev_paths::Name;
@@ -155,8 +156,8 @@ pub(crate) fn abort(alloc: Global, texts: &[Vec<u8>]) -> Result<Command, LineFau
     Ok(Command::Event(Event::Abort { out, stamps }))
 }
 
-// A path alone.
-fn alone(alloc: Global, texts: &[Vec<u8>]) -> Result<Name, LineFault>
+/// A path alone.
+pub(crate) fn alone(alloc: Global, texts: &[Vec<u8>]) -> Result<Name, LineFault>
     ensures { Answers result (λ name. name) (alone_of (vectors_of texts.now)) }
 {
     match texts {
@@ -195,9 +196,29 @@ pub(crate) fn touch(alloc: Global, texts: &[Vec<u8>]) -> Result<Command, LineFau
     }
 }
 
-/// The number of an event.
-pub(crate) fn event_number(texts: &[Vec<u8>]) -> Result<u32, LineFault>
-    ensures { Answers result (λ n. n) (event_number_of (vectors_of texts.now)) }
+/// Nothing more.
+pub(crate) fn nothing(texts: &[Vec<u8>]) -> Result<(), LineFault>
+    ensures { Answers result (λ u. u) (nothing_of (vectors_of texts.now)) }
+{
+    if texts.is_empty() {
+        return Ok(());
+    }
+    Err(BAD_LINE)
+}
+
+/// The name of an event.
+pub(crate) fn event_name(alloc: Global, texts: &[Vec<u8>]) -> Result<Which, LineFault>
+    ensures { Answers result (λ w. w) (name_of (vectors_of texts.now)) }
+{
+    match texts {
+        [text] => which_of(alloc, text),
+        _ => Err(BAD_LINE),
+    }
+}
+
+/// The number of a break.
+pub(crate) fn break_number(texts: &[Vec<u8>]) -> Result<u32, LineFault>
+    ensures { Answers result (λ n. n) (break_number_of (vectors_of texts.now)) }
 {
     match texts {
         [text] => number(text),

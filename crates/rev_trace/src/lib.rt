@@ -1,18 +1,20 @@
 //! Traces: the record of a build as text, to the commands that replay it and back.
 #![tactic(auto)]
 
-mod command;
 mod commands;
 mod events;
 mod head;
+mod labels;
+mod lanes;
 pub mod laws;
+mod points;
 mod record;
 mod records;
 mod texts;
 mod traces;
 mod verb;
 
-pub use command::Command;
-pub use commands::{command_of_texts, read_command};
+pub use commands::{command_of_texts, read_line};
+pub use labels::{push_which, which_of};
 pub use texts::{push_command, push_event, text};
-pub use traces::{Trace, read_trace};
+pub use traces::{Trace, TraceFault, read};

@@ -2,16 +2,13 @@
 ghost use Rattle.std.specs.Prelude.{◌≡◌, ◌∷◌};
 ghost use Rattle.rev_fields.specs.Faults.{Answers};
 ghost use Rattle.rev_fields.specs.Parts.{vectors_of};
-ghost use Rattle.rev_trace.specs.declared.record.Record.{Record};
-ghost use Rattle.rev_trace.specs.Records.{built_of, deps_of, gives_jobs, jobs_of, lane_of, record_of, stamp_of, target_of};
+ghost use Rattle.rev_trace.specs.Records.{built_of, deps_of, gives_jobs, jobs_of, record_of, stamp_of, target_of};
 
 use crate::events::BAD_LINE;
 use crate::record::Record;
 use rev_cells::{Names, Text};
-use rev_fields::{FaultKind, LineFault, number, path, paths, wide_number};
+use rev_fields::{LineFault, number, path, paths, wide_number};
 use std::alloc::Global;
-
-const BAD_LANE: LineFault = LineFault::Kind(FaultKind::Lane);
 
 // `jobs N`
 fn jobs(texts: &[Vec<u8>]) -> Result<Record, LineFault>
@@ -99,20 +96,6 @@ fn target(alloc: Global, texts: &[Vec<u8>]) -> Result<Record, LineFault>
     }
 }
 
-/// What is wrong with a line `lane N` that may not stand at its place, where this lane comes next.
-pub(crate) fn bad_lane(next: u32, texts: &[Vec<u8>]) -> LineFault
-    ensures { Answers (Err result) (λ (r : Record). r) (lane_of next (vectors_of texts.now)) }
-{
-    match texts {
-        [text] => match number(text) {
-            Ok(number) if number == next => BAD_LINE,
-            Ok(_) => BAD_LANE,
-            Err(fault) => fault,
-        },
-        _ => BAD_LINE,
-    }
-}
-
 /// The opening line that has these texts in its fields.
 pub(crate) fn record(alloc: Global, texts: &[Vec<u8>]) -> Result<Record, LineFault>
     ensures { Answers result (λ r. r) (record_of (vectors_of texts.now)) }
@@ -134,9 +117,6 @@ pub(crate) fn record(alloc: Global, texts: &[Vec<u8>]) -> Result<Record, LineFau
     }
     if word.as_slice() == b"target".as_slice() {
         return target(alloc, rest);
-    }
-    if word.as_slice() == b"lane".as_slice() {
-        return Err(bad_lane(0, rest));
     }
     Err(BAD_LINE)
 }

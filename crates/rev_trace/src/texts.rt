@@ -1,5 +1,6 @@
 //! The lines that say commands.
 ghost use Rattle.std.specs.Prelude.{◌≡◌, ◌++◌, ◌∷◌, [], IfOk, OnOk, All, Ok, decimal};
+ghost use Rattle.rev_commands.specs.declared.command.Command.TheVariants as command;
 ghost use Rattle.rev_events.specs.declared.event.Event.TheVariants as event;
 ghost use Rattle.rev_fields.specs.Fields.{field_text, spaced};
 ghost use Rattle.rev_fields.specs.Fields.{line_of};
@@ -7,10 +8,12 @@ ghost use Rattle.rev_fields.specs.Numbers.{numbers_text};
 ghost use Rattle.rev_paths.specs.Canonical.{IsCanonical};
 ghost use Rattle.std.specs.List.{flat_map};
 ghost use Rattle.rev_trace.specs.Commands.{command_line, word_of};
-ghost use Rattle.rev_trace.specs.Texts.{HasStamps, IsCommand, IsEvent, IsListing, IsLong, IsShort, command_text, event_text, listing_fields};
+ghost use Rattle.rev_trace.specs.Texts.{HasStamps, IsCommand, IsEvent, IsListing, IsLong, IsPoint, IsShort, IsWhich, command_text, event_text, listing_fields, which_text};
 
-use crate::command::Command;
+use crate::labels::push_which;
+use crate::points::next_point;
 use crate::verb::Verb;
+use rev_commands::{Command, Point, Which};
 use rev_events::{Event, Listing};
 use rev_fields::{next_field, next_number, next_numbers, next_paths};
 use rev_paths::Name;
@@ -108,12 +111,31 @@ fn push_touch(line: &mut Vec<u8>, path: &Name, stamp: u64) -> Result<(), AllocEr
     next_number(line, stamp)
 }
 
-// Adds a word and the number of an event.
-fn push_numbered(line: &mut Vec<u8>, verb: Verb, number: u32) -> Result<(), AllocError>
-    ensures text { OnOk result (line.new.items ≡ line.old.items ++ line_of (word_of verb ∷ decimal number ∷ [])) }
-    ensures short { IsShort number }
+// Adds a word and the name of an event.
+fn push_of_event(line: &mut Vec<u8>, verb: Verb, which: Which) -> Result<(), AllocError>
+    ensures text { OnOk result (line.new.items ≡ line.old.items ++ line_of (word_of verb ∷ which_text which ∷ [])) }
+    ensures sound { OnOk result (IsWhich which) }
 {
     push_word(line, verb)?;
+    line.push(b' ')?;
+    push_which(line, which)
+}
+
+// Adds `break POINT`.
+fn push_break(line: &mut Vec<u8>, point: &Point) -> Result<(), AllocError>
+    ensures text { OnOk result (line.new.items ≡ line.old.items ++ command_text (command.Break point.now)) }
+    ensures sound { OnOk result (IsPoint point.now) }
+{
+    push_word(line, Verb::Break)?;
+    next_point(line, point)
+}
+
+// Adds `unbreak N`.
+fn push_unbreak(line: &mut Vec<u8>, number: u32) -> Result<(), AllocError>
+    ensures text { OnOk result (line.new.items ≡ line.old.items ++ command_text (command.Unbreak number)) }
+    ensures short { IsShort number }
+{
+    push_word(line, Verb::Unbreak)?;
     next_number(line, u64::from(number))
 }
 
@@ -146,10 +168,13 @@ pub fn push_command(line: &mut Vec<u8>, command: &Command) -> Result<(), AllocEr
 {
     match command {
         Command::Event(event) => push_event(line, event),
-        Command::Undo(number) => push_numbered(line, Verb::Undo, *number),
-        Command::Redo(number) => push_numbered(line, Verb::Redo, *number),
-        Command::Cone(number) => push_numbered(line, Verb::Cone, *number),
+        Command::Undo(which) => push_of_event(line, Verb::Undo, *which),
+        Command::Redo(which) => push_of_event(line, Verb::Redo, *which),
+        Command::Cone(which) => push_of_event(line, Verb::Cone, *which),
         Command::Back => push_word(line, Verb::Back),
+        Command::Break(point) => push_break(line, point),
+        Command::Unbreak(number) => push_unbreak(line, *number),
+        Command::Continue => push_word(line, Verb::Continue),
     }
 }
 

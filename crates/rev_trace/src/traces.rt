@@ -1,19 +1,21 @@
 //! Traces.
-ghost use Rattle.std.specs.Prelude.{◌≡◌, ℕ, ◌+◌, ◌^◌, ◌<◌, length, Some, None, IfOk, OnOk, IsErrOf};
+ghost use Rattle.std.specs.Prelude.{◌≡◌, ℕ, ◌+◌, ◌^◌, ◌<◌, ◌≤◌, length, map, Some, None, IfOk, OnOk, IsErrOf};
 ghost use Rattle.rev_fields.specs.declared.faults.TextFault.{TextFault};
-ghost use Rattle.rev_fields.specs.Faults.{Answers, IsFirstWrong};
-ghost use Rattle.rev_fields.specs.Parts.{slices_of, vectors_of};
+ghost use Rattle.rev_fields.specs.Faults.{IsFirstWrong};
+ghost use Rattle.rev_fields.specs.Parts.{slices_of};
 ghost use Rattle.rev_trace.specs.Heads.{seen};
-ghost use Rattle.rev_trace.specs.Traces.{IsOpened, command_wrong, commands_in, lane_line, lane_texts, lanes_of, trace_fault, trace_of, value_of, wrong_at};
+ghost use Rattle.rev_trace.specs.Traces.{IsOpened, commands_in, lane_wrong, lanes_of, parts_of, trace_fault, trace_of, value_of, wrong_at};
 
-use crate::command::Command;
-use crate::commands::command_of_texts;
-use crate::events::BAD_LINE;
+use crate::commands::read_command;
 use crate::head::{Head, add_line, empty_head};
-use crate::records::bad_lane;
+use crate::lanes::{lane_line, opens_lane};
 use rev_cells::{Names, Opening};
-use rev_fields::{FaultKind, LineFault, ReadFault, TextFault, parts_at, read_fields};
+use rev_commands::Command;
+use rev_fields::{FaultKind, ReadFault, TextFault, parts_at};
 use std::alloc::Global;
+
+/// Why a trace is not read: memory ran out, or it has a fault, which is told with its number and line.
+pub type TraceFault = ReadFault;
 
 /// What a trace says.
 #[derive(Drop)]
@@ -22,7 +24,7 @@ pub struct Trace {
     pub opening: Opening,
     /// What the build was asked for, which `plan` without a path means.
     pub targets: Names,
-    /// The commands of each lane. There is at most one lane, and none where no line opens it.
+    /// The commands of each lane, in their order. There are at most 63 lanes, and none where no line opens one.
     pub lanes: Vec<Vec<Command>>,
 }
 
@@ -42,11 +44,14 @@ fn read_head(alloc: Global, lines: &[&[u8]]) -> Result<(Head, usize), ReadFault>
         return Err(ReadFault::Memory);
     };
     for (place, line) in lines.iter().enumerate() {
-        if *line == b"lane 0".as_slice() {
-            return Ok((head, place));
-        }
         if line.is_empty() {
             continue;
+        }
+        if opens_lane(line) {
+            return match lane_line(alloc, 0, line) {
+                Ok(_) => Ok((head, place)),
+                Err(fault) => Err(fault.at(place + 1)),
+            };
         }
         if let Err(fault) = add_line(alloc, &mut head, line) {
             return Err(fault.at(place + 1));
@@ -55,50 +60,41 @@ fn read_head(alloc: Global, lines: &[&[u8]]) -> Result<(Head, usize), ReadFault>
     Ok((head, lines.len()))
 }
 
-// A line of a lane, from the texts of its fields.
-fn lane_texts(alloc: Global, targets: &Names, texts: &[Vec<u8>]) -> Result<Command, LineFault>
-    ensures { Answers result (λ c. c) (lane_texts targets.now (vectors_of texts.now)) }
-{
-    let Some((word, rest)) = texts.split_first() else {
-        return Err(BAD_LINE);
-    };
-    if word.as_slice() == b"lane".as_slice() {
-        return Err(bad_lane(1, rest));
-    }
-    command_of_texts(alloc, targets, texts)
-}
-
-// A line of a lane.
-fn lane_line(alloc: Global, targets: &Names, line: &[u8]) -> Result<Command, LineFault>
-    ensures { Answers result (λ c. c) (lane_line targets.now line.now) }
-{
-    let texts = read_fields(alloc, line)?;
-    lane_texts(alloc, targets, &texts)
-}
-
-// The commands of the lane. So many lines of the trace stand before these.
-fn read_commands(
+// The commands of the lanes, where the first of these lines stands behind the one that opens the first lane. So many
+// lines of the trace stand before these.
+fn read_lanes(
     alloc: Global,
     targets: &Names,
     lines: &[&[u8]],
     before: usize,
-) -> Result<Vec<Command>, ReadFault>
+) -> Result<Vec<Vec<Command>>, ReadFault>
     requires { before + length lines.now < 2 ^ 64 }
-    ensures commands { IfOk result (λ commands. commands.items ≡ commands_in targets.now (slices_of lines.now)) }
-    ensures sound { OnOk result ((k : ℕ) → k < length lines.now → command_wrong targets.now (slices_of lines.now) k ≡ None) }
-    ensures fault { (f : TextFault) → IsErrOf result (ReadFault.Numbered f) → IsFirstWrong (command_wrong targets.now (slices_of lines.now)) (length lines.now) before f }
+    ensures lanes { IfOk result (λ lanes. lanes_of lanes.items ≡ map (commands_in targets.now) (parts_of (slices_of lines.now))) }
+    ensures few { IfOk result (λ lanes. length lanes.items ≤ 63) }
+    ensures sound { OnOk result ((k : ℕ) → k < length lines.now → lane_wrong targets.now (slices_of lines.now) k ≡ None) }
+    ensures fault { (f : TextFault) → IsErrOf result (ReadFault.Numbered f) → IsFirstWrong (lane_wrong targets.now (slices_of lines.now)) (length lines.now) before f }
 {
+    let mut lanes = Vec::new(alloc);
     let mut commands = Vec::new(alloc);
     for (place, line) in lines.iter().enumerate() {
         if line.is_empty() {
             continue;
         }
-        match lane_line(alloc, targets, line) {
+        if opens_lane(line) {
+            if let Err(fault) = lane_line(alloc, lanes.len() + 1, line) {
+                return Err(fault.at(before + place));
+            }
+            lanes.push(commands)?;
+            commands = Vec::new(alloc);
+            continue;
+        }
+        match read_command(alloc, targets, line) {
             Ok(command) => commands.push(command)?,
             Err(fault) => return Err(fault.at(before + place)),
         }
     }
-    Ok(commands)
+    lanes.push(commands)?;
+    Ok(lanes)
 }
 
 // What the lines after the first say.
@@ -107,6 +103,7 @@ fn read_lines(alloc: Global, lines: &[&[u8]]) -> Result<Trace, ReadFault>
     ensures opening { IfOk result (λ trace. trace.opening ≡ (value_of (slices_of lines.now)).opening) }
     ensures targets { IfOk result (λ trace. trace.targets ≡ (value_of (slices_of lines.now)).targets) }
     ensures lanes { IfOk result (λ trace. lanes_of trace.lanes.items ≡ (value_of (slices_of lines.now)).lanes) }
+    ensures few { IfOk result (λ trace. length trace.lanes.items ≤ 63) }
     ensures sound { OnOk result ((k : ℕ) → k < length lines.now → wrong_at (slices_of lines.now) k ≡ None) }
     ensures fault { (f : TextFault) → IsErrOf result (ReadFault.Numbered f) → IsFirstWrong (wrong_at (slices_of lines.now)) (length lines.now) 1 f }
 {
@@ -119,8 +116,7 @@ fn read_lines(alloc: Global, lines: &[&[u8]]) -> Result<Trace, ReadFault>
     let targets = Names::new(targets);
     let mut lanes = Vec::new(alloc);
     if end < lines.len() {
-        let commands = read_commands(alloc, &targets, &lines[end + 1..], end + 2)?;
-        lanes.push(commands)?;
+        lanes = read_lanes(alloc, &targets, &lines[end + 1..], end + 2)?;
     }
     Ok(Trace {
         opening,
@@ -129,12 +125,14 @@ fn read_lines(alloc: Global, lines: &[&[u8]]) -> Result<Trace, ReadFault>
     })
 }
 
-/// Reads a trace: the line `rebug-trace 1`, then opening lines (`jobs N` at most once, `stamp PATH N`, `built PATH N COMMAND`,
-/// `deps PATH N PATH...`, `target PATH`), and then, where there is a line `lane 0`, the commands after it. Empty lines are skipped.
-pub fn read_trace(alloc: Global, text: &[u8]) -> Result<Trace, ReadFault>
+/// Reads a trace: the line `rebug-trace 1`, then opening lines (`jobs N` at most once, `stamp PATH N`,
+/// `built PATH N COMMAND`, `deps PATH N PATH...`, `target PATH`), and then lanes, each a line `lane N` and the commands
+/// after it, where N counts them from 0. Empty lines are skipped.
+pub fn read(alloc: Global, text: &[u8]) -> Result<Trace, TraceFault>
     ensures opening { IfOk result (λ trace. trace.opening ≡ (trace_of text.now).opening) }
     ensures targets { IfOk result (λ trace. trace.targets ≡ (trace_of text.now).targets) }
     ensures lanes { IfOk result (λ trace. lanes_of trace.lanes.items ≡ (trace_of text.now).lanes) }
+    ensures few { IfOk result (λ trace. length trace.lanes.items ≤ 63) }
     ensures sound { OnOk result (trace_fault text.now ≡ None) }
     ensures fault { (f : TextFault) → IsErrOf result (ReadFault.Numbered f) → trace_fault text.now ≡ Some f }
 {

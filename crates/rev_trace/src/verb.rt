@@ -31,6 +31,12 @@ pub(crate) enum Verb {
     Cone,
     /// `back`
     Back,
+    /// `break`
+    Break,
+    /// `unbreak`
+    Unbreak,
+    /// `continue`
+    Continue,
 }
 
 impl Verb {
@@ -52,6 +58,9 @@ impl Verb {
             Verb::Redo => b"redo",
             Verb::Cone => b"cone",
             Verb::Back => b"back",
+            Verb::Break => b"break",
+            Verb::Unbreak => b"unbreak",
+            Verb::Continue => b"continue",
         }
     }
 
@@ -97,6 +106,15 @@ impl Verb {
         }
         if word == b"back".as_slice() {
             return Some(Verb::Back);
+        }
+        if word == b"break".as_slice() {
+            return Some(Verb::Break);
+        }
+        if word == b"unbreak".as_slice() {
+            return Some(Verb::Unbreak);
+        }
+        if word == b"continue".as_slice() {
+            return Some(Verb::Continue);
         }
         None
     }

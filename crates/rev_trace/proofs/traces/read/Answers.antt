@@ -10,7 +10,7 @@ use Rattle.rev_trace.specs.Traces.{lanes_of, value_of, wrong_at}
 use Rattle.rev_fields.proofs.AnswerLemmas.{on_ok}
 use Rattle.rev_fields.proofs.SliceLemmas.{length-slices_of}
 use Rattle.rev_trace.proofs.TraceLemmas.{trace_first, trace_sound, whole_wrong}
-use Rattle.rev_trace.proofs.traces.read_trace.Goals as goal
+use Rattle.rev_trace.proofs.traces.read.Goals as goal
 
 pub returns-in_default-clause-fault : goal.returns-in_default-clause-fault
 returns-in_default-clause-fault c = λ f h.
