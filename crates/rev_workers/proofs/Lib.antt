@@ -1,0 +1,5 @@
+pub mod Counts
+pub mod Each
+pub mod Runs
+pub mod Said
+pub mod Together

@@ -1,0 +1,223 @@
+//! What lies under the lock.
+ghost use Rattle.std.specs.Prelude.{◌≡◌, ◌≢◌, ◌<◌, ◌≤◌, ◌^◌, ◌↔◌, ℕ, Some, IfOk, IfErr, IsTrue, OnOk, OnErr, length, slice_get};
+ghost use Rattle.rev_desk.specs.Machine.{reply_to, after};
+ghost use Rattle.rev_desk.specs.declared.fault.Why.TheVariants as why;
+ghost use Rattle.rev_workers.specs.Closing.{AreStated, IsMissing, IsMisstated, IsOneOfEach, entries_of, left_by};
+ghost use Rattle.rev_workers.specs.declared.fault.CloseCode.TheVariants as code;
+ghost use Rattle.std.specs.List.{AllByRecursion};
+ghost use Rattle.rev_workers.specs.Tracks.{Track, Carries, fresh, said};
+ghost use Rattle.rev_workers.specs.Waiting.{MayPass};
+
+use crate::closing::{missing, misstated, settle};
+use crate::fault::{CloseCode, CloseFault};
+use crate::lane::{Lane, base_of};
+use rev_desk::{Command, Desk, Reply, Unsaid, Why};
+use std::alloc::{AllocError, Global};
+use std::marker::Model;
+use std::sync::ledger::{Blank, Book, Ledger};
+
+/// Whether a lane goes on.
+#[derive(Clone, Copy, Debug, PartialEq, Eq)]
+pub(crate) enum Standing {
+    Going,
+    Waiting,
+    Ended,
+}
+
+/// A desk, the book of its ledger, and which lanes wait or have ended. Contracts see it as the desk.
+#[derive(Drop)]
+pub struct Held<L: Ledger> {
+    desk: Desk,
+    book: Book<L>,
+    standings: Vec<Standing>,
+}
+
+impl<L: Ledger> Model for Held<L> {
+    ghost use Rattle.std.specs.Prelude.{◌≡◌, ◌<◌, length};
+    ghost use Rattle.rev_desk.specs.Machine.{DeskValue, desk_code};
+
+    ghost Value = { DeskValue };
+
+    ghost coded = { desk_code };
+
+    ghost view = { λ h. h.desk };
+
+    ghost invariant = { λ h. (h.book.total ≡ length h.desk.journal) × (h.desk.lanes ≡ L.parts) × (length h.standings.items ≡ L.parts) × (0 < L.parts) };
+}
+
+impl<L: Ledger> Held<L> {
+    /// Puts a desk under a ledger of as many parts as it has lanes, and makes its lanes in rising number.
+    pub fn new(
+        alloc: Global,
+        desk: Desk,
+        blank: Blank,
+    ) -> Result<(Held<L>, Vec<Lane<L>>), AllocError>
+        requires name { blank.name ≡ L.name }
+        requires parts { blank.parts ≡ L.parts }
+        requires lanes { blank.parts ≡ desk.lanes }
+        ensures desk { IfOk result (λ made. made.0 ≡ desk) }
+        ensures count { IfOk result (λ made. length made.1.items ≡ desk.lanes) }
+        ensures lanes { IfOk result (λ made. (k : ℕ) → k < desk.lanes → slice_get made.1.items k ≡ Some (fresh (length desk.journal) k)) }
+        ensures numbers { IfOk result (λ made. AllByRecursion (λ (t : Track). t.number < desk.lanes) made.1.items) }
+    {
+        let (mut book, mut rest) = blank.open::<L>();
+        let entries = desk.journal().len() as u64;
+        let mut lanes = Vec::new(alloc);
+        let mut standings = Vec::new(alloc);
+        for number in 0..desk.lanes() {
+            let mut share = rest.split_off(1, 0);
+            book.add(&mut share, base_of(entries, number));
+            lanes.push(Lane::fresh(alloc, number, entries, share))?;
+            standings.push(Standing::Going)?;
+        }
+        Ok((
+            Held {
+                desk,
+                book,
+                standings,
+            },
+            lanes,
+        ))
+    }
+
+    /// Answers a command of a lane. Of a command that was not answered nothing is changed.
+    pub fn step(&mut self, lane: &mut Lane<L>, command: Command) -> Result<Reply, Unsaid>
+        requires { lane.old.number < self.old.lanes }
+        ensures reply { IfOk result (λ reply. reply ≡ reply_to self.old command) }
+        ensures desk { OnOk result (self.new ≡ after self.old lane.old.number command) }
+        ensures lane { IfOk result (λ reply. lane.new ≡ said lane.old command reply (length self.new.journal)) }
+        ensures carried { IfOk result (λ reply. Carries reply lane.new.seen) }
+        ensures full { IfErr result (λ unsaid. (unsaid.why ≡ why.JournalFull) → (length self.old.journal ≡ 2 ^ 20)) }
+        ensures back { IfErr result (λ unsaid. unsaid.command ≡ command) }
+        ensures same { OnErr result (self.new ≡ self.old) }
+        ensures same_lane { OnErr result (lane.new ≡ lane.old) }
+    {
+        let Ok(copy) = command.copy() else {
+            return Err(Unsaid {
+                why: Why::Memory,
+                command,
+            });
+        };
+        if lane.list.reserve(1).is_err() {
+            return Err(Unsaid {
+                why: Why::Memory,
+                command,
+            });
+        }
+        let reply = self.desk.apply(lane.number, command)?;
+        self.book.add(&mut lane.share, 1);
+        lane.seen = self.desk.journal().len() as u64;
+        lane.list.push_reserved((copy, reply));
+        Ok(reply)
+    }
+
+    /// Takes the lanes back, and hands the desk out.
+    pub(crate) fn close(self, lanes: Vec<Lane<L>>) -> Result<Desk, CloseFault>
+        ensures desk { left_by result ≡ self }
+        ensures counted { IsOneOfEach (left_by result).lanes lanes.items → length (left_by result).journal ≡ entries_of lanes.items }
+        ensures ok { IfOk result (λ desk. IsOneOfEach desk.lanes lanes.items × AreStated desk.lanes desk.journal lanes.items) }
+        ensures missing { IfErr result (λ fault. fault.code ≡ code.LaneMissing → IsMissing fault.desk.lanes lanes.items fault.lane) }
+        ensures mismatch { IfErr result (λ fault. fault.code ≡ code.LaneMismatch → IsOneOfEach fault.desk.lanes lanes.items × IsMisstated fault.desk.lanes fault.desk.journal lanes.items fault.lane) }
+        ensures not_stopped { IfErr result (λ fault. fault.code ≢ code.LaneStopped) }
+    {
+        let count = self.desk.lanes();
+        let missing = missing(&lanes, count);
+        let misstated = misstated(&lanes, count, self.desk.journal());
+        let Held {
+            desk,
+            book,
+            standings: _,
+        } = self;
+        settle(book, lanes);
+        if let Some(lane) = missing {
+            return Err(CloseFault {
+                code: CloseCode::LaneMissing,
+                lane,
+                desk,
+            });
+        }
+        if let Some(lane) = misstated {
+            return Err(CloseFault {
+                code: CloseCode::LaneMismatch,
+                lane,
+                desk,
+            });
+        }
+        Ok(desk)
+    }
+
+    // There is a lane for each part of the ledger. Proofs alone need the call.
+    pub(crate) fn know_lanes(&self)
+        ensures { self.now.lanes ≡ L.parts }
+    {
+        let _ = &self.desk;
+    }
+
+    // Whether a lane's command is to wait now: it is blocked, and another lane goes on.
+    pub(crate) fn waits(&self, number: u32, command: &Command) -> Result<bool, AllocError> {
+        let verdict = self.desk.verdict(command)?;
+        Ok(may_pass(verdict) && self.another_goes(number))
+    }
+
+    // Whether a lane beside this one neither waits nor has ended.
+    fn another_goes(&self, number: u32) -> bool {
+        for (place, standing) in self.standings.iter().enumerate() {
+            if place as u64 != u64::from(number) && *standing == Standing::Going {
+                return true;
+            }
+        }
+        false
+    }
+
+    // Notes that these lanes go on, and that all others have ended.
+    pub(crate) fn begin(&mut self, lanes: &[Lane<L>])
+        ensures { self.new ≡ self.old }
+    {
+        stand_at_first(&mut self.standings, lanes);
+    }
+
+    // The desk alone.
+    pub(crate) fn into_desk(self) -> Desk
+        ensures { result ≡ self }
+    {
+        self.desk
+    }
+
+    // Notes how a lane stands.
+    pub(crate) fn stand(&mut self, number: u32, standing: Standing)
+        requires { number < self.old.lanes }
+        ensures { self.new ≡ self.old }
+    {
+        self.standings[number as usize] = standing;
+    }
+
+    /// The desk.
+    pub fn desk(&self) -> &Desk
+        ensures { result.now ≡ self.now }
+    {
+        &self.desk
+    }
+}
+
+// Whether a reply is a refusal that ends when other lanes go on: an input is not made yet, or a job or slot is taken.
+fn may_pass(reply: Reply) -> bool
+    ensures { IsTrue result ↔ MayPass reply }
+{
+    match reply {
+        Reply::Refused(refusal) => matches!(refusal.code(), 68 | 72 | 74),
+        _ => false,
+    }
+}
+
+// These lanes go on, and all others have ended.
+fn stand_at_first<L: Ledger>(standings: &mut [Standing], lanes: &[Lane<L>])
+    ensures { length standings.new ≡ length standings.old }
+{
+    standings.fill(Standing::Ended);
+    for lane in lanes {
+        let number = lane.number() as usize;
+        if number < standings.len() {
+            standings[number] = Standing::Going;
+        }
+    }
+}

@@ -1,0 +1,118 @@
+//! Lanes with what they are to say.
+ghost use Rattle.std.specs.Prelude.{◌≡◌, ◌<◌, IfErr, IfOk, List, map};
+ghost use Rattle.rev_commands.specs.declared.command.Command.{Command};
+ghost use Rattle.rev_workers.specs.Tracks.{Track};
+ghost use Rattle.rev_workers.specs.Running.{Ran, pair_up};
+
+use crate::gate::Gate;
+use crate::lane::Lane;
+use crate::shared::Shared;
+use rev_desk::Command;
+use std::alloc::{AllocError, Global};
+use std::marker::Model;
+use std::sync::Wait;
+use std::sync::ledger::Ledger;
+
+/// A lane, with what it is to say.
+#[derive(Drop)]
+pub(crate) struct Job<L: Ledger> {
+    lane: Lane<L>,
+    commands: Vec<Command>,
+}
+
+impl<L: Ledger> Model for Job<L> {
+    ghost use Rattle.std.specs.Prelude.{List};
+    ghost use Rattle.rev_commands.specs.declared.command.Command.{Command};
+    ghost use Rattle.rev_workers.specs.Tracks.{Track};
+
+    ghost Value = { Track × List Command };
+
+    ghost view = { λ j. (j.lane, j.commands.items) };
+}
+
+impl<L: Ledger> Job<L> {
+    // The number of its lane.
+    pub(crate) fn number(&self) -> u32
+        ensures { result ≡ self.now.0.number }
+    {
+        self.lane.number()
+    }
+}
+
+// Gives each lane the commands of the list at its place, and none past the last list.
+pub(crate) fn jobs_of<L: Ledger>(
+    alloc: Global,
+    lanes: Vec<Lane<L>>,
+    lists: Vec<Vec<Command>>,
+) -> Result<Vec<Job<L>>, AllocError>
+    ensures { IfOk result (λ jobs. jobs.items ≡ pair_up lanes.items (map (λ v. v.items) lists.items)) }
+{
+    let mut jobs = Vec::with_capacity(alloc, lanes.len())?;
+    let mut lists = lists.into_iter();
+    for lane in lanes {
+        let commands = match lists.next() {
+            Some(commands) => commands,
+            None => Vec::new(alloc),
+        };
+        jobs.push(Job { lane, commands })?;
+    }
+    Ok(jobs)
+}
+
+// The numbers of lanes, in their order.
+pub(crate) fn numbers_of<L: Ledger>(
+    alloc: Global,
+    lanes: &[Lane<L>],
+) -> Result<Vec<u32>, AllocError>
+    ensures { IfOk result (λ numbers. numbers.items ≡ map (λ (t : Track). t.number) lanes.now) }
+{
+    let mut numbers = Vec::with_capacity(alloc, lanes.len())?;
+    for lane in lanes {
+        numbers.push(lane.number())?;
+    }
+    Ok(numbers)
+}
+
+// Says what a job has. Where a command makes no entry it stops, and gives the lane's number.
+pub(crate) fn run_job<L: Ledger, R: Wait, G: Gate>(
+    rt: &R,
+    shared: &Shared<L>,
+    gate: &G,
+    job: Job<L>,
+) -> Result<Lane<L>, u32>
+    requires { job.0.number < shared.now }
+    ensures ok { IfOk result (λ after. Ran job.0 job.1 after) }
+    ensures stopped { IfErr result (λ number. number ≡ job.0.number) }
+{
+    let Job { lane, commands } = job;
+    run_lane(rt, shared, gate, lane, commands)
+}
+
+// Says a lane's commands. Where one makes no entry it stops, and gives the lane's number.
+fn run_lane<L: Ledger, R: Wait, G: Gate>(
+    rt: &R,
+    shared: &Shared<L>,
+    gate: &G,
+    lane: Lane<L>,
+    commands: Vec<Command>,
+) -> Result<Lane<L>, u32>
+    requires { lane.number < shared.now }
+    ensures ok { IfOk result (λ after. Ran lane commands.items after) }
+    ensures stopped { IfErr result (λ number. number ≡ lane.number) }
+{
+    let mut lane = lane;
+    let number = lane.number();
+    let mut place = 0u32;
+    for command in commands {
+        place = place.saturating_add(1);
+        gate.before(number, place);
+        let answer = lane.send_when_able(shared, rt, command);
+        gate.after(number, place);
+        let Ok(_reply) = answer else {
+            shared.end(rt, number);
+            return Err(number);
+        };
+    }
+    shared.end(rt, number);
+    Ok(lane)
+}

@@ -1,0 +1,21 @@
+//! A desk under one lock, and lanes that send it commands from threads of their own.
+#![tactic(auto)]
+
+mod closing;
+mod fault;
+mod gate;
+mod halves;
+mod held;
+mod jobs;
+mod lane;
+mod run;
+mod shared;
+#[cfg(test)]
+mod tests;
+
+pub use fault::{CloseCode, CloseFault};
+pub use gate::Gate;
+pub use held::Held;
+pub use lane::Lane;
+pub use run::run_workers;
+pub use shared::{Shared, close};
