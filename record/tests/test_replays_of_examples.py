@@ -39,6 +39,32 @@ def _story_test(folder):
     return test
 
 
+def _plain_test(folder):
+    """An example whose script lies beside its trace is answered as its report has it."""
+
+    def test(self):
+        words = ["--manifest", "build.ninja", "--trace", "trace", "--script", "script"]
+        done = subprocess.run([self.program(), *words], cwd=folder, stdin=subprocess.DEVNULL, capture_output=True)
+        self.assertEqual(done.stdout, (folder / "report").read_bytes())
+        self.assertEqual(done.returncode, 0)
+
+    return test
+
+
+def _plain_quote_test(folder):
+    """Each indented line of the README that begins as a line of the report does stands there."""
+
+    def test(self):
+        known = (folder / "report").read_text().splitlines()
+        begins = {line.split()[0] for line in known}
+        quoted = [line[4:] for line in (folder / "README.md").read_text().splitlines() if line.startswith("    ")]
+        trace = (folder / "trace").read_text().splitlines()
+        answers = [it for it in quoted if it and it.split()[0] in begins and it not in trace]
+        self.assertEqual([it for it in answers if it not in known], [])
+
+    return test
+
+
 def _quote_test(readme):
     """Each indented line of a README that reads as an answer stands in a report or a trace beside it."""
 
@@ -60,3 +86,6 @@ for _story in sorted(EXAMPLES.glob("*/*/story")):
     setattr(ReplaysOfExamples, f"test_{_name}_story", _story_test(_story.parent))
 for _example in sorted({it.parents[1] for it in EXAMPLES.glob("*/*/story")}):
     setattr(ReplaysOfExamples, f"test_{_example.name}_quotes_what_is_there", _quote_test(_example / "README.md"))
+for _plain in sorted(EXAMPLES.glob("*/script")):
+    setattr(ReplaysOfExamples, f"test_{_plain.parent.name}_is_answered", _plain_test(_plain.parent))
+    setattr(ReplaysOfExamples, f"test_{_plain.parent.name}_quotes_its_report", _plain_quote_test(_plain.parent))

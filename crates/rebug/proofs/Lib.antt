@@ -1,5 +1,7 @@
+pub mod AnswerLemmas
 pub mod DependentLemmas
 pub mod InputLemmas
 pub mod OutputLemmas
-pub mod SessionLemmas
 pub mod ReportLemmas
+pub mod RunLemmas
+pub mod TurnLemmas

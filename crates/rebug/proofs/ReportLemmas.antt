@@ -2,25 +2,18 @@
 use Rattle.std.proofs.Common.{◌≡◌, ℕ, ◌+◌, ◌<◌, List, [], ◌∷◌, ◌++◌, map, length, drop, get_or, refl, sym, ap, ◌∙◌, add-one}
 use Rattle.std.proofs.Math.Seq.{drop-cons}
 use Rattle.std.specs.List.{flat_map}
-use Rattle.rev_trace.specs.declared.command.Command.{Command}
+use Rattle.rev_commands.specs.declared.command.Command.{Command}
+use Rattle.rev_desk.specs.Machine.{DeskValue}
 use Rattle.rebug.specs.declared.script.Word.{Word}
-use Rattle.rebug.specs.Session.{Session, after_command, reply_line, reply_to}
-use Rattle.rebug.specs.Report.{after_commands, after_word, left_after, replies_text, script_text, word_text}
+use Rattle.rebug.specs.Report.{after_word, left_after, script_text, word_text}
 
 -- what is left from an item on
 pub from_item : {A : Type 0} (xs : List A) (i : ℕ) (x : A) → i < length xs → x ≡ get_or xs i x → drop i xs ≡ x ∷ drop (i + 1) xs
 from_item xs i x h at = drop-cons xs i x h ∙ (λ j. sym at j ∷ drop (sym (add-one i) j) xs)
 
-pub replies_next : (lane : ℕ) (s : Session) (cs : List Command) (i : ℕ) (c : Command) → i < length cs → c ≡ get_or cs i c
-    → replies_text lane s (drop i cs) ≡ reply_line lane (reply_to s c) ++ replies_text lane (after_command s c) (drop (i + 1) cs)
-replies_next lane s cs i c h at = ap (replies_text lane s) (from_item cs i c h at)
-
-pub after_next : (s : Session) (cs : List Command) (i : ℕ) (c : Command) → i < length cs → c ≡ get_or cs i c → after_commands s (drop i cs) ≡ after_commands (after_command s c) (drop (i + 1) cs)
-after_next s cs i c h at = ap (after_commands s) (from_item cs i c h at)
-
-pub script_next : (lane : ℕ) (s : Session) (left : List Command) (words : List Word) (i : ℕ) (w : Word) → i < length words → w ≡ get_or words i w
-    → script_text lane s left (drop i words) ≡ word_text lane s left w ++ script_text lane (after_word s left w) (left_after left w) (drop (i + 1) words)
-script_next lane s left words i w h at = ap (script_text lane s left) (from_item words i w h at)
+pub script_next : (lane : ℕ) (d : DeskValue) (left : List (ℕ × Command)) (words : List Word) (i : ℕ) (w : Word) → i < length words → w ≡ get_or words i w
+    → script_text lane d left (drop i words) ≡ word_text lane d left w ++ script_text lane (after_word lane d left w) (left_after d left w) (drop (i + 1) words)
+script_next lane d left words i w h at = ap (script_text lane d left) (from_item words i w h at)
 
 pub flat_next : {A : Type 0} (f : A → List ℕ) (xs : List A) (i : ℕ) (x : A) → i < length xs → x ≡ get_or xs i x → flat_map f (drop i xs) ≡ f x ++ flat_map f (drop (i + 1) xs)
 flat_next f xs i x h at = ap (flat_map f) (from_item xs i x h at)

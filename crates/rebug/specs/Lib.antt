@@ -1,7 +1,9 @@
+pub mod Answers
 pub mod Dependents
 pub mod Input
-pub mod InStep
 pub mod Output
 pub mod Report
+pub mod Runs
 pub mod Scripts
-pub mod Session
+pub mod SeenTurns
+pub mod Turns

@@ -1,5 +1,5 @@
 -- The report: what a run writes for files, a trace and a script, and its status.
-use Rattle.std.specs.Prelude.{ℕ, List, [], ◌∷◌, ◌++◌, take, drop, Option, Some, None, Result, Ok, Err, codes, decimal, slice_get}
+use Rattle.std.specs.Prelude.{ℕ, ◌+◌, List, [], ◌∷◌, ◌++◌, drop, length, Option, Some, None, Result, Ok, Err, codes, decimal, slice_get}
 use Rattle.std.specs.List.{flat_map}
 use Rattle.rev_listing.specs.Logs as logs
 use Rattle.rev_listing.specs.Marks as marks
@@ -10,9 +10,9 @@ use Rattle.rev_graph.specs.Graph.{producer_of}
 use Rattle.rev_cells.specs.Table.{Records}
 use Rattle.rev_events.specs.declared.event.Event.{Event}
 use Rattle.rev_events.specs.declared.refusal.Refusal.{Refusal}
-use Rattle.rev_events.specs.declared.refusal.Refusal.TheVariants.{NoSuchEdge}
+use Rattle.rev_events.specs.declared.refusal.Refusal.TheVariants.{NoSuchEdge, NoSuchEvent}
 use Rattle.rev_events.specs.Refusal as refusals
-use Rattle.rev_history.specs.Timeline.{Timeline, cone_refusal, opened, event_at, state_at}
+use Rattle.rev_history.specs.Timeline.{Timeline, cone_refusal, event_at, state_at}
 use Rattle.rev_manifest.specs.declared.fault.ManifestFault.{ManifestFault}
 use Rattle.rev_manifest.specs.Fault as manifest_faults
 use Rattle.rev_manifest.specs.Manifest as manifest
@@ -20,7 +20,8 @@ use Rattle.rev_manifest.specs.Manifest.{BuildValue, ManifestValue}
 use Rattle.rev_graph.specs.declared.fault.GraphFault.{GraphFault}
 use Rattle.rev_graph.specs.Decided.{graph_fault}
 use Rattle.rev_graph.specs.Fault as graph_faults
-use Rattle.rev_trace.specs.declared.command.Command.{Command}
+use Rattle.rev_commands.specs.declared.command.Command.{Command}
+use Rattle.rev_desk.specs.Machine.{DeskValue, named, opened_desk}
 use Rattle.rebug.specs.declared.script.Word.{Word}
 use Rattle.rebug.specs.declared.script.Word.TheVariants as word
 use Rattle.rev_fields.specs.declared.faults.TextFault.{TextFault}
@@ -30,9 +31,11 @@ use Rattle.rev_fields.specs.Faults.{code_of}
 use Rattle.rev_fields.specs.Fields.{field_text}
 use Rattle.rev_trace.specs.Texts.{event_text}
 use Rattle.rev_trace.specs.Traces.{trace_fault, trace_of}
+use Rattle.rebug.specs.Answers.{after_answer, said_line}
 use Rattle.rebug.specs.Dependents.{dependents}
+use Rattle.rebug.specs.Runs.{after_turns, answers_text, taken}
+use Rattle.rebug.specs.Turns.{turns}
 use Rattle.rebug.specs.Scripts.{script_fault, script_of}
-use Rattle.rebug.specs.Session.{Session, reply_to, reply_line, after_command}
 
 -- The word `kept`: a line for each kept event, in rising number, with the command that it was.
 
@@ -45,12 +48,12 @@ kept_text t = flat_map (λ number. kept_line number (event_at t number)) t.kept
 
 -- The words that ask of the history and its state.
 
--- the state of a history, and the edges of its graph
-abbrev pub state_now : Session → State
-state_now s = state_at s.history
+-- the state of a desk's history, and the edges of its graph
+abbrev pub state_now : DeskValue → State
+state_now d = state_at d.history
 
-abbrev pub builds_of : Session → List BuildValue
-builds_of s = s.history.manifest.builds
+abbrev pub builds_of : DeskValue → List BuildValue
+builds_of d = d.history.manifest.builds
 
 -- a question that is refused
 abbrev pub refused_line : ℕ → List ℕ
@@ -61,7 +64,7 @@ abbrev pub why_edge : List BuildValue → State → Option ℕ → List ℕ
 why_edge builds state None = refused_line (refusals.code_of NoSuchEdge)
 why_edge builds state (Some edge) = reasons.why_text builds state edge
 
--- `dependents N`: refused where no event was accepted under the number, or it is not kept
+-- `dependents WHICH`: refused where no accepted event has the name, or it is not kept
 abbrev pub dependents_line : ℕ → List ℕ → List ℕ
 dependents_line n ms = codes "dependents " ++ decimal n ++ flat_map (λ m. codes " " ++ decimal m) ms ++ codes "\n"
 
@@ -72,71 +75,43 @@ dependents_unless None t n = dependents_line n (dependents t n)
 abbrev pub dependents_text : Timeline → ℕ → List ℕ
 dependents_text t n = dependents_unless (cone_refusal t n) t n
 
--- Commands of one lane, one after the other: the lines of their replies, and the session after them.
+abbrev pub named_text : Option ℕ → Timeline → List ℕ
+named_text None t = refused_line (refusals.code_of NoSuchEvent)
+named_text (Some n) t = dependents_text t n
 
-abbrev pub replies_text : ℕ → Session → List Command → List ℕ
-replies_text lane s [] = []
-replies_text lane s (c ∷ cs) = reply_line lane (reply_to s c) ++ replies_text lane (after_command s c) cs
+-- The words of a script, where some turns of the trace's lanes are left; the script's own commands are of the given lane.
 
-abbrev pub after_commands : Session → List Command → Session
-after_commands s [] = s
-after_commands s (c ∷ cs) = after_commands (after_command s c) cs
+-- what a word writes
+abbrev pub word_text : ℕ → DeskValue → List (ℕ × Command) → Word → List ℕ
+word_text lane d left (word.Command c) = said_line d lane c
+word_text lane d left (word.Run most) = answers_text d (taken most d left)
+word_text lane d left word.Kept = kept_text d.history
+word_text lane d left word.Marks = marks.marks_text (builds_of d) (state_now d)
+word_text lane d left word.Stamps = stamps.stamps_text (state_now d)
+word_text lane d left word.Logs = logs.logs_text (state_now d)
+word_text lane d left (word.Why out) = why_edge (builds_of d) (state_now d) (producer_of (builds_of d) out)
+word_text lane d left (word.Dependents which) = named_text (named d.journal which) d.history
 
--- what `run` takes of the trace's commands that are left, and `run K`, and what either leaves
+-- the desk after a word
+abbrev pub after_word : ℕ → DeskValue → List (ℕ × Command) → Word → DeskValue
+after_word lane d left (word.Command c) = after_answer d lane c
+after_word lane d left (word.Run most) = after_turns d (taken most d left)
+after_word lane d left _ = d
 
-abbrev pub taken : Option ℕ → List Command → List Command
-taken None commands = commands
-taken (Some k) commands = take k commands
-
-abbrev pub untaken : Option ℕ → List Command → List Command
-untaken None commands = []
-untaken (Some k) commands = drop k commands
-
--- what a word of a script writes, where these commands of the trace's lane 0 are left; the script's own commands are of the given lane
-abbrev pub word_text : ℕ → Session → List Command → Word → List ℕ
-word_text lane s left (word.Command c) = reply_line lane (reply_to s c)
-word_text lane s left (word.Run k) = replies_text 0 s (taken k left)
-word_text lane s left word.Kept = kept_text s.history
-word_text lane s left word.Marks = marks.marks_text (builds_of s) (state_now s)
-word_text lane s left word.Stamps = stamps.stamps_text (state_now s)
-word_text lane s left word.Logs = logs.logs_text (state_now s)
-word_text lane s left (word.Why out) = why_edge (builds_of s) (state_now s) (producer_of (builds_of s) out)
-word_text lane s left (word.Dependents n) = dependents_text s.history n
-
--- the session after a word
-abbrev pub after_word : Session → List Command → Word → Session
-after_word s left (word.Command c) = after_command s c
-after_word s left (word.Run k) = after_commands s (taken k left)
-after_word s left _ = s
-
--- the commands of the trace's lane 0 that are left after a word
-abbrev pub left_after : List Command → Word → List Command
-left_after left (word.Command c) = left
-left_after left (word.Run k) = untaken k left
-left_after left _ = left
+-- the turns that are left after a word
+abbrev pub left_after : DeskValue → List (ℕ × Command) → Word → List (ℕ × Command)
+left_after d left (word.Run most) = drop (length (taken most d left)) left
+left_after d left _ = left
 
 -- what a script writes: its words in turn
-abbrev pub script_text : ℕ → Session → List Command → List Word → List ℕ
-script_text lane s left [] = []
-script_text lane s left (w ∷ words) = word_text lane s left w ++ script_text lane (after_word s left w) (left_after left w) words
+abbrev pub script_text : ℕ → DeskValue → List (ℕ × Command) → List Word → List ℕ
+script_text lane d left [] = []
+script_text lane d left (w ∷ words) = word_text lane d left w ++ script_text lane (after_word lane d left w) (left_after d left w) words
 
--- a session that has just been opened
-abbrev pub opened_session : ManifestValue → Records → Session
-opened_session manifest opening = record { history = opened manifest opening.jobs opening.state; entries = 0 }
-
--- the commands of the trace's lane 0, none where the trace does not open it
-abbrev pub lane_commands : List (List Command) → List Command
-lane_commands [] = []
-lane_commands (commands ∷ lanes) = commands
-
--- the number of the script's lane, the one after the trace's lanes
-abbrev pub script_lane : List (List Command) → ℕ
-script_lane [] = 0
-script_lane (commands ∷ lanes) = 1
-
--- what the words of a script write, for a trace with this opening and these lanes
+-- What the words of a script write, for a trace with this opening and these lanes. The desk has one lane more than the trace, the last,
+-- which is the script's.
 abbrev pub session_text : ManifestValue → Records → List (List Command) → List Word → List ℕ
-session_text manifest opening lanes words = script_text (script_lane lanes) (opened_session manifest opening) (lane_commands lanes) words
+session_text manifest opening lanes words = script_text (length lanes) (opened_desk manifest opening.jobs opening.state (length lanes + 1)) (turns lanes) words
 
 -- Faults: one line, with the line and the number of the fault.
 

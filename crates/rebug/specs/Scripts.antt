@@ -7,7 +7,7 @@ use Rattle.rev_fields.specs.declared.faults.TextFault.{TextFault}
 use Rattle.rev_fields.specs.Faults.{◌>>=◌, first_fault}
 use Rattle.rev_fields.specs.Fields.{texts_of}
 use Rattle.rev_fields.specs.Lines.{lines_of, path_of, read_as, wrong_by, said_by}
-use Rattle.rev_trace.specs.Commands.{command_of, short}
+use Rattle.rev_trace.specs.Commands.{command_of, short, which_of}
 use Rattle.rebug.specs.declared.script.Word.{Word}
 use Rattle.rebug.specs.declared.script.Word.TheVariants as word
 
@@ -32,11 +32,11 @@ why_of [] = Err Syntax
 why_of (out ∷ []) = path_of out >>= λ o. Ok (word.Why o)
 why_of (out ∷ more ∷ rest) = Err Syntax
 
--- `dependents N`
+-- `dependents WHICH`
 abbrev pub dependents_of : List (List ℕ) → Result Word FaultKind
 dependents_of [] = Err Syntax
-dependents_of (number ∷ []) = short number >>= λ n. Ok (word.Dependents n)
-dependents_of (number ∷ more ∷ rest) = Err Syntax
+dependents_of (event ∷ []) = which_of event >>= λ which. Ok (word.Dependents which)
+dependents_of (event ∷ more ∷ rest) = Err Syntax
 
 -- the word of a script, or a command, where the fields have these texts
 abbrev pub word_of : List (List ℕ) → Result Word FaultKind

@@ -2,10 +2,12 @@
 ghost use Rattle.std.specs.Prelude.{◌≡◌, ◌++◌, codes, decimal, is_some, IfOk, OnOk};
 ghost use Rattle.std.specs.List.{flat_map};
 ghost use Rattle.rebug.specs.Dependents.{conflicts, dependent_text, dependents, depends};
-ghost use Rattle.rebug.specs.Report.{dependents_line, dependents_text};
+ghost use Rattle.rebug.specs.Report.{dependents_line, dependents_text, named_text};
+ghost use Rattle.rev_desk.specs.Machine.{named};
 ghost use Rattle.rev_history.specs.Timeline.{event_at, is_among, kept_footprint};
 
 use crate::text::refused_line;
+use rev_desk::{Desk, Which};
 use rev_events::Refusal;
 use rev_fields::push_number;
 use rev_footprint::conflict;
@@ -90,13 +92,9 @@ fn answered(alloc: Global, history: &History, number: u32) -> Result<Vec<u8>, Al
     Ok(text)
 }
 
-/// The line `dependents N M...` with the kept events that depend on a kept one, or `refused` with the number of the refusal where no event
-/// was accepted under the number or it is not kept.
-pub(crate) fn dependents_text(
-    alloc: Global,
-    history: &History,
-    number: u32,
-) -> Result<Vec<u8>, AllocError>
+// The line `dependents N M...` with the kept events that depend on a kept one, or `refused` with the number of the refusal where no event
+// was accepted under the number or it is not kept.
+fn dependents_text(alloc: Global, history: &History, number: u32) -> Result<Vec<u8>, AllocError>
     ensures { IfOk result (λ text. text.items ≡ dependents_text history.now.timeline number) }
 {
     if !is_accepted(history, number) {
@@ -106,4 +104,15 @@ pub(crate) fn dependents_text(
         return refused_line(alloc, Refusal::NotKept.code());
     }
     answered(alloc, history, number)
+}
+
+/// The line `dependents N M...` with the number of a kept event and those of the kept events that depend on it; `refused 80` where no
+/// accepted event has the name, `refused 81` where it is not kept.
+pub(crate) fn named_text(alloc: Global, desk: &Desk, which: Which) -> Result<Vec<u8>, AllocError>
+    ensures { IfOk result (λ text. text.items ≡ named_text (named desk.now.journal which) desk.now.history) }
+{
+    match desk.named(which) {
+        None => refused_line(alloc, Refusal::NoSuchEvent.code()),
+        Some(number) => dependents_text(alloc, desk.history(), number),
+    }
 }

@@ -1,23 +1,26 @@
 //! A reversible debugger for Ninja builds: it replays a recorded build, and undoes and redoes its events.
 #![tactic(auto)]
 
+mod answers;
 mod dependents;
 mod fault;
 mod input;
 mod options;
 mod output;
 mod report;
+mod runs;
 mod script;
-mod session;
 #[cfg(test)]
 mod tests;
 mod text;
+mod turns;
 
 use clap::error::ErrorKind;
 use fault::{ProgramFault, RunFault};
 use input::{InputFault, read_whole};
 use options::{Options, files_of, matches_of, options_of};
 use report::{Status, run_serial};
+use rev_sentences::{Inputs, sentence};
 use std::alloc::Global;
 use std::io::{BufWriter, Write};
 use std::process::ExitCode;
@@ -54,7 +57,7 @@ fn named_file<'a, R: Files + AllocGlobal>(
 }
 
 // Reads the files and writes the report to the standard output.
-fn run<'a, R: Files + Print + AllocGlobal>(
+fn run<'a, R: Files + Print + Eprint + AllocGlobal>(
     rt: &R,
     options: &Options<'a>,
     others: &[&'a str],
@@ -71,9 +74,27 @@ fn run<'a, R: Files + Print + AllocGlobal>(
         return Err(ProgramFault::Run(RunFault::Memory));
     };
     let status = run_serial(alloc, &files, &trace, &script, &mut writer)?;
+    let inputs = Inputs {
+        files: &files,
+        trace: (options.trace.as_bytes(), &trace),
+        script: (options.script.as_bytes(), &script),
+    };
+    // A fault line is short and the last, so it is still in the buffer.
+    let said = sentence(alloc, writer.buffer(), inputs)?;
     match writer.flush() {
-        Ok(()) => Ok(status),
-        Err(_) => Err(ProgramFault::Run(RunFault::Write)),
+        Ok(()) => {}
+        Err(_) => return Err(ProgramFault::Run(RunFault::Write)),
+    }
+    if let (Status::Fault, Some(said)) = (status, said) {
+        tell(rt, &said);
+    }
+    Ok(status)
+}
+
+// Says a sentence on the standard error, its bytes that are no text as replacement characters.
+fn tell<R: Eprint + AllocGlobal>(rt: &R, sentence: &[u8]) {
+    if let Ok(text) = String::from_utf8_lossy(rt.alloc(), sentence) {
+        let _ = eprintln!(rt; "rebug: {text}");
     }
 }
 
@@ -99,9 +120,15 @@ fn words<R: Env + Alloc<A = Global>>(rt: &R) -> io::Result<Vec<String>> {
 }
 
 fn main(rt: HostRuntime) -> ExitCode {
-    let Ok(words) = words(&rt) else {
-        let _ = eprintln!(rt; "rebug: the words of the command line are no text");
-        return ExitCode::from(USAGE);
+    let words = match words(&rt) {
+        Ok(words) => words,
+        Err(error) if error.kind() == io::ErrorKind::InvalidData => {
+            let _ = eprintln!(rt;
+                "rebug: a word of the command line is no UTF-8 text; rename that file, or give another name for it"
+            );
+            return ExitCode::from(USAGE);
+        }
+        Err(_) => return fail(&rt, ProgramFault::Run(RunFault::Memory)),
     };
     let matches = match matches_of(rt.alloc(), &words) {
         Ok(matches) => matches,

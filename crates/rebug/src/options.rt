@@ -14,11 +14,18 @@ pub struct Options<'a> {
     pub script: &'a str,
 }
 
+// What stands below the options in the help.
+const EXAMPLE: &str = "Example:
+  rebug --manifest build.ninja --trace build.trace --script questions rules.ninja
+
+Each FILE has the name by which the manifest includes it. record/rebug-record writes MANIFEST, TRACE and SCRIPT of a real
+build. docs/FORMATS.md tells what stands in them and in the report, docs/CODES.md what its numbers mean.";
+
 // An option that names a file, and that has to be given.
-fn file_option<'a>(alloc: Global, name: &'a str, help: &'a str) -> Arg<'a> {
+fn file_option<'a>(alloc: Global, name: &'a str, value: &'a str, help: &'a str) -> Arg<'a> {
     Arg::new(alloc, name)
         .long(name)
-        .value_name("F")
+        .value_name(value)
         .help(help)
         .required(true)
         .action(ArgAction::Set)
@@ -26,14 +33,21 @@ fn file_option<'a>(alloc: Global, name: &'a str, help: &'a str) -> Arg<'a> {
 
 // The command line of the program.
 fn command<'a>(alloc: Global) -> Result<Command<'a>, AllocError> {
+    let manifest = "The build's manifest as Ninja reads it: rules, pools and build lines";
+    let trace = "The recorded build: the files and logs before it, then what happened, a line each";
+    let script = "What to do with it: run the trace, undo, redo, ask why";
     Command::new(alloc, "rebug")
-        .about("Replays a recorded Ninja build, and undoes and redoes its events")
-        .arg(file_option(alloc, "manifest", "the manifest, as build.ninja"))?
-        .arg(file_option(alloc, "trace", "the record of the build"))?
-        .arg(file_option(alloc, "script", "the commands to do"))?
+        .version("0.1.0")
+        .about(
+            "Replays a recorded Ninja build, tells why each edge ran, and undoes its events, also out of order",
+        )
+        .after_help(EXAMPLE)
+        .arg(file_option(alloc, "manifest", "MANIFEST", manifest))?
+        .arg(file_option(alloc, "trace", "TRACE", trace))?
+        .arg(file_option(alloc, "script", "SCRIPT", script))?
         .arg(
             Arg::new(alloc, "FILE")
-                .help("files that the manifest may include")
+                .help("Files that the manifest names by include or subninja")
                 .num_args(0..)
                 .action(ArgAction::Append),
         )

@@ -1,8 +1,10 @@
 //! The report of a run: what is written for files, a trace and a script.
-ghost use Rattle.std.specs.Prelude.{◌≡◌, ◌≢◌, ◌++◌, ℕ, List, IfOk, OnOk, slice_get};
+ghost use Rattle.std.specs.Prelude.{◌≡◌, ◌≢◌, ◌<◌, ◌≤◌, ◌+◌, ◌++◌, ℕ, List, IfOk, OnOk, drop, length, slice_get};
 ghost use Rattle.rebug.specs.Output.{Writes};
-ghost use Rattle.rebug.specs.Report.{after_commands, after_word, dependents_text, edges_fault_line, edges_report, kept_text, left_after, manifest_fault_line, name_text, replies_text, report, script_report, script_text, session_text, taken, text_fault_line, trace_report, untaken, why_edge, word_text};
-ghost use Rattle.rebug.specs.Session.{after_command, reply_line, reply_to};
+ghost use Rattle.rebug.specs.Report.{after_word, edges_fault_line, edges_report, kept_text, left_after, manifest_fault_line, name_text, named_text, report, script_report, script_text, session_text, text_fault_line, trace_report, why_edge, word_text};
+ghost use Rattle.rebug.specs.SeenTurns.{seen_turns};
+ghost use Rattle.rebug.specs.Turns.{AreOf, turns};
+ghost use Rattle.rev_desk.specs.Machine.{named, opened_desk};
 ghost use Rattle.rev_history.specs.Timeline.{state_at};
 ghost use Rattle.rev_trace.specs.Traces.{lanes_of};
 ghost use Rattle.rev_graph.specs.Graph.{producer_of};
@@ -12,12 +14,16 @@ ghost use Rattle.rev_listing.specs.Stamps as stamps;
 ghost use Rattle.rev_manifest.specs.Seen.{seen_files};
 ghost use Rattle.rebug.specs.declared.report.Status.{Status};
 
-use crate::dependents::dependents_text;
+use crate::dependents::named_text;
 use crate::fault::RunFault;
 use crate::output::send;
+use crate::runs::{run_command, run_taken};
 use crate::script::{Word, read_script};
-use crate::session::Session;
-use crate::text::{fault_line, graph_fault_line, kept_line, refused_line, reply_line};
+use crate::text::{fault_line, graph_fault_line, kept_line, refused_line};
+use crate::turns::{Turn, turns_of};
+use rev_cells::Opening;
+use rev_commands::Command;
+use rev_desk::{Desk, DeskFault, Which};
 use rev_events::Refusal;
 use rev_fields::{ReadFault, TextFault, push_field};
 use rev_graph::{Graph, GraphFault};
@@ -25,7 +31,7 @@ use rev_history::History;
 use rev_listing::{logs_text, marks_text, stamps_text, why_text};
 use rev_manifest::{Manifest, ManifestFault, read};
 use rev_paths::Name;
-use rev_trace::{Command, Trace, read_trace};
+use rev_trace::Trace;
 use std::alloc::{AllocError, Global};
 use std::io::Write;
 
@@ -36,39 +42,6 @@ pub enum Status {
     Success,
     /// 1: the manifest, its graph, the trace or the script has a fault, and its line is the report.
     Fault,
-}
-
-// Does a command of a lane, and writes the line of its reply.
-fn run_command<W: Write>(
-    alloc: Global,
-    session: &mut Session,
-    lane: u32,
-    command: &Command,
-    writer: &mut W,
-) -> Result<(), RunFault>
-    ensures text { Writes result (W.contents writer.old) (W.contents writer.new) (reply_line lane (reply_to session.old command.now)) }
-    ensures after { OnOk result (session.new ≡ after_command session.old command.now) }
-{
-    let reply = session.apply(command)?;
-    let line = reply_line(alloc, lane, reply)?;
-    send(writer, &line)
-}
-
-// Does commands of one lane in turn, and writes the line of each reply.
-fn run_commands<W: Write>(
-    alloc: Global,
-    session: &mut Session,
-    lane: u32,
-    commands: &[Command],
-    writer: &mut W,
-) -> Result<(), RunFault>
-    ensures text { Writes result (W.contents writer.old) (W.contents writer.new) (replies_text lane session.old commands.now) }
-    ensures after { OnOk result (session.new ≡ after_commands session.old commands.now) }
-{
-    for command in commands {
-        run_command(alloc, session, lane, command, writer)?;
-    }
-    Ok(())
 }
 
 // Writes the lines of the kept events.
@@ -133,73 +106,65 @@ fn write_why<W: Write>(
 // Writes the kept events that depend on a kept one.
 fn write_dependents<W: Write>(
     alloc: Global,
-    history: &History,
-    number: u32,
+    desk: &Desk,
+    which: Which,
     writer: &mut W,
 ) -> Result<(), RunFault>
-    ensures { Writes result (W.contents writer.old) (W.contents writer.new) (dependents_text history.now.timeline number) }
+    ensures { Writes result (W.contents writer.old) (W.contents writer.new) (named_text (named desk.now.journal which) desk.now.history) }
 {
-    let text = dependents_text(alloc, history, number)?;
+    let text = named_text(alloc, desk, which)?;
     send(writer, &text)
 }
 
-// The commands that `run` takes, and those that it leaves.
-fn split_taken(left: &[Command], most: Option<u32>) -> (&[Command], &[Command])
-    ensures taken { result.0.now ≡ taken most left.entry.now }
-    ensures rest { result.1.now ≡ untaken most left.entry.now }
-{
-    match most {
-        None => left.split_at(left.len()),
-        Some(most) => left.split_at(left.len().min(most as usize)),
-    }
-}
-
-// Does a word of the script, and gives the commands of the trace that it leaves.
-fn run_word<'a, W: Write>(
+// Does a word of the script, where so many turns were taken before, and says how many are taken then.
+fn run_word<W: Write>(
     alloc: Global,
-    session: &mut Session,
+    desk: &mut Desk,
     lane: u32,
-    left: &'a [Command],
+    turns: &[Turn<'_>],
+    before: usize,
     word: &Word,
     writer: &mut W,
-) -> Result<&'a [Command], RunFault>
-    ensures text { Writes result (W.contents writer.old) (W.contents writer.new) (word_text lane session.old left.entry.now word.now) }
-    ensures after { OnOk result (session.new ≡ after_word session.old left.entry.now word.now) }
-    ensures left { IfOk result (λ rest. rest.now ≡ left_after left.entry.now word.now) }
+) -> Result<usize, RunFault>
+    requires lane { lane < desk.old.lanes }
+    requires lanes { AreOf desk.old.lanes (seen_turns turns.now) }
+    requires within { before ≤ length turns.now }
+    ensures text { Writes result (W.contents writer.old) (W.contents writer.new) (word_text lane desk.old (drop before (seen_turns turns.now)) word.now) }
+    ensures after { OnOk result (desk.new ≡ after_word lane desk.old (drop before (seen_turns turns.now)) word.now) }
+    ensures lanes { OnOk result (desk.new.lanes ≡ desk.old.lanes) }
+    ensures within { IfOk result (λ count. count ≤ length turns.now) }
+    ensures left { IfOk result (λ count. drop count (seen_turns turns.now) ≡ left_after desk.old (drop before (seen_turns turns.now)) word.now) }
 {
     match word {
         Word::Command(command) => {
-            run_command(alloc, session, lane, command, writer)?;
-            Ok(left)
+            let command = command.copy()?;
+            let _ = run_command(alloc, desk, lane, command, writer)?;
+            Ok(before)
         }
-        Word::Run(most) => {
-            let (taken, rest) = split_taken(left, *most);
-            run_commands(alloc, session, 0, taken, writer)?;
-            Ok(rest)
-        }
+        Word::Run(most) => run_taken(alloc, desk, turns, before, *most, writer),
         Word::Kept => {
-            write_kept(alloc, session.history(), writer)?;
-            Ok(left)
+            write_kept(alloc, desk.history(), writer)?;
+            Ok(before)
         }
         Word::Marks => {
-            write_marks(alloc, session.history(), writer)?;
-            Ok(left)
+            write_marks(alloc, desk.history(), writer)?;
+            Ok(before)
         }
         Word::Stamps => {
-            write_stamps(alloc, session.history(), writer)?;
-            Ok(left)
+            write_stamps(alloc, desk.history(), writer)?;
+            Ok(before)
         }
         Word::Logs => {
-            write_logs(alloc, session.history(), writer)?;
-            Ok(left)
+            write_logs(alloc, desk.history(), writer)?;
+            Ok(before)
         }
         Word::Why(out) => {
-            write_why(alloc, session.history(), out, writer)?;
-            Ok(left)
+            write_why(alloc, desk.history(), out, writer)?;
+            Ok(before)
         }
-        Word::Dependents(number) => {
-            write_dependents(alloc, session.history(), *number, writer)?;
-            Ok(left)
+        Word::Dependents(which) => {
+            write_dependents(alloc, desk, *which, writer)?;
+            Ok(before)
         }
     }
 }
@@ -207,36 +172,72 @@ fn run_word<'a, W: Write>(
 // Does the words of the script in turn.
 fn run_words<W: Write>(
     alloc: Global,
-    session: &mut Session,
+    desk: &mut Desk,
     lane: u32,
-    commands: &[Command],
+    turns: &[Turn<'_>],
     words: &[Word],
     writer: &mut W,
 ) -> Result<(), RunFault>
-    ensures { Writes result (W.contents writer.old) (W.contents writer.new) (script_text lane session.old commands.now words.now) }
+    requires lane { lane < desk.old.lanes }
+    requires lanes { AreOf desk.old.lanes (seen_turns turns.now) }
+    ensures { Writes result (W.contents writer.old) (W.contents writer.new) (script_text lane desk.old (seen_turns turns.now) words.now) }
 {
-    let mut left = commands;
+    let mut taken = 0;
     for word in words {
-        left = run_word(alloc, session, lane, left, word, writer)?;
+        taken = run_word(alloc, desk, lane, turns, taken, word, writer)?;
     }
     Ok(())
 }
 
-// Runs a script over a trace that has been read.
-fn run_script<W: Write>(
+// A desk to which nothing was said yet, with one lane more than these.
+fn open_desk(
     alloc: Global,
     graph: Graph,
-    trace: &Trace,
+    opening: &Opening,
+    lanes: &[Vec<Command>],
+) -> Result<Desk, RunFault>
+    requires { length lanes.now ≤ 63 }
+    ensures { IfOk result (λ desk. desk ≡ opened_desk graph.manifest opening.now.jobs opening.now.state (length lanes.now + 1)) }
+{
+    let count = lanes.len() as u32 + 1;
+    match Desk::new(alloc, graph, opening, count) {
+        Ok(desk) => Ok(desk),
+        Err(DeskFault::Memory) => Err(RunFault::Memory),
+        Err(DeskFault::BadLanes) => unreachable!(),
+    }
+}
+
+// Runs words over a desk to which nothing was said yet, and which has one lane more than these.
+fn run_opened<W: Write>(
+    alloc: Global,
+    desk: &mut Desk,
+    lanes: &[Vec<Command>],
     words: &[Word],
     writer: &mut W,
 ) -> Result<(), RunFault>
-    ensures { Writes result (W.contents writer.old) (W.contents writer.new) (session_text graph.manifest trace.now.opening (lanes_of trace.now.lanes.items) words.now) }
+    requires few { length lanes.now ≤ 63 }
+    requires lanes { desk.old.lanes ≡ length lanes.now + 1 }
+    ensures { Writes result (W.contents writer.old) (W.contents writer.new) (script_text (length lanes.now) desk.old (turns (lanes_of lanes.now)) words.now) }
 {
-    let mut session = Session::new(alloc, graph, &trace.opening)?;
-    match trace.lanes.first() {
-        None => run_words(alloc, &mut session, 0, &[], words, writer),
-        Some(commands) => run_words(alloc, &mut session, 1, commands, words, writer),
-    }
+    let lane = lanes.len() as u32;
+    let turns = turns_of(alloc, lanes)?;
+    run_words(alloc, desk, lane, &turns, words, writer)
+}
+
+// Runs a script over an opening and the lanes of a trace. The script has a lane of its own, the one after these.
+fn run_script<W: Write>(
+    alloc: Global,
+    graph: Graph,
+    opening: &Opening,
+    lanes: &[Vec<Command>],
+    words: &[Word],
+    writer: &mut W,
+) -> Result<(), RunFault>
+    requires { length lanes.now ≤ 63 }
+    ensures { Writes result (W.contents writer.old) (W.contents writer.new) (session_text graph.manifest opening.now (lanes_of lanes.now) words.now) }
+{
+    let mut desk = open_desk(alloc, graph, opening, lanes)?;
+    run_opened(alloc, &mut desk, lanes, words, writer)
 }
 
 // Writes the line of the first fault of a text.
@@ -262,12 +263,13 @@ fn report_script<W: Write>(
     script: &[u8],
     writer: &mut W,
 ) -> Result<Status, RunFault>
+    requires { length trace.now.lanes.items ≤ 63 }
     ensures text { Writes result (W.contents writer.old) (W.contents writer.new) (script_report graph.manifest trace.now.opening (lanes_of trace.now.lanes.items) script.now).text }
     ensures status { IfOk result (λ status. status ≡ (script_report graph.manifest trace.now.opening (lanes_of trace.now.lanes.items) script.now).status) }
 {
     match read_script(alloc, script) {
         Ok(words) => {
-            run_script(alloc, graph, trace, &words, writer)?;
+            run_script(alloc, graph, &trace.opening, &trace.lanes, &words, writer)?;
             Ok(Status::Success)
         }
         Err(ReadFault::Numbered(fault)) => report_fault(alloc, b"script", fault, writer),
@@ -286,7 +288,7 @@ fn report_trace<W: Write>(
     ensures text { Writes result (W.contents writer.old) (W.contents writer.new) (trace_report graph.manifest trace.now script.now).text }
     ensures status { IfOk result (λ status. status ≡ (trace_report graph.manifest trace.now script.now).status) }
 {
-    match read_trace(alloc, trace) {
+    match rev_trace::read(alloc, trace) {
         Ok(trace) => report_script(alloc, graph, &trace, script, writer),
         Err(ReadFault::Numbered(fault)) => report_fault(alloc, b"trace", fault, writer),
         Err(ReadFault::Memory) => Err(RunFault::Memory),

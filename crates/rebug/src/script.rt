@@ -6,9 +6,10 @@ ghost use Rattle.rev_fields.specs.Parts.{vectors_of};
 ghost use Rattle.rebug.specs.Scripts.{bare_of, command_word, dependents_of, run_of, script_fault, script_line, script_of, why_of, word_of};
 
 use rev_cells::Names;
+use rev_desk::{Command, Which};
 use rev_fields::{FaultKind, LineFault, ReadFault, number, parts_at, path, read_fields};
 use rev_paths::Name;
-use rev_trace::{Command, command_of_texts};
+use rev_trace::{command_of_texts, which_of};
 use std::alloc::Global;
 
 /// A line of a script.
@@ -16,7 +17,8 @@ use std::alloc::Global;
 pub enum Word {
     /// A command of the script's own lane.
     Command(Command),
-    /// `run` takes all commands that are left in the trace, `run K` at most so many.
+    /// `run` takes the commands that are left in the trace, the lanes in turn, up to one whose answer names a break; `run K` takes at most so
+    /// many.
     Run(Option<u32>),
     /// `kept` lists the kept events.
     Kept,
@@ -28,8 +30,8 @@ pub enum Word {
     Logs,
     /// `why OUT` tells the way from an edge to one with reasons.
     Why(Name),
-    /// `dependents N` lists the kept events that depend on a kept one.
-    Dependents(u32),
+    /// `dependents WHICH` lists the kept events that depend on a kept one.
+    Dependents(Which),
 }
 
 const BAD_LINE: LineFault = LineFault::Kind(FaultKind::Syntax);
@@ -74,12 +76,12 @@ fn why(alloc: Global, texts: &[Vec<u8>]) -> Result<Word, LineFault>
     }
 }
 
-// `dependents N`
-fn dependents(texts: &[Vec<u8>]) -> Result<Word, LineFault>
+// `dependents WHICH`
+fn dependents(alloc: Global, texts: &[Vec<u8>]) -> Result<Word, LineFault>
     ensures { Answers result (λ w. w) (dependents_of (vectors_of texts.now)) }
 {
     match texts {
-        [event] => Ok(Word::Dependents(number(event)?)),
+        [event] => Ok(Word::Dependents(which_of(alloc, event)?)),
         _ => Err(BAD_LINE),
     }
 }
@@ -110,7 +112,7 @@ fn word_of_texts(alloc: Global, texts: &[Vec<u8>]) -> Result<Word, LineFault>
         return why(alloc, rest);
     }
     if first.as_slice() == b"dependents".as_slice() {
-        return dependents(rest);
+        return dependents(alloc, rest);
     }
     command_as_word(alloc, texts)
 }

@@ -271,6 +271,81 @@ const DOUBLE_RECORD: Row = Row {
     status: Status::Fault,
 };
 
+const OPENING_AND_THREE_LANES: &str =
+    "rebug-trace 1\njobs 2\nstamp a.c 10\nstamp b.c 20\nlane 0\nplan app\nstart a.o 0\nfinish a.o 100\nlane 1\nlane 2\ntouch c 1\nstart b.o 1\n";
+
+const BREAK_PAUSE_LABEL: Row = Row {
+    manifest: MANIFEST,
+    trace: "rebug-trace 1\njobs 2\nstamp a.c 10\nstamp b.c 20\nlane 0\nplan app\nstart a.o 0\nfinish a.o 100\nlane 1\nbreak finish a.o\nstart b.o 1\nfinish b.o 110\n",
+    script: "run\nrun 1\nundo 5\ncontinue\nfinish b.o 110\n",
+    report: "1 0 ok\n2 1 ok\n3 0 ok\n4 1 ok\n5 0 ok break 2\n6 1 refused 92\n7 2 ok\n8 2 ok\n9 2 ok\n",
+    status: Status::Success,
+};
+
+const TURNS_GO_ON: Row = Row {
+    manifest: MANIFEST,
+    trace: OPENING_AND_THREE_LANES,
+    script: "run 0\nrun 3\nundo 0:2\nrun 1\nrun\nrun\nundo 3:2\n",
+    report: "1 0 ok\n2 2 ok\n3 0 ok\n4 3 ok\n5 2 ok\n6 0 refused 67\n7 3 refused 80\n",
+    status: Status::Success,
+};
+
+const DEPENDENTS_BY_LABEL: Row = Row {
+    manifest: MANIFEST,
+    trace: OPENING_AND_THREE_LANES,
+    script: "run\ndependents 0:1\nundo 2:1\ndependents 2:1\ndependents 3:1\ndependents 1:1\ndependents 0:0\ndependents 9\ndependents 9:1\n",
+    report: "1 0 ok\n2 2 ok\n3 0 ok\n4 2 ok\n5 0 ok\ndependents 1 2 3 4 5\n6 3 ok\nrefused 81\nrefused 80\nrefused 80\nrefused 80\nrefused 80\nrefused 80\n",
+    status: Status::Success,
+};
+
+const STALL_IN_TURN: Row = Row {
+    manifest: MANIFEST,
+    trace: "rebug-trace 1\njobs 2\nstamp a.c 10\nstamp b.c 20\nlane 0\nplan app\nlane 1\nstart app 0\n",
+    script: "run\n",
+    report: "1 0 ok\n2 1 refused 68 0\n",
+    status: Status::Success,
+};
+
+const UNDO_OF_THE_OTHERS: Row = Row {
+    manifest: MANIFEST,
+    trace: "rebug-trace 1\njobs 2\nstamp a.c 10\nstamp b.c 20\nlane 0\ntouch a.c 11\nundo 1:1\nlane 1\ntouch b.c 21\nundo 0:1\n",
+    script: "run\nkept\nstamps\n",
+    report: "1 0 ok\n2 1 ok\n3 0 ok\n4 1 ok\nstamp a.c 10\nstamp b.c 20\n",
+    status: Status::Success,
+};
+
+const LEAST_BREAK: Row = Row {
+    manifest: MANIFEST,
+    trace: "rebug-trace 1\nstamp a.c 10\n",
+    script: "break touch a.c\nbreak touch ./a.c\ntouch b.c 1\ntouch a.c 2\nunbreak 1\nunbreak 1\ncontinue\ntouch a.c 3\nbreak start a.c\nstamps\n",
+    report: "1 0 ok\n2 0 ok\n3 0 ok\n4 0 ok break 1\n5 0 ok\n6 0 refused 93\n7 0 ok\n8 0 ok break 2\n9 0 refused 60\nstamp a.c 3\nstamp b.c 1\n",
+    status: Status::Success,
+};
+
+const PLACE_OF_A_LINE: Row = Row {
+    manifest: "",
+    trace: "rebug-trace 1\nstart x 0\n",
+    script: "run\n",
+    report: "fault trace 2 100\n",
+    status: Status::Fault,
+};
+
+const LANE_IN_A_SCRIPT: Row = Row {
+    manifest: "",
+    trace: "rebug-trace 1\n",
+    script: "run\nlane 0\n",
+    report: "fault script 2 100\n",
+    status: Status::Fault,
+};
+
+const NAME_OF_NO_EVENT: Row = Row {
+    manifest: "",
+    trace: "rebug-trace 1\n",
+    script: "dependents 1:\n",
+    report: "fault script 1 101\n",
+    status: Status::Fault,
+};
+
 // A writer that takes some writes, and then fails or takes no byte.
 #[derive(Drop)]
 struct Failing {
@@ -331,6 +406,15 @@ fn rows(rt: HostRuntime) -> Result<(), Fail> {
         LANE_OUT_OF_TURN,
         BAD_NUMBER,
         DOUBLE_RECORD,
+        BREAK_PAUSE_LABEL,
+        TURNS_GO_ON,
+        DEPENDENTS_BY_LABEL,
+        STALL_IN_TURN,
+        UNDO_OF_THE_OTHERS,
+        LEAST_BREAK,
+        PLACE_OF_A_LINE,
+        LANE_IN_A_SCRIPT,
+        NAME_OF_NO_EVENT,
     ];
     for row in &rows {
         let name = Vec::from_slice(alloc, b"build.ninja")?;

@@ -1,10 +1,10 @@
 //! The lines of a report.
-ghost use Rattle.std.specs.Prelude.{◌≡◌, ◌++◌, IfOk, OnOk, Some, decimal};
+ghost use Rattle.std.specs.Prelude.{◌≡◌, ◌++◌, IfOk, OnOk, None, Some};
 ghost use Rattle.std.specs.Option.{option_copied};
 ghost use Rattle.rebug.specs.Report.{fault_line, graph_fault_line, kept_line, path_text, refused_line};
-ghost use Rattle.rebug.specs.Session.{number_text, reply_line};
+ghost use Rattle.rebug.specs.Answers.{answer_line, number_text, reply_text};
 
-use crate::session::Reply;
+use rev_desk::Reply;
 use rev_events::{Event, Refusal};
 use rev_fields::{push_field, push_number};
 use rev_paths::Name;
@@ -22,58 +22,71 @@ fn push_number_of_refusal(line: &mut Vec<u8>, number: Option<u64>) -> Result<(),
     push_number(line, number)
 }
 
-// The line of a refused command.
-fn refused_reply(
-    alloc: Global,
-    lane: u32,
-    number: u32,
-    refusal: Refusal,
-) -> Result<Vec<u8>, AllocError>
-    ensures { IfOk result (λ line. line.items ≡ reply_line lane (Reply.Refused number refusal)) }
+// Adds a refusal with its numbers.
+fn push_refusal(line: &mut Vec<u8>, refusal: Refusal) -> Result<(), AllocError>
+    ensures { OnOk result (line.new.items ≡ line.old.items ++ reply_text (Reply.Refused refusal)) }
 {
     let [first, second] = refusal.numbers();
+    line.extend_from_slice(b"refused ")?;
+    push_number(line, u64::from(refusal.code()))?;
+    push_number_of_refusal(line, first)?;
+    push_number_of_refusal(line, second)
+}
+
+// Adds a reply.
+fn push_reply(line: &mut Vec<u8>, reply: Reply) -> Result<(), AllocError>
+    ensures { OnOk result (line.new.items ≡ line.old.items ++ reply_text reply) }
+{
+    match reply {
+        Reply::Accepted(_, None) => line.extend_from_slice(b"ok"),
+        Reply::Accepted(_, Some(number)) => {
+            line.extend_from_slice(b"ok break ")?;
+            push_number(line, u64::from(number))
+        }
+        Reply::Coned(_, count) => {
+            line.extend_from_slice(b"cone ")?;
+            push_number(line, count)
+        }
+        Reply::Refused(refusal) => push_refusal(line, refusal),
+    }
+}
+
+// The line of a command that made an entry.
+fn reply_line(alloc: Global, number: u64, lane: u32, reply: Reply) -> Result<Vec<u8>, AllocError>
+    ensures { IfOk result (λ line. line.items ≡ answer_line number lane (Some reply)) }
+{
     let mut line = Vec::new(alloc);
-    push_number(&mut line, u64::from(number))?;
+    push_number(&mut line, number)?;
     line.extend_from_slice(b" ")?;
     push_number(&mut line, u64::from(lane))?;
-    line.extend_from_slice(b" refused ")?;
-    push_number(&mut line, u64::from(refusal.code()))?;
-    push_number_of_refusal(&mut line, first)?;
-    push_number_of_refusal(&mut line, second)?;
+    line.extend_from_slice(b" ")?;
+    push_reply(&mut line, reply)?;
     line.extend_from_slice(b"\n")?;
     Ok(line)
 }
 
-/// The line of a reply to a command of a lane.
-pub(crate) fn reply_line(alloc: Global, lane: u32, reply: Reply) -> Result<Vec<u8>, AllocError>
-    ensures { IfOk result (λ line. line.items ≡ reply_line lane reply) }
+// The line of a command for whose entry there is no room.
+fn full_line(alloc: Global, lane: u32) -> Result<Vec<u8>, AllocError>
+    ensures { IfOk result (λ line. line.items ≡ answer_line 0 lane None) }
 {
-    match reply {
-        Reply::Accepted(number) => {
-            let mut line = Vec::new(alloc);
-            push_number(&mut line, u64::from(number))?;
-            line.extend_from_slice(b" ")?;
-            push_number(&mut line, u64::from(lane))?;
-            line.extend_from_slice(b" ok\n")?;
-            Ok(line)
-        }
-        Reply::Coned(number, count) => {
-            let mut line = Vec::new(alloc);
-            push_number(&mut line, u64::from(number))?;
-            line.extend_from_slice(b" ")?;
-            push_number(&mut line, u64::from(lane))?;
-            line.extend_from_slice(b" cone ")?;
-            push_number(&mut line, count)?;
-            line.extend_from_slice(b"\n")?;
-            Ok(line)
-        }
-        Reply::Refused(number, refusal) => refused_reply(alloc, lane, number, refusal),
-        Reply::Full => {
-            let mut line = Vec::from_slice(alloc, b"- ")?;
-            push_number(&mut line, u64::from(lane))?;
-            line.extend_from_slice(b" refused 94\n")?;
-            Ok(line)
-        }
+    let mut line = Vec::from_slice(alloc, b"- ")?;
+    push_number(&mut line, u64::from(lane))?;
+    line.extend_from_slice(b" refused 94\n")?;
+    Ok(line)
+}
+
+/// The line of an answer to a command of a lane, whose entry has this number where there is one.
+pub(crate) fn answer_line(
+    alloc: Global,
+    number: u64,
+    lane: u32,
+    answer: Option<Reply>,
+) -> Result<Vec<u8>, AllocError>
+    ensures { IfOk result (λ line. line.items ≡ answer_line number lane answer) }
+{
+    match answer {
+        None => full_line(alloc, lane),
+        Some(reply) => reply_line(alloc, number, lane, reply),
     }
 }
 

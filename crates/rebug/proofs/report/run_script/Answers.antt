@@ -1,5 +1,10 @@
-use Rattle.rebug.proofs.OutputLemmas.{nothing-sent, writes-err}
+use Rattle.std.proofs.Common.{subst}
+use Rattle.rebug.specs.Output.{Writes}
+use Rattle.rebug.proofs.RunLemmas.{session_of}
 use Rattle.rebug.proofs.report.run_script.Goals as goal
 
-pub returns-in_err-session : goal.returns-in_err-session
-returns-in_err-session g c = writes-err _ _ _ _ _ c.from_residual.ensures.1 (nothing-sent _ _)
+pub returns : goal.returns
+returns g c =
+    subst (λ text. Writes c.run_opened.result (g.W.Write.contents c.args.writer.now) (g.W.Write.contents c.run_opened.new.writer) text)
+    (session_of c.args.graph.manifest c.args.opening.now c.args.lanes.now c.args.words.now c.in_ok-desk.desk c.in_ok-desk.ensures)
+    c.run_opened.ensures
