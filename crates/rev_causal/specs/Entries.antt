@@ -34,16 +34,19 @@ module _ (m : Machine) where
   abbrev pub clash : Entry m → Entry m → Bool
   clash a b = m.conflict a.footprint b.footprint
 
-  -- Two legal lists are swap-equivalent where exchanges of neighbours that do not conflict make one of the other. Numbers
-  -- and footprints travel with their events.
+  -- Two legal lists are swap-equivalent where exchanges of neighbours that do not conflict make one of the other.
+  -- Numbers and footprints travel with their events.
   abbrev pub SwapEquivalent : m.State → List (ℕ × m.Event) → List (ℕ × m.Event) → Type 0
   SwapEquivalent s xs ys = Legal m s xs × Legal m s ys × Equivalent clash (entries s xs) (entries s ys)
 
-  -- The same as a relation on lists of events: exchanges of neighbours that do not conflict, within legal lists, with each
-  -- footprint taken at its place.
+  -- The same as a relation on lists of events: exchanges of neighbours that do not conflict, within legal lists, with
+  -- each footprint taken at its place.
   pub data Swaps : m.State → List (ℕ × m.Event) → List (ℕ × m.Event) → Type 0 where
     same : {s : m.State} {xs : List (ℕ × m.Event)} → Swaps s xs xs
-    exchange : {s : m.State} (a b : ℕ × m.Event) (xs : List (ℕ × m.Event)) → Accepts m s a.1 → Accepts m (m.after s a.1) b.1 → m.conflict (m.footprint s a.1) (m.footprint (m.after s a.1) b.1) ≡ false → Swaps s (a ∷ b ∷ xs) (b ∷ a ∷ xs)
-    behind : {s : m.State} (x : ℕ × m.Event) {xs ys : List (ℕ × m.Event)} → Swaps (m.after s x.1) xs ys → Swaps s (x ∷ xs) (x ∷ ys)
+    exchange : {s : m.State} (a b : ℕ × m.Event) (xs : List (ℕ × m.Event)) → Accepts m s a.1
+        → Accepts m (m.after s a.1) b.1 → m.conflict (m.footprint s a.1) (m.footprint (m.after s a.1) b.1) ≡ false
+        → Swaps s (a ∷ b ∷ xs) (b ∷ a ∷ xs)
+    behind : {s : m.State} (x : ℕ × m.Event) {xs ys : List (ℕ × m.Event)} → Swaps (m.after s x.1) xs ys
+        → Swaps s (x ∷ xs) (x ∷ ys)
     back : {s : m.State} {xs ys : List (ℕ × m.Event)} → Swaps s xs ys → Swaps s ys xs
     follow : {s : m.State} {xs ys zs : List (ℕ × m.Event)} → Swaps s xs ys → Swaps s ys zs → Swaps s xs zs

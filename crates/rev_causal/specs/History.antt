@@ -44,7 +44,8 @@ module _ (m : Machine) where
   number_of None = None
   number_of (Some z) = Some z.number
 
-  -- the first later entry that conflicts with n's: where numbers rise, the least later number whose event depends on n's
+  -- the first later entry that conflicts with n's: where numbers rise, the least later number whose event depends on
+  -- n's
   abbrev pub nearest_to : ℕ → List (Entry m) → Option ℕ
   nearest_to n [] = None
   nearest_to n (z ∷ zs) = cond (nat_eq z.number n) (number_of (nearest (clash m) z zs)) (nearest_to n zs)
@@ -52,7 +53,9 @@ module _ (m : Machine) where
   -- the first number above n whose event conflicts with the footprint
   abbrev pub nearest_above : ℕ → m.Footprint → List (Entry m) → Option ℕ
   nearest_above n f [] = None
-  nearest_above n f (z ∷ zs) = cond (nat_lt n z.number) (cond (m.conflict f z.footprint) (Some z.number) (nearest_above n f zs)) (nearest_above n f zs)
+  nearest_above n f (z ∷ zs) =
+      cond (nat_lt n z.number) (cond (m.conflict f z.footprint) (Some z.number) (nearest_above n f zs))
+      (nearest_above n f zs)
 
   -- what an undo that meets no dependent event leaves
   pub record Undone (s : m.State) (kept : List (ℕ × m.Event)) (n : ℕ) (e : m.Event) : Type 0 where
@@ -66,7 +69,8 @@ module _ (m : Machine) where
     -- a redo next: it is accepted, nothing is in its way, and the list is as it was
     pub again : Accepts m (run m s (without n kept)) e
     pub same_footprint : m.footprint (run m s (without n kept)) e ≡ m.footprint before e
-    pub nothing_in_the_way : nearest_above n (m.footprint (run m s (without n kept)) e) (entries m s (without n kept)) ≡ None
+    pub nothing_in_the_way : nearest_above n (m.footprint (run m s (without n kept)) e) (entries m s (without n kept))
+        ≡ None
     pub restored : put n e (without n kept) ≡ kept
 
   -- what a redo leaves: it is legal, and its result is that of the event now

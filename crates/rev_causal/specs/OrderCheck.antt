@@ -1,4 +1,5 @@
--- Whether two histories of the same events are equivalent, and if not, the first two events that stand the other way round.
+-- Whether two histories of the same events are equivalent, and if not, the first two events that stand the other way
+-- round.
 use Rattle.std.specs.Prelude.{◌≡◌, ℕ, ◌<◌, ◌≤◌, Bool, true, false, cond, List, [], ◌∷◌, ◌||◌, ◌&&◌, ◌↔◌, ◌⊎◌, map, nat_eq, option_map}
 use Rattle.std.specs.List.{list_any, count_by}
 use Rattle.std.specs.declared.option.Option.{Option}
@@ -58,7 +59,8 @@ module _ {E : Type 0} (same : E → E → Bool) where
   -- None where one finds none, or some of `xs` are left
   abbrev pub renumbered : List (ℕ × E) → List E → Option (List (ℕ × E))
   renumbered xs [] = none_left xs
-  renumbered xs (y ∷ ys) = where_found (first_of y xs) (λ n. option_map (λ zs. (n, y) ∷ zs) (renumbered (without n xs) ys))
+  renumbered xs (y ∷ ys) =
+      where_found (first_of y xs) (λ n. option_map (λ zs. (n, y) ∷ zs) (renumbered (without n xs) ys))
 
 -- THE FIRST PAIR THAT IS TURNED
 -- whether n stands before k
@@ -70,7 +72,8 @@ module _ (m : Machine) where
   -- the number of the first of `zs` that conflicts with a and stands before it in the other list
   abbrev pub first_turned : Entry m → List (Entry m) → List ℕ → Option ℕ
   first_turned a [] other = None
-  first_turned a (b ∷ zs) other = cond (clash m a b && stands_before b.number a.number other) (Some b.number) (first_turned a zs other)
+  first_turned a (b ∷ zs) other =
+      cond (clash m a b && stands_before b.number a.number other) (Some b.number) (first_turned a zs other)
 
   abbrev pub paired : ℕ → Option ℕ → Option (ℕ × ℕ) → Option (ℕ × ℕ)
   paired i None further = further
@@ -91,7 +94,8 @@ module _ (m : Machine) where
     pub here : Stands one later (entries m s first)
     pub conflicts : clash m one later ≡ true
     pub turned : Stands (later.number, later.event) (one.number, one.event) other
-    pub least : (a b : Entry m) → Stands a b (entries m s first) → clash m a b ≡ true → Stands (b.number, b.event) (a.number, a.event) other → (i < a.number) ⊎ ((i ≡ a.number) × (j ≤ b.number))
+    pub least : (a b : Entry m) → Stands a b (entries m s first) → clash m a b ≡ true
+        → Stands (b.number, b.event) (a.number, a.event) other → (i < a.number) ⊎ ((i ≡ a.number) × (j ≤ b.number))
 
 -- THE ANSWER
 -- what the order check answers
@@ -120,46 +124,64 @@ module _ {K V E F : Type 0} {R : K → K → Ordering} (t : Table K V E F R) whe
   -- Two equal events that are whole, or write a common cell, conflict, whatever states they stand in.
   abbrev pub EqualWritersConflict : Type 0
   EqualWritersConflict = (s u : FinMap R V) (e : E) →
-      (is_whole (t.footprint s e) ≡ true) ⊎ (is_whole (t.footprint u e) ≡ true) ⊎ ((k : K) × (is_written R (t.footprint s e) k ≡ true) × (is_written R (t.footprint u e) k ≡ true)) →
+      (is_whole (t.footprint s e) ≡ true) ⊎ (is_whole (t.footprint u e) ≡ true)
+      ⊎ ((k : K) × (is_written R (t.footprint s e) k ≡ true) × (is_written R (t.footprint u e) k ≡ true)) →
       conflict R (t.footprint s e) (t.footprint u e) ≡ true
 
   -- wherever the event is accepted it is whole, or wherever it is accepted it writes one and the same cell
   abbrev pub AlwaysWrites : E → Type 0
   AlwaysWrites e =
-      ((s : FinMap R V) → t.refusal s e ≡ None → is_whole (t.footprint s e) ≡ true) ⊎ ((k : K) × ((s : FinMap R V) → t.refusal s e ≡ None → is_written R (t.footprint s e) k ≡ true))
+      ((s : FinMap R V) → t.refusal s e ≡ None → is_whole (t.footprint s e) ≡ true)
+      ⊎ ((k : K) × ((s : FinMap R V) → t.refusal s e ≡ None → is_written R (t.footprint s e) k ≡ true))
 
 -- ITS LAWS
 module _ {E : Type 0} (same : E → E → Bool) where
   -- The renumbered list is exactly the one that is matched by occurrence and has those events.
   abbrev pub MatchingIsExact : Type 0
-  MatchingIsExact = (first : List (ℕ × E)) (ys : List E) (other : List (ℕ × E)) → IsRising first → (renumbered same first ys ≡ Some other) ↔ (IsMatched first other × (bare other ≡ ys))
+  MatchingIsExact =
+      (first : List (ℕ × E)) (ys : List E) (other : List (ℕ × E)) → IsRising first
+      → (renumbered same first ys ≡ Some other) ↔ (IsMatched first other × (bare other ≡ ys))
 
   -- There is none exactly where the events differ, or how often one stands.
   abbrev pub NoMatchingWhereEventsDiffer : Type 0
-  NoMatchingWhereEventsDiffer = (first : List (ℕ × E)) (ys : List E) → IsRising first → (renumbered same first ys ≡ None) ↔ (SameEvents same (bare first) ys → ⊥)
+  NoMatchingWhereEventsDiffer =
+      (first : List (ℕ × E)) (ys : List E) → IsRising first
+      → (renumbered same first ys ≡ None) ↔ (SameEvents same (bare first) ys → ⊥)
 
 module _ (m : Machine) where
-  -- Two equal events conflict, wherever they are accepted: so it is where each event always writes one cell or is whole.
+  -- Two equal events conflict, wherever they are accepted: so it is where each event always writes one cell or is
+  -- whole.
   abbrev pub EqualEventsConflict : Type 0
-  EqualEventsConflict = (s t : m.State) (e : m.Event) → Accepts m s e → Accepts m t e → m.conflict (m.footprint s e) (m.footprint t e) ≡ true
+  EqualEventsConflict =
+      (s t : m.State) (e : m.Event) → Accepts m s e → Accepts m t e
+      → m.conflict (m.footprint s e) (m.footprint t e) ≡ true
 
   -- So every equivalent list is matched by occurrence: no other way to match equal events gives one.
   abbrev pub MatchingIsTheOnlyOne : Type 0
-  MatchingIsTheOnlyOne = (s : m.State) (first other : List (ℕ × m.Event)) → IsRising first → SwapEquivalent m s first other → IsMatched first other
+  MatchingIsTheOnlyOne =
+      (s : m.State) (first other : List (ℕ × m.Event)) → IsRising first → SwapEquivalent m s first other
+      → IsMatched first other
 
   -- A matched list is equivalent exactly where no two that conflict stand the other way round.
   abbrev pub MatchedExactlyWhereNoneTurned : Type 0
-  MatchedExactlyWhereNoneTurned = (s : m.State) (first other : List (ℕ × m.Event)) → Legal m s first → IsRising first → IsMatched first other → SwapEquivalent m s first other ↔ NoPairTurned m s first other
+  MatchedExactlyWhereNoneTurned =
+      (s : m.State) (first other : List (ℕ × m.Event)) → Legal m s first → IsRising first → IsMatched first other
+      → SwapEquivalent m s first other ↔ NoPairTurned m s first other
 
   -- what the order check says of events
   pub record IsOrderAnswer (same : m.Event → m.Event → Bool) (s : m.State) (first : List (ℕ × m.Event)) (events : List m.Event) : Type 0 where
     -- the events differ: exactly where they do, counted with repeats
     pub differ : (order_check m same s first events ≡ EventsDiffer) ↔ (SameEvents same (bare first) events → ⊥)
     -- the same: exactly where under some numbers these events are swap-equivalent to the first list
-    pub same_order : (order_check m same s first events ≡ SameOrder) ↔ ((other : List (ℕ × m.Event)) × (bare other ≡ events) × SwapEquivalent m s first other)
+    pub same_order : (order_check m same s first events ≡ SameOrder)
+        ↔ ((other : List (ℕ × m.Event)) × (bare other ≡ events) × SwapEquivalent m s first other)
     -- else the least pair that conflicts and is turned
-    pub turned : (i j : ℕ) → order_check m same s first events ≡ Turned i j → (other : List (ℕ × m.Event)) × IsMatched first other × (bare other ≡ events) × IsLeastTurned m s first other i j
+    pub turned : (i j : ℕ) → order_check m same s first events ≡ Turned i j
+        → (other : List (ℕ × m.Event)) × IsMatched first other × (bare other ≡ events)
+        × IsLeastTurned m s first other i j
 
   -- The order check answers exactly.
   abbrev pub OrderCheckIsExact : (m.Event → m.Event → Bool) → Type 0
-  OrderCheckIsExact same = (s : m.State) (first : List (ℕ × m.Event)) (events : List m.Event) → Legal m s first → IsRising first → IsOrderAnswer same s first events
+  OrderCheckIsExact same =
+      (s : m.State) (first : List (ℕ × m.Event)) (events : List m.Event) → Legal m s first → IsRising first
+      → IsOrderAnswer same s first events

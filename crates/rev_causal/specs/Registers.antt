@@ -131,4 +131,6 @@ print_of-parts_of Whole = refl
 print_of-parts_of (Cells reads writes) = refl
 
 abbrev pub coded_print : Coded (Footprint Cell)
-coded_print = code_by (Bool × (List Cell × List Cell)) (coded× coded_bool (coded× (coded_list coded_cell) (coded_list coded_cell))) parts_of (λ p. print_of p.0 p.1.0 p.1.1) print_of-parts_of
+coded_print =
+    code_by (Bool × (List Cell × List Cell)) (coded× coded_bool (coded× (coded_list coded_cell) (coded_list coded_cell)))
+    parts_of (λ p. print_of p.0 p.1.0 p.1.1) print_of-parts_of

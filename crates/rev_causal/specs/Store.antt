@@ -34,7 +34,8 @@ module _ {K : Type 0} (R : K → K → Ordering) where
   abbrev pub conflict : Footprint K → Footprint K → Bool
   conflict Whole g = true
   conflict (Cells reads writes) Whole = true
-  conflict (Cells reads writes) (Cells reads' writes') = list_any (is_accessed (Cells reads' writes')) writes || list_any (is_accessed (Cells reads writes)) writes'
+  conflict (Cells reads writes) (Cells reads' writes') =
+      list_any (is_accessed (Cells reads' writes')) writes || list_any (is_accessed (Cells reads writes)) writes'
 
   module _ {V : Type 0} where
     -- the state with another value in a cell, None being the default
@@ -47,8 +48,8 @@ module _ {K : Type 0} (R : K → K → Ordering) where
     set_cells s [] = s
     set_cells s (w ∷ ws) = set_cells (set_cell s w.0 w.1) ws
 
--- What a table says of each event in a state: its refusal, its effect, which is the cells that it writes with what they then
--- hold, and its footprint.
+-- What a table says of each event in a state: its refusal, its effect, which is the cells that it writes with what they
+-- then hold, and its footprint.
 pub record Table (K V E F : Type 0) (R : K → K → Ordering) : Type 0 where
   pub refusal : FinMap R V → E → Option F
   pub effect : FinMap R V → E → List (K × Option V)
@@ -87,12 +88,15 @@ abbrev pub replaced : {K V : Type 0} {R : K → K → Ordering} → FinMap R V �
 replaced s [] = []
 replaced s (w ∷ ws) = (w.0, get s w.0) ∷ replaced s ws
 
--- Locality of a table. Where a state agrees with the event's on what it accesses, it accepts the event too, which then has
--- the same effect and the same footprint; and the effect writes what the footprint says.
+-- Locality of a table. Where a state agrees with the event's on what it accesses, it accepts the event too, which then
+-- has the same effect and the same footprint; and the effect writes what the footprint says.
 pub record IsLocalTable {K V E F : Type 0} {R : K → K → Ordering} (t : Table K V E F R) : Type 0 where
-  pub accepted : (s u : FinMap R V) (e : E) → t.refusal s e ≡ None → ((k : K) → is_accessed R (t.footprint s e) k ≡ true → get u k ≡ get s k) → t.refusal u e ≡ None
-  pub same_effect : (s u : FinMap R V) (e : E) → t.refusal s e ≡ None → ((k : K) → is_accessed R (t.footprint s e) k ≡ true → get u k ≡ get s k) → t.effect u e ≡ t.effect s e
-  pub same_footprint : (s u : FinMap R V) (e : E) → t.refusal s e ≡ None → ((k : K) → is_accessed R (t.footprint s e) k ≡ true → get u k ≡ get s k) → t.footprint u e ≡ t.footprint s e
+  pub accepted : (s u : FinMap R V) (e : E) → t.refusal s e ≡ None
+      → ((k : K) → is_accessed R (t.footprint s e) k ≡ true → get u k ≡ get s k) → t.refusal u e ≡ None
+  pub same_effect : (s u : FinMap R V) (e : E) → t.refusal s e ≡ None
+      → ((k : K) → is_accessed R (t.footprint s e) k ≡ true → get u k ≡ get s k) → t.effect u e ≡ t.effect s e
+  pub same_footprint : (s u : FinMap R V) (e : E) → t.refusal s e ≡ None
+      → ((k : K) → is_accessed R (t.footprint s e) k ≡ true → get u k ≡ get s k) → t.footprint u e ≡ t.footprint s e
   pub writes : (s : FinMap R V) (e : E) → t.refusal s e ≡ None → WritesAre (t.footprint s e) (keys_of (t.effect s e))
 
 -- whether all cells are read and written
@@ -103,16 +107,22 @@ is_whole (Cells reads writes) = false
 -- What one event owes, where its footprint names its cells. Where it is whole it owes nothing: states that agree on
 -- all cells are one state.
 pub record IsLocalEvent {K V E F : Type 0} {R : K → K → Ordering} (t : Table K V E F R) (e : E) : Type 0 where
-  pub accepted : (s u : FinMap R V) → t.refusal s e ≡ None → is_whole (t.footprint s e) ≡ false → ((k : K) → is_accessed R (t.footprint s e) k ≡ true → get u k ≡ get s k) → t.refusal u e ≡ None
-  pub same_effect : (s u : FinMap R V) → t.refusal s e ≡ None → is_whole (t.footprint s e) ≡ false → ((k : K) → is_accessed R (t.footprint s e) k ≡ true → get u k ≡ get s k) → t.effect u e ≡ t.effect s e
-  pub same_footprint : (s u : FinMap R V) → t.refusal s e ≡ None → is_whole (t.footprint s e) ≡ false → ((k : K) → is_accessed R (t.footprint s e) k ≡ true → get u k ≡ get s k) → t.footprint u e ≡ t.footprint s e
-  pub writes : (s : FinMap R V) → t.refusal s e ≡ None → is_whole (t.footprint s e) ≡ false → WritesAre (t.footprint s e) (keys_of (t.effect s e))
+  pub accepted : (s u : FinMap R V) → t.refusal s e ≡ None → is_whole (t.footprint s e) ≡ false
+      → ((k : K) → is_accessed R (t.footprint s e) k ≡ true → get u k ≡ get s k) → t.refusal u e ≡ None
+  pub same_effect : (s u : FinMap R V) → t.refusal s e ≡ None → is_whole (t.footprint s e) ≡ false
+      → ((k : K) → is_accessed R (t.footprint s e) k ≡ true → get u k ≡ get s k) → t.effect u e ≡ t.effect s e
+  pub same_footprint : (s u : FinMap R V) → t.refusal s e ≡ None → is_whole (t.footprint s e) ≡ false
+      → ((k : K) → is_accessed R (t.footprint s e) k ≡ true → get u k ≡ get s k) → t.footprint u e ≡ t.footprint s e
+  pub writes : (s : FinMap R V) → t.refusal s e ≡ None → is_whole (t.footprint s e) ≡ false
+      → WritesAre (t.footprint s e) (keys_of (t.effect s e))
 
 -- what each event of a list replaces, at its place
-abbrev pub all_replaced : {K V E F : Type 0} {R : K → K → Ordering} → Table K V E F R → FinMap R V → List (ℕ × E) → List (List (K × Option V))
+abbrev pub all_replaced : {K V E F : Type 0} {R : K → K → Ordering} → Table K V E F R → FinMap R V → List (ℕ × E)
+    → List (List (K × Option V))
 all_replaced t s [] = []
 all_replaced {R = R} t s (e ∷ es) = replaced s (t.effect s e.1) ∷ all_replaced t (set_cells R s (t.effect s e.1)) es
 
 -- the same under their numbers
-abbrev pub replaced_by_number : {K V E F : Type 0} {R : K → K → Ordering} → Table K V E F R → FinMap R V → List (ℕ × E) → List (ℕ × List (K × Option V))
+abbrev pub replaced_by_number : {K V E F : Type 0} {R : K → K → Ordering} → Table K V E F R → FinMap R V → List (ℕ × E)
+    → List (ℕ × List (K × Option V))
 replaced_by_number t s es = numbered_by es (all_replaced t s es)

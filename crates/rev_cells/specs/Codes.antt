@@ -9,7 +9,8 @@ use Rattle.rev_cells.specs.declared.value.DepsRecord.{DepsRecord}
 use Rattle.rev_cells.specs.declared.value.Value.{Value}
 use Rattle.rev_cells.specs.declared.value.Value.TheVariants as value
 
--- what a mark carries: of a running edge its job, slot and seen stamp, of one that is done its positions, and of the others which it is
+-- what a mark carries: of a running edge its job, slot and seen stamp, of one that is done its positions, and of the
+-- others which it is
 abbrev pub MarkParts : Type 0
 MarkParts = (ℕ × (Option ℕ × ℕ)) ⊎ (List ℕ ⊎ ℕ)
 
@@ -24,7 +25,9 @@ mark_parts mark.Failed = inr (inr 4)
 mark_parts mark.Stopped = inr (inr 5)
 
 abbrev pub mark_numbered : ℕ → Mark
-mark_numbered n = if n == 0 then mark.Idle else if n == 1 then mark.Wanted else if n == 2 then mark.Through else if n == 3 then mark.Clean else if n == 4 then mark.Failed else mark.Stopped
+mark_numbered n =
+    if n == 0 then mark.Idle else if n == 1 then mark.Wanted else if n == 2 then mark.Through else if n == 3
+    then mark.Clean else if n == 4 then mark.Failed else mark.Stopped
 
 abbrev pub mark_of_parts : MarkParts → Mark
 mark_of_parts (inl p) = mark.Running p.0 p.1.0 p.1.1
@@ -43,7 +46,8 @@ mark_of_parts-mark_parts mark.Stopped = refl
 
 abbrev pub coded_mark : Coded Mark
 coded_mark =
-    code_by MarkParts (coded⊎ (coded× coded_ℕ (coded× (coded_option coded_ℕ) coded_ℕ)) (coded⊎ (coded_list coded_ℕ) coded_ℕ))
+    code_by MarkParts (coded⊎ (coded× coded_ℕ (coded× (coded_option coded_ℕ) coded_ℕ))
+    (coded⊎ (coded_list coded_ℕ) coded_ℕ))
     mark_parts mark_of_parts mark_of_parts-mark_parts
 
 abbrev pub coded_built : Coded BuiltRecord
@@ -86,5 +90,8 @@ value_of_parts-value_parts (value.Halted halted) = refl
 abbrev pub coded_value : Coded Value
 coded_value =
     code_by ValueParts
-    (coded⊎ coded_ℕ (coded⊎ coded_mark (coded⊎ (coded_option coded_ℕ) (coded⊎ (coded_option coded_ℕ) (coded⊎ (coded_option coded_built) (coded⊎ (coded_option coded_deps) coded_bool))))))
+    (coded⊎ coded_ℕ (coded⊎ coded_mark
+    (coded⊎ (coded_option coded_ℕ)
+    (coded⊎ (coded_option coded_ℕ)
+    (coded⊎ (coded_option coded_built) (coded⊎ (coded_option coded_deps) coded_bool))))))
     value_parts value_of_parts value_of_parts-value_parts

@@ -28,8 +28,10 @@ second_of (n ∷ ns) = first_of ns
 -- the cell of a kind that names these
 abbrev pub cell_naming : ℕ → List ℕ → Cell
 cell_naming kind names =
-    if kind == 0 then cell.Stamp names else if kind == 1 then cell.Mark (first_of names) else if kind == 2 then cell.Job (first_of names)
-    else if kind == 3 then cell.Slot (first_of names) (second_of names) else if kind == 4 then cell.Built names else if kind == 5 then cell.Deps names else cell.Halted
+    if kind == 0 then cell.Stamp names else if kind == 1 then cell.Mark (first_of names) else if kind == 2
+    then cell.Job (first_of names)
+    else if kind == 3 then cell.Slot (first_of names) (second_of names) else if kind == 4 then cell.Built names
+    else if kind == 5 then cell.Deps names else cell.Halted
 
 -- the cell of such numbers
 abbrev pub cell_of : List ℕ → Cell

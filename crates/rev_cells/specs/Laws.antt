@@ -13,12 +13,16 @@ use Rattle.rev_cells.specs.Values.{default_of}
 
 -- each word reads what was written to its cell
 pub record WrittenIsRead : Type 0 where
-  pub stamps : (s : State) (path : List ℕ) (stamp : ℕ) → stamp_of (set s (cell.Stamp path) (value.Stamp stamp)) path ≡ stamp
+  pub stamps : (s : State) (path : List ℕ) (stamp : ℕ)
+      → stamp_of (set s (cell.Stamp path) (value.Stamp stamp)) path ≡ stamp
   pub marks : (s : State) (edge : ℕ) (mark : Mark) → mark_of (set s (cell.Mark edge) (value.Mark mark)) edge ≡ mark
   pub jobs : (s : State) (job : ℕ) (holder : Option ℕ) → job_of (set s (cell.Job job) (value.Job holder)) job ≡ holder
-  pub slots : (s : State) (pool place : ℕ) (holder : Option ℕ) → slot_of (set s (cell.Slot pool place) (value.Slot holder)) pool place ≡ holder
-  pub built : (s : State) (path : List ℕ) (log : Option BuiltRecord) → built_of (set s (cell.Built path) (value.Built log)) path ≡ log
-  pub deps : (s : State) (path : List ℕ) (log : Option DepsRecord) → deps_of (set s (cell.Deps path) (value.Deps log)) path ≡ log
+  pub slots : (s : State) (pool place : ℕ) (holder : Option ℕ)
+      → slot_of (set s (cell.Slot pool place) (value.Slot holder)) pool place ≡ holder
+  pub built : (s : State) (path : List ℕ) (log : Option BuiltRecord)
+      → built_of (set s (cell.Built path) (value.Built log)) path ≡ log
+  pub deps : (s : State) (path : List ℕ) (log : Option DepsRecord)
+      → deps_of (set s (cell.Deps path) (value.Deps log)) path ≡ log
   pub halted : (s : State) (halted : Bool) → is_halted (set s cell.Halted (value.Halted halted)) ≡ halted
 
 -- a write changes no other cell

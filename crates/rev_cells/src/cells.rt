@@ -61,7 +61,8 @@ impl Cells {
         }
     }
 
-    /// The cells with what an opening gives them. The places are those of its records, in the order in which they were given.
+    /// The cells with what an opening gives them. The places are those of its records, in the order in which they were
+    /// given.
     pub fn new(_alloc: Global, opening: &Opening) -> Result<Cells, AllocError>
         ensures { IfOk result (λ cells. cells ≡ opened opening.now) }
     {
@@ -138,7 +139,8 @@ impl Cells {
         ensures jobs { self.new.jobs ≡ self.old.jobs }
         ensures writes { self.new.writes ≡ self.old.writes }
         ensures present { Contains self.old.places cell.now → self.new ≡ self.old }
-        ensures added { OnOk result (Contains self.old.places cell.now ⊎ (self.new.places ≡ self.old.places ++ cell.now ∷ [])) }
+        ensures added { OnOk result (Contains self.old.places cell.now
+            ⊎ (self.new.places ≡ self.old.places ++ cell.now ∷ [])) }
         ensures has { OnOk result (Contains self.new.places cell.now) }
         ensures err { OnErr result (self.new ≡ self.old) }
     {
@@ -175,7 +177,8 @@ impl Cells {
         ensures jobs { self.new.jobs ≡ self.old.jobs }
         ensures writes { self.new.writes ≡ self.old.writes }
         ensures more { (c : Cell) → Contains self.old.places c → Contains self.new.places c }
-        ensures has { OnOk result (AllByRecursion (λ (w : Cell × Value). Contains self.new.places w.0) writes.now) }
+        ensures has { OnOk result (AllByRecursion (λ (w : Cell × Value). Contains self.new.places w.0)
+            writes.now) }
     {
         for (cell, _) in writes {
             self.reserve(cell)?;
@@ -197,14 +200,16 @@ impl Cells {
     }
 
     /// Writes cells that have places, in their order, and leaves beside each what it held when its turn came. Each is
-    /// counted as a write. It takes no memory. Where no cell stands twice, another call with what is left restores the state.
+    /// counted as a write. It takes no memory. Where no cell stands twice, another call with what is left restores the
+    /// state.
     pub fn exchange(&mut self, writes: &mut Vec<(Cell, Value)>)
         requires has { AllByRecursion (λ (w : Cell × Value). Contains self.old.places w.0) writes.old.items }
         requires fits { AllByRecursion (λ (w : Cell × Value). Fits w.0 w.1) writes.old.items }
         ensures after { self.new ≡ written_all self.old writes.old.items }
         ensures former { writes.new.items ≡ former_values self.old.state writes.old.items }
         ensures former_fits { AllByRecursion (λ (w : Cell × Value). Fits w.0 w.1) writes.new.items }
-        ensures stored { IsDistinct (eq_by_cmp cell_cmp) (cells_of writes.old.items) → stored_values writes.new.items ≡ stored_in self.old.state writes.old.items }
+        ensures stored { IsDistinct (eq_by_cmp cell_cmp) (cells_of writes.old.items)
+            → stored_values writes.new.items ≡ stored_in self.old.state writes.old.items }
     {
         for place in 0..writes.len() {
             self.exchange_one(&mut writes[place]);
@@ -212,7 +217,7 @@ impl Cells {
     }
 
     /// Writes cells, in their order, and gives each with what it held when its turn came. Each is counted as a write.
-    /// Places are made first, so that want of memory leaves the state as it was.
+    /// Places are made first, so that running out of memory leaves the state as it was.
     pub fn write_all(
         &mut self,
         writes: Vec<(Cell, Value)>,
@@ -222,10 +227,13 @@ impl Cells {
         ensures writes { OnOk result (self.new.writes ≡ raised_by (length writes.items) self.old.writes) }
         ensures jobs { self.new.jobs ≡ self.old.jobs }
         ensures more { (c : Cell) → Contains self.old.places c → Contains self.new.places c }
-        ensures has { OnOk result (AllByRecursion (λ (w : Cell × Value). Contains self.new.places w.0) writes.items) }
+        ensures has { OnOk result (AllByRecursion (λ (w : Cell × Value). Contains self.new.places w.0)
+            writes.items) }
         ensures former { IfOk result (λ former. former.items ≡ former_values self.old.state writes.items) }
         ensures former_fits { IfOk result (λ former. AllByRecursion (λ (w : Cell × Value). Fits w.0 w.1) former.items) }
-        ensures stored { IsDistinct (eq_by_cmp cell_cmp) (cells_of writes.items) → IfOk result (λ former. stored_values former.items ≡ stored_in self.old.state writes.items) }
+        ensures stored { IsDistinct (eq_by_cmp cell_cmp) (cells_of writes.items)
+            → IfOk result (λ former. stored_values former.items
+            ≡ stored_in self.old.state writes.items) }
         ensures unchanged { OnErr result (self.new.state ≡ self.old.state) }
         ensures not_counted { OnErr result (self.new.writes ≡ self.old.writes) }
     {

@@ -17,7 +17,7 @@ pub enum OpeningFault {
 }
 
 impl OpeningFault {
-    /// The number of the fault. Want of memory has none.
+    /// The number of the fault. `Memory` has none.
     pub fn code(self) -> Option<u16>
         ensures { result ≡ code_of self }
     {

@@ -15,8 +15,8 @@ use rev_paths::Name;
 use std::alloc::{AllocError, Global};
 use std::marker::Model;
 
-/// The number of jobs, and the records that were given: stamps, and what the logs of builds say. Each record has a place, in the
-/// order in which they were given. Nothing is marked, and no job is held.
+/// The number of jobs, and the records that were given: stamps, and what the logs of builds say. Each record has a
+/// place, in the order in which they were given. Nothing is marked, and no job is held.
 #[derive(Drop)]
 pub struct Opening {
     cells: Cells,
@@ -96,7 +96,9 @@ impl Opening {
         stamp: u64,
         command: Vec<u8>,
     ) -> Result<(), OpeningFault>
-        ensures ok { OnOk result (self.new ≡ with_record self.old (cell.Built path) (value.Built (Some (record { command = command.items; stamp = stamp })))) }
+        ensures ok { OnOk result (self.new
+            ≡ with_record self.old (cell.Built path)
+            (value.Built (Some (record { command = command.items; stamp = stamp })))) }
         ensures double { IsErrOf result OpeningFault.DoubleRecord ↔ Contains self.old.places (cell.Built path) }
         ensures no_jobs { result ≢ Err OpeningFault.BadJobs }
         ensures err { OnErr result (self.new ≡ self.old) }
@@ -116,7 +118,9 @@ impl Opening {
         stamp: u64,
         prerequisites: Vec<Name>,
     ) -> Result<(), OpeningFault>
-        ensures ok { OnOk result (self.new ≡ with_record self.old (cell.Deps path) (value.Deps (Some (record { stamp = stamp; paths = prerequisites.items })))) }
+        ensures ok { OnOk result (self.new
+            ≡ with_record self.old (cell.Deps path)
+            (value.Deps (Some (record { stamp = stamp; paths = prerequisites.items })))) }
         ensures double { IsErrOf result OpeningFault.DoubleRecord ↔ Contains self.old.places (cell.Deps path) }
         ensures no_jobs { result ≢ Err OpeningFault.BadJobs }
         ensures err { OnErr result (self.new ≡ self.old) }

@@ -18,7 +18,8 @@ pub data IsLineEnd : List ℕ → Type 0 where
 
 -- a byte that says nothing but itself: no LF, space, tab, `#`, `:` or backslash, and no CR right before LF
 abbrev pub is_plain : ℕ → List ℕ → Bool
-is_plain b after = not (b == 10 || (b == 32 || (b == 9 || (b == 35 || (b == 58 || b == 92))))) && not (is_line_end_return b after)
+is_plain b after =
+    not (b == 10 || (b == 32 || (b == 9 || (b == 35 || (b == 58 || b == 92))))) && not (is_line_end_return b after)
 
 -- What a run of backslashes says with the bytes behind it, before what follows these: how many of the backslashes are
 -- bytes of a word, and what the bytes themselves are.
@@ -45,7 +46,8 @@ kept_at at n = replicate n (backslash_at at)
 -- A text whose first byte has an offset reads as these signs. What a run of backslashes says has the offset of the run.
 pub data ReadsAs : ℕ → List ℕ → List Sign → Type 0 where
   Rest : {at : ℕ} (n : ℕ) → ReadsAs at (backslashes n) (kept_at at n)
-  Run : {at n kept : ℕ} {bytes text : List ℕ} {mark : Mark} {signs : List Sign} → Says n bytes text kept mark → ReadsAs (at + n + length bytes) text signs
+  Run : {at n kept : ℕ} {bytes text : List ℕ} {mark : Mark} {signs : List Sign} → Says n bytes text kept mark
+      → ReadsAs (at + n + length bytes) text signs
       → ReadsAs at (backslashes n ++ (bytes ++ text)) (kept_at at kept ++ record { at = at; mark = mark } ∷ signs)
 
 -- whether a dollar sign comes first
@@ -57,7 +59,8 @@ begins_dollar (b ∷ bs) = b == 36
 pub data StandsFor : List ℕ → List ℕ → Type 0 where
   Empty : StandsFor [] []
   Dollars : {raw text : List ℕ} → StandsFor raw text → StandsFor (36 ∷ 36 ∷ raw) (36 ∷ text)
-  Own : {b : ℕ} {raw text : List ℕ} → (b == 36 && begins_dollar raw) ≡ false → StandsFor raw text → StandsFor (b ∷ raw) (b ∷ text)
+  Own : {b : ℕ} {raw text : List ℕ} → (b == 36 && begins_dollar raw) ≡ false → StandsFor raw text
+      → StandsFor (b ∷ raw) (b ∷ text)
 
 -- a word: the offset of its first byte, and what its bytes stand for
 pub record WordValue : Type 0 where
@@ -76,9 +79,11 @@ ends_word (s ∷ signs) = is_blank s
 -- the signs are these words, with blanks round them
 pub data WordsAre : List Sign → List WordValue → Type 0 where
   NoWords : WordsAre [] []
-  Gap : {s : Sign} {signs : List Sign} {words : List WordValue} → is_blank s ≡ true → WordsAre signs words → WordsAre (s ∷ signs) words
+  Gap : {s : Sign} {signs : List Sign} {words : List WordValue} → is_blank s ≡ true → WordsAre signs words
+      → WordsAre (s ∷ signs) words
   Word : (s : Sign) (word : List Sign) {text : List ℕ} {signs : List Sign} {words : List WordValue}
-      → lacks is_blank (s ∷ word) ≡ true → StandsFor (map byte_of (s ∷ word)) text → ends_word signs ≡ true → WordsAre signs words
+      → lacks is_blank (s ∷ word) ≡ true → StandsFor (map byte_of (s ∷ word)) text → ends_word signs ≡ true
+      → WordsAre signs words
       → WordsAre ((s ∷ word) ++ signs) (record { at = s.at; text = text } ∷ words)
 
 -- what stands behind a separating colon
@@ -87,23 +92,28 @@ pub record RuleValue : Type 0 where
   pub at : ℕ
   pub prerequisites : List WordValue
 
--- what stands in a line: the words before its separating colon, or all where there is none; and that colon with what follows
+-- what stands in a line: the words before its separating colon, or all where there is none; and that colon with what
+-- follows
 pub record LineValue : Type 0 where
   pub targets : List WordValue
   pub rule : Option RuleValue
 
 -- The first colon that can separate does: none stands among the targets. Behind it a colon is a byte of its word.
 pub data LineIs : List Sign → LineValue → Type 0 where
-  Bare : {signs : List Sign} {words : List WordValue} → lacks is_colon signs ≡ true → WordsAre signs words → LineIs signs (record { targets = words; rule = None })
+  Bare : {signs : List Sign} {words : List WordValue} → lacks is_colon signs ≡ true → WordsAre signs words
+      → LineIs signs (record { targets = words; rule = None })
   Rule : (before : List Sign) (colon : Sign) {after : List Sign} {targets prerequisites : List WordValue}
       → lacks is_colon before ≡ true → is_colon colon ≡ true → WordsAre before targets → WordsAre after prerequisites
-      → LineIs (before ++ colon ∷ after) (record { targets = targets; rule = Some (record { at = colon.at; prerequisites = prerequisites }) })
+      → LineIs (before ++ colon ∷ after)
+      (record { targets = targets; rule = Some (record { at = colon.at; prerequisites = prerequisites }) })
 
 -- the lines stand between the line ends
 pub data LinesAre : List Sign → List LineValue → Type 0 where
-  Last : {signs : List Sign} {line : LineValue} → lacks is_line_end signs ≡ true → LineIs signs line → LinesAre signs (line ∷ [])
+  Last : {signs : List Sign} {line : LineValue} → lacks is_line_end signs ≡ true → LineIs signs line
+      → LinesAre signs (line ∷ [])
   More : (front : List Sign) (end : Sign) {signs : List Sign} {line : LineValue} {lines : List LineValue}
-      → lacks is_line_end front ≡ true → is_line_end end ≡ true → LineIs front line → LinesAre signs lines → LinesAre (front ++ end ∷ signs) (line ∷ lines)
+      → lacks is_line_end front ≡ true → is_line_end end ≡ true → LineIs front line → LinesAre signs lines
+      → LinesAre (front ++ end ∷ signs) (line ∷ lines)
 
 -- the text is a depfile of these lines
 pub record IsDepfile (text : List ℕ) (lines : List LineValue) : Type 0 where

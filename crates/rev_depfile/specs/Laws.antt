@@ -14,11 +14,14 @@ LinesAreRead = (text : List ℕ) (lines : List LineValue) → (lines_said text �
 -- the paths that are answered are those of a reading, and each reading is answered
 abbrev pub PathsAreRead : Type 0
 PathsAreRead =
-    (outputs : List (List ℕ)) (text : List ℕ) (paths : List (List ℕ)) → ((first_fault outputs text ≡ None) × (prerequisites text ≡ paths)) ↔ Gives outputs text paths
+    (outputs : List (List ℕ)) (text : List ℕ) (paths : List (List ℕ))
+    → ((first_fault outputs text ≡ None) × (prerequisites text ≡ paths)) ↔ Gives outputs text paths
 
 -- the fault that is answered is that of the first line that gives no paths
 abbrev pub FaultsAreRead : Type 0
-FaultsAreRead = (outputs : List (List ℕ)) (text : List ℕ) (fault : DepfileFault) → (first_fault outputs text ≡ Some fault) ↔ Refuses outputs text fault
+FaultsAreRead =
+    (outputs : List (List ℕ)) (text : List ℕ) (fault : DepfileFault)
+    → (first_fault outputs text ≡ Some fault) ↔ Refuses outputs text fault
 
 -- a text has a fault exactly where it has no reading
 abbrev pub NoReadingIsAFault : Type 0
@@ -26,10 +29,12 @@ NoReadingIsAFault =
     (outputs : List (List ℕ)) (text : List ℕ)
     → ((paths : List (List ℕ)) → Gives outputs text paths → ⊥) ↔ ((fault : DepfileFault) × Refuses outputs text fault)
 
--- every list of paths that a depfile can list, for every output that it can, has a spelling that reads back as that list
+-- every list of paths that a depfile can list, for every output that it can, has a spelling that reads back as that
+-- list
 abbrev pub ListsAreSpelled : Type 0
 ListsAreSpelled =
-    (output : List ℕ) (paths : List (List ℕ)) → CanBeListed output → AllByRecursion CanBeListed paths → IsDistinct bytes_eq paths
+    (output : List ℕ) (paths : List (List ℕ)) → CanBeListed output → AllByRecursion CanBeListed paths
+    → IsDistinct bytes_eq paths
     → Gives (output ∷ []) (spelling output paths) paths
 
 -- and no word of a depfile is empty or has a tab or LF

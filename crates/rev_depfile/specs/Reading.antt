@@ -28,18 +28,22 @@ pub data LineGives (outputs : List (List ℕ)) : LineValue → List (List ℕ) �
   -- a line with no word and no separating colon is skipped
   Skipped : LineGives outputs (record { targets = []; rule = None }) []
   -- a line without prerequisites says nothing, whatever its targets are
-  Alone : {targets : List WordValue} {at : ℕ} → LineGives outputs (record { targets = targets; rule = Some (record { at = at; prerequisites = [] }) }) []
+  Alone : {targets : List WordValue} {at : ℕ}
+      → LineGives outputs (record { targets = targets; rule = Some (record { at = at; prerequisites = [] }) }) []
   -- a line with prerequisites has a target that is an output
   Listed : {targets words : List WordValue} {at : ℕ} → NamesOutput outputs targets → AllByRecursion IsShort words
-      → LineGives outputs (record { targets = targets; rule = Some (record { at = at; prerequisites = words }) }) (map path_named words)
+      → LineGives outputs (record { targets = targets; rule = Some (record { at = at; prerequisites = words }) })
+      (map path_named words)
 
 -- lines give the paths of each, in their order
 pub data LinesGive (outputs : List (List ℕ)) : List LineValue → List (List ℕ) → Type 0 where
   NoLines : LinesGive outputs [] []
-  Then : {line : LineValue} {lines : List LineValue} {paths others : List (List ℕ)} → LineGives outputs line paths → LinesGive outputs lines others
+  Then : {line : LineValue} {lines : List LineValue} {paths others : List (List ℕ)} → LineGives outputs line paths
+      → LinesGive outputs lines others
       → LinesGive outputs (line ∷ lines) (paths ++ others)
 
--- A reading of a text for an edge with these outputs: the text is a depfile of lines that give paths, of which each counts where it is mentioned first.
+-- A reading of a text for an edge with these outputs: the text is a depfile of lines that give paths, of which each
+-- counts where it is mentioned first.
 pub record Gives (outputs : List (List ℕ)) (text : List ℕ) (paths : List (List ℕ)) : Type 0 where
   pub lines : List LineValue
   pub mentions : List (List ℕ)
@@ -55,14 +59,20 @@ beginning (target ∷ targets) at = target.at
 -- a line gives no paths, for this reason
 pub data LineRefuses (outputs : List (List ℕ)) : LineValue → DepfileFault → Type 0 where
   -- words and no separating colon
-  Unseparated : (word : WordValue) {words : List WordValue} → LineRefuses outputs (record { targets = word ∷ words; rule = None }) (NoColon word.at)
+  Unseparated : (word : WordValue) {words : List WordValue}
+      → LineRefuses outputs (record { targets = word ∷ words; rule = None }) (NoColon word.at)
   -- prerequisites, and no target that is an output
-  ForOthers : (targets : List WordValue) (at : ℕ) {words : List WordValue} {word : WordValue} → (NamesOutput outputs targets → ⊥)
-      → LineRefuses outputs (record { targets = targets; rule = Some (record { at = at; prerequisites = word ∷ words }) }) (OtherTarget (beginning targets at))
+  ForOthers : (targets : List WordValue) (at : ℕ) {words : List WordValue} {word : WordValue}
+      → (NamesOutput outputs targets → ⊥)
+      → LineRefuses outputs (record
+      { targets = targets; rule = Some (record { at = at; prerequisites = word ∷ words }) })
+      (OtherTarget (beginning targets at))
   -- a prerequisite that is too long, and none before it in the line
   TooLong : {targets : List WordValue} {at : ℕ} (before : List WordValue) (word : WordValue) (after : List WordValue)
       → NamesOutput outputs targets → AllByRecursion IsShort before → 4096 < length word.text
-      → LineRefuses outputs (record { targets = targets; rule = Some (record { at = at; prerequisites = before ++ word ∷ after }) }) (LongPath word.at)
+      → LineRefuses outputs (record
+      { targets = targets; rule = Some (record { at = at; prerequisites = before ++ word ∷ after }) })
+      (LongPath word.at)
 
 -- The text is refused: one of its lines gives no paths, for this reason, and each before it gives some.
 pub record Refuses (outputs : List (List ℕ)) (text : List ℕ) (fault : DepfileFault) : Type 0 where

@@ -6,16 +6,19 @@ use Rattle.rev_depfile.specs.Lines.{has_some}
 use Rattle.rev_depfile.specs.Grammar.{backslashes, WordValue, RuleValue, LineValue}
 use Rattle.std.specs.Prelude.{Option, Some, None}
 
--- The bytes of a word behind n of its backslashes: a space takes twice as many and one more, a `#` one more, and so does a `:` behind which something
--- of the word or a separating colon follows; a dollar sign is written twice. The flag says whether a separating colon follows the word at once.
+-- The bytes of a word behind n of its backslashes: a space takes twice as many and one more, a `#` one more, and so
+-- does a `:` behind which something of the word or a separating colon follows; a dollar sign is written twice. The flag
+-- says whether a separating colon follows the word at once.
 abbrev pub spelled : Bool → ℕ → List ℕ → List ℕ
 spelled goes_on n [] = backslashes n
 spelled goes_on n (b ∷ bs) =
     if b == 92 then spelled goes_on (suc n) bs
     else (if b == 32 then backslashes (n + n + 1) ++ 32 ∷ spelled goes_on 0 bs
     else (if b == 35 then backslashes (n + 1) ++ 35 ∷ spelled goes_on 0 bs
-    else (if b == 58 then (if has_some bs || goes_on then backslashes (n + 1) else backslashes n) ++ 58 ∷ spelled goes_on 0 bs
-    else (if b == 36 then backslashes n ++ 36 ∷ 36 ∷ spelled goes_on 0 bs else backslashes n ++ b ∷ spelled goes_on 0 bs))))
+    else (if b == 58 then (if has_some bs || goes_on then backslashes (n + 1) else backslashes n) ++ 58
+    ∷ spelled goes_on 0 bs
+    else (if b == 36 then backslashes n ++ 36 ∷ 36 ∷ spelled goes_on 0 bs
+    else backslashes n ++ b ∷ spelled goes_on 0 bs))))
 
 -- the prerequisites, each behind a tab: what backslashes stand before a tab are bytes
 abbrev pub prerequisites_spelled : List (List ℕ) → List ℕ

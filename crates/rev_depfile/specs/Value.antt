@@ -36,10 +36,12 @@ abbrev pub line_at : List (List Sign) → Sign → ℕ
 line_at [] colon = colon.at
 line_at (word ∷ ws) colon = word_at word
 
--- A line without prerequisites has no fault. In another, some target must be an output, and then no prerequisite may be too long.
+-- A line without prerequisites has no fault. In another, some target must be an output, and then no prerequisite may be
+-- too long.
 abbrev pub rule_fault : List (List ℕ) → List (List Sign) → Sign → List (List Sign) → Option DepfileFault
 rule_fault outputs targets colon [] = None
-rule_fault outputs targets colon (w ∷ ws) = if list_any (is_output outputs) targets then long_fault (w ∷ ws) else Some (OtherTarget (line_at targets colon))
+rule_fault outputs targets colon (w ∷ ws) =
+    if list_any (is_output outputs) targets then long_fault (w ∷ ws) else Some (OtherTarget (line_at targets colon))
 
 -- the fault of a line, by the words before its separating colon and by that colon with what follows
 abbrev pub fault_by : List (List ℕ) → List (List Sign) → List Sign → Option DepfileFault

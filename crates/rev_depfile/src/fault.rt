@@ -22,7 +22,7 @@ pub enum DepfileFault {
 
 impl DepfileFault {
     /// The number of the fault: 30 for a missing colon, 31 for another target, 32
-    /// for a path that is too long, and none for want of memory.
+    /// for a path that is too long, and none for `Memory`.
     pub fn code(self) -> Option<u16>
         ensures { result ≡ code_of self }
     {
@@ -34,7 +34,7 @@ impl DepfileFault {
         }
     }
 
-    /// The offset of the fault in the text, in bytes from 0; none for want of memory.
+    /// The offset of the fault in the text, in bytes from 0; none for `Memory`.
     pub fn offset(self) -> Option<u64>
         ensures { result ≡ offset_of self }
     {

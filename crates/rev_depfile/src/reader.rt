@@ -38,7 +38,9 @@ fn line_at(targets: &[&[Sign]], colon: &Sign) -> u64
 // The name of a word, or none where the word is too long.
 fn word_name(alloc: Global, word: &[Sign]) -> Result<Option<Name>, AllocError>
     requires { 0 < length word.now }
-    ensures name { IfOk result (λ found. MatchOption found (is_long word.now ≡ true) (λ name. (is_long word.now ≡ false) × (name ≡ path_of word.now))) }
+    ensures name { IfOk result (λ found.
+        MatchOption found (is_long word.now ≡ true)
+        (λ name. (is_long word.now ≡ false) × (name ≡ path_of word.now))) }
 {
     let text = word_bytes(alloc, word)?;
     match Name::new(alloc, &text) {
@@ -51,7 +53,8 @@ fn word_name(alloc: Global, word: &[Sign]) -> Result<Option<Name>, AllocError>
 
 // Names, for look-ups.
 fn name_set(alloc: Global, names: &[Name]) -> Result<IndexSet<Name>, AllocError>
-    ensures names { IfOk result (λ set. (path : List ℕ) → list_any (bytes_eq path) set.keys ≡ list_any (bytes_eq path) names.now) }
+    ensures names { IfOk result (λ set. (path : List ℕ)
+        → list_any (bytes_eq path) set.keys ≡ list_any (bytes_eq path) names.now) }
 {
     let mut set = IndexSet::new(alloc);
     for name in names {
@@ -97,7 +100,8 @@ fn add_prerequisite(
     requires { 0 < length word.now }
     ensures path { OnOk result (found.new.keys ≡ insert_key bytes_eq found.old.keys (path_of word.now)) }
     ensures short { OnOk result (is_long word.now ≡ false) }
-    ensures fault { IfErr result (λ fault. (fault ≡ Memory) ⊎ ((is_long word.now ≡ true) × (fault ≡ LongPath (word_at word.now)))) }
+    ensures fault { IfErr result (λ fault. (fault ≡ Memory)
+        ⊎ ((is_long word.now ≡ true) × (fault ≡ LongPath (word_at word.now)))) }
 {
     match word_name(alloc, word)? {
         None => Err(DepfileFault::LongPath(word_at(word))),
@@ -115,7 +119,8 @@ fn add_prerequisites(
     words: &[&[Sign]],
 ) -> Result<(), DepfileFault>
     requires { All (λ word. 0 < length word.now) words.now }
-    ensures paths { OnOk result (found.new.keys ≡ insert_all bytes_eq found.old.keys (map path_of (texts words.now))) }
+    ensures paths { OnOk result (found.new.keys
+        ≡ insert_all bytes_eq found.old.keys (map path_of (texts words.now))) }
     ensures short { OnOk result (long_fault (texts words.now) ≡ None) }
     ensures fault { IfErr result (λ fault. (fault ≡ Memory) ⊎ (long_fault (texts words.now) ≡ Some fault)) }
 {
@@ -135,9 +140,13 @@ fn read_rule(
     found: &mut IndexSet<Name>,
 ) -> Result<(), DepfileFault>
     requires { All (λ target. 0 < length target.now) targets.now }
-    ensures paths { OnOk result (found.new.keys ≡ insert_all bytes_eq found.old.keys (map path_of (words rest.now))) }
-    ensures sound { OnOk result (rule_fault outputs.now.keys (texts targets.now) colon.now (words rest.now) ≡ None) }
-    ensures fault { IfErr result (λ fault. (fault ≡ Memory) ⊎ (rule_fault outputs.now.keys (texts targets.now) colon.now (words rest.now) ≡ Some fault)) }
+    ensures paths { OnOk result (found.new.keys
+        ≡ insert_all bytes_eq found.old.keys (map path_of (words rest.now))) }
+    ensures sound { OnOk result (rule_fault outputs.now.keys (texts targets.now) colon.now (words rest.now)
+        ≡ None) }
+    ensures fault { IfErr result (λ fault. (fault ≡ Memory)
+        ⊎ (rule_fault outputs.now.keys (texts targets.now) colon.now (words rest.now)
+        ≡ Some fault)) }
 {
     let prerequisites = part_words(alloc, rest)?;
     if prerequisites.is_empty() {
@@ -158,7 +167,8 @@ fn read_line(
 ) -> Result<(), DepfileFault>
     ensures paths { OnOk result (found.new.keys ≡ insert_all bytes_eq found.old.keys (line_paths line.now)) }
     ensures sound { OnOk result (line_fault outputs.now.keys line.now ≡ None) }
-    ensures fault { IfErr result (λ fault. (fault ≡ Memory) ⊎ (line_fault outputs.now.keys line.now ≡ Some fault)) }
+    ensures fault { IfErr result (λ fault. (fault ≡ Memory)
+        ⊎ (line_fault outputs.now.keys line.now ≡ Some fault)) }
 {
     let (before, from) = line.split_at(colon_place(line));
     let targets = part_words(alloc, before)?;
@@ -177,9 +187,11 @@ fn read_lines(
     outputs: &IndexSet<Name>,
     signs: &[Sign],
 ) -> Result<IndexSet<Name>, DepfileFault>
-    ensures paths { IfOk result (λ found. found.keys ≡ insert_all bytes_eq [] (flat_map line_paths (parts is_line_end signs.now))) }
+    ensures paths { IfOk result (λ found. found.keys
+        ≡ insert_all bytes_eq [] (flat_map line_paths (parts is_line_end signs.now))) }
     ensures sound { OnOk result (first_fault_in outputs.now.keys (parts is_line_end signs.now) ≡ None) }
-    ensures fault { IfErr result (λ fault. (fault ≡ Memory) ⊎ (first_fault_in outputs.now.keys (parts is_line_end signs.now) ≡ Some fault)) }
+    ensures fault { IfErr result (λ fault. (fault ≡ Memory)
+        ⊎ (first_fault_in outputs.now.keys (parts is_line_end signs.now) ≡ Some fault)) }
 {
     let mut found = IndexSet::new(alloc);
     let mut rest = signs;

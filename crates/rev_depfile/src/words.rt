@@ -47,8 +47,10 @@ fn word_len(signs: &[Sign]) -> usize
 
 // Adds a word, where there is one between two blanks.
 fn push_word<'a>(found: &mut Vec<&'a [Sign]>, word: &'a [Sign]) -> Result<(), AllocError>
-    ensures ok { OnOk result (texts found.new.items ≡ texts found.old.items ++ filter has_some (word.now ∷ [])) }
-    ensures named { OnOk result (All (λ word. 0 < length word.now) found.old.items → All (λ word. 0 < length word.now) found.new.items) }
+    ensures ok { OnOk result (texts found.new.items
+        ≡ texts found.old.items ++ filter has_some (word.now ∷ [])) }
+    ensures named { OnOk result (All (λ word. 0 < length word.now) found.old.items
+        → All (λ word. 0 < length word.now) found.new.items) }
 {
     if !word.is_empty() {
         found.push(word)?;

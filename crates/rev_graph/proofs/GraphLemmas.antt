@@ -4,29 +4,30 @@ use Rattle.std.proofs.lemmas.List.{take_more}
 use Rattle.std.specs.List.{list_any}
 use Rattle.rev_manifest.specs.Manifest.{BuildValue}
 use Rattle.rev_graph.specs.Entries.{entry, has_entry, produced_by, given}
-use Rattle.rev_graph.specs.Graph.{has_path, or_else, outputs_of, producer_from, producer_of, double_after, first_double, build_at, is_known, needs, inputs_of, input_producers}
+use Rattle.std.specs.Option.{option_or}
+use Rattle.rev_graph.specs.Graph.{has_path, outputs_of, producer_from, producer_of, double_after, first_double, build_at, is_known, needs, inputs_of, input_producers}
 use Rattle.rev_graph.proofs.EntryLemmas.{find-same}
 
-push-by : (n m : ℕ) (more rest : Option ℕ) (other t : Bool) → more ≡ or_else rest (given other m) → (if t then Some n else more) ≡ or_else (if t then Some n else rest) (given other m)
+push-by : (n m : ℕ) (more rest : Option ℕ) (other t : Bool) → more ≡ option_or rest (given other m) → (if t then Some n else more) ≡ option_or (if t then Some n else rest) (given other m)
 push-by n m more rest other true h = refl
 push-by n m more rest other false h = h
 
 -- one more edge
 pub producer_from-push : (n : ℕ) (path : List ℕ) (builds : List BuildValue) (build : BuildValue) (m : ℕ) → m ≡ n + length builds
-    → producer_from n path (builds ++ build ∷ []) ≡ or_else (producer_from n path builds) (given (has_path (outputs_of build) path) m)
+    → producer_from n path (builds ++ build ∷ []) ≡ option_or (producer_from n path builds) (given (has_path (outputs_of build) path) m)
 producer_from-push n path [] build m h = ap (λ k. if has_path (outputs_of build) path then Some k else None) (sym (h ∙ add-zero n))
 producer_from-push n path (b ∷ bs) build m h =
     push-by n m (producer_from (n + 1) path (bs ++ build ∷ [])) (producer_from (n + 1) path bs) (has_path (outputs_of build) path) (has_path (outputs_of b) path)
     (producer_from-push (n + 1) path bs build m (omega arith))
 
 pub producer_of-push : (path : List ℕ) (builds : List BuildValue) (build : BuildValue) (m : ℕ) → m ≡ length builds
-    → producer_of (builds ++ build ∷ []) path ≡ or_else (producer_of builds path) (given (has_path (outputs_of build) path) m)
+    → producer_of (builds ++ build ∷ []) path ≡ option_or (producer_of builds path) (given (has_path (outputs_of build) path) m)
 producer_of-push path builds build m h = producer_from-push 0 path builds build m (omega arith)
 
-pub option_map-or_else : (o : Option ℕ) (b : Bool) (m : ℕ) → or_else (option_map Some o) (given b (Some m)) ≡ option_map Some (or_else o (given b m))
-option_map-or_else None true m = refl
-option_map-or_else None false m = refl
-option_map-or_else (Some x) b m = refl
+pub option_map-option_or : (o : Option ℕ) (b : Bool) (m : ℕ) → option_or (option_map Some o) (given b (Some m)) ≡ option_map Some (option_or o (given b m))
+option_map-option_or None true m = refl
+option_map-option_or None false m = refl
+option_map-option_or (Some x) b m = refl
 
 within-by : (n p len : ℕ) (rest : Option ℕ) (t : Bool) → (rest ≡ Some p → p < n + 1 + len) → (if t then Some n else rest) ≡ Some p → p < n + suc len
 within-by n p len rest true h e =
@@ -64,31 +65,31 @@ find-earlier builds es at = find-same (has_entry es) (λ path. is_some (producer
 -- the doubles of the edges from a place on
 double-more : (builds : List BuildValue) (es : List (List ℕ × Option ℕ)) (i : ℕ) (build : BuildValue) → build ≡ get_or builds i build → i < length builds
     → ((path : List ℕ) → entry es path ≡ option_map Some (producer_of (take i builds) path))
-    → double_after (take i builds) (drop i builds) ≡ or_else (find (has_entry es) (outputs_of build)) (double_after (take (i + 1) builds) (drop (i + 1) builds))
+    → double_after (take i builds) (drop i builds) ≡ option_or (find (has_entry es) (outputs_of build)) (double_after (take (i + 1) builds) (drop (i + 1) builds))
 double-more builds es i build is within at =
     ap (double_after (take i builds)) (drop-more builds i build is within)
-    ∙ (λ k. or_else (sym (find-earlier (take i builds) es at (outputs_of build)) k) (double_after (sym (take-more builds i build is within) k) (drop (i + 1) builds)))
+    ∙ (λ k. option_or (sym (find-earlier (take i builds) es at (outputs_of build)) k) (double_after (sym (take-more builds i build is within) k) (drop (i + 1) builds)))
 
 -- an output that an earlier edge has
 pub double-found : (builds : List BuildValue) (es : List (List ℕ × Option ℕ)) (i : ℕ) (build : BuildValue) (name : List ℕ) → build ≡ get_or builds i build → i < length builds
     → ((path : List ℕ) → entry es path ≡ option_map Some (producer_of (take i builds) path)) → double_after (take i builds) (drop i builds) ≡ first_double builds
     → Some name ≡ find (has_entry es) (outputs_of build) → first_double builds ≡ Some name
 double-found builds es i build name is within at h found =
-    sym h ∙ double-more builds es i build is within at ∙ ap (λ o. or_else o (double_after (take (i + 1) builds) (drop (i + 1) builds))) (sym found)
+    sym h ∙ double-more builds es i build is within at ∙ ap (λ o. option_or o (double_after (take (i + 1) builds) (drop (i + 1) builds))) (sym found)
 
 -- no output that an earlier edge has
 pub double-none : (builds : List BuildValue) (es : List (List ℕ × Option ℕ)) (i : ℕ) (build : BuildValue) → build ≡ get_or builds i build → i < length builds
     → ((path : List ℕ) → entry es path ≡ option_map Some (producer_of (take i builds) path)) → double_after (take i builds) (drop i builds) ≡ first_double builds
     → None ≡ find (has_entry es) (outputs_of build) → double_after (take (i + 1) builds) (drop (i + 1) builds) ≡ first_double builds
 double-none builds es i build is within at h none =
-    ap (λ o. or_else o (double_after (take (i + 1) builds) (drop (i + 1) builds))) none ∙ sym (double-more builds es i build is within at) ∙ h
+    ap (λ o. option_or o (double_after (take (i + 1) builds) (drop (i + 1) builds))) none ∙ sym (double-more builds es i build is within at) ∙ h
 
 -- the table with the outputs of one more edge
 pub producers-more : (builds : List BuildValue) (e f : Option (Option ℕ)) (i : ℕ) (build : BuildValue) (path : List ℕ) → build ≡ get_or builds i build → i < length builds
-    → e ≡ option_map Some (producer_of (take i builds) path) → f ≡ or_else e (given (has_path (outputs_of build) path) (Some i)) → f ≡ option_map Some (producer_of (take (i + 1) builds) path)
+    → e ≡ option_map Some (producer_of (take i builds) path) → f ≡ option_or e (given (has_path (outputs_of build) path) (Some i)) → f ≡ option_map Some (producer_of (take (i + 1) builds) path)
 producers-more builds e f i build path is within before more =
-    more ∙ ap (λ x. or_else x (given (has_path (outputs_of build) path) (Some i))) before
-    ∙ option_map-or_else (producer_of (take i builds) path) (has_path (outputs_of build) path) i
+    more ∙ ap (λ x. option_or x (given (has_path (outputs_of build) path) (Some i))) before
+    ∙ option_map-option_or (producer_of (take i builds) path) (has_path (outputs_of build) path) i
     ∙ ap (option_map Some) (sym (producer_of-push path (take i builds) build i (sym (length-take-le i builds (omega arith)))) ∙ ap (λ bs. producer_of bs path) (sym (take-more builds i build is within)))
 
 -- the edge at a number, whatever stands past the last
@@ -118,7 +119,7 @@ producers-are es builds h =
     map-same (λ (build : BuildValue). map (produced_by es) (inputs_of build)) (input_producers builds) (λ build. map-same (produced_by es) (producer_of builds) (λ path. produced-by es builds path (h path)) (inputs_of build)) builds
 
 -- a path's entry in the table of all paths, by that in the table of outputs
-pub known-entry : (p : Option ℕ) (b : Bool) → or_else (option_map Some p) (given b None) ≡ (if is_some p || b then Some p else None)
+pub known-entry : (p : Option ℕ) (b : Bool) → option_or (option_map Some p) (given b None) ≡ (if is_some p || b then Some p else None)
 known-entry None true = refl
 known-entry None false = refl
 known-entry (Some x) b = refl

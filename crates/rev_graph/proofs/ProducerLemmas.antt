@@ -5,7 +5,8 @@ use Rattle.std.proofs.lemmas.List.Folds.{list_any_at}
 use Rattle.std.proofs.lemmas.List.Elements.{Contains-get_or, Contains-append_right, Contains-append_cases}
 use Rattle.indexmap.proofs.CallerLemmas.{Contains-list_any}
 use Rattle.rev_manifest.specs.Manifest.{BuildValue}
-use Rattle.rev_graph.specs.Graph.{build_at, no_build, has_path, outputs_of, producer_from, producer_of, Produces, or_else, double_after, first_double}
+use Rattle.std.specs.Option.{option_or}
+use Rattle.rev_graph.specs.Graph.{build_at, no_build, has_path, outputs_of, producer_from, producer_of, Produces, double_after, first_double}
 use Rattle.rev_graph.proofs.EntryLemmas.{same_bytes, own_bytes}
 use Rattle.rev_graph.proofs.GraphLemmas.{producer_of-within}
 use Rattle.rev_graph.proofs.StepLemmas.{only, produced-output}
@@ -18,12 +19,12 @@ pub producer-has : (builds : List BuildValue) (path : List ℕ) (edge : ℕ) →
 producer-has builds path edge h =
     Contains-list_any bytes_eq same_bytes (outputs_of (build_at builds edge)) path (produced-output 0 path builds edge edge h (omega arith))
 
-append-by : (n : ℕ) (more rest others : Option ℕ) (t : Bool) → more ≡ or_else rest others → (if t then Some n else more) ≡ or_else (if t then Some n else rest) others
+append-by : (n : ℕ) (more rest others : Option ℕ) (t : Bool) → more ≡ option_or rest others → (if t then Some n else more) ≡ option_or (if t then Some n else rest) others
 append-by n more rest others true h = refl
 append-by n more rest others false h = h
 
 producer_from-append : (n : ℕ) (path : List ℕ) (builds others : List BuildValue) (m : ℕ) → m ≡ n + length builds
-    → producer_from n path (builds ++ others) ≡ or_else (producer_from n path builds) (producer_from m path others)
+    → producer_from n path (builds ++ others) ≡ option_or (producer_from n path builds) (producer_from m path others)
 producer_from-append n path [] others m h = ap (λ k. producer_from k path others) (sym (h ∙ add-zero n))
 producer_from-append n path (b ∷ bs) others m h =
     append-by n (producer_from (n + 1) path (bs ++ others)) (producer_from (n + 1) path bs) (producer_from m path others) (has_path (outputs_of b) path)
@@ -50,12 +51,12 @@ none-some : (o : Option ℕ) → is_some o ≡ false → o ≡ None
 none-some None h = refl
 none-some (Some x) h = cc
 
-first-none : {A : Type 0} (o p : Option A) → or_else o p ≡ None → (o ≡ None) × (p ≡ None)
+first-none : {A : Type 0} (o p : Option A) → option_or o p ≡ None → (o ≡ None) × (p ≡ None)
 first-none None p h = (refl, h)
 first-none (Some x) p h = cc
 
-or_else-first : (o p : Option ℕ) → o ≡ None → or_else o p ≡ p
-or_else-first o p h = ap (λ q. or_else q p) h
+option_or-first : (o p : Option ℕ) → o ≡ None → option_or o p ≡ p
+option_or-first o p h = ap (λ q. option_or q p) h
 
 only-after : (earlier builds : List BuildValue) (path : List ℕ) (k n : ℕ) → double_after earlier builds ≡ None → n ≡ length earlier + k → Produces builds k path → producer_of (earlier ++ builds) path ≡ Some n
 only-after earlier [] path k n h e (i, within, at) = absurd (omega (arith, within))
@@ -63,7 +64,7 @@ only-after earlier (b ∷ bs) path zero n h e there =
     let both = first-none (find (λ p. is_some (producer_of earlier p)) (outputs_of b)) (double_after (earlier ++ b ∷ []) bs) h in
     let none : producer_of earlier path ≡ None = none-some _ (missed (λ p. is_some (producer_of earlier p)) (outputs_of b) path both.0 there) in
     let from : n ≡ 0 + length earlier = omega arith in
-    producer_from-append 0 path earlier (b ∷ bs) n from ∙ or_else-first (producer_of earlier path) (producer_from n path (b ∷ bs)) none
+    producer_from-append 0 path earlier (b ∷ bs) n from ∙ option_or-first (producer_of earlier path) (producer_from n path (b ∷ bs)) none
     ∙ ap (λ t. if t then Some n else producer_from (n + 1) path bs) (has-contained (outputs_of b) path there)
 only-after earlier (b ∷ bs) path (suc k) n h e there =
     let both = first-none (find (λ p. is_some (producer_of earlier p)) (outputs_of b)) (double_after (earlier ++ b ∷ []) bs) h in
@@ -123,7 +124,7 @@ pick earlier rest b path f =
     )
 
 real-by : (earlier rest : List BuildValue) (b : BuildValue) (path : List ℕ) (o : Option (List ℕ)) → find (λ p. is_some (producer_of earlier p)) (outputs_of b) ≡ o
-    → (double_after (earlier ++ b ∷ []) rest ≡ Some path → Two ((earlier ++ b ∷ []) ++ rest) path) → or_else o (double_after (earlier ++ b ∷ []) rest) ≡ Some path → Two (earlier ++ b ∷ rest) path
+    → (double_after (earlier ++ b ∷ []) rest ≡ Some path → Two ((earlier ++ b ∷ []) ++ rest) path) → option_or o (double_after (earlier ++ b ∷ []) rest) ≡ Some path → Two (earlier ++ b ∷ rest) path
 real-by earlier rest b path None e later h = subst (λ all. Two all path) (append_assoc earlier (b ∷ []) rest) (later h)
 real-by earlier rest b path (Some x) e later h = pick earlier rest b path (found (λ p. is_some (producer_of earlier p)) (outputs_of b) path (e ∙ h))
 

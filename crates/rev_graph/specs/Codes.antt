@@ -18,8 +18,11 @@ Rest = Bool × (List ℕ × (Bool × (Bool × (Bool × (Option ℕ × (ℕ × �
 abbrev pub coded_build : Coded BuildValue
 coded_build =
     code_by (Lines × Rest)
-    (coded× (coded× coded_paths (coded× coded_paths (coded× coded_paths (coded× coded_paths (coded× coded_paths coded_paths)))))
-    (coded× coded_bool (coded× (coded_list coded_ℕ) (coded× coded_bool (coded× coded_bool (coded× coded_bool (coded× (coded_option coded_ℕ) (coded× coded_ℕ coded_ℕ))))))))
+    (coded× (coded× coded_paths
+    (coded× coded_paths (coded× coded_paths (coded× coded_paths (coded× coded_paths coded_paths)))))
+    (coded× coded_bool (coded× (coded_list coded_ℕ)
+    (coded× coded_bool (coded× coded_bool
+    (coded× coded_bool (coded× (coded_option coded_ℕ) (coded× coded_ℕ coded_ℕ))))))))
     (λ b. (
       (b.explicit_outs, (b.implicit_outs, (b.explicit, (b.implicit, (b.order_only, b.validations))))),
       (b.phony, (b.command, (b.keeps_deps, (b.restat, (b.generator, (b.pool, (b.file, b.line))))))),

@@ -27,4 +27,6 @@ double_or (Some path) fault = Some (MultipleProducers path)
 
 -- the first fault of edges
 unfoldable pub graph_fault : List BuildValue → Option GraphFault
-graph_fault builds = if nat_lt 262144 (length builds) then Some TooManyEdges else double_or (first_double builds) (cycle_at builds (least_on_cycle (successor_lists builds)))
+graph_fault builds =
+    if nat_lt 262144 (length builds) then Some TooManyEdges
+    else double_or (first_double builds) (cycle_at builds (least_on_cycle (successor_lists builds)))

@@ -1,8 +1,10 @@
 -- What the build lines of a manifest say of its edges. An edge's number is its place among the builds, from 0.
 use Rattle.std.specs.Prelude.{◌≡◌, ℕ, ◌+◌, ◌<◌, ◌≤◌, Bool, false, ◌||◌, ◌==◌, List, [], ◌∷◌, ◌++◌, map, length, find, Option, Some, None, is_some, slice_get, slice_index_or, bytes_eq, if◌then◌else◌}
+use Rattle.std.specs.Option.{option_or}
 use Rattle.std.specs.List.{Contains, list_any, filter_map}
 use Rattle.rev_manifest.specs.Builds.{BuildValue, ManifestValue, IsManifest}
 pub use Rattle.rev_manifest.specs.Builds.{outputs_of, inputs_of}
+pub use Rattle.rev_manifest.specs.Names.{has_path}
 
 -- a graph: a manifest without faults, and a rank for each edge
 pub record GraphValue : Type 0 where
@@ -33,9 +35,6 @@ no_build =
 abbrev pub build_at : List BuildValue → ℕ → BuildValue
 build_at builds edge = slice_index_or builds edge no_build
 
-abbrev pub has_path : List (List ℕ) → List ℕ → Bool
-has_path paths path = list_any (bytes_eq path) paths
-
 -- whether an edge has the path as an input of any kind or as a validation
 abbrev pub needs : List ℕ → BuildValue → Bool
 needs path build = has_path (inputs_of build ++ build.validations) path
@@ -47,7 +46,8 @@ Produces builds edge path = Contains (outputs_of (build_at builds edge)) path
 -- the first edge that has the path among its outputs, where the first of the list has the number `edge`
 abbrev pub producer_from : ℕ → List ℕ → List BuildValue → Option ℕ
 producer_from edge path [] = None
-producer_from edge path (build ∷ builds) = if has_path (outputs_of build) path then Some edge else producer_from (edge + 1) path builds
+producer_from edge path (build ∷ builds) =
+    if has_path (outputs_of build) path then Some edge else producer_from (edge + 1) path builds
 
 -- the producer of a path: the first edge that has it among its outputs
 abbrev pub producer_of : List BuildValue → List ℕ → Option ℕ
@@ -57,14 +57,12 @@ producer_of builds path = producer_from 0 path builds
 abbrev pub is_known : List BuildValue → List ℕ → Bool
 is_known builds path = is_some (producer_of builds path) || list_any (needs path) builds
 
-abbrev pub or_else : {A : Type 0} → Option A → Option A → Option A
-or_else None other = other
-or_else (Some x) other = Some x
-
 -- the first output of builds, in reading order, that an edge before it has, where `earlier` stand before the builds
 abbrev pub double_after : List BuildValue → List BuildValue → Option (List ℕ)
 double_after earlier [] = None
-double_after earlier (build ∷ builds) = or_else (find (λ path. is_some (producer_of earlier path)) (outputs_of build)) (double_after (earlier ++ build ∷ []) builds)
+double_after earlier (build ∷ builds) =
+    option_or (find (λ path. is_some (producer_of earlier path)) (outputs_of build))
+    (double_after (earlier ++ build ∷ []) builds)
 
 -- the first output, in reading order, that an earlier edge has
 abbrev pub first_double : List BuildValue → Option (List ℕ)
@@ -79,7 +77,8 @@ pub record EdgeSteps (builds : List BuildValue) (edge producer : ℕ) : Type 0 w
 -- A way of one step or more leads from one edge to another.
 pub data EdgeReaches (builds : List BuildValue) : ℕ → ℕ → Type 0 where
   step : {edge other : ℕ} → EdgeSteps builds edge other → EdgeReaches builds edge other
-  further : {edge middle other : ℕ} → EdgeSteps builds edge middle → EdgeReaches builds middle other → EdgeReaches builds edge other
+  further : {edge middle other : ℕ} → EdgeSteps builds edge middle → EdgeReaches builds middle other
+      → EdgeReaches builds edge other
 
 -- An edge is the least that reaches itself.
 pub record IsLeastOnCycle (builds : List BuildValue) (edge : ℕ) : Type 0 where
@@ -103,14 +102,16 @@ pub record IsRanked (builds : List BuildValue) (ranks : List ℕ) : Type 0 where
   pub below : (edge : ℕ) → edge < length builds → rank_at ranks edge < length builds
   pub falls : (edge producer : ℕ) → EdgeSteps builds edge producer → rank_at ranks producer < rank_at ranks edge
 
--- What each graph is: that of a manifest, with few edges, no output that an earlier edge has, and ranks that fall along each step.
+-- What each graph is: that of a manifest, with few edges, no output that an earlier edge has, and ranks that fall along
+-- each step.
 pub record IsGraph (graph : GraphValue) : Type 0 where
   pub kept : IsManifest graph.manifest
   pub few : length graph.manifest.builds ≤ 262144
   pub single : first_double graph.manifest.builds ≡ None
   pub ranked : IsRanked graph.manifest.builds graph.ranks
 
--- the slots of a pool, with its number; a pool of depth 0 has none to wait for, and a number past the last names no pool
+-- the slots of a pool, with its number; a pool of depth 0 has none to wait for, and a number past the last names no
+-- pool
 abbrev pub slots_of : ℕ → Option (List ℕ × ℕ) → Option (ℕ × ℕ)
 slots_of number None = None
 slots_of number (Some pool) = if pool.1 == 0 then None else Some (number, pool.1)

@@ -10,5 +10,7 @@ value_of a = record { manifest = a.manifest; ranks = a.ranks.items }
 
 pub record IsSound (a : Inside) : Type 0 where
   pub graph : IsGraph (value_of a)
-  pub entries : (path : List ℕ) → entry a.table.entries path ≡ (if is_known a.manifest.builds path then Some (producer_of a.manifest.builds path) else None)
+  pub entries : (path : List ℕ)
+      → entry a.table.entries path
+      ≡ (if is_known a.manifest.builds path then Some (producer_of a.manifest.builds path) else None)
   pub producers : lists_of a.producers.items ≡ map (input_producers a.manifest.builds) a.manifest.builds

@@ -25,7 +25,7 @@ pub enum GraphFault {
 
 impl GraphFault {
     /// The number of the fault: 42 for too many edges, 40 for a second producer, 41 for a cycle,
-    /// and none for want of memory.
+    /// and none for `Memory`.
     pub fn code(&self) -> Option<u16>
         ensures { result ≡ code_of self.now }
     {

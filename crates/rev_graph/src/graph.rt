@@ -62,11 +62,10 @@ impl Graph {
 
     /// The graph of a manifest, in time linear in its edges and paths up to hashing.
     ///
-    /// # Errors
-    /// [`GraphFault::TooManyEdges`] where there are more than [`Graph::MAX_EDGES`] edges; else
+    /// # Errors [`GraphFault::TooManyEdges`] where there are more than [`Graph::MAX_EDGES`] edges; else
     /// [`GraphFault::MultipleProducers`] with the first output, in reading order, that an earlier edge has; else
-    /// [`GraphFault::Cycle`] with the first output of the least edge that reaches itself. [`GraphFault::Memory`] only where an
-    /// allocation was refused.
+    /// [`GraphFault::Cycle`] with the first output of the least edge that reaches itself. [`GraphFault::Memory`] only
+    /// where an allocation was refused.
     pub fn build(alloc: Global, manifest: &Manifest) -> Result<Graph, GraphFault>
         // The graph has the manifest's edges, pools and defaults, and these have no fault.
         ensures value { IfOk result (λ graph. graph.manifest ≡ manifest.now) }
@@ -139,10 +138,12 @@ impl Graph {
         }
     }
 
-    /// For each input on an edge's build line, explicit, implicit, then order-only, the edge that produces it, if one does.
+    /// For each input on an edge's build line, explicit, implicit, then order-only, the edge that produces it, if one
+    /// does.
     pub fn producers(&self, edge: u32) -> &[Option<u32>]
         requires { edge < length self.now.manifest.builds }
-        ensures { result.now ≡ input_producers self.now.manifest.builds (build_at self.now.manifest.builds edge) }
+        ensures { result.now ≡ input_producers self.now.manifest.builds
+            (build_at self.now.manifest.builds edge) }
     {
         &self.producers[edge as usize]
     }

@@ -16,7 +16,8 @@ pub fn ranked_is_acyclic()
     ensures { RankedIsAcyclic }
 {}
 
-/// A function of the edges gives a fault exactly where that one explains why they make no graph, and none exactly where they have none.
+/// A function of the edges gives a fault exactly where that one explains why they make no graph, and none exactly where
+/// they have none.
 pub fn fault_is_decided()
     ensures { FaultIsDecided }
 {}

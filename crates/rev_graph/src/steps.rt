@@ -1,11 +1,11 @@
 //! Which edges each edge steps to, and the ranks of edges.
 ghost use Rattle.std.specs.Prelude.{◌≡◌, ◌<◌, ◌≤◌, ◌++◌, ℕ, List, map, length, slice_get, None, Some, IfOk, IfErr, OnOk};
-ghost use Rattle.std.specs.Option.{option_copied};
+ghost use Rattle.std.specs.Option.{option_or, option_copied};
 ghost use Rattle.std.specs.List.{filter_map, list_any};
 ghost use Rattle.rev_ranks.specs.Graph.{graph_of};
 ghost use Rattle.rev_graph.specs.Entries.{entry, given, produced_by};
 ghost use Rattle.rev_graph.specs.Fault.{Explains};
-ghost use Rattle.rev_graph.specs.Graph.{outputs_of, inputs_of, has_path, needs, or_else, input_producers, successor_lists, EdgeReaches, IsLeastOnCycle, IsRanked, build_at, first_double};
+ghost use Rattle.rev_graph.specs.Graph.{outputs_of, inputs_of, has_path, needs, input_producers, successor_lists, EdgeReaches, IsLeastOnCycle, IsRanked, build_at, first_double};
 ghost use Rattle.rev_graph.specs.Lists.{lists_of};
 
 use crate::fault::GraphFault;
@@ -21,8 +21,11 @@ fn push_producers(
     table: &mut Table,
     names: &[Name],
 ) -> Result<(), AllocError>
-    ensures producers { OnOk result (producers.new.items ≡ producers.old.items ++ map (produced_by table.old.entries) names.now) }
-    ensures entries { OnOk result ((path : List ℕ) → entry table.new.entries path ≡ or_else (entry table.old.entries path) (given (has_path names.now path) None)) }
+    ensures producers { OnOk result (producers.new.items
+        ≡ producers.old.items ++ map (produced_by table.old.entries) names.now) }
+    ensures entries { OnOk result ((path : List ℕ)
+        → entry table.new.entries path
+        ≡ option_or (entry table.old.entries path) (given (has_path names.now path) None)) }
 {
     for name in names {
         producers.push(value_or_add(table, name, None)?)?;
@@ -36,8 +39,11 @@ fn producers_of(
     table: &mut Table,
     edge: &Build,
 ) -> Result<Vec<Option<u32>>, AllocError>
-    ensures producers { IfOk result (λ producers. producers.items ≡ map (produced_by table.old.entries) (inputs_of edge.now)) }
-    ensures entries { OnOk result ((path : List ℕ) → entry table.new.entries path ≡ or_else (entry table.old.entries path) (given (needs path edge.now) None)) }
+    ensures producers { IfOk result (λ producers. producers.items
+        ≡ map (produced_by table.old.entries) (inputs_of edge.now)) }
+    ensures entries { OnOk result ((path : List ℕ)
+        → entry table.new.entries path
+        ≡ option_or (entry table.old.entries path) (given (needs path edge.now) None)) }
 {
     let (explicit, implicit, order_only) = (edge.explicit(), edge.implicit(), edge.order_only());
     let inputs = explicit
@@ -52,14 +58,19 @@ fn producers_of(
     Ok(producers)
 }
 
-/// For each edge the producers of its inputs, in order, where the table has all outputs. It has all of the build lines from then on.
+/// For each edge the producers of its inputs, in order, where the table has all outputs. It has all of the build lines
+/// from then on.
 pub(crate) fn all_producers(
     alloc: Global,
     table: &mut Table,
     edges: &[Build],
 ) -> Result<Vec<Vec<Option<u32>>>, AllocError>
-    ensures producers { IfOk result (λ all. lists_of all.items ≡ map (λ build. map (produced_by table.old.entries) (inputs_of build)) edges.now) }
-    ensures entries { OnOk result ((path : List ℕ) → entry table.new.entries path ≡ or_else (entry table.old.entries path) (given (list_any (needs path) edges.now) None)) }
+    ensures producers { IfOk result (λ all. lists_of all.items
+        ≡ map (λ build. map (produced_by table.old.entries) (inputs_of build)) edges.now) }
+    ensures entries { OnOk result ((path : List ℕ)
+        → entry table.new.entries path
+        ≡ option_or (entry table.old.entries path)
+        (given (list_any (needs path) edges.now) None)) }
 {
     let mut all = Vec::with_capacity(alloc, edges.len())?;
     for edge in edges {
@@ -83,7 +94,8 @@ fn all_successors(
     alloc: Global,
     producers: &[Vec<Option<u32>>],
 ) -> Result<Vec<Vec<u32>>, AllocError>
-    ensures { IfOk result (λ all. graph_of all.items ≡ map (filter_map (λ producer. producer)) (lists_of producers.now)) }
+    ensures { IfOk result (λ all. graph_of all.items
+        ≡ map (filter_map (λ producer. producer)) (lists_of producers.now)) }
 {
     let mut all = Vec::with_capacity(alloc, producers.len())?;
     for list in producers {

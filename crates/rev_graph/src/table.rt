@@ -1,10 +1,10 @@
 //! Which edge produces each path.
 ghost use Rattle.std.specs.Prelude.{◌≡◌, bytes_eq, ◌≤◌, ◌++◌, List, ℕ, [], map, find, length, Option, Some, None, unwrap_or, IfOk, IfErr, OnOk, if◌then◌else◌};
-ghost use Rattle.std.specs.Option.{option_copied, option_map};
+ghost use Rattle.std.specs.Option.{option_or, option_copied, option_map};
 ghost use Rattle.std.specs.List.{list_any};
 ghost use Rattle.rev_graph.specs.Entries.{entry, has_entry, produced_by, given};
 ghost use Rattle.rev_graph.specs.Fault.{Explains};
-ghost use Rattle.rev_graph.specs.Graph.{outputs_of, inputs_of, has_path, needs, or_else, producer_of, is_known, first_double};
+ghost use Rattle.rev_graph.specs.Graph.{outputs_of, inputs_of, has_path, needs, producer_of, is_known, first_double};
 
 use crate::fault::GraphFault;
 use indexmap::IndexMap;
@@ -22,7 +22,9 @@ pub(crate) fn value_or_add(
     value: Option<u32>,
 ) -> Result<Option<u32>, AllocError>
     ensures value { IfOk result (λ had. had ≡ unwrap_or (entry table.old.entries name.now) value) }
-    ensures entries { OnOk result ((path : List ℕ) → entry table.new.entries path ≡ or_else (entry table.old.entries path) (given (bytes_eq path name.now) value)) }
+    ensures entries { OnOk result ((path : List ℕ)
+        → entry table.new.entries path
+        ≡ option_or (entry table.old.entries path) (given (bytes_eq path name.now) value)) }
 {
     let value = *table.entry(name.copy()?)?.or_insert(value);
     Ok(value)
@@ -30,7 +32,9 @@ pub(crate) fn value_or_add(
 
 /// Adds the names that the table does not have, each with that value.
 pub(crate) fn add(table: &mut Table, names: &[Name], value: Option<u32>) -> Result<(), AllocError>
-    ensures { OnOk result ((path : List ℕ) → entry table.new.entries path ≡ or_else (entry table.old.entries path) (given (has_path names.now path) value)) }
+    ensures { OnOk result ((path : List ℕ)
+        → entry table.new.entries path
+        ≡ option_or (entry table.old.entries path) (given (has_path names.now path) value)) }
 {
     for name in names {
         value_or_add(table, name, value)?;
@@ -62,7 +66,10 @@ fn taken<'a>(table: &Table, edge: &'a Build) -> Option<&'a Name>
 
 // Adds the outputs of an edge.
 fn add_outputs(table: &mut Table, edge: &Build, number: u32) -> Result<(), AllocError>
-    ensures { OnOk result ((path : List ℕ) → entry table.new.entries path ≡ or_else (entry table.old.entries path) (given (has_path (outputs_of edge.now) path) (Some number))) }
+    ensures { OnOk result ((path : List ℕ)
+        → entry table.new.entries path
+        ≡ option_or (entry table.old.entries path)
+        (given (has_path (outputs_of edge.now) path) (Some number))) }
 {
     add(table, edge.explicit_outs(), Some(number))?;
     add(table, edge.implicit_outs(), Some(number))?;
@@ -75,7 +82,8 @@ fn add_outputs(table: &mut Table, edge: &Build, number: u32) -> Result<(), Alloc
 /// [`GraphFault::MultipleProducers`] with the first output that an earlier edge has, and [`GraphFault::Memory`].
 pub(crate) fn outputs_table(alloc: Global, edges: &[Build]) -> Result<Table, GraphFault>
     requires { length edges.now ≤ 262144 }
-    ensures entries { IfOk result (λ table. (path : List ℕ) → entry table.entries path ≡ option_map Some (producer_of edges.now path)) }
+    ensures entries { IfOk result (λ table. (path : List ℕ)
+        → entry table.entries path ≡ option_map Some (producer_of edges.now path)) }
     ensures single { OnOk result (first_double edges.now ≡ None) }
     ensures fault { IfErr result (λ fault. Explains fault edges.now) }
 {

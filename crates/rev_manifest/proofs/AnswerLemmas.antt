@@ -3,17 +3,8 @@ use Rattle.std.proofs.Common.{◌≡◌, List, [], ◌∷◌, ◌++◌, Result, 
 use Rattle.rev_manifest.specs.declared.fault.ManifestFault.{ManifestFault}
 use Rattle.rev_manifest.specs.declared.fault.ReadFault.{ReadFault}
 use Rattle.rev_manifest.specs.declared.fault.ReadFault.TheVariants.{Memory, Manifest}
-use Rattle.rev_manifest.specs.Answers.{and_then, IsFault}
-
--- elements before the others
-abbrev pub onto_list : {A : Type 0} → List A → Result (List A) ManifestFault → Result (List A) ManifestFault
-onto_list first (Ok others) = Ok (first ++ others)
-onto_list first (Err fault) = Err fault
-
-pub onto_list-push : {A : Type 0} (first : List A) (x : A) (r : Result (List A) ManifestFault)
-    → onto_list (first ++ x ∷ []) r ≡ onto_list first (and_then r (λ others. Ok (x ∷ others)))
-onto_list-push first x (Ok others) = ap Ok (append_assoc first (x ∷ []) others)
-onto_list-push first x (Err fault) = refl
+pub use Rattle.rev_syntax.proofs.AnswerLemmas.{onto_list, onto_list-push}
+use Rattle.rev_manifest.specs.Answers.{IsFault}
 
 -- a fault of a part is that of the whole
 pub fault_passes : {A B : Type 0} (e : ReadFault) (part : Result A ManifestFault) (whole : Result B ManifestFault)

@@ -15,7 +15,7 @@ use Rattle.rev_manifest.specs.Answers.{refused, unless, IsFault}
 use Rattle.rev_manifest.specs.Blocks.{last_text}
 use Rattle.rev_manifest.specs.Statements.{depth_read, depth_given, value_limited}
 use Rattle.std.proofs.lemmas.Grind.{flat_map-append}
-use Rattle.rev_manifest.specs.Names.{is_none}
+use Rattle.rev_manifest.specs.Names.{is_empty}
 use Rattle.rev_manifest.specs.Depths.{depth_from}
 use Rattle.rev_manifest.specs.Pools.{decimal_from, depth_of}
 
@@ -50,7 +50,7 @@ digits_are n (b ∷ bs) few = by (is_ascii_digit b) (nat_le (n * 10 + (b - 48)) 
     by true false e later = sym (too_much (n * 10 + (b - 48)) bs (leb-false (n * 10 + (b - 48)) 1000000 e))
 
 -- a depth is read digit by digit
-depth_is : (text : List ℕ) → depth_of text ≡ (if is_none text then None else depth_from 0 text)
+depth_is : (text : List ℕ) → depth_of text ≡ (if is_empty text then None else depth_from 0 text)
 depth_is [] = refl
 depth_is (b ∷ bs) = sym (digits_are 0 (b ∷ bs) (omega arith))
 
@@ -89,51 +89,51 @@ pub none_either : (b : Bool) (o : Option ℕ) → None ≡ o → None ≡ (if b 
 none_either true o e = refl
 none_either false o e = e
 
-pub some_text : (text first rest : List PieceValue) → text ≡ first ++ rest → (first ≡ [] → ⊥) → is_none text ≡ false
+pub some_text : (text first rest : List PieceValue) → text ≡ first ++ rest → (first ≡ [] → ⊥) → is_empty text ≡ false
 some_text text [] rest e some = absurd (some refl)
-some_text text (piece ∷ first) rest e some = ap is_none e
+some_text text (piece ∷ first) rest e some = ap is_empty e
 
-small : (value : List ℕ) → is_none value ≡ true → is_too_large value ≡ false
+small : (value : List ℕ) → is_empty value ≡ true → is_too_large value ≡ false
 small [] e = refl
 small (b ∷ bs) e = cc
 
 module _ (place : Place) (look_up : List ℕ → List ℕ) (text : List PieceValue) where
   -- what is found of a text, and whether its value is empty
-  found : (r : Option ℕ) → r ≡ (if is_none text then None else depth_from 0 (expanded look_up text)) → is_none (expanded look_up text) ≡ false
+  found : (r : Option ℕ) → r ≡ (if is_empty text then None else depth_from 0 (expanded look_up text)) → is_empty (expanded look_up text) ≡ false
       → depth_of (expanded look_up text) ≡ r
   found r e some = by text e some
     where
-      by : (t : List PieceValue) → r ≡ (if is_none t then None else depth_from 0 (expanded look_up t)) → is_none (expanded look_up t) ≡ false → depth_of (expanded look_up t) ≡ r
+      by : (t : List PieceValue) → r ≡ (if is_empty t then None else depth_from 0 (expanded look_up t)) → is_empty (expanded look_up t) ≡ false → depth_of (expanded look_up t) ≡ r
       by [] e some = cc
       by (piece ∷ pieces) e some = depth_is (expanded look_up (piece ∷ pieces)) ∙ ap (λ b. if b then None else depth_from 0 (expanded look_up (piece ∷ pieces))) some ∙ sym e
 
-  pub depth_empty : is_none (expanded look_up text) ≡ true → depth_given place look_up (Some text) ≡ refused place BadDepth
+  pub depth_empty : is_empty (expanded look_up text) ≡ true → depth_given place look_up (Some text) ≡ refused place BadDepth
   depth_empty e = ap (depth_read place (expanded look_up text)) (depth_is (expanded look_up text)) ∙ ap (λ b. depth_read place (expanded look_up text) (if b then None else depth_from 0 (expanded look_up text))) e
 
-  pub depth_none : None ≡ (if is_none text then None else depth_from 0 (expanded look_up text)) → depth_given place look_up (Some text) ≡ refused place BadDepth
-  depth_none e = by (is_none (expanded look_up text)) refl
+  pub depth_none : None ≡ (if is_empty text then None else depth_from 0 (expanded look_up text)) → depth_given place look_up (Some text) ≡ refused place BadDepth
+  depth_none e = by (is_empty (expanded look_up text)) refl
     where
-      by : (b : Bool) → is_none (expanded look_up text) ≡ b → depth_given place look_up (Some text) ≡ refused place BadDepth
+      by : (b : Bool) → is_empty (expanded look_up text) ≡ b → depth_given place look_up (Some text) ≡ refused place BadDepth
       by true h = depth_empty h
       by false h = ap (depth_read place (expanded look_up text)) (found None e h)
 
-  pub depth_some : (depth : ℕ) → Some depth ≡ (if is_none text then None else depth_from 0 (expanded look_up text)) → is_none (expanded look_up text) ≡ false
+  pub depth_some : (depth : ℕ) → Some depth ≡ (if is_empty text then None else depth_from 0 (expanded look_up text)) → is_empty (expanded look_up text) ≡ false
       → depth_given place look_up (Some text) ≡ (if is_too_large (expanded look_up text) then refused place TooLarge else Ok depth)
   depth_some depth e some = ap (depth_read place (expanded look_up text)) (found (Some depth) e some)
 
-  pub depth_fault : (depth : ℕ) (fault : ReadFault) → Some depth ≡ (if is_none text then None else depth_from 0 (expanded look_up text))
+  pub depth_fault : (depth : ℕ) (fault : ReadFault) → Some depth ≡ (if is_empty text then None else depth_from 0 (expanded look_up text))
       → IsFault fault (value_limited place (expanded look_up text)) → IsFault fault (depth_given place look_up (Some text))
   depth_fault depth Memory e h = tt
-  depth_fault depth (Manifest fault) e h = by (is_too_large (expanded look_up text)) refl (is_none (expanded look_up text)) refl h
+  depth_fault depth (Manifest fault) e h = by (is_too_large (expanded look_up text)) refl (is_empty (expanded look_up text)) refl h
     where
-      by : (b : Bool) → is_too_large (expanded look_up text) ≡ b → (n : Bool) → is_none (expanded look_up text) ≡ n
+      by : (b : Bool) → is_too_large (expanded look_up text) ≡ b → (n : Bool) → is_empty (expanded look_up text) ≡ n
           → unless place (if b then Some TooLarge else None) (expanded look_up text) ≡ Err fault → depth_given place look_up (Some text) ≡ Err fault
       by true large false some h = depth_some depth e some ∙ ap (λ b. if b then refused place TooLarge else Ok depth) large ∙ cc
       by true large true none h = let no : true ≡ false = sym large ∙ small (expanded look_up text) none in cc
       by false large n none h = cc
 
-  pub depth_ok : (depth : ℕ) (v : List ℕ) → Some depth ≡ (if is_none text then None else depth_from 0 (expanded look_up text)) → value_limited place (expanded look_up text) ≡ Ok v
-      → is_none v ≡ false → depth_given place look_up (Some text) ≡ Ok depth
+  pub depth_ok : (depth : ℕ) (v : List ℕ) → Some depth ≡ (if is_empty text then None else depth_from 0 (expanded look_up text)) → value_limited place (expanded look_up text) ≡ Ok v
+      → is_empty v ≡ false → depth_given place look_up (Some text) ≡ Ok depth
   depth_ok depth v e h some = by (is_too_large (expanded look_up text)) refl h
     where
       by : (b : Bool) → is_too_large (expanded look_up text) ≡ b → unless place (if b then Some TooLarge else None) (expanded look_up text) ≡ Ok v
@@ -141,7 +141,7 @@ module _ (place : Place) (look_up : List ℕ → List ℕ) (text : List PieceVal
       by true large h = cc
       by false large h =
           let same : expanded look_up text ≡ v = cc in
-          depth_some depth e (ap is_none same ∙ some) ∙ ap (λ b. if b then refused place TooLarge else Ok depth) large
+          depth_some depth e (ap is_empty same ∙ some) ∙ ap (λ b. if b then refused place TooLarge else Ok depth) large
 
   pub value_is : (v : List ℕ) → value_limited place (expanded look_up text) ≡ Ok v → expanded look_up text ≡ v
   value_is v h = by (is_too_large (expanded look_up text)) h

@@ -17,7 +17,7 @@ use Rattle.rev_manifest.specs.declared.fault.Place.{Place}
 use Rattle.rev_manifest.specs.Answers.{and_then, unless, unless_then, refused, fault_at, IsFault}
 use Rattle.rev_manifest.specs.Names.{path_fault, name_of, names_of}
 use Rattle.rev_manifest.specs.Blocks.{binds, kept, kept_values, values_by, values_of, has_large}
-use Rattle.rev_manifest.specs.Above.{PathsValue, EdgeValue, AboveValue}
+use Rattle.rev_manifest.specs.Declarations.{PathsValue, DeclaredEdgeValue, DeclarationsValue}
 use Rattle.rev_manifest.specs.Statements.{paths_of, rule_of, edge_of, block_fault, edge_added}
 use Rattle.rev_manifest.proofs.BlockLemmas.{same_names}
 
@@ -176,7 +176,7 @@ kept_same look_up (b ∷ bs) h =
     by false true e same h = cc
 
 -- what an edge is, by its block as it is kept
-module _ (place : Place) (above : AboveValue) (scope : ℕ) (build : BuildLineValue) (bindings : List BindingValue) (rule : Option RuleValue) (values : List (List ℕ × List ℕ)) where
+module _ (place : Place) (above : DeclarationsValue) (scope : ℕ) (build : BuildLineValue) (bindings : List BindingValue) (rule : Option RuleValue) (values : List (List ℕ × List ℕ)) where
   abbrev pub look : List ℕ → List ℕ
   look = variable_in above.scopes scope
 
@@ -205,15 +205,15 @@ module _ (place : Place) (above : AboveValue) (scope : ℕ) (build : BuildLineVa
       fault_of_block (paths_of place (in_block values look) build) (paths_of place (in_block (values_of look bindings) look) build) fault (agree_block kept) h in
       after_rule no_dyndep is
       ∙ ap (λ (r : Result PathsValue ManifestFault). and_then (and_then r (λ paths. unless_then place (block_fault (values_of look bindings)) (Ok (record { rule = rule; block = values_of look bindings; scope = scope; paths = paths; place = place }))))
-      (λ (edge : EdgeValue). Ok (record above { edges = above.edges ++ edge ∷ [] }))) same
+      (λ (edge : DeclaredEdgeValue). Ok (record above { edges = above.edges ++ edge ∷ [] }))) same
 
   large_after : (r s : Result PathsValue ManifestFault) (paths : PathsValue) → Agree r s → r ≡ Ok paths → block_fault (values_of look bindings) ≡ Some TooLarge
       → and_then (and_then s (λ paths. unless_then place (block_fault (values_of look bindings)) (Ok (record { rule = rule; block = values_of look bindings; scope = scope; paths = paths; place = place }))))
-      (λ (edge : EdgeValue). Ok (record above { edges = above.edges ++ edge ∷ [] })) ≡ refused place TooLarge
+      (λ (edge : DeclaredEdgeValue). Ok (record above { edges = above.edges ++ edge ∷ [] })) ≡ refused place TooLarge
   large_after (Err f) s paths h e large = cc
   large_after (Ok a) (Err g) paths h e large = absurd h
   large_after (Ok a) (Ok b) paths h e large =
-      ap (λ o. and_then (unless_then place o (Ok (record { rule = rule; block = values_of look bindings; scope = scope; paths = b; place = place }))) (λ (edge : EdgeValue). Ok (record above { edges = above.edges ++ edge ∷ [] }))) large
+      ap (λ o. and_then (unless_then place o (Ok (record { rule = rule; block = values_of look bindings; scope = scope; paths = b; place = place }))) (λ (edge : DeclaredEdgeValue). Ok (record above { edges = above.edges ++ edge ∷ [] }))) large
 
   pub edge_large : (paths : PathsValue) → false ≡ binds (codes "dyndep") bindings → rule_of place above scope build.rule ≡ Ok rule → values ≡ kept_values look bindings
       → paths_of place (in_block values look) build ≡ Ok paths → has_large (values_of look bindings) ≡ true → edge_added place scope build bindings above ≡ refused place TooLarge
@@ -229,8 +229,8 @@ module _ (place : Place) (above : AboveValue) (scope : ℕ) (build : BuildLineVa
       let whole : values_of look bindings ≡ values = sym (kept ∙ kept_same look bindings small) in
       after_rule no_dyndep is
       ∙ ap (λ o. and_then (and_then (paths_of place (in_block (values_of look bindings) look) build) (λ paths. unless_then place o (Ok (record { rule = rule; block = values_of look bindings; scope = scope; paths = paths; place = place }))))
-      (λ (edge : EdgeValue). Ok (record above { edges = above.edges ++ edge ∷ [] }))) (ap (λ b. if b then Some TooLarge else None) small)
+      (λ (edge : DeclaredEdgeValue). Ok (record above { edges = above.edges ++ edge ∷ [] }))) (ap (λ b. if b then Some TooLarge else None) small)
       ∙ ap (λ (block : List (List ℕ × List ℕ)). and_then (and_then (paths_of place (in_block block look) build) (λ paths. Ok (record { rule = rule; block = block; scope = scope; paths = paths; place = place })))
-      (λ (edge : EdgeValue). Ok (record above { edges = above.edges ++ edge ∷ [] }))) whole
+      (λ (edge : DeclaredEdgeValue). Ok (record above { edges = above.edges ++ edge ∷ [] }))) whole
       ∙ ap (λ (r : Result PathsValue ManifestFault). and_then (and_then r (λ paths. Ok (record { rule = rule; block = values; scope = scope; paths = paths; place = place })))
-      (λ (edge : EdgeValue). Ok (record above { edges = above.edges ++ edge ∷ [] }))) h
+      (λ (edge : DeclaredEdgeValue). Ok (record above { edges = above.edges ++ edge ∷ [] }))) h

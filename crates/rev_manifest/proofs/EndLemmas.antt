@@ -6,7 +6,7 @@ use Rattle.std.proofs.lemmas.Slice.Eq.{bytes_eq-Decides}
 use Rattle.rev_syntax.specs.Texts.{PieceValue, Byte, Variable}
 use Rattle.rev_scopes.specs.Bindings.{value_of}
 use Rattle.rev_scopes.specs.Scopes.{variable_in}
-use Rattle.rev_scopes.specs.Edges.{EdgeValue, Source, Known, Needs, first_source, paths_named, source, HasValue, Given, Expanded, IsExpanded, Nothing, Plain, Named, AllHaveValues, SomeNeedsItself, SomeIsTooLarge, given_for}
+use Rattle.rev_scopes.specs.Edges.{EdgeEnvValue, Source, Known, Needs, first_source, paths_named, source, HasValue, Given, Expanded, IsExpanded, Nothing, Plain, Named, AllHaveValues, SomeNeedsItself, SomeIsTooLarge, given_for}
 use Rattle.rev_scopes.specs.declared.edge.EdgeVariables.{EdgeVariables}
 use Rattle.rev_scopes.specs.declared.rule_variable.RuleVariable.{RuleVariable}
 use Rattle.rev_scopes.specs.declared.rule_variable.RuleVariable.TheVariants.{Command, Depfile, Deps, MsvcDepsPrefix, Description, Generator, Restat, Rspfile, RspfileContent, Pool}
@@ -43,7 +43,7 @@ keeps_source : (f g : Look) → Keeps f g → (s : Source) (value : List ℕ) �
 keeps_source f g more (Known v) value e = e
 keeps_source f g more (Needs text) value e = keeps_text f g more text value e
 
-module _ (edge : EdgeValue) where
+module _ (edge : EdgeEnvValue) where
   -- one more step keeps what is found
   keeps_step : (n : ℕ) → Keeps (value_within n edge) (value_within (suc n) edge)
   unfolding value_within
@@ -163,7 +163,7 @@ rule_text None (Some v) rule last text e = cc
 rule_text None None (Some t) last text e = cc
 rule_text None None None last text e = cc
 
-module _ (edge : EdgeValue) where
+module _ (edge : EdgeEnvValue) where
   -- where a step finds no more names of the rule, it finds no more at all
   agree_count : (n : ℕ) → count (value_within (suc n) edge) edge.rule ≡ count (value_within (suc (suc n)) edge) edge.rule → Agree edge (suc n)
   unfolding value_within
@@ -215,7 +215,7 @@ module _ (edge : EdgeValue) where
   derived name value h = let r = reach edge h in settle (r.0) name value (r.1)
 
 -- what is found within some number of texts has a derivation
-module _ (edge : EdgeValue) where
+module _ (edge : EdgeEnvValue) where
   text_derived : (f : Look) → ((name value : List ℕ) → f name ≡ Some value → HasValue edge name value) → (text : List PieceValue) (value : List ℕ) → text_by f text ≡ Some value
       → IsExpanded edge text value
   text_derived f has [] value e = let same : [] ≡ value = cc in subst (IsExpanded edge []) same Nothing
@@ -299,7 +299,7 @@ not_larger value h = by (is_too_large value) refl
     by true e = let more : 1048576 < length value = ltb-true 1048576 (length value) e in absurd (omega arith)
     by false e = e
 
-module _ (edge : EdgeValue) where
+module _ (edge : EdgeEnvValue) where
   all_found : AllHaveValues edge → AllFound (value_at edge) needed
   all_found all =
       let at : (variable : RuleVariable) → IsTrue (is_needed variable) → (v : List ℕ) × (value_at edge (name_of variable) ≡ Some v) =

@@ -10,16 +10,16 @@ use Rattle.rev_paths.proofs.MentionLemmas.{mentions-distinct, mentions-members}
 use Rattle.rev_syntax.specs.Texts.{PieceValue}
 use Rattle.rev_scopes.specs.Scopes.{ScopeValue, RuleValue}
 use Rattle.rev_scopes.specs.Expansion.{expanded}
-use Rattle.rev_manifest.specs.declared.above.Edge.{Edge}
+use Rattle.rev_manifest.specs.declared.declarations.DeclaredEdge.{DeclaredEdge}
 use Rattle.rev_manifest.specs.declared.fault.ManifestFault.{ManifestFault}
 use Rattle.rev_manifest.specs.declared.fault.Place.{Place}
-use Rattle.rev_manifest.specs.Above.{EdgeValue}
+use Rattle.rev_manifest.specs.Declarations.{DeclaredEdgeValue}
 use Rattle.rev_manifest.specs.Answers.{and_then}
 use Rattle.rev_manifest.specs.Builds.{BuildValue, outputs_of, inputs_of, AreOutputs, IsPhony, IsBuild}
 use Rattle.rev_manifest.specs.Ends.{EndValues}
 use Rattle.rev_manifest.specs.Held.{seen_edge}
 use Rattle.rev_manifest.specs.Manifest.{phony_build, command_build, pool_found, pool_number, variables_of, built, built_with, builds_of}
-use Rattle.rev_manifest.specs.Names.{is_none, is_among, without, name_of, names_of}
+use Rattle.rev_manifest.specs.Names.{is_empty, has_path, without, name_of, names_of}
 use Rattle.rev_paths.specs.Mentions.{first_mentions}
 use Rattle.rev_manifest.specs.Pools.{PoolValue, pool_of}
 use Rattle.rev_manifest.proofs.NameLemmas.{filter-all}
@@ -87,14 +87,14 @@ no-or true b h = (cc, cc)
 no-or false b h = (refl, h)
 
 -- paths, and others that are not among them
-pub distinct-beside : (p : List ℕ → Bool) (xs ys : List (List ℕ)) → ((q : List ℕ) → p q ≡ true → is_among xs q ≡ false)
+pub distinct-beside : (p : List ℕ → Bool) (xs ys : List (List ℕ)) → ((q : List ℕ) → p q ≡ true → has_path xs q ≡ false)
     → IsDistinct bytes_eq xs → IsDistinct bytes_eq ys → IsDistinct bytes_eq (xs ++ filter p ys)
 distinct-beside p [] ys apart h k = distinct-filter p ys k
 distinct-beside p (x ∷ xs) ys apart h k =
     IsDistinct-cons bytes_eq x (xs ++ filter p ys)
     (each-append (λ q. bytes_eq x q ≡ false) xs (filter p ys) (IsDistinct-head bytes_eq x xs h)
-    (each-filter (λ q. bytes_eq x q ≡ false) p (λ q e. turned q x (no-or (bytes_eq q x) (is_among xs q) (apart q e)).0) ys))
-    (distinct-beside p xs ys (λ q e. (no-or (bytes_eq q x) (is_among xs q) (apart q e)).1) (IsDistinct-tail bytes_eq x xs h) k)
+    (each-filter (λ q. bytes_eq x q ≡ false) p (λ q e. turned q x (no-or (bytes_eq q x) (has_path xs q) (apart q e)).0) ys))
+    (distinct-beside p xs ys (λ q e. (no-or (bytes_eq q x) (has_path xs q) (apart q e)).1) (IsDistinct-tail bytes_eq x xs h) k)
 
 not-true : (b : Bool) → not b ≡ true → b ≡ false
 not-true true h = cc
@@ -103,8 +103,8 @@ not-true false h = refl
 -- the outputs of a build line: none of them stands twice
 pub outputs-once : (outs implicit_outs : List (List ℕ)) → IsDistinct bytes_eq (first_mentions outs ++ without outs (first_mentions implicit_outs))
 outputs-once outs implicit_outs =
-    distinct-beside (λ path. not (is_among outs path)) (first_mentions outs) (first_mentions implicit_outs)
-    (λ q e. mentions-members outs q ∙ not-true (is_among outs q) e) (mentions-distinct outs) (mentions-distinct implicit_outs)
+    distinct-beside (λ path. not (has_path outs path)) (first_mentions outs) (first_mentions implicit_outs)
+    (λ q e. mentions-members outs q ∙ not-true (has_path outs q) e) (mentions-distinct outs) (mentions-distinct implicit_outs)
 
 mentions-some : (paths : List (List ℕ)) → 0 < length paths → 0 < length (first_mentions paths)
 mentions-some [] h = absurd (omega arith)
@@ -120,7 +120,7 @@ outputs-some (path ∷ outs) implicit_outs h = omega arith
 -- a pool that is found is one of the pools
 pool-within : (place : Place) (pools : List PoolValue) (name : List ℕ) (pool : Option ℕ) → pool_number place pools name ≡ Ok pool
     → IfSome pool (λ number. number < length pools)
-pool-within place pools name pool e = by (is_none name) (pool_of name pools) refl e
+pool-within place pools name pool e = by (is_empty name) (pool_of name pools) refl e
   where
     within : (number : ℕ) → pool_of name pools ≡ Some number → number < length pools
     within number f = (position-Some (λ (p : PoolValue). bytes_eq name p.0) pools number ([], 0) f).0
@@ -130,19 +130,19 @@ pool-within place pools name pool e = by (is_none name) (pool_of name pools) ref
     by false None f e = cc
     by false (Some number) f e = let same : pool ≡ Some number = cc in subst (λ (q : Option ℕ). IfSome q (λ n. n < length pools)) (sym same) (within number f)
 
-has-contained : (paths : List (List ℕ)) (path : List ℕ) → Contains paths path → is_among paths path ≡ true
+has-contained : (paths : List (List ℕ)) (path : List ℕ) → Contains paths path → has_path paths path ≡ true
 has-contained paths path (k, within, at) = list_any_at (bytes_eq path) paths k path within (ap (bytes_eq path) at ∙ (bytes_eq-Decides path path).1 refl)
 
-left-is-other : (own paths : List (List ℕ)) (path : List ℕ) → Contains (without own paths) path → is_among own path ≡ false
+left-is-other : (own paths : List (List ℕ)) (path : List ℕ) → Contains (without own paths) path → has_path own path ≡ false
 left-is-other own paths path there =
-    let p : List ℕ → Bool = λ q. not (is_among own q) in
-    not-true (is_among own path) (sym (ap p there.2) ∙ filter_passes p paths there.0 path there.1)
+    let p : List ℕ → Bool = λ q. not (has_path own q) in
+    not-true (has_path own path) (sym (ap p there.2) ∙ filter_passes p paths there.0 path there.1)
 
 no-or3 : true ≡ false → ⊥
 no-or3 h = cc
 
 -- a phony edge's own outputs are none of its inputs
-phony-apart : (edge : EdgeValue) (path : List ℕ) → Contains (outputs_of (phony_build edge)) path → Contains (inputs_of (phony_build edge)) path → ⊥
+phony-apart : (edge : DeclaredEdgeValue) (path : List ℕ) → Contains (outputs_of (phony_build edge)) path → Contains (inputs_of (phony_build edge)) path → ⊥
 phony-apart edge path out there = by (Contains-append_cases (left ins ++ left implicit) (left order_only) path there)
   where
     own : List (List ℕ)
@@ -172,10 +172,10 @@ phony-apart edge path out there = by (Contains-append_cases (left ins ++ left im
     by (inr k) = never order_only k
 
 module _ (scopes : List ScopeValue) (pools : List PoolValue) where
-  outputs-kept : (edge : Edge) → AreOutputs (edge.paths.outs.items ++ edge.paths.implicit_outs.items)
+  outputs-kept : (edge : DeclaredEdge) → AreOutputs (edge.paths.outs.items ++ edge.paths.implicit_outs.items)
   outputs-kept edge = record { some = edge.paths.has_output; once = edge.paths.once }
 
-  built-phony : (edge : Edge) → IsBuild (length pools) (phony_build (seen_edge edge))
+  built-phony : (edge : DeclaredEdge) → IsBuild (length pools) (phony_build (seen_edge edge))
   built-phony edge =
       record {
         outputs = outputs-kept edge;
@@ -190,12 +190,12 @@ module _ (scopes : List ScopeValue) (pools : List PoolValue) where
         };
       }
 
-  built-command : (edge : Edge) (values : EndValues) (pool : Option ℕ) → IfSome pool (λ number. number < length pools)
+  built-command : (edge : DeclaredEdge) (values : EndValues) (pool : Option ℕ) → IfSome pool (λ number. number < length pools)
       → IsBuild (length pools) (command_build (seen_edge edge) values pool)
   built-command edge values pool within =
       record { outputs = outputs-kept edge; pool = within; phony = λ is. absurd (no-or3 (sym is)) }
 
-  built-by : (edge : Edge) (rule : Option RuleValue) (build : BuildValue) → built_with scopes pools (seen_edge edge) rule ≡ Ok build → IsBuild (length pools) build
+  built-by : (edge : DeclaredEdge) (rule : Option RuleValue) (build : BuildValue) → built_with scopes pools (seen_edge edge) rule ≡ Ok build → IsBuild (length pools) build
   built-by edge None build e =
       let same : phony_build (seen_edge edge) ≡ build = cc in subst (λ (b : BuildValue). IsBuild (length pools) b) same (built-phony edge)
   built-by edge (Some rule) build e =
@@ -219,7 +219,7 @@ module _ (scopes : List ScopeValue) (pools : List PoolValue) where
   each-more P b bs h k (suc i) d within = k i d (omega arith)
 
   -- each edge that is built keeps what a manifest says of it
-  pub builds-kept : (edges : List Edge) (builds : List BuildValue) → builds_of scopes pools (map seen_edge edges) ≡ Ok builds → All (IsBuild (length pools)) builds
+  pub builds-kept : (edges : List DeclaredEdge) (builds : List BuildValue) → builds_of scopes pools (map seen_edge edges) ≡ Ok builds → All (IsBuild (length pools)) builds
   builds-kept [] builds e =
       let same : [] ≡ builds = cc in subst (λ (bs : List BuildValue). All (IsBuild (length pools)) bs) same (λ i d within. absurd (omega arith))
   builds-kept (edge ∷ edges) builds e =

@@ -7,13 +7,13 @@ use Rattle.std.proofs.Common.{map}
 use Rattle.std.specs.Borrow.{Bor}
 use Rattle.rev_syntax.specs.declared.text.Piece.{Piece}
 use Rattle.rev_syntax.specs.declared.text.Piece.TheVariants.{Literal}
-use Rattle.rev_syntax.specs.Bytes.{is_none as empty}
+use Rattle.rev_syntax.specs.Bytes.{is_empty}
 use Rattle.rev_syntax.specs.Pieces.{seen_piece}
 use Rattle.rev_syntax.specs.Texts.{PieceValue, Byte}
 use Rattle.rev_scopes.specs.Expansion.{expanded}
 use Rattle.rev_scopes.proofs.ExpansionLemmas.{expanded-bytes}
 use Rattle.indexmap.specs.IndexSet.{insert_key}
-use Rattle.rev_manifest.specs.Names.{is_among}
+use Rattle.rev_manifest.specs.Names.{has_path}
 use Rattle.rev_paths.specs.Mentions.{first_mentions}
 
 pub distinct-short : (xs : List (List ℕ)) → length xs < 2 → first_mentions xs ≡ xs
@@ -33,21 +33,21 @@ filter-both p q r same [] = refl
 filter-both p q r same (x ∷ xs) = step p x (filter q xs) (filter r xs) (p x) (q x) (r x) refl (same x) (filter-both p q r same xs)
 
 abbrev pub is_left : List (List ℕ) → List ℕ → Bool
-is_left once other = not (is_among once other)
+is_left once other = not (has_path once other)
 
 and_true : (b : Bool) → b ≡ (b && true)
 and_true true = refl
 and_true false = refl
 
 -- a path that stands there already hides the same paths
-same-old : (once : List (List ℕ)) (x y : List ℕ) → is_among once x ≡ true → is_left once y ≡ (is_left once y && not (bytes_eq y x))
+same-old : (once : List (List ℕ)) (x y : List ℕ) → has_path once x ≡ true → is_left once y ≡ (is_left once y && not (bytes_eq y x))
 same-old once x y h = by (bytes_eq y x) refl
   where
     by : (b : Bool) → bytes_eq y x ≡ b → is_left once y ≡ (is_left once y && not b)
     by false e = and_true (is_left once y)
     by true e =
         let same : y ≡ x = (bytes_eq-Decides y x).0 e in
-        let gone : is_left once y ≡ false = ap (λ z. not (is_among once z)) same ∙ ap not h in
+        let gone : is_left once y ≡ false = ap (λ z. not (has_path once z)) same ∙ ap not h in
         gone ∙ sym (ap (λ b. b && false) gone)
 
 not_or : (a b : Bool) → not (a || (b || false)) ≡ (not a && not b)
@@ -56,17 +56,17 @@ not_or false true = refl
 not_or false false = refl
 
 same-new : (once : List (List ℕ)) (x y : List ℕ) → is_left (once ++ x ∷ []) y ≡ (is_left once y && not (bytes_eq y x))
-same-new once x y = ap not (list_any-append (bytes_eq y) once (x ∷ [])) ∙ not_or (is_among once y) (bytes_eq y x)
+same-new once x y = ap not (list_any-append (bytes_eq y) once (x ∷ [])) ∙ not_or (has_path once y) (bytes_eq y x)
 
 -- a name that is there, and one that is new
-pub distinct-old : (once rest : List (List ℕ)) (x : List ℕ) → is_among once x ≡ true
+pub distinct-old : (once rest : List (List ℕ)) (x : List ℕ) → has_path once x ≡ true
     → once ++ filter (is_left once) (first_mentions rest) ≡ once ++ filter (is_left once) (first_mentions (x ∷ rest))
 distinct-old once rest x h =
     ap (λ t. once ++ t)
     (sym (filter-both (is_left once) (λ other. not (bytes_eq other x)) (is_left once) (λ y. same-old once x y h) (first_mentions rest))
     ∙ sym (ap (λ t. cond (not t) (x ∷ filter (is_left once) (filter (λ other. not (bytes_eq other x)) (first_mentions rest))) (filter (is_left once) (filter (λ other. not (bytes_eq other x)) (first_mentions rest)))) h))
 
-pub distinct-new : (once rest : List (List ℕ)) (x : List ℕ) → is_among once x ≡ false
+pub distinct-new : (once rest : List (List ℕ)) (x : List ℕ) → has_path once x ≡ false
     → (once ++ x ∷ []) ++ filter (is_left (once ++ x ∷ [])) (first_mentions rest) ≡ once ++ filter (is_left once) (first_mentions (x ∷ rest))
 distinct-new once rest x h =
     append_assoc once (x ∷ []) (filter (is_left (once ++ x ∷ [])) (first_mentions rest))
@@ -88,7 +88,7 @@ not-false false h = cc
 
 -- a set that has the names so far, and a name that is new to it or not
 pub insert-new : (keys once : List (List ℕ)) (x v : List ℕ) → keys ≡ once → v ≡ x → not (list_any (bytes_eq v) keys) ≡ true
-    → (insert_key bytes_eq keys v ≡ once ++ x ∷ []) × (is_among once x ≡ false)
+    → (insert_key bytes_eq keys v ≡ once ++ x ∷ []) × (has_path once x ≡ false)
 insert-new keys once x v same_keys same new =
     let absent : list_any (bytes_eq v) keys ≡ false = not-true _ new in (
       ap (λ t. if t then keys else keys ++ v ∷ []) absent ∙ (λ i. same_keys i ++ same i ∷ []),
@@ -96,7 +96,7 @@ insert-new keys once x v same_keys same new =
     )
 
 pub insert-old : (keys once : List (List ℕ)) (x v : List ℕ) → keys ≡ once → v ≡ x → not (list_any (bytes_eq v) keys) ≡ false
-    → (insert_key bytes_eq keys v ≡ once) × (is_among once x ≡ true)
+    → (insert_key bytes_eq keys v ≡ once) × (has_path once x ≡ true)
 insert-old keys once x v same_keys same old =
     let present : list_any (bytes_eq v) keys ≡ true = not-false _ old in (
       ap (λ t. if t then keys else keys ++ v ∷ []) present ∙ same_keys,
@@ -115,33 +115,33 @@ or_assoc : (a b c : Bool) → ((a || b) || c) ≡ (a || (b || c))
 or_assoc true b c = refl
 or_assoc false b c = refl
 
-pub is_among-push : (paths : List (List ℕ)) (x y : List ℕ) → is_among (paths ++ x ∷ []) y ≡ (is_among paths y || bytes_eq y x)
-is_among-push paths x y = list_any-append (bytes_eq y) paths (x ∷ []) ∙ ap (λ b. is_among paths y || b) (or_false (bytes_eq y x))
+pub has_path-push : (paths : List (List ℕ)) (x y : List ℕ) → has_path (paths ++ x ∷ []) y ≡ (has_path paths y || bytes_eq y x)
+has_path-push paths x y = list_any-append (bytes_eq y) paths (x ∷ []) ∙ ap (λ b. has_path paths y || b) (or_false (bytes_eq y x))
 
-insert-present : (keys : List (List ℕ)) (v y : List ℕ) (b : Bool) → bytes_eq y v ≡ b → list_any (bytes_eq v) keys ≡ true → is_among keys y ≡ (is_among keys y || b)
-insert-present keys v y false e h = sym (or_false (is_among keys y))
-insert-present keys v y true e h = or_true (is_among keys y) (ap (is_among keys) ((bytes_eq-Decides y v).0 e) ∙ h)
+insert-present : (keys : List (List ℕ)) (v y : List ℕ) (b : Bool) → bytes_eq y v ≡ b → list_any (bytes_eq v) keys ≡ true → has_path keys y ≡ (has_path keys y || b)
+insert-present keys v y false e h = sym (or_false (has_path keys y))
+insert-present keys v y true e h = or_true (has_path keys y) (ap (has_path keys) ((bytes_eq-Decides y v).0 e) ∙ h)
 
-insert-by : (keys : List (List ℕ)) (v y : List ℕ) (b : Bool) → list_any (bytes_eq v) keys ≡ b → is_among (if b then keys else keys ++ v ∷ []) y ≡ (is_among keys y || bytes_eq y v)
+insert-by : (keys : List (List ℕ)) (v y : List ℕ) (b : Bool) → list_any (bytes_eq v) keys ≡ b → has_path (if b then keys else keys ++ v ∷ []) y ≡ (has_path keys y || bytes_eq y v)
 insert-by keys v y true h = insert-present keys v y (bytes_eq y v) refl h
-insert-by keys v y false h = is_among-push keys v y
+insert-by keys v y false h = has_path-push keys v y
 
-is_among-insert : (keys : List (List ℕ)) (v y : List ℕ) → is_among (insert_key bytes_eq keys v) y ≡ (is_among keys y || bytes_eq y v)
-is_among-insert keys v y = insert-by keys v y (list_any (bytes_eq v) keys) refl
+has_path-insert : (keys : List (List ℕ)) (v y : List ℕ) → has_path (insert_key bytes_eq keys v) y ≡ (has_path keys y || bytes_eq y v)
+has_path-insert keys v y = insert-by keys v y (list_any (bytes_eq v) keys) refl
 
 -- a set with one more of the names
-pub names_more : (keys first names : List (List ℕ)) (v x y : List ℕ) → v ≡ x → is_among keys y ≡ (is_among first y || is_among names y)
-    → is_among (insert_key bytes_eq keys v) y ≡ (is_among first y || is_among (names ++ x ∷ []) y)
+pub names_more : (keys first names : List (List ℕ)) (v x y : List ℕ) → v ≡ x → has_path keys y ≡ (has_path first y || has_path names y)
+    → has_path (insert_key bytes_eq keys v) y ≡ (has_path first y || has_path (names ++ x ∷ []) y)
 names_more keys first names v x y same h =
-    is_among-insert keys v y ∙ ap (λ z. is_among keys y || bytes_eq y z) same ∙ ap (λ b. b || bytes_eq y x) h
-    ∙ or_assoc (is_among first y) (is_among names y) (bytes_eq y x) ∙ ap (λ b. is_among first y || b) (sym (is_among-push names x y))
+    has_path-insert keys v y ∙ ap (λ z. has_path keys y || bytes_eq y z) same ∙ ap (λ b. b || bytes_eq y x) h
+    ∙ or_assoc (has_path first y) (has_path names y) (bytes_eq y x) ∙ ap (λ b. has_path first y || b) (sym (has_path-push names x y))
 
 -- one test in place of an equal one
 pub filter-same : (p q : List ℕ → Bool) → ((x : List ℕ) → p x ≡ q x) → (xs : List (List ℕ)) → filter p xs ≡ filter q xs
 filter-same p q same [] = refl
 filter-same p q same (x ∷ xs) = (λ i. cond (same x i) (x ∷ filter-same p q same xs i) (filter-same p q same xs i))
 
-is-none : {A : Type 0} (xs : List A) → empty xs ≡ true → xs ≡ []
+is-none : {A : Type 0} (xs : List A) → is_empty xs ≡ true → xs ≡ []
 is-none [] h = refl
 is-none (x ∷ xs) h = cc
 
@@ -150,7 +150,7 @@ append_nil [] = refl
 append_nil (x ∷ xs) = ap (λ ys. x ∷ ys) (append_nil xs)
 
 -- a text that is one run of bytes stands for these
-pub literal-stands : (text rest : List PieceValue) (piece : Piece) (bytes : Bor (List ℕ)) → text ≡ seen_piece piece ++ rest → empty rest ≡ true → piece ≡ Literal bytes
+pub literal-stands : (text rest : List PieceValue) (piece : Piece) (bytes : Bor (List ℕ)) → text ≡ seen_piece piece ++ rest → is_empty rest ≡ true → piece ≡ Literal bytes
     → (look_up : List ℕ → List ℕ) → expanded look_up text ≡ bytes.now
 literal-stands text rest piece bytes is none literal look_up =
     ap (expanded look_up) (is ∙ (λ i. seen_piece (literal i) ++ is-none rest none i) ∙ append_nil (map Byte bytes.now)) ∙ expanded-bytes look_up bytes.now

@@ -1,5 +1,6 @@
 -- Answers, of which each is a value or the first fault.
 use Rattle.std.specs.Prelude.{◌≡◌, ℕ, Option, Some, None, Result, Ok, Err}
+pub use Rattle.rev_syntax.specs.Faults.{and_then}
 use Rattle.rev_syntax.specs.declared.fault.SyntaxKind.{SyntaxKind}
 use Rattle.rev_syntax.specs.declared.fault.SyntaxKind.TheVariants as syntax
 use Rattle.rev_syntax.specs.declared.fault.SyntaxFault.{SyntaxFault}
@@ -16,11 +17,6 @@ fault_at place kind = record { kind = kind; file = place.file; line = place.line
 
 abbrev pub refused : {A : Type 0} → Place → FaultKind → Result A ManifestFault
 refused place kind = Err (fault_at place kind)
-
--- an answer that goes on from another
-abbrev pub and_then : {A B : Type 0} → Result A ManifestFault → (A → Result B ManifestFault) → Result B ManifestFault
-and_then (Ok value) next = next value
-and_then (Err fault) next = Err fault
 
 -- a value that is refused where there is a fault
 abbrev pub unless : {A : Type 0} → Place → Option FaultKind → A → Result A ManifestFault

@@ -38,7 +38,8 @@ last_text (binding ∷ next ∷ more) = last_text (next ∷ more)
 module _ (value : List PieceValue → List ℕ) where
   -- a binding above others: a later one of its name counts in its place
   abbrev pub with_earlier : BindingValue → List (List ℕ × List ℕ) → List (List ℕ × List ℕ)
-  with_earlier binding values = if is_some (value_of binding.name values) then values else values ++ (binding.name, value binding.value) ∷ []
+  with_earlier binding values =
+      if is_some (value_of binding.name values) then values else values ++ (binding.name, value binding.value) ∷ []
 
   -- bindings with their values, the last first
   abbrev pub values_by : List BindingValue → List (List ℕ × List ℕ)
@@ -58,7 +59,8 @@ abbrev pub IsRuleWith : List BindingValue → Option RuleValue → Type 0
 IsRuleWith bindings None = are_rule_variables bindings ≡ false
 IsRuleWith bindings (Some rule) = (are_rule_variables bindings ≡ true) × (rule ≡ texts_of bindings)
 
--- A value with the bytes that the code keeps of it: 4,097 bytes stand for one that is too large, since a path with it is too long all the same.
+-- A value with the bytes that the code keeps of it: 4,097 bytes stand for one that is too large, since a path with it
+-- is too long all the same.
 abbrev pub kept : List ℕ → List ℕ
 kept value = if is_too_large value then replicate 4097 120 else value
 
@@ -68,4 +70,5 @@ kept_values look_up bindings = values_by (λ text. kept (expanded look_up text))
 
 -- whether a binding that counts above others has a value that is too large
 abbrev pub is_large_above : (List ℕ → List ℕ) → List (List ℕ × List ℕ) → BindingValue → Bool
-is_large_above look_up values binding = not (is_some (value_of binding.name values)) && is_too_large (expanded look_up binding.value)
+is_large_above look_up values binding =
+    not (is_some (value_of binding.name values)) && is_too_large (expanded look_up binding.value)

@@ -38,7 +38,8 @@ pub record AreOutputs (paths : List (List ℕ)) : Type 0 where
   pub some : 0 < length paths
   pub once : IsDistinct bytes_eq paths
 
--- A phony edge runs nothing: it has no command, no flags, keeps no deps, waits for no pool, and none of its outputs is an input of its own.
+-- A phony edge runs nothing: it has no command, no flags, keeps no deps, waits for no pool, and none of its outputs is
+-- an input of its own.
 pub record IsPhony (build : BuildValue) : Type 0 where
   pub no_command : build.command ≡ []
   pub no_deps : build.keeps_deps ≡ false

@@ -5,4 +5,5 @@ use Rattle.std.specs.Char.{is_ascii_digit}
 -- the number that decimal digits say after those that said a number, unless it comes to more than 1,000,000
 abbrev pub depth_from : ℕ → List ℕ → Option ℕ
 depth_from number [] = Some number
-depth_from number (b ∷ bs) = if is_ascii_digit b && nat_le (number * 10 + (b - 48)) 1000000 then depth_from (number * 10 + (b - 48)) bs else None
+depth_from number (b ∷ bs) =
+    if is_ascii_digit b && nat_le (number * 10 + (b - 48)) 1000000 then depth_from (number * 10 + (b - 48)) bs else None

@@ -2,12 +2,12 @@
 use Rattle.std.specs.Prelude.{ℕ, zero, suc, ◌+◌, List, [], ◌∷◌, ◌++◌, length, Option, Some, None, option_map, is_some, not, codes, if◌then◌else◌}
 use Rattle.std.specs.List.{list_any}
 use Rattle.rev_syntax.specs.Texts.{PieceValue, Byte, Variable}
-use Rattle.rev_scopes.specs.Edges.{EdgeValue, Source, Known, Needs, source}
+use Rattle.rev_scopes.specs.Edges.{EdgeEnvValue, Source, Known, Needs, source}
 use Rattle.rev_scopes.specs.Expansion.{is_too_large}
 use Rattle.rev_scopes.specs.Scopes.{ScopeValue, RuleValue}
 use Rattle.rev_manifest.specs.declared.fault.FaultKind.{FaultKind}
 use Rattle.rev_manifest.specs.declared.fault.FaultKind.TheVariants.{VariableCycle, TooLarge}
-use Rattle.rev_manifest.specs.Above as above
+use Rattle.rev_manifest.specs.Declarations as declarations
 
 -- two values one after another, where there are both
 abbrev pub both : Option (List ℕ) → Option (List ℕ) → Option (List ℕ)
@@ -25,12 +25,13 @@ value_by look_up (Known value) = Some value
 value_by look_up (Needs text) = text_by look_up text
 
 -- the value of a name by fewer than so many texts of the rule, each in another
-unfoldable pub value_within : ℕ → EdgeValue → List ℕ → Option (List ℕ)
+unfoldable pub value_within : ℕ → EdgeEnvValue → List ℕ → Option (List ℕ)
 value_within zero edge name = None
 value_within (suc n) edge name = value_by (value_within n edge) (source edge name)
 
--- The value of a name at an edge. A name that is not expanded by as many texts in one another as the rule has needs itself, and has none.
-abbrev pub value_at : EdgeValue → List ℕ → Option (List ℕ)
+-- The value of a name at an edge. A name that is not expanded by as many texts in one another as the rule has needs
+-- itself, and has none.
+abbrev pub value_at : EdgeEnvValue → List ℕ → Option (List ℕ)
 value_at edge name = value_within (length edge.rule + 2) edge name
 
 -- the variables that an edge needs
@@ -45,23 +46,24 @@ pub record EndValues : Type 0 where
 
 abbrev pub needed : List (List ℕ)
 needed =
-    codes "command" ∷ codes "depfile" ∷ codes "deps" ∷ codes "generator" ∷ codes "restat" ∷ codes "rspfile_content" ∷ codes "pool" ∷ []
+    codes "command" ∷ codes "depfile" ∷ codes "deps" ∷ codes "generator" ∷ codes "restat" ∷ codes "rspfile_content"
+    ∷ codes "pool" ∷ []
 
 abbrev pub or_empty : Option (List ℕ) → List ℕ
 or_empty None = []
 or_empty (Some value) = value
 
 -- an edge, with its rule, among all scopes
-abbrev pub at_end : List ScopeValue → above.EdgeValue → RuleValue → EdgeValue
+abbrev pub at_end : List ScopeValue → declarations.DeclaredEdgeValue → RuleValue → EdgeEnvValue
 at_end scopes edge rule = record { ins = edge.paths.ins; outs = edge.paths.outs; block = edge.block; rule = rule; scopes = scopes; scope = edge.scope }
 
 -- why an edge has no values: one that it needs needs itself, or, where none does, one is too large
-abbrev pub fault_at_end : EdgeValue → Option FaultKind
+abbrev pub fault_at_end : EdgeEnvValue → Option FaultKind
 fault_at_end edge =
     if list_any (λ name. not (is_some (value_at edge name))) needed then Some VariableCycle
     else (if list_any (λ name. is_too_large (or_empty (value_at edge name))) needed then Some TooLarge else None)
 
-abbrev pub values_at_end : EdgeValue → EndValues
+abbrev pub values_at_end : EdgeEnvValue → EndValues
 values_at_end edge =
     record {
       command = or_empty (value_at edge (codes "command"));

@@ -1,10 +1,10 @@
 -- What the types of declarations hold.
 use Rattle.std.specs.Prelude.{map, option_map}
 use Rattle.rev_manifest.specs.declared.edge_paths.EdgePaths.{EdgePaths}
-use Rattle.rev_manifest.specs.declared.above.Edge.{Edge}
-use Rattle.rev_manifest.specs.declared.above.Above.{Above}
+use Rattle.rev_manifest.specs.declared.declarations.DeclaredEdge.{DeclaredEdge}
+use Rattle.rev_manifest.specs.declared.declarations.Declarations.{Declarations}
 use Rattle.rev_scopes.specs.declared.edge.EdgeVariables.{EdgeVariables}
-use Rattle.rev_manifest.specs.Above.{PathsValue, EdgeValue, AboveValue}
+use Rattle.rev_manifest.specs.Declarations.{PathsValue, DeclaredEdgeValue, DeclarationsValue}
 use Rattle.rev_manifest.specs.Ends.{EndValues}
 
 abbrev pub seen_paths : EdgePaths → PathsValue
@@ -18,11 +18,11 @@ seen_paths paths =
       validations = paths.validations.items;
     }
 
-abbrev pub seen_edge : Edge → EdgeValue
+abbrev pub seen_edge : DeclaredEdge → DeclaredEdgeValue
 seen_edge edge = record { rule = edge.rule; block = edge.block; scope = edge.scope; paths = seen_paths edge.paths; place = edge.place }
 
-abbrev pub seen_above : Above → AboveValue
-seen_above above =
+abbrev pub seen_declarations : Declarations → DeclarationsValue
+seen_declarations above =
     record {
       scopes = above.scopes;
       pools = above.pools;

@@ -1,4 +1,4 @@
-pub mod Above
+pub mod Declarations
 pub mod Answers
 pub mod Blocks
 pub mod Builds

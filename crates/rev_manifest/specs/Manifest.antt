@@ -7,16 +7,17 @@ use Rattle.rev_manifest.specs.declared.fault.FaultKind.TheVariants.{NoFile, TooL
 use Rattle.rev_manifest.specs.declared.fault.ManifestFault.{ManifestFault}
 use Rattle.rev_manifest.specs.declared.fault.Place.{Place}
 use Rattle.rev_manifest.specs.Answers.{and_then, refused, unless}
-use Rattle.rev_manifest.specs.Names.{is_none, without}
+use Rattle.rev_manifest.specs.Names.{is_empty, without}
 use Rattle.rev_manifest.specs.Files.{FileValue, are_too_large}
 use Rattle.rev_manifest.specs.Pools.{PoolValue, pool_of}
-use Rattle.rev_manifest.specs.Above.{EdgeValue, AboveValue, nothing}
+use Rattle.rev_manifest.specs.Declarations.{DeclaredEdgeValue, DeclarationsValue, nothing}
 use Rattle.rev_manifest.specs.Ends.{EndValues, at_end, fault_at_end, values_at_end}
 use Rattle.rev_manifest.specs.Reading.{reading}
 pub use Rattle.rev_manifest.specs.Builds.{BuildValue, ManifestValue, outputs_of, inputs_of}
 
--- an edge without a rule's variables: a phony edge has no command, flags or pool, and its own outputs are none of its inputs
-abbrev pub phony_build : EdgeValue → BuildValue
+-- an edge without a rule's variables: a phony edge has no command, flags or pool, and its own outputs are none of its
+-- inputs
+abbrev pub phony_build : DeclaredEdgeValue → BuildValue
 phony_build edge =
     let own = edge.paths.outs ++ edge.paths.implicit_outs in
     record {
@@ -37,7 +38,7 @@ phony_build edge =
     }
 
 -- an edge with the values of its rule's variables and the number of its pool
-abbrev pub command_build : EdgeValue → EndValues → Option ℕ → BuildValue
+abbrev pub command_build : DeclaredEdgeValue → EndValues → Option ℕ → BuildValue
 command_build edge values pool =
     record {
       phony = false;
@@ -48,9 +49,9 @@ command_build edge values pool =
       order_only = edge.paths.order_only;
       validations = edge.paths.validations;
       command = compared values.command values.rspfile_content;
-      keeps_deps = not (is_none values.depfile) || not (is_none values.deps);
-      restat = not (is_none values.restat);
-      generator = not (is_none values.generator);
+      keeps_deps = not (is_empty values.depfile) || not (is_empty values.deps);
+      restat = not (is_empty values.restat);
+      generator = not (is_empty values.generator);
       pool = pool;
       file = edge.place.file;
       line = edge.place.line;
@@ -62,26 +63,31 @@ pool_found place (Some number) = Ok (Some number)
 
 -- the number of an edge's pool. The pool with the empty name is none.
 abbrev pub pool_number : Place → List PoolValue → List ℕ → Result (Option ℕ) ManifestFault
-pool_number place pools name = if is_none name then Ok None else pool_found place (pool_of name pools)
+pool_number place pools name = if is_empty name then Ok None else pool_found place (pool_of name pools)
 
 -- the values of the variables that an edge needs, or why they are none
-abbrev pub variables_of : List ScopeValue → EdgeValue → RuleValue → Result EndValues ManifestFault
-variables_of scopes edge rule = unless edge.place (fault_at_end (at_end scopes edge rule)) (values_at_end (at_end scopes edge rule))
+abbrev pub variables_of : List ScopeValue → DeclaredEdgeValue → RuleValue → Result EndValues ManifestFault
+variables_of scopes edge rule =
+    unless edge.place (fault_at_end (at_end scopes edge rule)) (values_at_end (at_end scopes edge rule))
 
 -- an edge when all files are read, or its first fault
-abbrev pub built_with : List ScopeValue → List PoolValue → EdgeValue → Option RuleValue → Result BuildValue ManifestFault
+abbrev pub built_with : List ScopeValue → List PoolValue → DeclaredEdgeValue → Option RuleValue
+    → Result BuildValue ManifestFault
 built_with scopes pools edge None = Ok (phony_build edge)
 built_with scopes pools edge (Some rule) =
-    and_then (variables_of scopes edge rule) (λ values. and_then (pool_number edge.place pools values.pool) (λ pool. Ok (command_build edge values pool)))
+    and_then (variables_of scopes edge rule)
+    (λ values. and_then (pool_number edge.place pools values.pool) (λ pool. Ok (command_build edge values pool)))
 
-abbrev pub built : List ScopeValue → List PoolValue → EdgeValue → Result BuildValue ManifestFault
+abbrev pub built : List ScopeValue → List PoolValue → DeclaredEdgeValue → Result BuildValue ManifestFault
 built scopes pools edge = built_with scopes pools edge edge.rule
 
 -- the edges in reading order, or the fault of the first that has one
-abbrev pub builds_of : List ScopeValue → List PoolValue → List EdgeValue → Result (List BuildValue) ManifestFault
+abbrev pub builds_of : List ScopeValue → List PoolValue → List DeclaredEdgeValue
+    → Result (List BuildValue) ManifestFault
 builds_of scopes pools [] = Ok []
 builds_of scopes pools (edge ∷ edges) =
-    and_then (built scopes pools edge) (λ build. and_then (builds_of scopes pools edges) (λ builds. Ok (build ∷ builds)))
+    and_then (built scopes pools edge)
+    (λ build. and_then (builds_of scopes pools edges) (λ builds. Ok (build ∷ builds)))
 
 -- what is built where nothing is named: what `default` statements name, else the outputs that are nowhere an input
 abbrev pub defaults_of : Option (List (List ℕ)) → List BuildValue → List (List ℕ)
@@ -89,23 +95,25 @@ defaults_of (Some names) builds = names
 defaults_of None builds = without (flat_map inputs_of builds) (flat_map outputs_of builds)
 
 -- the manifest when all files are read
-abbrev pub ended : AboveValue → Result ManifestValue ManifestFault
+abbrev pub ended : DeclarationsValue → Result ManifestValue ManifestFault
 ended above =
-    and_then (builds_of above.scopes above.pools above.edges) (λ builds. Ok (record { builds = builds; pools = above.pools; defaults = defaults_of above.defaults builds }))
+    and_then (builds_of above.scopes above.pools above.edges)
+    (λ builds. Ok (record { builds = builds; pools = above.pools; defaults = defaults_of above.defaults builds }))
 
 -- a place that is no line
 abbrev pub nowhere : Place
 nowhere = record { file = 0; line = 0 }
 
--- what all files declare: the first is the manifest itself, and others are read where statements name them, at most 16 files deep below it
-abbrev pub declared_by : List FileValue → Result AboveValue ManifestFault
+-- what all files declare: the first is the manifest itself, and others are read where statements name them, at most 16
+-- files deep below it
+abbrev pub declared_by : List FileValue → Result DeclarationsValue ManifestFault
 declared_by files = reading files 17 nothing (record { file = 0; scope = 0; place = nowhere })
 
 -- The value of files, each a name and its content, or their first fault.
 unfoldable pub manifest_of : List (List ℕ × List ℕ) → Result ManifestValue ManifestFault
 manifest_of files =
     if are_too_large files then refused nowhere TooLarge
-    else (if is_none files then refused nowhere NoFile else and_then (declared_by files) ended)
+    else (if is_empty files then refused nowhere NoFile else and_then (declared_by files) ended)
 
 abbrev pub fault_of : Result ManifestValue ManifestFault → Option ManifestFault
 fault_of (Ok value) = None

@@ -2,7 +2,7 @@
 use Rattle.std.specs.Prelude.{ℕ, ◌+◌, ◌-◌, ◌*◌, not, ◌||◌, List, [], ◌∷◌, position, Option, Some, None, bytes_eq, codes, nat_lt, if◌then◌else◌}
 use Rattle.std.specs.List.{list_all}
 use Rattle.std.specs.Char.{is_ascii_digit}
-use Rattle.rev_manifest.specs.Names.{is_none}
+use Rattle.rev_manifest.specs.Names.{is_empty}
 
 abbrev pub PoolValue : Type 0
 PoolValue = List ℕ × ℕ
@@ -23,4 +23,5 @@ decimal_from number (b ∷ bs) = decimal_from (number * 10 + (b - 48)) bs
 -- a depth: decimal digits, leading zeros among them, that say at most 1,000,000
 abbrev pub depth_of : List ℕ → Option ℕ
 depth_of text =
-    if is_none text || not (list_all is_ascii_digit text) || nat_lt 1000000 (decimal_from 0 text) then None else Some (decimal_from 0 text)
+    if is_empty text || not (list_all is_ascii_digit text) || nat_lt 1000000 (decimal_from 0 text) then None
+    else Some (decimal_from 0 text)

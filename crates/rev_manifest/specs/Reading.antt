@@ -10,17 +10,19 @@ use Rattle.rev_manifest.specs.declared.fault.ReadFault.{ReadFault}
 use Rattle.rev_manifest.specs.declared.fault.ReadFault.TheVariants.{Memory, Manifest}
 use Rattle.rev_manifest.specs.Answers.{fault_at, and_then, refused, syntax_kind, in_file}
 use Rattle.rev_manifest.specs.Files.{FileValue, content_at}
-use Rattle.rev_manifest.specs.Above.{AboveValue}
+use Rattle.rev_manifest.specs.Declarations.{DeclarationsValue}
 use Rattle.rev_manifest.specs.declared.inclusion.Inclusion.{Inclusion}
 use Rattle.rev_manifest.specs.Statements.{Step, with_form}
 
 -- a statement of a file, in a scope
-abbrev pub with_statement : List FileValue → ℕ → ℕ → AboveValue → syntax.StatementValue → Result Step ManifestFault
-with_statement files file scope above statement = with_form files (record { file = file; line = statement.line }) scope statement.form above
+abbrev pub with_statement : List FileValue → ℕ → ℕ → DeclarationsValue → syntax.StatementValue
+    → Result Step ManifestFault
+with_statement files file scope above statement =
+    with_form files (record { file = file; line = statement.line }) scope statement.form above
 
 -- how a file is read: what it declares after what stands above
 abbrev pub Reader : Type 0
-Reader = AboveValue → Inclusion → Result AboveValue ManifestFault
+Reader = DeclarationsValue → Inclusion → Result DeclarationsValue ManifestFault
 
 -- a fault is that of the first of the statements meant; Memory says nothing of them
 abbrev pub IsNextFault : ℕ → ReadFault → List (Result syntax.StatementValue SyntaxFault) → Type 0
@@ -30,18 +32,21 @@ IsNextFault file (Manifest fault) meant =
     × (fault ≡ fault_at (record { file = file; line = first.line }) (syntax_kind first.kind))
 
 -- the file that a statement names, if it names one, is read at the statement's place
-abbrev pub with_inclusion : Reader → Step → Result AboveValue ManifestFault
+abbrev pub with_inclusion : Reader → Step → Result DeclarationsValue ManifestFault
 with_inclusion read step = elim step.inclusion [ None ↦ Ok step.above | Some inclusion ↦ read step.above inclusion ]
 
 -- statements one after another; the first fault is that of the first that has one
-unfoldable pub with_statements : List FileValue → Reader → ℕ → ℕ → AboveValue → List (Result syntax.StatementValue SyntaxFault) → Result AboveValue ManifestFault
+unfoldable pub with_statements : List FileValue → Reader → ℕ → ℕ → DeclarationsValue
+    → List (Result syntax.StatementValue SyntaxFault) → Result DeclarationsValue ManifestFault
 with_statements files read file scope above [] = Ok above
 with_statements files read file scope above (statement ∷ statements) =
     and_then (in_file file statement) (λ value. and_then (with_statement files file scope above value) (λ step.
     and_then (with_inclusion read step) (λ more. with_statements files read file scope more statements)))
 
--- What is added of the statements meant: the first, with the file that it names and the lines after it. There is none where none is meant.
-abbrev pub IsAdded : List FileValue → ℕ → ℕ → AboveValue → AboveValue → List (Result syntax.StatementValue SyntaxFault) → Option (Option Inclusion × Bor (List LineValue)) → Type 0
+-- What is added of the statements meant: the first, with the file that it names and the lines after it. There is none
+-- where none is meant.
+abbrev pub IsAdded : List FileValue → ℕ → ℕ → DeclarationsValue → DeclarationsValue
+    → List (Result syntax.StatementValue SyntaxFault) → Option (Option Inclusion × Bor (List LineValue)) → Type 0
 IsAdded files file scope old new meant None = (meant ≡ []) × (new ≡ old)
 IsAdded files file scope old new meant (Some found) =
     (value : syntax.StatementValue) × (meant ≡ Ok value ∷ syntax.statements_of found.1.now)
@@ -51,4 +56,5 @@ IsAdded files file scope old new meant (Some found) =
 unfoldable pub reading : List FileValue → ℕ → Reader
 reading files zero above inclusion = refused inclusion.place IncludeDepth
 reading files (suc left) above inclusion =
-    with_statements files (reading files left) inclusion.file inclusion.scope above (syntax.statements_of (lines_of (content_at files inclusion.file)))
+    with_statements files (reading files left) inclusion.file inclusion.scope above
+    (syntax.statements_of (lines_of (content_at files inclusion.file)))

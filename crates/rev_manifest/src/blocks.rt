@@ -65,8 +65,10 @@ fn kept_value(
     scope: usize,
 ) -> Result<(Vec<u8>, bool), AllocError>
     requires { scope < length scopes.now }
-    ensures value { IfOk result (λ found. found.0.items ≡ kept (expanded (variable_in scopes.now scope) text.entry)) }
-    ensures large { IfOk result (λ found. found.1 ≡ is_too_large (expanded (variable_in scopes.now scope) text.entry)) }
+    ensures value { IfOk result (λ found. found.0.items
+        ≡ kept (expanded (variable_in scopes.now scope) text.entry)) }
+    ensures large { IfOk result (λ found. found.1
+        ≡ is_too_large (expanded (variable_in scopes.now scope) text.entry)) }
 {
     match expand(alloc, text, scopes, scope) {
         Ok(value) => Ok((value, false)),
@@ -88,8 +90,13 @@ fn add_earlier(
     scope: usize,
 ) -> Result<(), AllocError>
     requires { scope < length scopes.now }
-    ensures values { OnOk result (block.new.values ≡ with_earlier (λ text. kept (expanded (variable_in scopes.now scope) text)) (seen_binding binding.now) block.old.values) }
-    ensures large { OnOk result (block.new.is_large ≡ (block.old.is_large || is_large_above (variable_in scopes.now scope) block.old.values (seen_binding binding.now))) }
+    ensures values { OnOk result (block.new.values
+        ≡ with_earlier (λ text. kept (expanded (variable_in scopes.now scope) text))
+        (seen_binding binding.now) block.old.values) }
+    ensures large { OnOk result (block.new.is_large
+        ≡ (block.old.is_large
+        || is_large_above (variable_in scopes.now scope) block.old.values
+        (seen_binding binding.now))) }
 {
     if block.values.value(binding.name).is_some() {
         return Ok(());
@@ -110,8 +117,10 @@ pub(crate) fn block_of(
     scope: usize,
 ) -> Result<Block, AllocError>
     requires { scope < length scopes.now }
-    ensures values { IfOk result (λ block. block.values ≡ kept_values (variable_in scopes.now scope) (map seen_binding bindings.now)) }
-    ensures large { IfOk result (λ block. block.is_large ≡ has_large (values_of (variable_in scopes.now scope) (map seen_binding bindings.now))) }
+    ensures values { IfOk result (λ block. block.values
+        ≡ kept_values (variable_in scopes.now scope) (map seen_binding bindings.now)) }
+    ensures large { IfOk result (λ block. block.is_large
+        ≡ has_large (values_of (variable_in scopes.now scope) (map seen_binding bindings.now))) }
 {
     let mut block = Block {
         values: Bindings::new(alloc),

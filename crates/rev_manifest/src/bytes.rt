@@ -1,10 +1,10 @@
 //! Tests of bytes.
 ghost use Rattle.std.specs.Prelude.{◌≡◌};
-ghost use Rattle.rev_manifest.specs.Names.{is_none};
+ghost use Rattle.rev_manifest.specs.Names.{is_empty};
 
 /// Whether there is no byte.
-pub(crate) fn is_none(bytes: &[u8]) -> bool
-    ensures { result ≡ is_none bytes.now }
+pub(crate) fn is_empty(bytes: &[u8]) -> bool
+    ensures { result ≡ is_empty bytes.now }
 {
     match bytes.first() {
         None => true,

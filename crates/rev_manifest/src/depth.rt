@@ -3,7 +3,7 @@ ghost use Rattle.std.specs.Prelude.{◌≡◌, ◌<◌, ◌≤◌, length, None,
 ghost use Rattle.rev_syntax.specs.Pieces.{seen_piece};
 ghost use Rattle.rev_scopes.specs.Scopes.{variable_in};
 ghost use Rattle.rev_scopes.specs.Expansion.{expanded};
-ghost use Rattle.rev_manifest.specs.Names.{is_none};
+ghost use Rattle.rev_manifest.specs.Names.{is_empty};
 ghost use Rattle.rev_manifest.specs.Depths.{depth_from};
 
 use rev_scopes::Scopes;
@@ -47,7 +47,8 @@ fn bytes_of<'a>(piece: Piece<'a>, scopes: &'a Scopes, scope: usize) -> &'a [u8]
 /// The text is not expanded as a whole, so it may be longer than a value may be.
 pub(crate) fn depth_of_text(text: &Text<'_>, scopes: &Scopes, scope: usize) -> Option<u32>
     requires { scope < length scopes.now }
-    ensures { result ≡ (if is_none text.now then None else depth_from 0 (expanded (variable_in scopes.now scope) text.now)) }
+    ensures { result ≡ (if is_empty text.now then None
+        else depth_from 0 (expanded (variable_in scopes.now scope) text.now)) }
 {
     let (piece, mut rest) = text.first_piece()?;
     let mut number = depth_from(0, bytes_of(piece, scopes, scope))?;

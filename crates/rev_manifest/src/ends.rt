@@ -2,14 +2,14 @@
 ghost use Rattle.std.specs.Prelude.{◌≡◌, ◌++◌, ◌||◌, not, filter, map, List, ℕ, Ok, IfOk, OnOk, MatchResult, option_map};
 ghost use Rattle.std.specs.List.{flat_map};
 ghost use Rattle.rev_manifest.specs.Answers.{IsFault};
-ghost use Rattle.rev_manifest.specs.Names.{is_among};
+ghost use Rattle.rev_manifest.specs.Names.{has_path};
 ghost use Rattle.rev_manifest.specs.Manifest.{phony_build, command_build, pool_number, variables_of, built, builds_of, inputs_of, outputs_of, defaults_of, ended};
-ghost use Rattle.rev_manifest.specs.Held.{seen_edge, seen_values, seen_above};
+ghost use Rattle.rev_manifest.specs.Held.{seen_edge, seen_values, seen_declarations};
 ghost use Rattle.rev_manifest.specs.Builds.{IsManifest};
 
-use crate::above::{Above, Edge};
 use crate::builds::Build;
-use crate::bytes::is_none;
+use crate::bytes::is_empty;
+use crate::declarations::{Declarations, DeclaredEdge};
 use crate::fault::{FaultKind, Place, ReadFault};
 use crate::manifest::{Manifest, Parts};
 use crate::names::{add_names, push_others};
@@ -22,7 +22,8 @@ use std::alloc::{AllocError, Global};
 
 // The names of two lists.
 fn set_of(alloc: Global, first: &[Name], second: &[Name]) -> Result<IndexSet<Name>, AllocError>
-    ensures { IfOk result (λ set. (path : List ℕ) → is_among set.keys path ≡ is_among (first.now ++ second.now) path) }
+    ensures { IfOk result (λ set. (path : List ℕ)
+        → has_path set.keys path ≡ has_path (first.now ++ second.now) path) }
 {
     let mut set = IndexSet::new(alloc);
     add_names(&mut set, first)?;
@@ -32,7 +33,8 @@ fn set_of(alloc: Global, first: &[Name], second: &[Name]) -> Result<IndexSet<Nam
 
 // The names that are not in a set.
 fn others(alloc: Global, set: &IndexSet<Name>, names: &[Name]) -> Result<Vec<Name>, AllocError>
-    ensures { IfOk result (λ left. left.items ≡ filter (λ path. not (is_among set.now.keys path)) names.now) }
+    ensures { IfOk result (λ left. left.items
+        ≡ filter (λ path. not (has_path set.now.keys path)) names.now) }
 {
     let mut left = Vec::new(alloc);
     push_others(&mut left, set, names)?;
@@ -43,7 +45,7 @@ fn others(alloc: Global, set: &IndexSet<Name>, names: &[Name]) -> Result<Vec<Nam
 fn phony_build(
     alloc: Global,
     texts: &mut IndexSet<SharedText>,
-    edge: Edge,
+    edge: DeclaredEdge,
 ) -> Result<Build, AllocError>
     ensures { IfOk result (λ build. build ≡ phony_build (seen_edge edge)) }
 {
@@ -76,7 +78,7 @@ fn pool_number(place: Place, pools: &Pools, name: &[u8]) -> Result<Option<u32>, 
         (λ number. pool_number place pools.now name.now ≡ Ok number)
         (λ fault. IsFault fault (pool_number place pools.now name.now)) }
 {
-    if is_none(name) {
+    if is_empty(name) {
         return Ok(None);
     }
     match pools.number(name) {
@@ -93,14 +95,14 @@ fn pool_number(place: Place, pools: &Pools, name: &[u8]) -> Result<Option<u32>, 
 fn variables_of(
     alloc: Global,
     scopes: &Scopes,
-    edge: &Edge,
+    edge: &DeclaredEdge,
     rule: &Rule,
 ) -> Result<EdgeVariables, ReadFault>
     ensures { MatchResult result
         (λ values. variables_of scopes.now (seen_edge edge.now) rule.now ≡ Ok (seen_values values))
         (λ fault. IsFault fault (variables_of scopes.now (seen_edge edge.now) rule.now)) }
 {
-    let at_end = rev_scopes::Edge {
+    let at_end = rev_scopes::EdgeEnv {
         ins: &edge.paths.ins,
         outs: &edge.paths.outs,
         block: &edge.block,
@@ -119,15 +121,15 @@ fn variables_of(
 // An edge with the values of its rule's variables.
 fn command_build(
     texts: &mut IndexSet<SharedText>,
-    edge: Edge,
+    edge: DeclaredEdge,
     values: EdgeVariables,
     pool: Option<u32>,
 ) -> Result<Build, AllocError>
     ensures { IfOk result (λ build. build ≡ command_build (seen_edge edge) (seen_values values) pool) }
 {
-    let keeps_deps = !is_none(&values.depfile) || !is_none(&values.deps);
-    let restat = !is_none(&values.restat);
-    let generator = !is_none(&values.generator);
+    let keeps_deps = !is_empty(&values.depfile) || !is_empty(&values.deps);
+    let restat = !is_empty(&values.restat);
+    let generator = !is_empty(&values.generator);
     let command = shared(
         texts,
         compared_command(values.command, &values.rspfile_content)?,
@@ -157,7 +159,7 @@ fn built(
     texts: &mut IndexSet<SharedText>,
     scopes: &Scopes,
     pools: &Pools,
-    edge: Edge,
+    edge: DeclaredEdge,
 ) -> Result<Build, ReadFault>
     ensures { MatchResult result
         (λ build. built scopes.now pools.now (seen_edge edge) ≡ Ok build)
@@ -178,7 +180,7 @@ fn builds_of(
     alloc: Global,
     scopes: &Scopes,
     pools: &Pools,
-    edges: Vec<Edge>,
+    edges: Vec<DeclaredEdge>,
 ) -> Result<Vec<Build>, ReadFault>
     ensures { MatchResult result
         (λ builds. builds_of scopes.now pools.now (map seen_edge edges.items) ≡ Ok builds.items)
@@ -196,7 +198,9 @@ fn builds_of(
 
 // Adds the inputs of an edge to a set.
 fn add_inputs(set: &mut IndexSet<Name>, build: &Build) -> Result<(), AllocError>
-    ensures { OnOk result ((path : List ℕ) → is_among set.new.keys path ≡ (is_among set.old.keys path || is_among (inputs_of build.now) path)) }
+    ensures { OnOk result ((path : List ℕ)
+        → has_path set.new.keys path
+        ≡ (has_path set.old.keys path || has_path (inputs_of build.now) path)) }
 {
     add_names(set, &build.explicit)?;
     add_names(set, &build.implicit)?;
@@ -206,7 +210,8 @@ fn add_inputs(set: &mut IndexSet<Name>, build: &Build) -> Result<(), AllocError>
 
 // The inputs of all edges.
 fn inputs_of(alloc: Global, builds: &[Build]) -> Result<IndexSet<Name>, AllocError>
-    ensures { IfOk result (λ set. (path : List ℕ) → is_among set.keys path ≡ is_among (flat_map inputs_of builds.now) path) }
+    ensures { IfOk result (λ set. (path : List ℕ)
+        → has_path set.keys path ≡ has_path (flat_map inputs_of builds.now) path) }
 {
     let mut set = IndexSet::new(alloc);
     for build in builds {
@@ -217,7 +222,9 @@ fn inputs_of(alloc: Global, builds: &[Build]) -> Result<IndexSet<Name>, AllocErr
 
 // Adds the outputs of an edge that are not in a set.
 fn push_outputs(left: &mut Vec<Name>, set: &IndexSet<Name>, build: &Build) -> Result<(), AllocError>
-    ensures { OnOk result (left.new.items ≡ left.old.items ++ filter (λ path. not (is_among set.now.keys path)) (outputs_of build.now)) }
+    ensures { OnOk result (left.new.items
+        ≡ left.old.items ++ filter (λ path. not (has_path set.now.keys path))
+        (outputs_of build.now)) }
 {
     push_others(left, set, &build.explicit_outs)?;
     push_others(left, set, &build.implicit_outs)?;
@@ -230,7 +237,8 @@ fn other_outputs(
     set: &IndexSet<Name>,
     builds: &[Build],
 ) -> Result<Vec<Name>, AllocError>
-    ensures { IfOk result (λ left. left.items ≡ filter (λ path. not (is_among set.now.keys path)) (flat_map outputs_of builds.now)) }
+    ensures { IfOk result (λ left. left.items
+        ≡ filter (λ path. not (has_path set.now.keys path)) (flat_map outputs_of builds.now)) }
 {
     let mut left = Vec::new(alloc);
     for build in builds {
@@ -245,7 +253,8 @@ fn defaults_of(
     named: Option<Vec<Name>>,
     builds: &[Build],
 ) -> Result<Vec<Name>, AllocError>
-    ensures { IfOk result (λ defaults. defaults.items ≡ defaults_of (option_map (λ names. names.items) named) builds.now) }
+    ensures { IfOk result (λ defaults. defaults.items
+        ≡ defaults_of (option_map (λ names. names.items) named) builds.now) }
 {
     if let Some(names) = named {
         return Ok(names);
@@ -256,13 +265,13 @@ fn defaults_of(
 }
 
 /// The manifest when all files are read.
-pub(crate) fn ended(alloc: Global, above: Above) -> Result<Manifest, ReadFault>
+pub(crate) fn ended(alloc: Global, above: Declarations) -> Result<Manifest, ReadFault>
     ensures meant { MatchResult result
-        (λ manifest. ended (seen_above above) ≡ Ok manifest)
-        (λ fault. IsFault fault (ended (seen_above above))) }
+        (λ manifest. ended (seen_declarations above) ≡ Ok manifest)
+        (λ fault. IsFault fault (ended (seen_declarations above))) }
     ensures kept { IfOk result IsManifest }
 {
-    let Above {
+    let Declarations {
         scopes,
         pools,
         edges,

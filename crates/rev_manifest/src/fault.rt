@@ -16,7 +16,7 @@ pub enum FaultKind {
     LongPath,
     /// 10: no line of the grammar goes on like this.
     Syntax,
-    /// 11: a tab stands among the blanks at the front of a line.
+    /// 11: a tab stands among the blanks at the beginning of a line.
     Tab,
     /// 12: a `$` with nothing after it that it can stand before.
     BadEscape,

@@ -62,7 +62,10 @@ fn add_file(
     place: usize,
     file: &(Vec<u8>, Vec<u8>),
 ) -> Result<(), AllocError>
-    ensures { OnOk result ((path : List ℕ) → get bytes_eq places.new path ≡ first_place (get bytes_eq places.old path) (is_named path (file.now.0.items, file.now.1.items)) place) }
+    ensures { OnOk result ((path : List ℕ)
+        → get bytes_eq places.new path
+        ≡ first_place (get bytes_eq places.old path)
+        (is_named path (file.now.0.items, file.now.1.items)) place) }
 {
     match Name::new(alloc, &file.0) {
         Err(PathFault::Memory) => Err(AllocError),
@@ -83,7 +86,8 @@ fn places_of(
     alloc: Global,
     files: &[(Vec<u8>, Vec<u8>)],
 ) -> Result<IndexMap<Name, usize>, AllocError>
-    ensures { IfOk result (λ places. (path : List ℕ) → get bytes_eq places path ≡ file_of path (seen_files files.now)) }
+    ensures { IfOk result (λ places. (path : List ℕ)
+        → get bytes_eq places path ≡ file_of path (seen_files files.now)) }
 {
     let mut places = IndexMap::new(alloc);
     for (place, file) in files.iter().enumerate() {

@@ -1,10 +1,10 @@
 //! Build manifests: from their bytes to their edges.
 #![tactic(auto)]
 
-mod above;
 mod blocks;
 mod builds;
 mod bytes;
+mod declarations;
 mod depth;
 mod edge_paths;
 mod ends;

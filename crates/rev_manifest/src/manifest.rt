@@ -5,10 +5,10 @@ ghost use Rattle.rev_manifest.specs.Answers.{IsFault, and_then};
 ghost use Rattle.rev_manifest.specs.Manifest.{manifest_of, first_fault, declared_by, ended};
 ghost use Rattle.rev_manifest.specs.Builds.{IsManifest};
 ghost use Rattle.rev_manifest.specs.Seen.{seen_files, seen_parts, seen_pools};
-ghost use Rattle.rev_manifest.specs.Held.{seen_above};
+ghost use Rattle.rev_manifest.specs.Held.{seen_declarations};
 
-use crate::above::{Above, nothing};
 use crate::builds::Build;
+use crate::declarations::{Declarations, nothing};
 use crate::ends::ended;
 use crate::fault::{FaultKind, ManifestFault, Place, ReadFault};
 use crate::files::{Files, are_too_large};
@@ -30,8 +30,8 @@ pub(crate) struct Parts {
     pub(crate) defaults: Vec<Name>,
 }
 
-/// What a build manifest says. Only [`read`] makes one, and nothing changes it: each of its edges has an output and none twice,
-/// a pool of the manifest or none, and where it is phony nothing to run.
+/// What a build manifest says. Only [`read`] makes one, and nothing changes it: each of its edges has an output and
+/// none twice, a pool of the manifest or none, and where it is phony nothing to run.
 #[derive(Drop)]
 pub struct Manifest {
     parts: Arc<Parts>,
@@ -102,9 +102,9 @@ const MOST_DEEP: u32 = 17;
 const NOWHERE: Place = Place { file: 0, line: 0 };
 
 // What all files declare.
-fn declared_by(alloc: Global, files: &[(Vec<u8>, Vec<u8>)]) -> Result<Above, ReadFault>
+fn declared_by(alloc: Global, files: &[(Vec<u8>, Vec<u8>)]) -> Result<Declarations, ReadFault>
     ensures { MatchResult result
-        (λ above. declared_by (seen_files files.now) ≡ Ok (seen_above above))
+        (λ above. declared_by (seen_files files.now) ≡ Ok (seen_declarations above))
         (λ fault. IsFault fault (declared_by (seen_files files.now))) }
 {
     let given = Files::new(alloc, files)?;
@@ -130,8 +130,8 @@ fn read_all(alloc: Global, files: &[(Vec<u8>, Vec<u8>)]) -> Result<Manifest, Rea
     Ok(manifest)
 }
 
-/// Reads files, each a name and its content. The first is the manifest itself; the others are those that `include` and `subninja`
-/// may name.
+/// Reads files, each a name and its content. The first is the manifest itself; the others are those that `include` and
+/// `subninja` may name.
 ///
 /// # Errors
 /// [`ReadFault::Manifest`] with the first fault of the files, and [`ReadFault::Memory`] only where
@@ -142,11 +142,13 @@ pub fn read(alloc: Global, files: &[(Vec<u8>, Vec<u8>)]) -> Result<Manifest, Rea
     ensures value { IfOk result (λ manifest. manifest_of (seen_files files.now) ≡ Ok manifest) }
     ensures faultless { OnOk result (first_fault (seen_files files.now) ≡ None) }
 
-    // Whatever the files say, each edge has outputs, none twice, a pool of the manifest or none, and where it is phony nothing to run.
+    // Whatever the files say, each edge has outputs, none twice, a pool of the manifest or none, and where it is phony
+    // nothing to run.
     ensures kept { IfOk result IsManifest }
 
     // A fault is their first.
-    ensures fault { (fault : ManifestFault) → IsErrOf result (ReadFault.Manifest fault) → first_fault (seen_files files.now) ≡ Some fault }
+    ensures fault { (fault : ManifestFault) → IsErrOf result (ReadFault.Manifest fault)
+        → first_fault (seen_files files.now) ≡ Some fault }
 {
     if are_too_large(files) {
         return Err(NOWHERE.fault(FaultKind::TooLarge));

@@ -4,7 +4,7 @@ ghost use Rattle.rev_paths.specs.Mentions.{first_mentions};
 ghost use Rattle.rev_scopes.specs.Scopes.{variable_in};
 ghost use Rattle.rev_scopes.specs.Expansion.{expanded, in_block};
 ghost use Rattle.rev_manifest.specs.Answers.{IsFault};
-ghost use Rattle.rev_manifest.specs.Names.{name_of, names_of, without, is_among};
+ghost use Rattle.rev_manifest.specs.Names.{name_of, names_of, without, has_path};
 
 use crate::fault::{FaultKind, Place, ReadFault};
 use indexmap::IndexSet;
@@ -46,7 +46,8 @@ pub(crate) fn first_mentions(alloc: Global, names: Vec<Name>) -> Result<Vec<Name
 
 /// Adds names to a set.
 pub(crate) fn add_names(set: &mut IndexSet<Name>, names: &[Name]) -> Result<(), AllocError>
-    ensures { OnOk result ((path : List ℕ) → is_among set.new.keys path ≡ (is_among set.old.keys path || is_among names.now path)) }
+    ensures { OnOk result ((path : List ℕ)
+        → has_path set.new.keys path ≡ (has_path set.old.keys path || has_path names.now path)) }
 {
     for name in names {
         set.insert(name.copy()?)?;
@@ -60,7 +61,8 @@ pub(crate) fn push_others(
     set: &IndexSet<Name>,
     names: &[Name],
 ) -> Result<(), AllocError>
-    ensures { OnOk result (others.new.items ≡ others.old.items ++ filter (λ path. not (is_among set.now.keys path)) names.now) }
+    ensures { OnOk result (others.new.items
+        ≡ others.old.items ++ filter (λ path. not (has_path set.now.keys path)) names.now) }
 {
     for name in names {
         if !set.contains(name) {
@@ -150,7 +152,8 @@ pub(crate) fn name_in_scope(
     Ok(name)
 }
 
-/// The canonical names of texts, whose variables are looked up in a scope, or the fault of the leftmost path that has one.
+/// The canonical names of texts, whose variables are looked up in a scope, or the fault of the leftmost path that has
+/// one.
 pub(crate) fn names_in_scope(
     alloc: Global,
     paths: &mut Paths,

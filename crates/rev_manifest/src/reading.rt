@@ -5,9 +5,9 @@ ghost use Rattle.rev_syntax.specs.Statements.{statements_of};
 ghost use Rattle.rev_syntax.specs.Seen.{IsFirst, seen_statement};
 ghost use Rattle.rev_manifest.specs.Answers.{IsFault};
 ghost use Rattle.rev_manifest.specs.Reading.{Reader, reading, with_statement, with_statements, with_inclusion, IsNextFault, IsAdded};
-ghost use Rattle.rev_manifest.specs.Held.{seen_above};
+ghost use Rattle.rev_manifest.specs.Held.{seen_declarations};
 
-use crate::above::Above;
+use crate::declarations::Declarations;
 use crate::fault::{FaultKind, Place, ReadFault};
 use crate::files::Files;
 use crate::inclusion::Inclusion;
@@ -42,17 +42,18 @@ fn next_statement<'a>(
 fn add_parsed(
     alloc: Global,
     files: &Files<'_>,
-    above: &mut Above,
+    above: &mut Declarations,
     file: u64,
     scope: usize,
     statement: Statement<'_>,
 ) -> Result<Option<Inclusion>, ReadFault>
     requires { scope < length above.old.scopes }
     ensures meant { MatchResult result
-        (λ inclusion. with_statement files.now file scope (seen_above above.old) (seen_statement statement.entry) ≡ Ok (record { above = seen_above above.new; inclusion = inclusion }))
-        (λ fault. IsFault fault (with_statement files.now file scope (seen_above above.old) (seen_statement statement.entry))) }
+        (λ inclusion. with_statement files.now file scope (seen_declarations above.old) (seen_statement statement.entry) ≡ Ok (record { above = seen_declarations above.new; inclusion = inclusion }))
+        (λ fault. IsFault fault (with_statement files.now file scope (seen_declarations above.old) (seen_statement statement.entry))) }
     ensures grows { OnOk result (length above.old.scopes ≤ length above.new.scopes) }
-    ensures within { IfOk result (λ found. ForSome found (λ inclusion. inclusion.scope < length above.new.scopes)) }
+    ensures within { IfOk result (λ found.
+        ForSome found (λ inclusion. inclusion.scope < length above.new.scopes)) }
 {
     let place = Place {
         file,
@@ -62,21 +63,27 @@ fn add_parsed(
     Ok(named)
 }
 
-// Adds what the first statement of lines declares, and gives the file that it names, if it names one, with the lines after it.
+// Adds what the first statement of lines declares, and gives the file that it names, if it names one, with the lines
+// after it.
 fn add_next<'a>(
     alloc: Global,
     files: &Files<'_>,
-    above: &mut Above,
+    above: &mut Declarations,
     file: u64,
     scope: usize,
     lines: &'a [Line],
 ) -> Result<Option<(Option<Inclusion>, &'a [Line])>, ReadFault>
     requires { scope < length above.old.scopes }
-    ensures added { IfOk result (IsAdded files.now file scope (seen_above above.old) (seen_above above.new) (statements_of lines.now)) }
-    ensures fault { IfErr result (λ fault. (read : Reader) → IsFault fault (with_statements files.now read file scope (seen_above above.old) (statements_of lines.now))) }
+    ensures added { IfOk result (IsAdded files.now file scope (seen_declarations above.old)
+        (seen_declarations above.new) (statements_of lines.now)) }
+    ensures fault { IfErr result (λ fault. (read : Reader)
+        → IsFault fault (with_statements files.now read file scope (seen_declarations above.old)
+        (statements_of lines.now))) }
     ensures shorter { IfOk result (λ found. IfSome found (λ next. length next.1.now < length lines.now)) }
     ensures grows { OnOk result (length above.old.scopes ≤ length above.new.scopes) }
-    ensures within { IfOk result (λ found. IfSome found (λ next. ForSome next.0 (λ inclusion. inclusion.scope < length above.new.scopes))) }
+    ensures within { IfOk result (λ found.
+        IfSome found (λ next.
+        ForSome next.0 (λ inclusion. inclusion.scope < length above.new.scopes))) }
 {
     match next_statement(alloc, file, lines)? {
         None => Ok(None),
@@ -87,18 +94,19 @@ fn add_next<'a>(
     }
 }
 
-/// Reads the file that a statement names, if it names one, where so many files deep may still be read, that one among them.
+/// Reads the file that a statement names, if it names one, where so many files deep may still be read, that one among
+/// them.
 pub(crate) fn read_file(
     alloc: Global,
     files: &Files<'_>,
     left: u32,
-    above: &mut Above,
+    above: &mut Declarations,
     named: Option<Inclusion>,
 ) -> Result<(), ReadFault>
     requires { ForSome named (λ inclusion. inclusion.scope < length above.old.scopes) }
     ensures meant { MatchResult result
-        (λ _. with_inclusion (reading files.now left) (record { above = seen_above above.old; inclusion = named }) ≡ Ok (seen_above above.new))
-        (λ fault. IsFault fault (with_inclusion (reading files.now left) (record { above = seen_above above.old; inclusion = named }))) }
+        (λ _. with_inclusion (reading files.now left) (record { above = seen_declarations above.old; inclusion = named }) ≡ Ok (seen_declarations above.new))
+        (λ fault. IsFault fault (with_inclusion (reading files.now left) (record { above = seen_declarations above.old; inclusion = named }))) }
     ensures grows { OnOk result (length above.old.scopes ≤ length above.new.scopes) }
 {
     let Some(inclusion) = named else {

@@ -1,10 +1,10 @@
 //! Texts whose copies share their bytes.
-ghost use Rattle.std.specs.Prelude.{◌≡◌, IfOk, bytes_eq};
-ghost use Rattle.std.specs.Hash as fed;
+ghost use Rattle.std.specs.Prelude.{◌≡◌, ◌∷◌, [], IfOk, bytes_eq};
+ghost use Rattle.std.specs.Hash.{same_Alike};
+ghost use Rattle.std.proofs.lemmas.Slice.Eq.{bytes_eq-Decides};
 ghost use Rattle.std.specs.Cmp.{partial_equiv_from_equiv};
 ghost use Rattle.std.specs.Cmp.Lexicographic.{nat_list_eq_equiv};
-ghost use Rattle.std.specs.Cmp.Rules.{comparing, hashing};
-ghost use Rattle.std.proofs.Common.{rules};
+ghost use Rattle.std.specs.Cmp.Rules.{comparing};
 
 use indexmap::IndexSet;
 use std::alloc::AllocError;
@@ -68,12 +68,13 @@ impl Eq for SharedText {
 }
 
 impl Hash for SharedText {
-    ghost hash_input = { fed.slice fed.u8 };
+    // All bytes in one write, of which the hasher takes many at a time.
+    ghost hash_input = { λ text. text ∷ [] };
 
-    ghost respects_eq = { Prim.search (hashing, rules) };
+    ghost respects_eq = { (same_Alike (λ text. text ∷ []) bytes_eq-Decides).fed };
 
     fn hash<H: Hasher>(&self, state: &mut H) {
-        self.bytes.hash(state);
+        state.write(self.as_bytes());
     }
 }
 

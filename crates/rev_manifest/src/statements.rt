@@ -6,13 +6,13 @@ ghost use Rattle.rev_scopes.specs.Scopes.{variable_in};
 ghost use Rattle.rev_scopes.specs.Expansion.{expanded, in_block};
 ghost use Rattle.rev_manifest.specs.Answers.{IsFault};
 ghost use Rattle.rev_manifest.specs.Blocks.{last_text};
-ghost use Rattle.rev_manifest.specs.Above.{more_defaults};
+ghost use Rattle.rev_manifest.specs.Declarations.{more_defaults};
 ghost use Rattle.rev_manifest.specs.Statements.{rule_declared, pool_declared, depth_given, value_limited, variable_bound, defaults_named, rule_of, paths_of, edge_added, file_named, file_included, file_nested, with_form};
-ghost use Rattle.rev_manifest.specs.Held.{seen_paths, seen_above};
+ghost use Rattle.rev_manifest.specs.Held.{seen_paths, seen_declarations};
 
-use crate::above::{Above, Edge};
 use crate::blocks::{are_depths, binds, block_of, rule_with};
-use crate::bytes::is_none;
+use crate::bytes::is_empty;
+use crate::declarations::{Declarations, DeclaredEdge};
 use crate::depth::depth_of_text;
 use crate::edge_paths::EdgePaths;
 use crate::fault::{FaultKind, Place, ReadFault};
@@ -27,7 +27,7 @@ use std::alloc::{AllocError, Global};
 // `rule NAME`.
 fn declare_rule(
     alloc: Global,
-    above: &mut Above,
+    above: &mut Declarations,
     place: Place,
     scope: usize,
     name: &[u8],
@@ -35,8 +35,8 @@ fn declare_rule(
 ) -> Result<(), ReadFault>
     requires { scope < length above.old.scopes }
     ensures meant { MatchResult result
-        (λ _. rule_declared place scope name.now (map seen_binding bindings.now) (seen_above above.old) ≡ Ok (seen_above above.new))
-        (λ fault. IsFault fault (rule_declared place scope name.now (map seen_binding bindings.now) (seen_above above.old))) }
+        (λ _. rule_declared place scope name.now (map seen_binding bindings.now) (seen_declarations above.old) ≡ Ok (seen_declarations above.new))
+        (λ fault. IsFault fault (rule_declared place scope name.now (map seen_binding bindings.now) (seen_declarations above.old))) }
     ensures grows { OnOk result (length above.old.scopes ≤ length above.new.scopes) }
 {
     if binds(b"dyndep", bindings) {
@@ -97,7 +97,7 @@ fn depth_given(
         return Err(place.fault(FaultKind::BadDepth));
     };
     let value = value_of(alloc, place, &binding.value, scopes, scope)?;
-    if is_none(&value) {
+    if is_empty(&value) {
         return Err(place.fault(FaultKind::BadDepth));
     }
     Ok(depth)
@@ -106,7 +106,7 @@ fn depth_given(
 // `pool NAME`.
 fn declare_pool(
     alloc: Global,
-    above: &mut Above,
+    above: &mut Declarations,
     place: Place,
     scope: usize,
     name: &[u8],
@@ -114,8 +114,8 @@ fn declare_pool(
 ) -> Result<(), ReadFault>
     requires { scope < length above.old.scopes }
     ensures meant { MatchResult result
-        (λ _. pool_declared place scope name.now (map seen_binding bindings.now) (seen_above above.old) ≡ Ok (seen_above above.new))
-        (λ fault. IsFault fault (pool_declared place scope name.now (map seen_binding bindings.now) (seen_above above.old))) }
+        (λ _. pool_declared place scope name.now (map seen_binding bindings.now) (seen_declarations above.old) ≡ Ok (seen_declarations above.new))
+        (λ fault. IsFault fault (pool_declared place scope name.now (map seen_binding bindings.now) (seen_declarations above.old))) }
     ensures grows { OnOk result (length above.old.scopes ≤ length above.new.scopes) }
 {
     if binds(b"dyndep", bindings) {
@@ -135,15 +135,15 @@ fn declare_pool(
 // `NAME = value`.
 fn bind_variable(
     alloc: Global,
-    above: &mut Above,
+    above: &mut Declarations,
     place: Place,
     scope: usize,
     binding: &Binding<'_>,
 ) -> Result<(), ReadFault>
     requires { scope < length above.old.scopes }
     ensures meant { MatchResult result
-        (λ _. variable_bound place scope (seen_binding binding.now) (seen_above above.old) ≡ Ok (seen_above above.new))
-        (λ fault. IsFault fault (variable_bound place scope (seen_binding binding.now) (seen_above above.old))) }
+        (λ _. variable_bound place scope (seen_binding binding.now) (seen_declarations above.old) ≡ Ok (seen_declarations above.new))
+        (λ fault. IsFault fault (variable_bound place scope (seen_binding binding.now) (seen_declarations above.old))) }
     ensures grows { OnOk result (length above.old.scopes ≤ length above.new.scopes) }
 {
     if binding.name == b"dyndep".as_slice() {
@@ -156,7 +156,8 @@ fn bind_variable(
 
 // The paths of a further `default` statement after those of earlier ones.
 fn more_defaults(earlier: Option<Vec<Name>>, names: Vec<Name>) -> Result<Vec<Name>, AllocError>
-    ensures { IfOk result (λ all. all.items ≡ more_defaults (option_map (λ paths. paths.items) earlier) names.items) }
+    ensures { IfOk result (λ all. all.items
+        ≡ more_defaults (option_map (λ paths. paths.items) earlier) names.items) }
 {
     let Some(mut all) = earlier else {
         return Ok(names);
@@ -170,15 +171,15 @@ fn more_defaults(earlier: Option<Vec<Name>>, names: Vec<Name>) -> Result<Vec<Nam
 // `default PATHS`.
 fn name_defaults(
     alloc: Global,
-    above: &mut Above,
+    above: &mut Declarations,
     place: Place,
     scope: usize,
     paths: &[Text<'_>],
 ) -> Result<(), ReadFault>
     requires { scope < length above.old.scopes }
     ensures meant { MatchResult result
-        (λ _. defaults_named place scope paths.now (seen_above above.old) ≡ Ok (seen_above above.new))
-        (λ fault. IsFault fault (defaults_named place scope paths.now (seen_above above.old))) }
+        (λ _. defaults_named place scope paths.now (seen_declarations above.old) ≡ Ok (seen_declarations above.new))
+        (λ fault. IsFault fault (defaults_named place scope paths.now (seen_declarations above.old))) }
     ensures grows { OnOk result (length above.old.scopes ≤ length above.new.scopes) }
 {
     let names = names_in_scope(alloc, &mut above.paths, place, paths, &above.scopes, scope)?;
@@ -189,15 +190,15 @@ fn name_defaults(
 
 // The rule of a build line.
 fn rule_of(
-    above: &Above,
+    above: &Declarations,
     place: Place,
     scope: usize,
     name: &[u8],
 ) -> Result<Option<Rule>, ReadFault>
     requires { scope < length above.now.scopes }
     ensures { MatchResult result
-        (λ rule. rule_of place (seen_above above.now) scope name.now ≡ Ok rule)
-        (λ fault. IsFault fault (rule_of place (seen_above above.now) scope name.now)) }
+        (λ rule. rule_of place (seen_declarations above.now) scope name.now ≡ Ok rule)
+        (λ fault. IsFault fault (rule_of place (seen_declarations above.now) scope name.now)) }
 {
     if name == b"phony".as_slice() {
         return Ok(None);
@@ -261,7 +262,7 @@ fn paths_of(
 // `build PATHS: NAME PATHS`.
 fn add_edge(
     alloc: Global,
-    above: &mut Above,
+    above: &mut Declarations,
     place: Place,
     scope: usize,
     build: &BuildLine<'_>,
@@ -269,8 +270,8 @@ fn add_edge(
 ) -> Result<(), ReadFault>
     requires { scope < length above.old.scopes }
     ensures meant { MatchResult result
-        (λ _. edge_added place scope (seen_build_line build.now) (map seen_binding bindings.now) (seen_above above.old) ≡ Ok (seen_above above.new))
-        (λ fault. IsFault fault (edge_added place scope (seen_build_line build.now) (map seen_binding bindings.now) (seen_above above.old))) }
+        (λ _. edge_added place scope (seen_build_line build.now) (map seen_binding bindings.now) (seen_declarations above.old) ≡ Ok (seen_declarations above.new))
+        (λ fault. IsFault fault (edge_added place scope (seen_build_line build.now) (map seen_binding bindings.now) (seen_declarations above.old))) }
     ensures grows { OnOk result (length above.old.scopes ≤ length above.new.scopes) }
 {
     if binds(b"dyndep", bindings) {
@@ -290,7 +291,7 @@ fn add_edge(
     if block.is_large {
         return Err(place.fault(FaultKind::TooLarge));
     }
-    above.edges.push(Edge {
+    above.edges.push(DeclaredEdge {
         rule,
         block: block.values,
         scope,
@@ -325,15 +326,15 @@ fn file_named(
 fn include_file(
     alloc: Global,
     files: &Files<'_>,
-    above: &Above,
+    above: &Declarations,
     place: Place,
     scope: usize,
     path: &Text<'_>,
 ) -> Result<Inclusion, ReadFault>
     requires { scope < length above.now.scopes }
     ensures meant { MatchResult result
-        (λ inclusion. file_included files.now place scope path.now (seen_above above.now) ≡ Ok (record { above = seen_above above.now; inclusion = Some inclusion }))
-        (λ fault. IsFault fault (file_included files.now place scope path.now (seen_above above.now))) }
+        (λ inclusion. file_included files.now place scope path.now (seen_declarations above.now) ≡ Ok (record { above = seen_declarations above.now; inclusion = Some inclusion }))
+        (λ fault. IsFault fault (file_included files.now place scope path.now (seen_declarations above.now))) }
     ensures within { IfOk result (λ inclusion. inclusion.scope < length above.now.scopes) }
 {
     let file = file_named(alloc, files, place, path, &above.scopes, scope)?;
@@ -344,15 +345,15 @@ fn include_file(
 fn nest_file(
     alloc: Global,
     files: &Files<'_>,
-    above: &mut Above,
+    above: &mut Declarations,
     place: Place,
     scope: usize,
     path: &Text<'_>,
 ) -> Result<Inclusion, ReadFault>
     requires { scope < length above.old.scopes }
     ensures meant { MatchResult result
-        (λ inclusion. file_nested files.now place scope path.now (seen_above above.old) ≡ Ok (record { above = seen_above above.new; inclusion = Some inclusion }))
-        (λ fault. IsFault fault (file_nested files.now place scope path.now (seen_above above.old))) }
+        (λ inclusion. file_nested files.now place scope path.now (seen_declarations above.old) ≡ Ok (record { above = seen_declarations above.new; inclusion = Some inclusion }))
+        (λ fault. IsFault fault (file_nested files.now place scope path.now (seen_declarations above.old))) }
     ensures grows { OnOk result (length above.old.scopes ≤ length above.new.scopes) }
     ensures within { IfOk result (λ inclusion. inclusion.scope < length above.new.scopes) }
 {
@@ -365,17 +366,18 @@ fn nest_file(
 pub(crate) fn add_statement(
     alloc: Global,
     files: &Files<'_>,
-    above: &mut Above,
+    above: &mut Declarations,
     place: Place,
     scope: usize,
     form: &Form<'_>,
 ) -> Result<Option<Inclusion>, ReadFault>
     requires { scope < length above.old.scopes }
     ensures meant { MatchResult result
-        (λ inclusion. with_form files.now place scope (seen_form form.now) (seen_above above.old) ≡ Ok (record { above = seen_above above.new; inclusion = inclusion }))
-        (λ fault. IsFault fault (with_form files.now place scope (seen_form form.now) (seen_above above.old))) }
+        (λ inclusion. with_form files.now place scope (seen_form form.now) (seen_declarations above.old) ≡ Ok (record { above = seen_declarations above.new; inclusion = inclusion }))
+        (λ fault. IsFault fault (with_form files.now place scope (seen_form form.now) (seen_declarations above.old))) }
     ensures grows { OnOk result (length above.old.scopes ≤ length above.new.scopes) }
-    ensures within { IfOk result (λ found. ForSome found (λ inclusion. inclusion.scope < length above.new.scopes)) }
+    ensures within { IfOk result (λ found.
+        ForSome found (λ inclusion. inclusion.scope < length above.new.scopes)) }
 {
     match form {
         Form::Rule(name, bindings) => {

@@ -13,4 +13,6 @@ FirstMentionsAreDistinct = (paths : List (List ℕ)) → IsDistinct bytes_eq (fi
 
 -- a path is among the first mentions of a list exactly where it is in the list
 abbrev pub FirstMentionsAreAll : Type 0
-FirstMentionsAreAll = (paths : List (List ℕ)) (path : List ℕ) → list_any (bytes_eq path) (first_mentions paths) ≡ list_any (bytes_eq path) paths
+FirstMentionsAreAll =
+    (paths : List (List ℕ)) (path : List ℕ)
+    → list_any (bytes_eq path) (first_mentions paths) ≡ list_any (bytes_eq path) paths

@@ -12,7 +12,8 @@ pub record IsCertificate (graph : List (List ℕ)) (numbers : List ℕ) : Type 0
 
 -- the number falls along each step of a node below m
 abbrev pub FallsBelow : List (List ℕ) → List ℕ → ℕ → Type 0
-FallsBelow graph numbers m = (n s : ℕ) → n < m → Steps graph n s → slice_index_or numbers s 0 < slice_index_or numbers n 0
+FallsBelow graph numbers m =
+    (n s : ℕ) → n < m → Steps graph n s → slice_index_or numbers s 0 < slice_index_or numbers n 0
 
 -- m is the least node that has a step along which the number does not fall
 pub record IsFirstLevel (graph : List (List ℕ)) (numbers : List ℕ) (m : ℕ) : Type 0 where

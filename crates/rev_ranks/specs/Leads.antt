@@ -6,7 +6,8 @@ use Rattle.rev_ranks.specs.Graph.{successors_of, Reaches}
 -- whether a way of one step or more, and of so many at most, leads to a node that passes
 abbrev pub leads_within : List (List ℕ) → (ℕ → Bool) → ℕ → ℕ → Bool
 leads_within graph test zero node = false
-leads_within graph test (suc most) node = list_any (λ next. test next || leads_within graph test most next) (successors_of graph node)
+leads_within graph test (suc most) node =
+    list_any (λ next. test next || leads_within graph test most next) (successors_of graph node)
 
 -- whether some way does: it need not have more steps than there are nodes
 unfoldable pub leads_to : List (List ℕ) → (ℕ → Bool) → ℕ → Bool

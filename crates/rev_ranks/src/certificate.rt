@@ -43,7 +43,10 @@ pub(crate) fn first_level(successors: &[Vec<u32>], numbers: &[u32]) -> Option<u3
     requires inside { All (λ v. All (λ s. s < length successors.now) v.items) successors.now }
     requires each { length numbers.now ≡ length successors.now }
     requires small { length successors.now < 2 ^ 32 }
-    ensures { MatchOption result (FallsBelow (graph_of successors.now) numbers.now (length successors.now)) (λ m. (m < length successors.now) × IsFirstLevel (graph_of successors.now) numbers.now m) }
+    ensures { MatchOption result
+        (FallsBelow (graph_of successors.now) numbers.now (length successors.now))
+        (λ m. (m < length successors.now)
+        × IsFirstLevel (graph_of successors.now) numbers.now m) }
 {
     for node in 0..successors.len() {
         if (numbers[node] as usize) < bound_above(&successors[node], numbers) {

@@ -17,7 +17,8 @@ pub fn leads_exactly()
     ensures { LeadsExactly }
 {}
 
-/// In every finite graph a node is said to be reachable from roots exactly where it is one or a way leads from one to it.
+/// In every finite graph a node is said to be reachable from roots exactly where it is one or a way leads from one to
+/// it.
 pub fn reachable_exactly()
     ensures { ReachableExactly }
 {}

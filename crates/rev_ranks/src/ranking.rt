@@ -9,8 +9,8 @@ use super::components::components;
 use super::reach::{ranks_by_sets, reached_from};
 use std::alloc::Global;
 
-/// Ranks for the nodes of a directed graph, in which node n steps to each node of `successors[n]`: a node's rank is above
-/// those of the nodes that it steps to.
+/// Ranks for the nodes of a directed graph, in which node n steps to each node of `successors[n]`: a node's rank is
+/// above those of the nodes that it steps to.
 ///
 /// The numbers of the strongly connected components serve as ranks, and the proof rests on a check of them, in time and
 /// memory linear in nodes and steps. Were the check to fail, sets of reached nodes would give the answer, in quadratic

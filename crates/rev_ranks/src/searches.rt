@@ -14,7 +14,8 @@ fn mark_each(
     open_nodes: &mut Vec<u32>,
 ) -> Result<(), AllocError>
     requires { All (λ s. s < vec_len marks.old) nodes.now }
-    ensures { OnOk result (IsMarking nodes.now marks.old.items open_nodes.old.items marks.new.items open_nodes.new.items) }
+    ensures { OnOk result (IsMarking nodes.now marks.old.items open_nodes.old.items marks.new.items
+        open_nodes.new.items) }
 {
     for node in nodes {
         let index = *node as usize;
@@ -57,7 +58,9 @@ pub fn reachable_from(
 ) -> Result<Vec<bool>, AllocError>
     requires inside { All (λ v. All (λ s. s < length successors.now) v.items) successors.now }
     requires nodes { All (λ s. s < length successors.now) roots.now }
-    ensures { IfOk result (λ marks. IsSetOf (graph_of successors.now) (is_reachable (graph_of successors.now) roots.now) marks.items) }
+    ensures { IfOk result (λ marks.
+        IsSetOf (graph_of successors.now) (is_reachable (graph_of successors.now) roots.now)
+        marks.items) }
 {
     let marks = marked_from(alloc, successors, roots)?;
     Ok(marks)
@@ -66,7 +69,8 @@ pub fn reachable_from(
 /// Adds a node to the lists of the nodes that it steps to.
 fn push_back_steps(reversed: &mut Vec<Vec<u32>>, node: u32, nexts: &[u32]) -> Result<(), AllocError>
     requires { All (λ s. s < vec_len reversed.old) nexts.now }
-    ensures { OnOk result (AddsSteps node nexts.now (graph_of reversed.old.items) (graph_of reversed.new.items)) }
+    ensures { OnOk result (AddsSteps node nexts.now (graph_of reversed.old.items)
+        (graph_of reversed.new.items)) }
 {
     for next in nexts {
         let list = &mut reversed[*next as usize];
@@ -83,7 +87,8 @@ pub fn reversed(alloc: Global, successors: &[Vec<u32>]) -> Result<Vec<Vec<u32>>,
     requires inside { All (λ v. All (λ s. s < length successors.now) v.items) successors.now }
     requires small { length successors.now < 2 ^ 32 }
     ensures steps { IfOk result (λ reversed. IsReversed (graph_of successors.now) (graph_of reversed.items)) }
-    ensures inside { IfOk result (λ reversed. All (λ v. All (λ s. s < length successors.now) v.items) reversed.items) }
+    ensures inside { IfOk result (λ reversed.
+        All (λ v. All (λ s. s < length successors.now) v.items) reversed.items) }
     ensures each { IfOk result (λ reversed. vec_len reversed ≡ length successors.now) }
 {
     let mut reversed = Vec::with_capacity(alloc, successors.len())?;
@@ -111,8 +116,8 @@ fn marked_nodes(alloc: Global, marks: &[bool]) -> Result<Vec<u32>, AllocError>
     Ok(nodes)
 }
 
-/// The nodes that have a mark among `goals` or lead to one that has, as a mark for each node. Node n steps to each node of
-/// `successors[n]`. It takes time and memory linear in nodes and steps.
+/// The nodes that have a mark among `goals` or lead to one that has, as a mark for each node. Node n steps to each node
+/// of `successors[n]`. It takes time and memory linear in nodes and steps.
 ///
 /// # Errors
 /// [`AllocError`] only where an allocation was refused.
@@ -124,7 +129,9 @@ pub fn leading_to(
     requires inside { All (λ v. All (λ s. s < length successors.now) v.items) successors.now }
     requires small { length successors.now < 2 ^ 32 }
     requires each { length goals.now ≡ length successors.now }
-    ensures { IfOk result (λ marks. IsSetOf (graph_of successors.now) (is_marked_or_leads (graph_of successors.now) goals.now) marks.items) }
+    ensures { IfOk result (λ marks.
+        IsSetOf (graph_of successors.now)
+        (is_marked_or_leads (graph_of successors.now) goals.now) marks.items) }
 {
     let steps_back = reversed(alloc, successors)?;
     let roots = marked_nodes(alloc, goals)?;

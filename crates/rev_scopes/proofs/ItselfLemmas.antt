@@ -9,7 +9,7 @@ use Rattle.std.proofs.lemmas.Slice.Eq.{bytes_eq-Decides}
 use Rattle.rev_syntax.specs.Texts.{PieceValue, Byte, Variable}
 use Rattle.rev_scopes.specs.Bindings.{value_of}
 use Rattle.rev_scopes.specs.Scopes.{RuleValue, variable_in}
-use Rattle.rev_scopes.specs.Edges.{EdgeValue, paths_named, source, Source, Known, Needs, HasValue, Given, Expanded, IsExpanded, Nothing, Plain, Named}
+use Rattle.rev_scopes.specs.Edges.{EdgeEnvValue, paths_named, source, Source, Known, Needs, HasValue, Given, Expanded, IsExpanded, Nothing, Plain, Named}
 use Rattle.rev_scopes.specs.Laws.{Names, LeadsTo, AtOnce, Through, LeadsToALoop}
 use Rattle.rev_scopes.proofs.LawLemmas.{loop_has_none}
 use Rattle.rev_scopes.proofs.SlotLemmas.{needs-rule}
@@ -37,7 +37,7 @@ more-distinct : (name : List ℕ) (seen : List (List ℕ)) → is_member bytes_e
 unfolding IsDistinct
 more-distinct name seen new distinct = (apart name seen new, distinct)
 
-module _ (edge : EdgeValue) where
+module _ (edge : EdgeEnvValue) where
   -- one step more
   leads_further : {name between other : List ℕ} {text : List PieceValue} → LeadsTo edge name between → source edge between ≡ Needs text → Names other text → LeadsTo edge name other
   leads_further (AtOnce is names) needs further = Through is names (AtOnce needs further)
@@ -113,6 +113,6 @@ module _ (edge : EdgeValue) where
       by (inl (value, has)) = absurd (none value has)
       by (inr loop) = loop
 
-pub no_value_is_a_loop : (edge : EdgeValue) (name : List ℕ)
+pub no_value_is_a_loop : (edge : EdgeEnvValue) (name : List ℕ)
     → (((value : List ℕ) → HasValue edge name value → ⊥) → LeadsToALoop edge name) × (LeadsToALoop edge name → (value : List ℕ) → HasValue edge name value → ⊥)
 no_value_is_a_loop edge name = (no_value_leads edge name, loop_has_none edge name)

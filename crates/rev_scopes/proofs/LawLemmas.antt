@@ -2,14 +2,15 @@
 use Rattle.std.proofs.Common.{◌≡◌, ℕ, zero, suc, ◌<◌, List, [], ◌∷◌, ◌++◌, length, Option, Some, None, refl, sym, ap, ◌∙◌, subst, inl, inr}
 use Rattle.rev_syntax.specs.Texts.{PieceValue, Byte, Variable}
 use Rattle.rev_scopes.specs.Bindings.{value_of}
-use Rattle.rev_scopes.specs.Scopes.{ScopeValue, scope_at, AreNested, or_else, or_empty, find_up, variable_in}
-use Rattle.rev_scopes.specs.Edges.{EdgeValue, paths_named, first_source, source, Known, Needs, HasValue, Given, Expanded, IsExpanded, Nothing, Plain, Named}
+use Rattle.std.specs.Option.{option_or}
+use Rattle.rev_scopes.specs.Scopes.{ScopeValue, scope_at, AreNested, or_empty, find_up, variable_in}
+use Rattle.rev_scopes.specs.Edges.{EdgeEnvValue, paths_named, first_source, source, Known, Needs, HasValue, Given, Expanded, IsExpanded, Nothing, Plain, Named}
 use Rattle.rev_scopes.specs.Laws.{parent_variable, own_or, Here, Above, AreSameFrom, Names, LeadsTo, AtOnce, Through, LeadsToALoop}
 use Rattle.rev_scopes.specs.Slots.{Waits}
 use Rattle.rev_scopes.proofs.SlotLemmas.{no_value}
 use Rattle.rev_scopes.proofs.ScopeLemmas.{above, found_in-step}
 
-module _ (edge : EdgeValue) where
+module _ (edge : EdgeEnvValue) where
   mutual
     pub one_value : {name first second : List ℕ} → HasValue edge name first → HasValue edge name second → first ≡ second
     one_value (Given {value} a) (Given {value = second} b) =
@@ -39,8 +40,8 @@ module _ {A : Type 0} (own : ScopeValue → Option A) (scopes others : List Scop
   same_find (suc n) None same = refl
   same_find (suc n) (Some i) same =
       let here : scope_at scopes i ≡ scope_at others i = same i refl i Here in
-      ap (or_else (own (scope_at scopes i))) (same_find n (scope_at scopes i).parent (λ p e above way. same i refl above (Above e way)))
-      ∙ ap (λ scope. or_else (own scope) (find_up own others n scope.parent)) here
+      ap (option_or (own (scope_at scopes i))) (same_find n (scope_at scopes i).parent (λ p e above way. same i refl above (Above e way)))
+      ∙ ap (λ scope. option_or (own scope) (find_up own others n scope.parent)) here
 
 same_variable : (scopes others : List ScopeValue) (scope : ℕ) (name : List ℕ) → AreSameFrom scope scopes others → variable_in scopes scope name ≡ variable_in others scope name
 same_variable scopes others scope name same =
@@ -49,11 +50,11 @@ same_variable scopes others scope name same =
     from : (a b : ℕ) → Some a ≡ Some b → a ≡ b
     from a b e = cc
 
-same_source : (edge : EdgeValue) (others : List ScopeValue) → AreSameFrom edge.scope edge.scopes others → (name : List ℕ) → source (record edge { scopes = others }) name ≡ source edge name
+same_source : (edge : EdgeEnvValue) (others : List ScopeValue) → AreSameFrom edge.scope edge.scopes others → (name : List ℕ) → source (record edge { scopes = others }) name ≡ source edge name
 same_source edge others same name =
     ap (first_source (paths_named edge name) (value_of name edge.block) (value_of name edge.rule)) (sym (same_variable edge.scopes others edge.scope name same))
 
-module _ (edge : EdgeValue) (others : List ScopeValue) (same : AreSameFrom edge.scope edge.scopes others) where
+module _ (edge : EdgeEnvValue) (others : List ScopeValue) (same : AreSameFrom edge.scope edge.scopes others) where
   mutual
     pub same_value : {name value : List ℕ} → HasValue edge name value → HasValue (record edge { scopes = others }) name value
     same_value (Given {name} {value} is) = Given (same_source edge others same name ∙ is)
@@ -72,12 +73,12 @@ variable-step scopes scope name nested within =
     own : ScopeValue → Option (List ℕ)
     own = λ s. value_of name s.variables
 
-    by : (mine : Option (List ℕ)) (parent : Option ℕ) → or_empty (or_else mine (above own scopes parent)) ≡ own_or mine (parent_variable scopes parent name)
+    by : (mine : Option (List ℕ)) (parent : Option ℕ) → or_empty (option_or mine (above own scopes parent)) ≡ own_or mine (parent_variable scopes parent name)
     by (Some value) parent = refl
     by None None = refl
     by None (Some parent) = refl
 
-module _ (edge : EdgeValue) (name : List ℕ) where
+module _ (edge : EdgeEnvValue) (name : List ℕ) where
   waits_there : (text : List PieceValue) (between : List ℕ) → Names between text → LeadsTo edge between name → Waits (λ n. LeadsTo edge n name) text
   waits_there [] between names leads = absurd names
   waits_there (Byte b ∷ text) between names leads = waits_there text between names leads
@@ -92,6 +93,6 @@ module _ (edge : EdgeValue) (name : List ℕ) where
   needs_itself value itself has = no_value edge (λ n. LeadsTo edge n name) (leads_on itself) has itself
 
 -- what leads to a loop has no value, also where it is on none itself
-pub loop_has_none : (edge : EdgeValue) (name : List ℕ) → LeadsToALoop edge name → (value : List ℕ) → HasValue edge name value → ⊥
+pub loop_has_none : (edge : EdgeEnvValue) (name : List ℕ) → LeadsToALoop edge name → (value : List ℕ) → HasValue edge name value → ⊥
 loop_has_none edge name (other, inl same, itself) value has = needs_itself edge other value itself (subst (λ (n : List ℕ). HasValue edge n value) same has)
 loop_has_none edge name (other, inr way, itself) value has = no_value edge (λ n. LeadsTo edge n other) (leads_on edge other itself) has way

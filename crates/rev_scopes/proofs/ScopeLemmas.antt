@@ -1,7 +1,8 @@
 -- Look-ups through scopes.
 use Rattle.std.proofs.Common.{◌≡◌, ℕ, zero, suc, ◌<◌, ◌≤◌, List, length, Option, Some, None, get_or, [], refl, sym, ap, ◌∙◌, arith}
 use Rattle.std.proofs.lemmas.List.{get_or_default, get_or_past}
-use Rattle.rev_scopes.specs.Scopes.{ScopeValue, empty_scope, scope_at, AreNested, or_else, or_empty, find_up, found_in, variable_in, rule_in}
+use Rattle.std.specs.Option.{option_or}
+use Rattle.rev_scopes.specs.Scopes.{ScopeValue, empty_scope, scope_at, AreNested, or_empty, find_up, found_in, variable_in, rule_in}
 use Rattle.rev_scopes.specs.Bindings.{value_of}
 
 module _ {A : Type 0} (own : ScopeValue → Option A) (scopes : List ScopeValue) where
@@ -29,7 +30,7 @@ module _ {A : Type 0} (own : ScopeValue → Option A) (scopes : List ScopeValue)
     enough zero m i within a b = absurd (omega arith)
     enough (suc n) zero i within a b = absurd (omega arith)
     enough (suc n) (suc m) i within a b =
-        ap (or_else (own (scope_at scopes i)))
+        ap (option_or (own (scope_at scopes i)))
         (up n m (λ p. enough n m p) i within (omega arith) (omega arith) (scope_at scopes i).parent refl)
 
     parent_step : (i : ℕ) → i < length scopes → (parent : Option ℕ) → (scope_at scopes i).parent ≡ parent → find_up own scopes i parent ≡ above parent
@@ -39,18 +40,18 @@ module _ {A : Type 0} (own : ScopeValue → Option A) (scopes : List ScopeValue)
         enough i (suc p) p (omega arith) below (omega arith)
 
     -- what is found in a scope is its own, else what is found in its parent
-    pub found_in-step : (i : ℕ) → i < length scopes → found_in own scopes i ≡ or_else (own (scope_at scopes i)) (above (scope_at scopes i).parent)
+    pub found_in-step : (i : ℕ) → i < length scopes → found_in own scopes i ≡ option_or (own (scope_at scopes i)) (above (scope_at scopes i).parent)
     unfolding find_up
-    found_in-step i within = ap (or_else (own (scope_at scopes i))) (parent_step i within (scope_at scopes i).parent refl)
+    found_in-step i within = ap (option_or (own (scope_at scopes i))) (parent_step i within (scope_at scopes i).parent refl)
 
     pub found-own : (i : ℕ) → i < length scopes → (x : A) → own (scope_at scopes i) ≡ Some x → found_in own scopes i ≡ Some x
-    found-own i within x e = found_in-step i within ∙ ap (λ o. or_else o (above (scope_at scopes i).parent)) e
+    found-own i within x e = found_in-step i within ∙ ap (λ o. option_or o (above (scope_at scopes i).parent)) e
 
     pub found-above : (i p : ℕ) → i < length scopes → own (scope_at scopes i) ≡ None → (scope_at scopes i).parent ≡ Some p → found_in own scopes i ≡ found_in own scopes p
-    found-above i p within e at = found_in-step i within ∙ ap (λ o. or_else o (above (scope_at scopes i).parent)) e ∙ ap above at
+    found-above i p within e at = found_in-step i within ∙ ap (λ o. option_or o (above (scope_at scopes i).parent)) e ∙ ap above at
 
     pub found-nowhere : (i : ℕ) → i < length scopes → own (scope_at scopes i) ≡ None → (scope_at scopes i).parent ≡ None → found_in own scopes i ≡ None
-    found-nowhere i within e at = found_in-step i within ∙ ap (λ o. or_else o (above (scope_at scopes i).parent)) e ∙ ap above at
+    found-nowhere i within e at = found_in-step i within ∙ ap (λ o. option_or o (above (scope_at scopes i).parent)) e ∙ ap above at
 
 -- what is read at a number
 pub at_number : (scopes : List ScopeValue) (i : ℕ) (here : ScopeValue) → i < length scopes → here ≡ get_or scopes i here → here ≡ scope_at scopes i
@@ -61,7 +62,7 @@ found-past : {A : Type 0} (own : ScopeValue → Option A) (scopes : List ScopeVa
 unfolding find_up
 found-past own scopes i none past =
     let empty : scope_at scopes i ≡ empty_scope None = get_or_past scopes i (empty_scope None) past in
-    ap (λ scope. or_else (own scope) (find_up own scopes i scope.parent)) empty ∙ ap (λ o. or_else o (find_up own scopes i None)) none ∙ find_up-none own scopes i
+    ap (λ scope. option_or (own scope) (find_up own scopes i scope.parent)) empty ∙ ap (λ o. option_or o (find_up own scopes i None)) none ∙ find_up-none own scopes i
 
 pub no_variable : (scopes : List ScopeValue) (i : ℕ) (name : List ℕ) → length scopes ≤ i → variable_in scopes i name ≡ []
 no_variable scopes i name past = ap or_empty (found-past (λ scope. value_of name scope.variables) scopes i refl past)

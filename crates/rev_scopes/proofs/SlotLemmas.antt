@@ -9,7 +9,7 @@ use Rattle.rev_scopes.specs.Bindings.{value_of}
 use Rattle.rev_scopes.specs.RuleNames.{name_of}
 use Rattle.rev_scopes.specs.Scopes.{RuleValue, variable_in}
 use Rattle.rev_scopes.specs.Expansion.{is_too_large, limited, appended}
-use Rattle.rev_scopes.specs.Edges.{EdgeValue, paths_named, first_source, source, Source, Known, Needs, HasValue, Given, Expanded, IsExpanded, Nothing, Plain, Named}
+use Rattle.rev_scopes.specs.Edges.{EdgeEnvValue, paths_named, first_source, source, Source, Known, Needs, HasValue, Given, Expanded, IsExpanded, Nothing, Plain, Named}
 use Rattle.rev_scopes.specs.Slots.{SlotValue, seen_slots, unknown_slot, rule_of, IsRight, AreRight, AreOf, IsWaiting, Waits, AreStuck, IsAdded}
 
 -- the rule has the text that the slot of that name has
@@ -21,12 +21,12 @@ value_of-rule name (s ∷ slots) =
       | false ↦ value_of-rule name slots
     ]
 
-pub value_of-edge : (edge : EdgeValue) (name : List ℕ) (slots : List (List ℕ × SlotValue)) (slot : Option SlotValue) → rule_of slots ≡ edge.rule → value_of name slots ≡ slot
+pub value_of-edge : (edge : EdgeEnvValue) (name : List ℕ) (slots : List (List ℕ × SlotValue)) (slot : Option SlotValue) → rule_of slots ≡ edge.rule → value_of name slots ≡ slot
     → value_of name edge.rule ≡ option_map (λ slot. slot.text) slot
 value_of-edge edge name slots slot is e = ap (value_of name) (sym is) ∙ value_of-rule name slots ∙ ap (option_map (λ slot. slot.text)) e
 
 -- a text that can be expanded names nothing that is stuck
-module _ (edge : EdgeValue) (waiting : List ℕ → Type 0) (stuck : (name : List ℕ) → waiting name → (text : List PieceValue) × (source edge name ≡ Needs text) × Waits waiting text) where
+module _ (edge : EdgeEnvValue) (waiting : List ℕ → Type 0) (stuck : (name : List ℕ) → waiting name → (text : List PieceValue) × (source edge name ≡ Needs text) × Waits waiting text) where
   mutual
     pub no_value : {name value : List ℕ} → HasValue edge name value → waiting name → ⊥
     no_value (Given {name} {value} is) w =
@@ -46,7 +46,7 @@ module _ (edge : EdgeValue) (waiting : List ℕ → Type 0) (stuck : (name : Lis
     no_expansion (Named value given) (inr w) = no_expansion given w
 
 -- bytes that stand for themselves, before a text
-pub expanded-bytes : (edge : EdgeValue) (bytes : List ℕ) (rest : List PieceValue) (others : List ℕ) → IsExpanded edge rest others → IsExpanded edge (map Byte bytes ++ rest) (bytes ++ others)
+pub expanded-bytes : (edge : EdgeEnvValue) (bytes : List ℕ) (rest : List PieceValue) (others : List ℕ) → IsExpanded edge rest others → IsExpanded edge (map Byte bytes ++ rest) (bytes ++ others)
 expanded-bytes edge [] rest others given = given
 expanded-bytes edge (b ∷ bytes) rest others given = Plain (expanded-bytes edge bytes rest others given)
 
@@ -63,7 +63,7 @@ waits-before waiting (Variable name ∷ first) rest (inl w) = inl w
 waits-before waiting (Variable name ∷ first) rest (inr w) = inr (waits-before waiting first rest w)
 
 -- what is known of a slot is right
-pub right-at : (edge : EdgeValue) (name : List ℕ) (slots : List (List ℕ × SlotValue)) (slot : SlotValue) → AreRight edge slots → value_of name slots ≡ Some slot → IsRight edge slot.text slot.value
+pub right-at : (edge : EdgeEnvValue) (name : List ℕ) (slots : List (List ℕ × SlotValue)) (slot : SlotValue) → AreRight edge slots → value_of name slots ≡ Some slot → IsRight edge slot.text slot.value
 right-at edge name [] slot right e = cc
 right-at edge name (s ∷ slots) slot right e = by (right-at edge name slots slot right.1) (bytes_eq name s.0) e
   where
@@ -74,7 +74,7 @@ right-at edge name (s ∷ slots) slot right e = by (right-at edge name slots slo
     by later false e = later e
 
 -- a piece that is added: bytes, or a name that has a value
-module _ (edge : EdgeValue) (slots : List (List ℕ × SlotValue)) (pieces : List PieceValue) (old new : Option (List ℕ)) (within : appended new [] ≡ new) where
+module _ (edge : EdgeEnvValue) (slots : List (List ℕ × SlotValue)) (pieces : List PieceValue) (old new : Option (List ℕ)) (within : appended new [] ≡ new) where
   pub added-bytes : (bytes : List ℕ) → pieces ≡ map Byte bytes → new ≡ appended old bytes → IsAdded edge slots pieces old true new
   added-bytes bytes e is =
       (bytes, (λ rest others given. subst (λ (p : List PieceValue). IsExpanded edge (p ++ rest) (bytes ++ others)) (sym e) (expanded-bytes edge bytes rest others given)), is, within)
@@ -84,14 +84,14 @@ module _ (edge : EdgeValue) (slots : List (List ℕ × SlotValue)) (pieces : Lis
       (value, (λ rest others given. subst (λ (p : List PieceValue). IsExpanded edge (p ++ rest) (value ++ others)) (sym e) (Named has given)), is, within)
 
 -- what a step has done, by its answer
-pub waited : (edge : EdgeValue) (slots : List (List ℕ × SlotValue)) (pieces : List PieceValue) (old new : Option (List ℕ)) (b : Bool) → b ≡ false → IsAdded edge slots pieces old b new → Waits (IsWaiting edge slots) pieces
+pub waited : (edge : EdgeEnvValue) (slots : List (List ℕ × SlotValue)) (pieces : List PieceValue) (old new : Option (List ℕ)) (b : Bool) → b ≡ false → IsAdded edge slots pieces old b new → Waits (IsWaiting edge slots) pieces
 waited edge slots pieces old new b e added = subst (λ (t : Bool). IsAdded edge slots pieces old t new) e added
 
-pub was_added : (edge : EdgeValue) (slots : List (List ℕ × SlotValue)) (pieces : List PieceValue) (old new : Option (List ℕ)) (b : Bool) → b ≡ true → IsAdded edge slots pieces old b new → IsAdded edge slots pieces old true new
+pub was_added : (edge : EdgeEnvValue) (slots : List (List ℕ × SlotValue)) (pieces : List PieceValue) (old new : Option (List ℕ)) (b : Bool) → b ≡ true → IsAdded edge slots pieces old b new → IsAdded edge slots pieces old true new
 was_added edge slots pieces old new b e added = subst (λ (t : Bool). IsAdded edge slots pieces old t new) e added
 
 -- what waits once no more can be found out has no value
-pub stuck_name : (edge : EdgeValue) (slots : List (List ℕ × SlotValue)) → AreStuck edge slots → (name : List ℕ) → IsWaiting edge slots name → (value : List ℕ) → HasValue edge name value → ⊥
+pub stuck_name : (edge : EdgeEnvValue) (slots : List (List ℕ × SlotValue)) → AreStuck edge slots → (name : List ℕ) → IsWaiting edge slots name → (value : List ℕ) → HasValue edge name value → ⊥
 stuck_name edge slots stuck name waits value has =
     no_value edge (IsWaiting edge slots) (λ other w. (w.text, w.needs, stuck other w.text w.unknown)) has waits
 
@@ -103,7 +103,7 @@ needs-rule None None (Some t) l text e = cc
 needs-rule None None None l text e = cc
 
 -- what does not wait has a value
-pub known_name : (edge : EdgeValue) (slots : List (List ℕ × SlotValue)) (name : List ℕ) → AreOf edge slots → (IsWaiting edge slots name → ⊥) → (value : List ℕ) × HasValue edge name value
+pub known_name : (edge : EdgeEnvValue) (slots : List (List ℕ × SlotValue)) (name : List ℕ) → AreOf edge slots → (IsWaiting edge slots name → ⊥) → (value : List ℕ) × HasValue edge name value
 known_name edge slots name are known = by (source edge name) refl
   where
     slot : (text : List PieceValue) → source edge name ≡ Needs text → (s : Option SlotValue) → value_of name slots ≡ s → option_map (λ slot. slot.text) s ≡ Some text → (value : List ℕ) × HasValue edge name value
@@ -126,15 +126,15 @@ known_name edge slots name are known = by (source edge name) refl
         slot text is (value_of name slots) refl (sym (value_of-edge edge name slots (value_of name slots) are.rule refl) ∙ rule)
 
 -- the value of a name by itself
-no_bytes : (edge : EdgeValue) {value : List ℕ} → IsExpanded edge [] value → value ≡ []
+no_bytes : (edge : EdgeEnvValue) {value : List ℕ} → IsExpanded edge [] value → value ≡ []
 no_bytes edge Nothing = refl
 
-one_name : (edge : EdgeValue) {name value : List ℕ} → IsExpanded edge (Variable name ∷ []) value → HasValue edge name value
+one_name : (edge : EdgeEnvValue) {name value : List ℕ} → IsExpanded edge (Variable name ∷ []) value → HasValue edge name value
 one_name edge (Named {name} {value} {others} has rest) =
     subst (λ (v : List ℕ). HasValue edge name v) (sym (ap (λ t. value ++ t) (no_bytes edge rest) ∙ append-nil value)) has
 
 -- a name that does not wait has been added
-pub known_added : (edge : EdgeValue) (slots : List (List ℕ × SlotValue)) (name : List ℕ) (new : Option (List ℕ)) (b : Bool) → (IsWaiting edge slots name → ⊥) → IsAdded edge slots (Variable name ∷ []) (Some []) b new
+pub known_added : (edge : EdgeEnvValue) (slots : List (List ℕ × SlotValue)) (name : List ℕ) (new : Option (List ℕ)) (b : Bool) → (IsWaiting edge slots name → ⊥) → IsAdded edge slots (Variable name ∷ []) (Some []) b new
     → (value : List ℕ) × HasValue edge name value × (new ≡ limited value)
 known_added edge slots name new false known (inl waits) = absurd (known waits)
 known_added edge slots name new false known (inr none) = absurd none
@@ -182,7 +182,7 @@ unknown [] = 0
 unknown (slot ∷ slots) = cond (is_some slot.value) 0 1 + unknown slots
 
 -- one more value is known
-pub settled-at : (edge : EdgeValue) (slots : List Slot) (i : ℕ) (slot : Slot) (v : Option (List ℕ)) → slice_get slots i ≡ Some slot → slot.value ≡ None → IsRight edge slot.bound.now.text (Some v) → AreRight edge (seen_slots slots)
+pub settled-at : (edge : EdgeEnvValue) (slots : List Slot) (i : ℕ) (slot : Slot) (v : Option (List ℕ)) → slice_get slots i ≡ Some slot → slot.value ≡ None → IsRight edge slot.bound.now.text (Some v) → AreRight edge (seen_slots slots)
     → (rule_of (seen_slots (set slots i (record { bound = slot.bound; value = Some v }))) ≡ rule_of (seen_slots slots))
     × AreRight edge (seen_slots (set slots i (record { bound = slot.bound; value = Some v })))
     × (unknown (set slots i (record { bound = slot.bound; value = Some v })) < unknown slots)
@@ -207,11 +207,11 @@ rule_of-unknown : (rule : RuleValue) → rule_of (map unknown_slot rule) ≡ rul
 rule_of-unknown [] = refl
 rule_of-unknown (bound ∷ rule) = ap (λ t. bound ∷ t) (rule_of-unknown rule)
 
-right-unknown : (edge : EdgeValue) (rule : RuleValue) → AreRight edge (map unknown_slot rule)
+right-unknown : (edge : EdgeEnvValue) (rule : RuleValue) → AreRight edge (map unknown_slot rule)
 right-unknown edge [] = tt
 right-unknown edge (bound ∷ rule) = (tt, right-unknown edge rule)
 
 -- nothing is known at first, and that is right
-pub unknown-are : (edge : EdgeValue) (slots : List (List ℕ × SlotValue)) → slots ≡ map unknown_slot edge.rule → AreOf edge slots
+pub unknown-are : (edge : EdgeEnvValue) (slots : List (List ℕ × SlotValue)) → slots ≡ map unknown_slot edge.rule → AreOf edge slots
 unknown-are edge slots is =
     subst (AreOf edge) (sym is) (record { rule = rule_of-unknown edge.rule; right = right-unknown edge edge.rule })

@@ -11,7 +11,8 @@ module _ {A : Type 0} where
   -- one more binding: of two bindings of one name the later counts, at the place of the earlier
   abbrev pub bound : List ℕ → A → List (List ℕ × A) → List (List ℕ × A)
   bound name value [] = (name, value) ∷ []
-  bound name value (binding ∷ bindings) = if bytes_eq name binding.0 then (binding.0, value) ∷ bindings else binding ∷ bound name value bindings
+  bound name value (binding ∷ bindings) =
+      if bytes_eq name binding.0 then (binding.0, value) ∷ bindings else binding ∷ bound name value bindings
 
   -- what a map holds
   abbrev pub seen_entries : List (Vec ℕ × A) → List (List ℕ × A)

@@ -5,7 +5,7 @@ use Rattle.rev_paths.specs.Quoting.{quote}
 use Rattle.rev_syntax.specs.Texts.{PieceValue, Byte, Variable}
 use Rattle.rev_scopes.specs.declared.rule_variable.RuleVariable.{RuleVariable}
 use Rattle.rev_scopes.specs.declared.rule_variable.RuleVariable.TheVariants.{Command, Depfile, Deps, MsvcDepsPrefix, Description, Generator, Restat, Rspfile, RspfileContent, Pool}
-use Rattle.rev_scopes.specs.declared.edge.Edge.{Edge}
+use Rattle.rev_scopes.specs.declared.edge.EdgeEnv.{EdgeEnv}
 use Rattle.rev_scopes.specs.declared.edge.EdgeVariables.{EdgeVariables}
 use Rattle.rev_scopes.specs.Bindings.{value_of}
 use Rattle.rev_scopes.specs.RuleNames.{name_of, is_needed}
@@ -13,7 +13,7 @@ use Rattle.rev_scopes.specs.Scopes.{ScopeValue, RuleValue, variable_in}
 
 -- what a look-up at an edge goes by: its explicit inputs and outputs, its block with values that are expanded already,
 -- its rule, and the scope of its build statement
-pub record EdgeValue : Type 0 where
+pub record EdgeEnvValue : Type 0 where
   pub ins : List (List ℕ)
   pub outs : List (List ℕ)
   pub block : List (List ℕ × List ℕ)
@@ -27,7 +27,7 @@ joined by [] = []
 joined by (path ∷ others) = quote path ++ flat_map (λ other. by ∷ quote other) others
 
 -- the names that stand for paths: `in` with spaces between them, `in_newline` with line ends, `out` with spaces
-abbrev pub paths_named : EdgeValue → List ℕ → Option (List ℕ)
+abbrev pub paths_named : EdgeEnvValue → List ℕ → Option (List ℕ)
 paths_named edge name =
     if bytes_eq name (codes "in") then Some (joined 32 edge.ins)
     else (if bytes_eq name (codes "in_newline") then Some (joined 10 edge.ins)
@@ -45,35 +45,45 @@ first_source None (Some value) rule last = Known value
 first_source None None (Some text) last = Needs text
 first_source None None None last = Known last
 
-abbrev pub source : EdgeValue → List ℕ → Source
-source edge name = first_source (paths_named edge name) (value_of name edge.block) (value_of name edge.rule) (variable_in edge.scopes edge.scope name)
+abbrev pub source : EdgeEnvValue → List ℕ → Source
+source edge name =
+    first_source (paths_named edge name) (value_of name edge.block) (value_of name edge.rule)
+    (variable_in edge.scopes edge.scope name)
 
 mutual
   -- A name has a value at an edge, by a finite derivation. A rule variable that needs itself has none.
-  pub data HasValue (edge : EdgeValue) : List ℕ → List ℕ → Type 0 where
+  pub data HasValue (edge : EdgeEnvValue) : List ℕ → List ℕ → Type 0 where
     Given : {name value : List ℕ} → source edge name ≡ Known value → HasValue edge name value
-    Expanded : {name value : List ℕ} {text : List PieceValue} → source edge name ≡ Needs text → IsExpanded edge text value → HasValue edge name value
+    Expanded : {name value : List ℕ} {text : List PieceValue} → source edge name ≡ Needs text
+        → IsExpanded edge text value → HasValue edge name value
 
   -- A text's value is what its pieces stand for, one after another.
-  pub data IsExpanded (edge : EdgeValue) : List PieceValue → List ℕ → Type 0 where
+  pub data IsExpanded (edge : EdgeEnvValue) : List PieceValue → List ℕ → Type 0 where
     Nothing : IsExpanded edge [] []
-    Plain : {b : ℕ} {text : List PieceValue} {others : List ℕ} → IsExpanded edge text others → IsExpanded edge (Byte b ∷ text) (b ∷ others)
-    Named : {name value others : List ℕ} {text : List PieceValue} → HasValue edge name value → IsExpanded edge text others → IsExpanded edge (Variable name ∷ text) (value ++ others)
+    Plain : {b : ℕ} {text : List PieceValue} {others : List ℕ} → IsExpanded edge text others
+        → IsExpanded edge (Byte b ∷ text) (b ∷ others)
+    Named : {name value others : List ℕ} {text : List PieceValue} → HasValue edge name value
+        → IsExpanded edge text others → IsExpanded edge (Variable name ∷ text) (value ++ others)
 
 -- each variable that is expanded for each edge has a value
-abbrev pub AllHaveValues : EdgeValue → Type 0
-AllHaveValues edge = (variable : RuleVariable) → IsTrue (is_needed variable) → (value : List ℕ) × HasValue edge (name_of variable) value
+abbrev pub AllHaveValues : EdgeEnvValue → Type 0
+AllHaveValues edge =
+    (variable : RuleVariable) → IsTrue (is_needed variable) → (value : List ℕ) × HasValue edge (name_of variable) value
 
 -- one of them has none
-abbrev pub SomeNeedsItself : EdgeValue → Type 0
-SomeNeedsItself edge = (variable : RuleVariable) × IsTrue (is_needed variable) × ((value : List ℕ) → HasValue edge (name_of variable) value → ⊥)
+abbrev pub SomeNeedsItself : EdgeEnvValue → Type 0
+SomeNeedsItself edge =
+    (variable : RuleVariable) × IsTrue (is_needed variable)
+    × ((value : List ℕ) → HasValue edge (name_of variable) value → ⊥)
 
 -- one of them has a value of more than 1,048,576 bytes
-abbrev pub SomeIsTooLarge : EdgeValue → Type 0
-SomeIsTooLarge edge = (variable : RuleVariable) × (value : List ℕ) × IsTrue (is_needed variable) × HasValue edge (name_of variable) value × (1048576 < length value)
+abbrev pub SomeIsTooLarge : EdgeEnvValue → Type 0
+SomeIsTooLarge edge =
+    (variable : RuleVariable) × (value : List ℕ) × IsTrue (is_needed variable) × HasValue edge (name_of variable) value
+    × (1048576 < length value)
 
 -- what an edge is seen as
-abbrev pub seen_edge : Edge → EdgeValue
+abbrev pub seen_edge : EdgeEnv → EdgeEnvValue
 seen_edge edge =
     record { ins = edge.ins.now; outs = edge.outs.now; block = edge.block.now; rule = edge.rule.now; scopes = edge.scopes.now; scope = edge.scope }
 
@@ -90,7 +100,8 @@ given_for Rspfile values = []
 given_for RspfileContent values = values.rspfile_content.items
 given_for Pool values = values.pool.items
 
--- the command that is compared with the recorded one: behind the command stands the content of its response file, where there is any
+-- the command that is compared with the recorded one: behind the command stands the content of its response file, where
+-- there is any
 abbrev pub compared : List ℕ → List ℕ → List ℕ
 compared command [] = command
 compared command (b ∷ content) = command ++ (codes ";rspfile=" ++ (b ∷ content))

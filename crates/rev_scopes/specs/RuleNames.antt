@@ -32,7 +32,8 @@ is_needed Pool = true
 
 -- all rule variables
 abbrev pub rule_variables : List RuleVariable
-rule_variables = Command ∷ Depfile ∷ Deps ∷ MsvcDepsPrefix ∷ Description ∷ Generator ∷ Restat ∷ Rspfile ∷ RspfileContent ∷ Pool ∷ []
+rule_variables =
+    Command ∷ Depfile ∷ Deps ∷ MsvcDepsPrefix ∷ Description ∷ Generator ∷ Restat ∷ Rspfile ∷ RspfileContent ∷ Pool ∷ []
 
 -- the rule variable that is so written, if there is one
 abbrev pub variable_named : List ℕ → Option RuleVariable

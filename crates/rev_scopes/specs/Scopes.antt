@@ -1,5 +1,6 @@
 -- Scopes of variables and rules.
 use Rattle.std.specs.Prelude.{◌≡◌, ℕ, zero, suc, ◌<◌, Bool, ◌||◌, List, [], length, Option, Some, None, is_some, slice_index_or, slice_set, bytes_eq, codes}
+use Rattle.std.specs.Option.{option_or}
 use Rattle.rev_scopes.specs.Bindings.{value_of, bound}
 use Rattle.rev_syntax.specs.Texts.{PieceValue}
 
@@ -25,18 +26,15 @@ scope_at scopes i = slice_index_or scopes i (empty_scope None)
 abbrev pub AreNested : List ScopeValue → Type 0
 AreNested scopes = (i p : ℕ) → i < length scopes → (scope_at scopes i).parent ≡ Some p → p < i
 
-abbrev pub or_else : {A : Type 0} → Option A → Option A → Option A
-or_else (Some x) other = Some x
-or_else None other = other
-
 module _ {A : Type 0} (own : ScopeValue → Option A) (scopes : List ScopeValue) where
   -- what a scope has of its own, else what its parent has, and so on through at most that many scopes
   unfoldable pub find_up : ℕ → Option ℕ → Option A
   find_up zero scope = None
   find_up (suc n) None = None
-  find_up (suc n) (Some i) = or_else (own (scope_at scopes i)) (find_up n (scope_at scopes i).parent)
+  find_up (suc n) (Some i) = option_or (own (scope_at scopes i)) (find_up n (scope_at scopes i).parent)
 
-  -- what is found in a scope, else in its parents. A parent's number is below its scope's, so the scopes on the way up are no more than the number and one.
+  -- what is found in a scope, else in its parents. A parent's number is below its scope's, so the scopes on the way up
+  -- are no more than the number and one.
   abbrev pub found_in : ℕ → Option A
   found_in i = find_up (suc i) (Some i)
 

@@ -9,7 +9,7 @@ use Rattle.rev_scopes.specs.Scopes.{RuleValue}
 use Rattle.rev_scopes.specs.Expansion.{limited, appended}
 use Rattle.rev_scopes.specs.declared.edge_values.Found.{Found}
 use Rattle.rev_scopes.specs.declared.edge_values.Found.TheVariants.{Paths, Bytes, Value, Waiting}
-use Rattle.rev_scopes.specs.Edges.{EdgeValue, joined, source, Known, Needs, IsExpanded}
+use Rattle.rev_scopes.specs.Edges.{EdgeEnvValue, joined, source, Known, Needs, IsExpanded}
 
 -- a text and, once it is known, its value, or that this is too large
 pub record SlotValue : Type 0 where
@@ -31,21 +31,21 @@ abbrev pub rule_of : List (List ℕ × SlotValue) → RuleValue
 rule_of slots = map (λ slot. (slot.0, slot.1.text)) slots
 
 -- what is known of a text is right
-abbrev pub IsRight : EdgeValue → List PieceValue → Option (Option (List ℕ)) → Type 0
+abbrev pub IsRight : EdgeEnvValue → List PieceValue → Option (Option (List ℕ)) → Type 0
 IsRight edge text None = Unit {0}
 IsRight edge text (Some known) = (value : List ℕ) × IsExpanded edge text value × (known ≡ limited value)
 
-abbrev pub AreRight : EdgeValue → List (List ℕ × SlotValue) → Type 0
+abbrev pub AreRight : EdgeEnvValue → List (List ℕ × SlotValue) → Type 0
 AreRight edge [] = Unit {0}
 AreRight edge (slot ∷ slots) = IsRight edge slot.1.text slot.1.value × AreRight edge slots
 
 -- they are the texts of the edge's rule, and what is known of them is right
-pub record AreOf (edge : EdgeValue) (slots : List (List ℕ × SlotValue)) : Type 0 where
+pub record AreOf (edge : EdgeEnvValue) (slots : List (List ℕ × SlotValue)) : Type 0 where
   pub rule : rule_of slots ≡ edge.rule
   pub right : AreRight edge slots
 
 -- a name that leads to a text whose value is not known yet
-pub record IsWaiting (edge : EdgeValue) (slots : List (List ℕ × SlotValue)) (name : List ℕ) : Type 0 where
+pub record IsWaiting (edge : EdgeEnvValue) (slots : List (List ℕ × SlotValue)) (name : List ℕ) : Type 0 where
   pub text : List PieceValue
   pub needs : source edge name ≡ Needs text
   pub unknown : value_of name slots ≡ Some (record { text = text; value = None })
@@ -57,35 +57,44 @@ Waits waiting (Byte b ∷ text) = Waits waiting text
 Waits waiting (Variable name ∷ text) = waiting name ⊎ Waits waiting text
 
 -- no text whose value is not known yet can be expanded
-abbrev pub AreStuck : EdgeValue → List (List ℕ × SlotValue) → Type 0
-AreStuck edge slots = (name : List ℕ) (text : List PieceValue) → value_of name slots ≡ Some (record { text = text; value = None }) → Waits (IsWaiting edge slots) text
+abbrev pub AreStuck : EdgeEnvValue → List (List ℕ × SlotValue) → Type 0
+AreStuck edge slots =
+    (name : List ℕ) (text : List PieceValue) → value_of name slots ≡ Some (record { text = text; value = None })
+    → Waits (IsWaiting edge slots) text
 
 -- what the code finds for a name is what the name leads to
-abbrev pub IsFound : EdgeValue → List (List ℕ × SlotValue) → List ℕ → Found → Type 0
+abbrev pub IsFound : EdgeEnvValue → List (List ℕ × SlotValue) → List ℕ → Found → Type 0
 IsFound edge slots name (Paths paths by) = source edge name ≡ Known (joined by paths.now)
 IsFound edge slots name (Bytes bytes) = source edge name ≡ Known bytes.now
-IsFound edge slots name (Value known) = (text : List PieceValue) × (source edge name ≡ Needs text) × (value_of name slots ≡ Some (record { text = text; value = Some known.now }))
+IsFound edge slots name (Value known) =
+    (text : List PieceValue) × (source edge name ≡ Needs text)
+    × (value_of name slots ≡ Some (record { text = text; value = Some known.now }))
 IsFound edge slots name Waiting = IsWaiting edge slots name
 
--- What a step over a piece of a text has done to the value so far: it has added what the piece stands for, or the piece waits.
-abbrev pub IsAdded : EdgeValue → List (List ℕ × SlotValue) → List PieceValue → Option (List ℕ) → Bool → Option (List ℕ) → Type 0
+-- What a step over a piece of a text has done to the value so far: it has added what the piece stands for, or the piece
+-- waits.
+abbrev pub IsAdded : EdgeEnvValue → List (List ℕ × SlotValue) → List PieceValue → Option (List ℕ) → Bool
+    → Option (List ℕ) → Type 0
 IsAdded edge slots piece old false new = Waits (IsWaiting edge slots) piece
 IsAdded edge slots piece old true new =
-    (value : List ℕ) × ((rest : List PieceValue) (others : List ℕ) → IsExpanded edge rest others → IsExpanded edge (piece ++ rest) (value ++ others)) × (new ≡ appended old value) × (appended new [] ≡ new)
+    (value : List ℕ) × ((rest : List PieceValue) (others : List ℕ) → IsExpanded edge rest others
+    → IsExpanded edge (piece ++ rest) (value ++ others)) × (new ≡ appended old value) × (appended new [] ≡ new)
 
 -- what is found out of a text: its value, or that it waits
-abbrev pub IsTried : EdgeValue → List (List ℕ × SlotValue) → List PieceValue → Option (Option (List ℕ)) → Type 0
+abbrev pub IsTried : EdgeEnvValue → List (List ℕ × SlotValue) → List PieceValue → Option (Option (List ℕ)) → Type 0
 IsTried edge slots text None = Waits (IsWaiting edge slots) text
 IsTried edge slots text (Some known) = IsRight edge text (Some known)
 
 -- a place at which a value was found out that was not known
-abbrev pub IsKnowable : EdgeValue → List Slot → ℕ → Option (List ℕ) → Type 0
+abbrev pub IsKnowable : EdgeEnvValue → List Slot → ℕ → Option (List ℕ) → Type 0
 IsKnowable edge slots place known =
-    (slot : Slot) × (slice_get slots place ≡ Some slot) × (slot.value ≡ None) × IsRight edge slot.bound.now.text (Some known)
+    (slot : Slot) × (slice_get slots place ≡ Some slot) × (slot.value ≡ None)
+    × IsRight edge slot.bound.now.text (Some known)
 
 -- of the variables that an edge needs none waits, or one does
-abbrev pub NoneWaits : EdgeValue → List (List ℕ × SlotValue) → Type 0
-NoneWaits edge slots = (variable : RuleVariable) → IsTrue (is_needed variable) → IsWaiting edge slots (name_of variable) → ⊥
+abbrev pub NoneWaits : EdgeEnvValue → List (List ℕ × SlotValue) → Type 0
+NoneWaits edge slots =
+    (variable : RuleVariable) → IsTrue (is_needed variable) → IsWaiting edge slots (name_of variable) → ⊥
 
-abbrev pub SomeWaits : EdgeValue → List (List ℕ × SlotValue) → Type 0
+abbrev pub SomeWaits : EdgeEnvValue → List (List ℕ × SlotValue) → Type 0
 SomeWaits edge slots = (variable : RuleVariable) × IsTrue (is_needed variable) × IsWaiting edge slots (name_of variable)

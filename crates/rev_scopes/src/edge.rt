@@ -7,7 +7,7 @@ use rev_paths::Name;
 
 /// An edge that is not phony, when all files are read.
 #[derive(Drop)]
-pub struct Edge<'a> {
+pub struct EdgeEnv<'a> {
     /// The explicit inputs, which `$in` and `$in_newline` stand for.
     pub ins: &'a [Name],
     /// The explicit outputs, each once, which `$out` stands for.

@@ -8,7 +8,7 @@ ghost use Rattle.rev_scopes.specs.RuleNames.{name_of, is_needed};
 ghost use Rattle.rev_scopes.specs.Edges.{joined, paths_named, seen_edge, HasValue, AllHaveValues, SomeNeedsItself, SomeIsTooLarge, given_for, compared};
 ghost use Rattle.rev_scopes.specs.Slots.{seen_slots, AreOf, IsFound, IsAdded, IsTried, IsRight, IsWaiting, Waits, IsKnowable, AreStuck, NoneWaits, SomeWaits};
 
-use crate::edge::{Edge, EdgeVariables};
+use crate::edge::{EdgeEnv, EdgeVariables};
 use crate::fault::ValueFault;
 use crate::growth::Growth;
 use crate::rule_variable::RuleVariable;
@@ -46,8 +46,9 @@ fn joined(alloc: Global, paths: &[Name], by: u8) -> Result<Growth, AllocError>
 }
 
 // The paths that a name stands for, and what stands between them.
-fn paths_named<'e>(edge: &Edge<'e>, name: &[u8]) -> Option<(&'e [Name], u8)>
-    ensures { option_map (λ found. joined found.1 found.0.now) result ≡ paths_named (seen_edge edge.now) name.now }
+fn paths_named<'e>(edge: &EdgeEnv<'e>, name: &[u8]) -> Option<(&'e [Name], u8)>
+    ensures { option_map (λ found. joined found.1 found.0.now) result
+        ≡ paths_named (seen_edge edge.now) name.now }
 {
     if name == b"in".as_slice() {
         return Some((edge.ins, b' '));
@@ -75,7 +76,7 @@ pub(crate) enum Found<'e> {
 }
 
 // What a name leads to.
-fn look_up<'e>(edge: &Edge<'e>, slots: &'e [Slot<'_>], name: &[u8]) -> Found<'e>
+fn look_up<'e>(edge: &EdgeEnv<'e>, slots: &'e [Slot<'_>], name: &[u8]) -> Found<'e>
     requires slots { AreOf (seen_edge edge.now) (seen_slots slots.now) }
     ensures { IsFound (seen_edge edge.now) (seen_slots slots.now) name.now result }
 {
@@ -98,12 +99,14 @@ fn look_up<'e>(edge: &Edge<'e>, slots: &'e [Slot<'_>], name: &[u8]) -> Found<'e>
 fn push_piece(
     alloc: Global,
     value: &mut Growth,
-    edge: &Edge<'_>,
+    edge: &EdgeEnv<'_>,
     slots: &[Slot<'_>],
     piece: Piece<'_>,
 ) -> Result<bool, AllocError>
     requires slots { AreOf (seen_edge edge.now) (seen_slots slots.now) }
-    ensures { IfOk result (λ added. IsAdded (seen_edge edge.now) (seen_slots slots.now) (seen_piece piece.entry) value.old added value.new) }
+    ensures { IfOk result (λ added.
+        IsAdded (seen_edge edge.now) (seen_slots slots.now) (seen_piece piece.entry) value.old
+        added value.new) }
 {
     let name = match piece {
         Piece::Literal(bytes) => {
@@ -136,7 +139,7 @@ fn push_piece(
 // The value of a text, unless it names what is not known yet.
 fn text_value(
     alloc: Global,
-    edge: &Edge<'_>,
+    edge: &EdgeEnv<'_>,
     slots: &[Slot<'_>],
     text: Text<'_>,
 ) -> Result<Option<Growth>, AllocError>
@@ -154,17 +157,23 @@ fn text_value(
     Ok(Some(value))
 }
 
-// The value of a text, if it can be found out by now. With `needed_only` no text is tried but those of variables that each edge needs.
+// The value of a text, if it can be found out by now. With `needed_only` no text is tried but those of variables that
+// each edge needs.
 fn try_slot(
     alloc: Global,
-    edge: &Edge<'_>,
+    edge: &EdgeEnv<'_>,
     slots: &[Slot<'_>],
     slot: &Slot<'_>,
     needed_only: bool,
 ) -> Result<Option<Growth>, AllocError>
     requires slots { AreOf (seen_edge edge.now) (seen_slots slots.now) }
-    ensures known { IfOk result (λ tried. IfSome tried (λ value. (slot.now.value ≡ None) × IsRight (seen_edge edge.now) slot.now.bound.now.text (Some value))) }
-    ensures waits { IfOk result (λ tried. IfNone tried (needed_only ≡ false → slot.now.value ≡ None → Waits (IsWaiting (seen_edge edge.now) (seen_slots slots.now)) slot.now.bound.now.text)) }
+    ensures known { IfOk result (λ tried.
+        IfSome tried (λ value. (slot.now.value ≡ None)
+        × IsRight (seen_edge edge.now) slot.now.bound.now.text (Some value))) }
+    ensures waits { IfOk result (λ tried.
+        IfNone tried (needed_only ≡ false → slot.now.value ≡ None
+        → Waits (IsWaiting (seen_edge edge.now) (seen_slots slots.now))
+        slot.now.bound.now.text)) }
 {
     if needed_only && !slot.bound.variable.is_needed() {
         return Ok(None);
@@ -178,13 +187,16 @@ fn try_slot(
 // A value that can be found out by now, with its place, if there is one.
 fn next_value(
     alloc: Global,
-    edge: &Edge<'_>,
+    edge: &EdgeEnv<'_>,
     slots: &[Slot<'_>],
     needed_only: bool,
 ) -> Result<Option<(usize, Growth)>, AllocError>
     requires slots { AreOf (seen_edge edge.now) (seen_slots slots.now) }
-    ensures known { IfOk result (λ next. IfSome next (λ found. IsKnowable (seen_edge edge.now) slots.now found.0 found.1)) }
-    ensures stuck { IfOk result (λ next. IfNone next (needed_only ≡ false → AreStuck (seen_edge edge.now) (seen_slots slots.now))) }
+    ensures known { IfOk result (λ next.
+        IfSome next (λ found. IsKnowable (seen_edge edge.now) slots.now found.0 found.1)) }
+    ensures stuck { IfOk result (λ next.
+        IfNone next (needed_only ≡ false
+        → AreStuck (seen_edge edge.now) (seen_slots slots.now))) }
 {
     for (place, slot) in slots.iter().enumerate() {
         if let Some(value) = try_slot(alloc, edge, slots, slot, needed_only)? {
@@ -197,13 +209,14 @@ fn next_value(
 // The slots with the values of all texts that can be found out.
 fn settled<'e>(
     alloc: Global,
-    edge: &Edge<'_>,
+    edge: &EdgeEnv<'_>,
     slots: Vec<Slot<'e>>,
     needed_only: bool,
 ) -> Result<Vec<Slot<'e>>, AllocError>
     requires slots { AreOf (seen_edge edge.now) (seen_slots slots.items) }
     ensures slots { IfOk result (λ settled. AreOf (seen_edge edge.now) (seen_slots settled.items)) }
-    ensures stuck { IfOk result (λ settled. needed_only ≡ false → AreStuck (seen_edge edge.now) (seen_slots settled.items)) }
+    ensures stuck { IfOk result (λ settled. needed_only ≡ false
+        → AreStuck (seen_edge edge.now) (seen_slots settled.items)) }
 {
     let mut settled = slots;
     while let Some((place, value)) = next_value(alloc, edge, &settled, needed_only)? {
@@ -213,7 +226,7 @@ fn settled<'e>(
 }
 
 // Whether a variable waits for a value.
-fn is_waiting(edge: &Edge<'_>, slots: &[Slot<'_>], variable: RuleVariable) -> bool
+fn is_waiting(edge: &EdgeEnv<'_>, slots: &[Slot<'_>], variable: RuleVariable) -> bool
     requires slots { AreOf (seen_edge edge.now) (seen_slots slots.now) }
     ensures { IsTrue result ↔ IsWaiting (seen_edge edge.now) (seen_slots slots.now) (name_of variable) }
 {
@@ -221,7 +234,7 @@ fn is_waiting(edge: &Edge<'_>, slots: &[Slot<'_>], variable: RuleVariable) -> bo
 }
 
 // Whether one of the variables that each edge needs waits for a value.
-fn waits(edge: &Edge<'_>, slots: &[Slot<'_>]) -> bool
+fn waits(edge: &EdgeEnv<'_>, slots: &[Slot<'_>]) -> bool
     requires slots { AreOf (seen_edge edge.now) (seen_slots slots.now) }
     ensures some { IsTrue result → SomeWaits (seen_edge edge.now) (seen_slots slots.now) }
     ensures none { IsTrue (not result) → NoneWaits (seen_edge edge.now) (seen_slots slots.now) }
@@ -248,7 +261,7 @@ fn waits(edge: &Edge<'_>, slots: &[Slot<'_>]) -> bool
 }
 
 // The texts of an edge's rule, with the values of all that the edge needs.
-fn settled_slots<'e>(alloc: Global, edge: &Edge<'e>) -> Result<Vec<Slot<'e>>, ValueFault>
+fn settled_slots<'e>(alloc: Global, edge: &EdgeEnv<'e>) -> Result<Vec<Slot<'e>>, ValueFault>
     ensures slots { IfOk result (λ slots. AreOf (seen_edge edge.now) (seen_slots slots.items)) }
     ensures known { IfOk result (λ slots. NoneWaits (seen_edge edge.now) (seen_slots slots.items)) }
     ensures needs_itself { IsErrOf result ValueFault.NeedsItself → SomeNeedsItself (seen_edge edge.now) }
@@ -269,7 +282,7 @@ fn settled_slots<'e>(alloc: Global, edge: &Edge<'e>) -> Result<Vec<Slot<'e>>, Va
 // The value of a variable that does not wait.
 fn known_value(
     alloc: Global,
-    edge: &Edge<'_>,
+    edge: &EdgeEnv<'_>,
     slots: &[Slot<'_>],
     variable: RuleVariable,
 ) -> Result<Vec<u8>, ValueFault>
@@ -296,18 +309,21 @@ fn known_value(
     }
 }
 
-/// The values of the variables that are expanded for an edge that is not phony. A name is looked up as `in`, `in_newline` and
-/// `out`, in the block, in the rule, whose texts are expanded by this same look-up, and then in the scopes. Each text of the
-/// rule is expanded at most once, and those that the edge does not need only where one that it needs leads to them.
+/// The values of the variables that are expanded for an edge that is not phony. A name is looked up as `in`,
+/// `in_newline` and `out`, in the block, in the rule, whose texts are expanded by this same look-up, and then in the
+/// scopes. Each text of the rule is expanded at most once, and those that the edge does not need only where one that it
+/// needs leads to them.
 ///
 /// # Errors
 /// [`ValueFault::NeedsItself`] where one of the variables has no value, since it needs itself. Where all have one,
 /// [`ValueFault::TooLarge`] where one has more than [`MAX_VALUE_BYTES`](crate::MAX_VALUE_BYTES) bytes.
 /// [`ValueFault::Memory`] only where an allocation was refused.
-pub fn edge_variables(alloc: Global, edge: &Edge<'_>) -> Result<EdgeVariables, ValueFault>
+pub fn edge_variables(alloc: Global, edge: &EdgeEnv<'_>) -> Result<EdgeVariables, ValueFault>
     // What is given for each variable is its value, and no larger than a value may be.
-    ensures values { IfOk result (λ values. (variable : RuleVariable) → IsTrue (is_needed variable) → HasValue (seen_edge edge.now) (name_of variable) (given_for variable values)) }
-    ensures within { IfOk result (λ values. (variable : RuleVariable) → length (given_for variable values) ≤ 1048576) }
+    ensures values { IfOk result (λ values. (variable : RuleVariable) → IsTrue (is_needed variable)
+        → HasValue (seen_edge edge.now) (name_of variable) (given_for variable values)) }
+    ensures within { IfOk result (λ values. (variable : RuleVariable)
+        → length (given_for variable values) ≤ 1048576) }
     // That a variable has no value comes before that one is too large.
     ensures needs_itself { IsErrOf result ValueFault.NeedsItself → SomeNeedsItself (seen_edge edge.now) }
     ensures all { IsErrOf result ValueFault.TooLarge → AllHaveValues (seen_edge edge.now) }
@@ -332,8 +348,8 @@ pub fn edge_variables(alloc: Global, edge: &Edge<'_>) -> Result<EdgeVariables, V
     })
 }
 
-/// The command that is compared with the recorded one: the command and, where the content of its response file is not empty,
-/// that content behind `;rspfile=`.
+/// The command that is compared with the recorded one: the command and, where the content of its response file is not
+/// empty, that content behind `;rspfile=`.
 ///
 /// # Errors
 /// [`AllocError`] where an allocation was refused.

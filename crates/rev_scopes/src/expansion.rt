@@ -29,7 +29,9 @@ fn push_piece(
     scopes: &Scopes,
     scope: usize,
 ) -> Result<(), AllocError>
-    ensures { OnOk result (growth.new ≡ appended growth.old (expanded (in_block block.now (variable_in scopes.now scope)) (seen_piece piece.entry))) }
+    ensures { OnOk result (growth.new
+        ≡ appended growth.old
+        (expanded (in_block block.now (variable_in scopes.now scope)) (seen_piece piece.entry))) }
 {
     match piece {
         Piece::Literal(bytes) => growth.push(bytes)?,
@@ -38,8 +40,8 @@ fn push_piece(
     Ok(())
 }
 
-/// The value of a text in a block of a scope: a variable is looked up in the block, whose values are expanded already, then
-/// in the scope, then in its parents. A variable that is nowhere is empty.
+/// The value of a text in a block of a scope: a variable is looked up in the block, whose values are expanded already,
+/// then in the scope, then in its parents. A variable that is nowhere is empty.
 ///
 /// # Errors
 /// [`ValueFault::TooLarge`] where the value has more than [`MAX_VALUE_BYTES`](crate::MAX_VALUE_BYTES) bytes, and
@@ -51,9 +53,12 @@ pub fn expand_in_block(
     scopes: &Scopes,
     scope: usize,
 ) -> Result<Vec<u8>, ValueFault>
-    ensures value { IfOk result (λ value. value.items ≡ expanded (in_block block.now (variable_in scopes.now scope)) text.entry) }
+    ensures value { IfOk result (λ value. value.items
+        ≡ expanded (in_block block.now (variable_in scopes.now scope)) text.entry) }
     ensures within { IfOk result (λ value. length value.items ≤ 1048576) }
-    ensures too_large { IsErrOf result ValueFault.TooLarge → 1048576 < length (expanded (in_block block.now (variable_in scopes.now scope)) text.entry) }
+    ensures too_large { IsErrOf result ValueFault.TooLarge
+        → 1048576 < length
+        (expanded (in_block block.now (variable_in scopes.now scope)) text.entry) }
     ensures finite { result ≢ Err ValueFault.NeedsItself }
 {
     let mut growth = Growth::new(alloc);
@@ -65,8 +70,8 @@ pub fn expand_in_block(
     growth.into_value().ok_or(ValueFault::TooLarge)
 }
 
-/// The value of a text in a scope: a variable is looked up in the scope, then in its parents. A variable that is nowhere is
-/// empty.
+/// The value of a text in a scope: a variable is looked up in the scope, then in its parents. A variable that is
+/// nowhere is empty.
 ///
 /// # Errors
 /// As [`expand_in_block`].
@@ -78,7 +83,8 @@ pub fn expand(
 ) -> Result<Vec<u8>, ValueFault>
     ensures value { IfOk result (λ value. value.items ≡ expanded (variable_in scopes.now scope) text.entry) }
     ensures within { IfOk result (λ value. length value.items ≤ 1048576) }
-    ensures too_large { IsErrOf result ValueFault.TooLarge → 1048576 < length (expanded (variable_in scopes.now scope) text.entry) }
+    ensures too_large { IsErrOf result ValueFault.TooLarge
+        → 1048576 < length (expanded (variable_in scopes.now scope) text.entry) }
     ensures finite { result ≢ Err ValueFault.NeedsItself }
 {
     expand_in_block(alloc, text, &Bindings::new(alloc), scopes, scope)

@@ -54,7 +54,8 @@ impl Growth {
 
     /// Adds a value.
     pub(crate) fn push_value(&mut self, other: &Growth) -> Result<(), AllocError>
-        ensures appended { OnOk result ((value : List ℕ) → other.now ≡ limited value → self.new ≡ appended self.old value) }
+        ensures appended { OnOk result ((value : List ℕ) → other.now ≡ limited value
+            → self.new ≡ appended self.old value) }
         ensures within { appended self.new [] ≡ self.new }
     {
         if other.is_over {

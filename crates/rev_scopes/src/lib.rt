@@ -14,7 +14,7 @@ mod scopes;
 mod slots;
 
 pub use bindings::Bindings;
-pub use edge::{Edge, EdgeVariables};
+pub use edge::{EdgeEnv, EdgeVariables};
 pub use edge_values::{compared_command, edge_variables};
 pub use expansion::{expand, expand_in_block};
 pub use fault::{RuleFault, ValueFault};

@@ -17,7 +17,8 @@ pub(crate) struct RuleText {
     pub(crate) text: StoredText,
 }
 
-/// The texts of a rule while its lines are read: each variable is bound once, in the order in which they were first bound.
+/// The texts of a rule while its lines are read: each variable is bound once, in the order in which they were first
+/// bound.
 #[derive(Drop)]
 pub struct RuleTexts {
     texts: Vec<RuleText>,

@@ -88,8 +88,8 @@ impl Scope {
     }
 }
 
-/// The scopes of manifests, each with a number, from 0 in the order in which they were added. A scope has variables and rules,
-/// and a parent or none; a parent's number is below its scope's (Ninja manual, scoping).
+/// The scopes of manifests, each with a number, from 0 in the order in which they were added. A scope has variables and
+/// rules, and a parent or none; a parent's number is below its scope's (Ninja manual, scoping).
 #[derive(Drop)]
 pub struct Scopes {
     scopes: Vec<Scope>,
@@ -158,8 +158,8 @@ impl Scopes {
         Ok(())
     }
 
-    /// The value of a variable: in the scope, else in its parents, the nearest first. A variable that is nowhere is empty, and
-    /// a scope that is not there has none.
+    /// The value of a variable: in the scope, else in its parents, the nearest first. A variable that is nowhere is
+    /// empty, and a scope that is not there has none.
     #[tactic(auto, using(crate::proofs::ScopeLemmas::no_variable))]
     pub fn variable(&self, scope: usize, name: &[u8]) -> &[u8]
         ensures { result.now ≡ variable_in self.now scope name.now }
@@ -172,9 +172,9 @@ impl Scopes {
 
     /// Adds a rule to a scope.
     ///
-    /// # Errors
-    /// [`RuleFault::DoubleRule`] where the scope has a rule of that name, or the name is `phony`; a rule of that name in a
-    /// parent is no fault. [`RuleFault::Memory`] where an allocation was refused. Nothing is changed then.
+    /// # Errors [`RuleFault::DoubleRule`] where the scope has a rule of that name, or the name is `phony`; a rule of
+    /// that name in a parent is no fault. [`RuleFault::Memory`] where an allocation was refused. Nothing is changed
+    /// then.
     pub fn add_rule(
         &mut self,
         alloc: Global,
@@ -184,7 +184,8 @@ impl Scopes {
     ) -> Result<(), RuleFault>
         requires { scope < length self.old }
         ensures added { OnOk result (self.new ≡ with_scope scope (with_rule name.now rule) self.old) }
-        ensures double { IsErrOf result RuleFault.DoubleRule ↔ IsTrue (is_taken name.now (scope_at self.old scope)) }
+        ensures double { IsErrOf result RuleFault.DoubleRule
+            ↔ IsTrue (is_taken name.now (scope_at self.old scope)) }
         ensures err { OnErr result (self.new ≡ self.old) }
     {
         let here = &mut self.scopes[scope];

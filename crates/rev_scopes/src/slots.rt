@@ -28,7 +28,8 @@ pub(crate) fn slots_of(alloc: Global, rule: &Rule) -> Result<Vec<Slot<'_>>, Allo
 
 /// The text of a name, if the rule binds it.
 pub(crate) fn slot_named<'s, 'a>(slots: &'s [Slot<'a>], name: &[u8]) -> Option<&'s Slot<'a>>
-    ensures { option_map (λ slot. (seen_slot slot.now).1) result ≡ value_of name.now (seen_slots slots.now) }
+    ensures { option_map (λ slot. (seen_slot slot.now).1) result
+        ≡ value_of name.now (seen_slots slots.now) }
 {
     for slot in slots {
         if name == slot.bound.variable.name() {

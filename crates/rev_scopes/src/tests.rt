@@ -51,7 +51,7 @@ fn variables(
     let outs = names_of(alloc, &[b"o"])?;
     Ok(edge_variables(
         alloc,
-        &Edge {
+        &EdgeEnv {
             ins: &ins,
             outs: &outs,
             block,

@@ -6,16 +6,16 @@ use Rattle.rev_syntax.specs.declared.fault.ReadFault.TheVariants.{Memory, Refuse
 use Rattle.rev_syntax.specs.Faults.{IsFault, and_then}
 
 -- elements before the others
-abbrev pub onto_list : {A : Type 0} → List A → Result (List A) SyntaxFault → Result (List A) SyntaxFault
+abbrev pub onto_list : {A E : Type 0} → List A → Result (List A) E → Result (List A) E
 onto_list first (Ok others) = Ok (first ++ others)
 onto_list first (Err fault) = Err fault
 
-pub onto_list-push : {A : Type 0} (first : List A) (x : A) (r : Result (List A) SyntaxFault)
+pub onto_list-push : {A E : Type 0} (first : List A) (x : A) (r : Result (List A) E)
     → onto_list (first ++ x ∷ []) r ≡ onto_list first (and_then r (λ others. Ok (x ∷ others)))
 onto_list-push first x (Ok others) = ap Ok (append_assoc first (x ∷ []) others)
 onto_list-push first x (Err fault) = refl
 
-pub onto_list-nothing : {A : Type 0} (r : Result (List A) SyntaxFault) → onto_list [] r ≡ r
+pub onto_list-nothing : {A E : Type 0} (r : Result (List A) E) → onto_list [] r ≡ r
 onto_list-nothing (Ok others) = refl
 onto_list-nothing (Err fault) = refl
 

@@ -2,7 +2,7 @@
 use Rattle.std.proofs.Common.{◌≡◌, ℕ, zero, suc, ◌+◌, ◌≤◌, ◌==◌, Bool, true, false, not, ◌||◌, cond, List, [], ◌∷◌, ◌++◌, length, drop, refl, sym, ap, ◌∙◌, subst, arith, if◌then◌else◌, append_assoc}
 use Rattle.std.specs.List.{list_any, slice_split, onto_first, prefix_len}
 use Rattle.std.proofs.lemmas.Bool.{eqb-true}
-use Rattle.rev_syntax.specs.Bytes.{is_byte, is_space, is_none, begins_with, without_spaces}
+use Rattle.rev_syntax.specs.Bytes.{is_byte, is_space, is_empty, begins_with, without_spaces}
 use Rattle.rev_syntax.specs.Lines.{LineValue, without_return, lines_of_pieces, file_lines, is_dropped, ends_alone, without_last, before_first, joined, lines_from, lines_of}
 use Rattle.rev_syntax.specs.Cutting.{lacks_feed, ends_return, IsCut, NoLines, LastLine, Feed, ReturnFeed, spaces, IsDropped, Blank, Comment, IsPaired, NoBytes, Single, Taken, Joins, Whole, Joined, Open, AreLines, NoMore, Dropped, Line, IsFile}
 use Rattle.rev_syntax.proofs.LineLemmas.{without_return-return, without_last-push}
@@ -129,7 +129,7 @@ cut-line front rest free r = by (ends_return front) refl
 cut-last : (content : List ℕ) → lacks_feed content ≡ true → IsCut content (file_lines content)
 cut-last content free = subst (IsCut content) (sym (ap lines_of_pieces (piece-last content free))) (by content free)
   where
-    by : (raw : List ℕ) → lacks_feed raw ≡ true → IsCut raw (if is_none raw then [] else raw ∷ [])
+    by : (raw : List ℕ) → lacks_feed raw ≡ true → IsCut raw (if is_empty raw then [] else raw ∷ [])
     by [] free = NoLines
     by (b ∷ bs) free = LastLine (b ∷ bs) refl free
 
@@ -177,15 +177,15 @@ without-cut cut = ap without_spaces (sym cut.whole) ∙ spaces-front cut.count c
 dropped-given : {raw : List ℕ} → IsDropped raw → is_dropped raw ≡ true
 dropped-given (Blank n) =
     let none : without_spaces (spaces n) ≡ [] = ap without_spaces (sym (append_nil (spaces n))) ∙ spaces-front n [] refl in
-    ap (λ t. is_none t || begins_with 35 t) none
-dropped-given (Comment n bytes) = ap (λ t. is_none t || begins_with 35 t) (spaces-front n (35 ∷ bytes) refl)
+    ap (λ t. is_empty t || begins_with 35 t) none
+dropped-given (Comment n bytes) = ap (λ t. is_empty t || begins_with 35 t) (spaces-front n (35 ∷ bytes) refl)
 
 dropped-found : (raw : List ℕ) → is_dropped raw ≡ true → IsDropped raw
 dropped-found raw h =
     let cut = spaces-cut raw in
-    subst IsDropped cut.whole (by cut.count cut.next (ap (λ t. is_none t || begins_with 35 t) (sym (without-cut cut)) ∙ h))
+    subst IsDropped cut.whole (by cut.count cut.next (ap (λ t. is_empty t || begins_with 35 t) (sym (without-cut cut)) ∙ h))
   where
-    by : (n : ℕ) (next : List ℕ) → (is_none next || begins_with 35 next) ≡ true → IsDropped (spaces n ++ next)
+    by : (n : ℕ) (next : List ℕ) → (is_empty next || begins_with 35 next) ≡ true → IsDropped (spaces n ++ next)
     by n [] h = subst IsDropped (sym (append_nil (spaces n))) (Blank n)
     by n (b ∷ bs) h = subst (λ (x : ℕ). IsDropped (spaces n ++ x ∷ bs)) (sym (eqb-true b 35 h)) (Comment n bs)
 

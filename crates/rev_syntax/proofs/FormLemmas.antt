@@ -6,7 +6,7 @@ use Rattle.rev_syntax.specs.declared.fault.SyntaxKind.TheVariants.{Syntax, BadEs
 use Rattle.rev_syntax.specs.declared.fault.SyntaxFault.{SyntaxFault}
 use Rattle.rev_syntax.specs.declared.paths.Mark.{Mark}
 use Rattle.rev_syntax.specs.declared.paths.Mark.TheVariants.{Bar, TwoBars, BarAt}
-use Rattle.rev_syntax.specs.Bytes.{is_in_name, is_none, begins_with, after, without_spaces}
+use Rattle.rev_syntax.specs.Bytes.{is_in_name, is_empty, begins_with, after, without_spaces}
 use Rattle.rev_syntax.specs.Cutting.{spaces}
 use Rattle.rev_syntax.specs.Faults.{and_then, finished, closed, stuck, refused}
 use Rattle.rev_syntax.specs.Grammar.{is_run, is_name, ReadsAs}
@@ -83,15 +83,15 @@ run-stops (b ∷ bs) = by (is_in_name b) refl (run-stops bs)
 pub name-cut : (text : List ℕ) → (name_of text ++ after is_in_name text ≡ text) × (is_run is_in_name (name_of text) ≡ true) × (stops_name (after is_in_name text) ≡ true)
 name-cut text = (take_drop (prefix_len is_in_name text) text, run-of is_in_name text, run-stops text)
 
-pub a-name : (name : List ℕ) → is_name is_in_name name ≡ true → (is_none name ≡ false) × (is_run is_in_name name ≡ true)
-a-name name h = let parts = both (not (is_none name)) (is_run is_in_name name) h in (not_true (is_none name) parts.0, parts.1)
+pub a-name : (name : List ℕ) → is_name is_in_name name ≡ true → (is_empty name ≡ false) × (is_run is_in_name name ≡ true)
+a-name name h = let parts = both (not (is_empty name)) (is_run is_in_name name) h in (not_true (is_empty name) parts.0, parts.1)
 
-pub named : (name : List ℕ) → is_none name ≡ false → is_run is_in_name name ≡ true → is_name is_in_name name ≡ true
+pub named : (name : List ℕ) → is_empty name ≡ false → is_run is_in_name name ≡ true → is_name is_in_name name ≡ true
 named name some run = (λ j. not (some j) && run j)
 
 -- a name is not stuck
-pub unstuck : {A : Type 0} (line : LineValue) (name text : List ℕ) (others : Result A SyntaxFault) (answer : A) → (if is_none name then stuck line text else others) ≡ Ok answer
-    → (is_none name ≡ false) × (others ≡ Ok answer)
+pub unstuck : {A : Type 0} (line : LineValue) (name text : List ℕ) (others : Result A SyntaxFault) (answer : A) → (if is_empty name then stuck line text else others) ≡ Ok answer
+    → (is_empty name ≡ false) × (others ≡ Ok answer)
 unstuck line [] text others answer h = cc
 unstuck line (b ∷ bs) text others answer h = (refl, h)
 
@@ -125,7 +125,7 @@ binding-given line ended (Binding name k l {raw} {value} is free r) =
     let binding : BindingValue = record { name = name; value = value; line = line.number } in
     let valued : value_of line (without_spaces (spaces l ++ raw)) ≡ Ok value =
     ap (value_of line) (spaces-front l raw free) ∙ goes (finished line) (text-read line raw value r) ∙ is-finished line value ended in
-    (λ j. if is_none (front.0 j) then stuck line (name ++ rest) else bound line (front.0 j) (without_spaces (front.1 j)))
+    (λ j. if is_empty (front.0 j) then stuck line (name ++ rest) else bound line (front.0 j) (without_spaces (front.1 j)))
     ∙ (λ j. if a.0 j then stuck line (name ++ rest) else bound line name (spaces-front k (61 ∷ (spaces l ++ raw)) refl j))
     ∙ goes (λ value. Ok (record { name = name; value = value; line = line.number })) valued
 
@@ -139,7 +139,7 @@ binding-found line text binding h =
     let some = unstuck line (name_of text) text (bound line (name_of text) (after_name text)) binding h in
     by (after_name text) refl some.0 some.1
   where
-    by : (rest : List ℕ) → after_name text ≡ rest → is_none (name_of text) ≡ false → bound line (name_of text) rest ≡ Ok binding → BindingFound line text binding
+    by : (rest : List ℕ) → after_name text ≡ rest → is_empty (name_of text) ≡ false → bound line (name_of text) rest ≡ Ok binding → BindingFound line text binding
     by [] e some h = cc
     by (b ∷ bs) e some h = test (b == 61) refl h
       where

@@ -4,7 +4,7 @@ use Rattle.std.specs.List.{take_while, prefix_len}
 use Rattle.std.proofs.lemmas.Bool.{eqb-true}
 use Rattle.std.proofs.lemmas.List.Folds.{length-prefix_len}
 use Rattle.rev_syntax.specs.declared.fault.SyntaxKind.TheVariants.{Syntax}
-use Rattle.rev_syntax.specs.Bytes.{is_in_name, is_in_bare_name, after, is_none}
+use Rattle.rev_syntax.specs.Bytes.{is_in_name, is_in_bare_name, after, is_empty}
 use Rattle.rev_syntax.specs.Texts.{PieceValue, Byte, Variable, EscapeValue, is_no_text, is_escaped, bare, braced, escape_of, fault_after, text_fault, fault_of, pieces_after, pieces_from, pieces_of}
 use Rattle.rev_syntax.specs.Grammar.{is_run, is_name, ends_name, ReadsAs, Nothing, Plain, Escaped, Bare, Braced}
 use Rattle.rev_syntax.proofs.PieceLemmas.{text_fault-drop, pieces_from-drop, drop-more}
@@ -76,18 +76,18 @@ bare-escape (c ∷ cs) text h e =
 plus-two : (n : ℕ) → n + 2 ≡ suc (suc n)
 plus-two n = omega arith
 
-braced-named : (name text : List ℕ) → is_none name ≡ false → braced name (125 ∷ text) ≡ Some (record { piece = Variable name; taken = length name + 2 })
+braced-named : (name text : List ℕ) → is_empty name ≡ false → braced name (125 ∷ text) ≡ Some (record { piece = Variable name; taken = length name + 2 })
 braced-named [] text h = cc
 braced-named (b ∷ bs) text h = refl
 
 pub braced-escape : (name text : List ℕ) → is_name is_in_name name ≡ true → escape_of (123 ∷ name ++ 125 ∷ text) ≡ Some (record { piece = Variable name; taken = length name + 2 })
 braced-escape name text h =
-    let parts = both (not (is_none name)) (is_run is_in_name name) h in
+    let parts = both (not (is_empty name)) (is_run is_in_name name) h in
     let rest = name ++ 125 ∷ text in
     let len : prefix_len is_in_name rest ≡ length name = run-len is_in_name name (125 ∷ text) parts.1 refl in
     (λ i. braced (take (len i) rest) (drop (len i) rest))
     ∙ (λ i. braced (take-front name (125 ∷ text) i) (drop-front name (125 ∷ text) i))
-    ∙ braced-named name text (not_true (is_none name) parts.0)
+    ∙ braced-named name text (not_true (is_empty name) parts.0)
 
 given : {raw : List ℕ} {pieces : List PieceValue} → ReadsAs raw pieces → (fault_of raw ≡ None) × (pieces_of raw ≡ pieces)
 given Nothing = (refl, refl)
@@ -139,12 +139,12 @@ escape_or e (Some f) = f
 pub same : (e f : EscapeValue) → Some e ≡ Some f → e ≡ f
 same e f h = ap (escape_or e) h
 
-pub bare-is : (name : List ℕ) (e : EscapeValue) → bare name ≡ Some e → (is_none name ≡ false) × (record { piece = Variable name; taken = length name } ≡ e)
+pub bare-is : (name : List ℕ) (e : EscapeValue) → bare name ≡ Some e → (is_empty name ≡ false) × (record { piece = Variable name; taken = length name } ≡ e)
 bare-is [] e h = cc
 bare-is (b ∷ bs) e h = (refl, same (record { piece = Variable (b ∷ bs); taken = length (b ∷ bs) }) e h)
 
 pub braced-is : (name rest : List ℕ) (e : EscapeValue) → braced name rest ≡ Some e
-    → (text : List ℕ) × (rest ≡ 125 ∷ text) × (is_none name ≡ false) × (record { piece = Variable name; taken = length name + 2 } ≡ e)
+    → (text : List ℕ) × (rest ≡ 125 ∷ text) × (is_empty name ≡ false) × (record { piece = Variable name; taken = length name + 2 } ≡ e)
 braced-is [] rest e h = cc
 braced-is (b ∷ bs) [] e h = cc
 braced-is (b ∷ bs) (r ∷ rs) e h = by (r == 125) refl h

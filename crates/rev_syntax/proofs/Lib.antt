@@ -3,6 +3,7 @@ pub mod ApartLemmas
 pub mod ByteLemmas
 pub mod CutLemmas
 pub mod FormLemmas
+pub mod FreeLemmas
 pub mod RefusalLemmas
 pub mod StatementLemmas
 pub mod GrammarLemmas

@@ -6,7 +6,7 @@ use Rattle.std.proofs.lemmas.List.Sums.{fails_before_first}
 use Rattle.std.proofs.lemmas.Grind.{common_steps}
 use Rattle.std.specs.Borrow.{Bor}
 use Rattle.rev_syntax.specs.Joining.{texts}
-use Rattle.rev_syntax.specs.Bytes.{is_byte, is_none}
+use Rattle.rev_syntax.specs.Bytes.{is_byte, is_empty}
 use Rattle.rev_syntax.specs.Lines.{LineValue, without_return, without_last, lines_of_pieces, file_lines, ends_alone, before_first, joined, lines_from}
 
 pub without_return-return : (xs : List ℕ) (b : ℕ) → (b == 13) ≡ true → without_return (xs ++ b ∷ []) ≡ xs
@@ -65,7 +65,7 @@ tail-within [] after (suc n) x h = cc
 tail-within (y ∷ ys) after zero x h = omega arith
 tail-within (y ∷ ys) after (suc n) x h = omega (arith, tail-within ys after n x h)
 
-none-length : (xs : List ℕ) → (length xs == 0) ≡ false → is_none xs ≡ false
+none-length : (xs : List ℕ) → (length xs == 0) ≡ false → is_empty xs ≡ false
 none-length [] h = h
 none-length (x ∷ xs) h = refl
 
@@ -75,19 +75,19 @@ file_lines-last p some h =
     ap lines_of_pieces (slice_split_none (is_byte 10) p (λ k d below. fails_before_first (is_byte 10) p k d (omega arith)))
     ∙ ap (λ t. if t then [] else p ∷ []) (none-length p some)
 
-onto_first-some : (b : ℕ) (ps : List (List ℕ)) → is_none (onto_first b ps) ≡ false
+onto_first-some : (b : ℕ) (ps : List (List ℕ)) → is_empty (onto_first b ps) ≡ false
 onto_first-some b [] = refl
 onto_first-some b (p ∷ ps) = refl
 
-split-some : (test : ℕ → Bool) (q : List ℕ) → is_none (slice_split test q) ≡ false
+split-some : (test : ℕ → Bool) (q : List ℕ) → is_empty (slice_split test q) ≡ false
 split-some test [] = refl
 split-some test (b ∷ bs) =
-    elim (test b) as (λ t. is_none (cond t ([] ∷ slice_split test bs) (onto_first b (slice_split test bs))) ≡ false) [
+    elim (test b) as (λ t. is_empty (cond t ([] ∷ slice_split test bs) (onto_first b (slice_split test bs))) ≡ false) [
       | true ↦ refl
       | false ↦ onto_first-some b (slice_split test bs)
     ]
 
-pieces-more : (piece : List ℕ) (ps : List (List ℕ)) → is_none ps ≡ false → lines_of_pieces (piece ∷ ps) ≡ without_return piece ∷ lines_of_pieces ps
+pieces-more : (piece : List ℕ) (ps : List (List ℕ)) → is_empty ps ≡ false → lines_of_pieces (piece ∷ ps) ≡ without_return piece ∷ lines_of_pieces ps
 pieces-more piece [] h = cc
 pieces-more piece (p ∷ ps) h = refl
 

@@ -5,7 +5,7 @@ use Rattle.rev_syntax.specs.declared.bytes.End.{End}
 use Rattle.rev_syntax.specs.declared.bytes.End.TheVariants.{SpaceEnd, PathEnd, ListEnd}
 use Rattle.rev_syntax.specs.declared.fault.SyntaxKind.{SyntaxKind}
 use Rattle.rev_syntax.specs.declared.fault.SyntaxFault.{SyntaxFault}
-use Rattle.rev_syntax.specs.Bytes.{is_in_name, is_in_bare_name, is_none}
+use Rattle.rev_syntax.specs.Bytes.{is_in_name, is_in_bare_name, is_empty}
 use Rattle.rev_syntax.specs.Ends.{ends_at, free_len}
 use Rattle.rev_syntax.specs.Lines.{LineValue}
 use Rattle.rev_syntax.specs.Texts.{PieceValue, is_no_text, fault_of, pieces_of}
@@ -61,7 +61,7 @@ flag-text text.Nothing = refl
 flag-text (Plain {b} {text} {pieces} h r) = ap (λ t. flag t text) (not_true (b == 36) (both (not (b == 36)) (not (is_no_text b)) h).0) ∙ flag-text r
 flag-text (Escaped {b} {text} {pieces} h r) = flag-text r
 flag-text (Bare name {text} {pieces} h e r) = flag-bare name text h (flag-text r)
-flag-text (Braced name {text} {pieces} h r) = flag-run is_in_name name (125 ∷ text) refl (both (not (is_none name)) (is_run is_in_name name) h).1 ∙ flag-text r
+flag-text (Braced name {text} {pieces} h r) = flag-run is_in_name name (125 ∷ text) refl (both (not (is_empty name)) (is_run is_in_name name) h).1 ∙ flag-text r
 
 -- an end behind a path
 walk-step : (end : End) (b : ℕ) (bs more : List ℕ) (m : ℕ) (t : Bool) → ends_at PathEnd b ≡ t → (if t then 0 else suc (free_len PathEnd (b == 36) bs)) ≡ suc (length bs)
@@ -212,8 +212,8 @@ paths-ok (Err fault) more paths h = cc
 paths-ok (Ok path) (Err fault) paths h = cc
 paths-ok (Ok path) (Ok others) paths h = (path, others, refl, refl, cc)
 
-some-front : (b : ℕ) (bs : List ℕ) → (b == 32) ≡ false → is_none (take (free_len SpaceEnd false (b ∷ bs)) (b ∷ bs)) ≡ false
-some-front b bs e = ap (λ t. is_none (take (if t then 0 else suc (free_len SpaceEnd (b == 36) bs)) (b ∷ bs))) e
+some-front : (b : ℕ) (bs : List ℕ) → (b == 32) ≡ false → is_empty (take (free_len SpaceEnd false (b ∷ bs)) (b ∷ bs)) ≡ false
+some-front b bs e = ap (λ t. is_empty (take (if t then 0 else suc (free_len SpaceEnd (b == 36) bs)) (b ∷ bs))) e
 
 fewer : (b k : ℕ) (bs : List ℕ) → (b == 32) ≡ false → length (b ∷ bs) ≤ suc k → length (drop (free_len SpaceEnd false (b ∷ bs)) (b ∷ bs)) ≤ k
 fewer b k bs e h =

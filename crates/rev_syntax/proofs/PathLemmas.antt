@@ -2,7 +2,7 @@
 use Rattle.std.proofs.Common.{◌≡◌, ℕ, suc, ◌+◌, ◌<◌, Bool, true, false, not, ◌==◌, List, [], ◌∷◌, ◌++◌, length, take, drop, filter, cond, Result, Ok, Err, refl, sym, ap, ◌∙◌, if◌then◌else◌, arith, length-drop}
 use Rattle.std.specs.List.{prefix_len, onto_first}
 use Rattle.rev_syntax.specs.declared.bytes.End.TheVariants.{SpaceEnd}
-use Rattle.rev_syntax.specs.Bytes.{is_space, without_spaces, is_none, begins_with}
+use Rattle.rev_syntax.specs.Bytes.{is_space, without_spaces, is_empty, begins_with}
 use Rattle.rev_syntax.specs.Ends.{free_len}
 use Rattle.rev_syntax.specs.declared.fault.SyntaxFault.{SyntaxFault}
 use Rattle.rev_syntax.specs.Lines.{LineValue}
@@ -18,7 +18,7 @@ spaces-step : (b : ℕ) (bs : List ℕ) (t : Bool) → (b == 32) ≡ t → raw_p
     → raw_paths (drop (cond t (1 + prefix_len is_space bs) 0) (b ∷ bs)) ≡ raw_paths (b ∷ bs)
 spaces-step b bs true e rest =
     ap (λ k. raw_paths (drop k (b ∷ bs))) (one-more (prefix_len is_space bs)) ∙ rest
-    ∙ sym (ap (λ t. filter (λ raw. not (is_none raw)) (if t then [] ∷ split_free false bs else onto_first b (split_free (b == 36) bs))) e)
+    ∙ sym (ap (λ t. filter (λ raw. not (is_empty raw)) (if t then [] ∷ split_free false bs else onto_first b (split_free (b == 36) bs))) e)
 spaces-step b bs false e rest = refl
 
 -- leading spaces stand before the first path
@@ -60,7 +60,7 @@ split_free-first false (b ∷ bs) = by (b == 32) (split-step b bs (free_len Spac
 
 -- what follows the first piece is empty or begins with a space
 abbrev some_paths : List (List ℕ) → List (List ℕ)
-some_paths pieces = filter (λ raw. not (is_none raw)) pieces
+some_paths pieces = filter (λ raw. not (is_empty raw)) pieces
 
 at-end : (taken : Bool) (text : List ℕ) → some_paths (others (drop (free_len SpaceEnd taken text) text)) ≡ raw_paths (drop (free_len SpaceEnd taken text) text)
 at-end true [] = refl

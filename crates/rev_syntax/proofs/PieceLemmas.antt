@@ -7,7 +7,7 @@ use Rattle.std.proofs.lemmas.List.Folds.{length-prefix_len}
 use Rattle.rev_syntax.specs.declared.fault.SyntaxKind.TheVariants.{Syntax, BadEscape}
 use Rattle.rev_syntax.specs.declared.text.Piece.{Piece}
 use Rattle.rev_syntax.specs.declared.text.Piece.TheVariants as code
-use Rattle.rev_syntax.specs.Bytes.{is_byte, is_in_name, after, is_none}
+use Rattle.rev_syntax.specs.Bytes.{is_byte, is_in_name, after, is_empty}
 use Rattle.rev_syntax.specs.Texts.{PieceValue, Byte, Variable, EscapeValue, is_no_text, braced, escape_of, fault_after, text_fault, fault_of, pieces_after, pieces_from, pieces_of}
 use Rattle.rev_syntax.specs.Pieces.{seen_piece, IsEscape}
 
@@ -110,11 +110,11 @@ pieces-some b bs f = by (b == 36) refl f
     by true e h = after-some (escape_of bs) bs h
     by false e h = λ n. cc
 
-pub is_none-pieces : (raw : List ℕ) → fault_of raw ≡ None → (length raw == 0) ≡ is_none (pieces_of raw)
-is_none-pieces [] f = refl
-is_none-pieces (b ∷ bs) f = ne_eqb (suc (length bs)) 0 (λ e. cc) ∙ sym (some (pieces_of (b ∷ bs)) (pieces-some b bs f))
+pub is_empty-pieces : (raw : List ℕ) → fault_of raw ≡ None → (length raw == 0) ≡ is_empty (pieces_of raw)
+is_empty-pieces [] f = refl
+is_empty-pieces (b ∷ bs) f = ne_eqb (suc (length bs)) 0 (λ e. cc) ∙ sym (some (pieces_of (b ∷ bs)) (pieces-some b bs f))
   where
-    some : (pieces : List PieceValue) → pieces ≢ [] → is_none pieces ≡ false
+    some : (pieces : List PieceValue) → pieces ≢ [] → is_empty pieces ≡ false
     some [] h = absurd (h refl)
     some (p ∷ ps) h = refl
 
@@ -124,7 +124,7 @@ drop-more (suc n) x [] rest h = cc
 drop-more zero x (y ∷ ys) rest h = cc
 drop-more (suc n) x (y ∷ ys) rest h = drop-more n x ys rest h
 
-none-length : (xs : List ℕ) → (length xs == 0) ≡ false → is_none xs ≡ false
+none-length : (xs : List ℕ) → (length xs == 0) ≡ false → is_empty xs ≡ false
 none-length [] h = h
 none-length (x ∷ xs) h = refl
 
@@ -138,7 +138,7 @@ braced-escape text name rest b named left closed some =
     let P : Option EscapeValue → Type 0 = λ meant. IsEscape meant (123 ∷ text) (Some (code.Variable name, rest)) in
     let is : braced found (after is_in_name text) ≡ Some escape =
     ap (braced found) (left ∙ ap (λ x. x ∷ rest.now) closed)
-    ∙ ap (λ t. if t || false then None else Some escape) (sym (ap is_none named) ∙ none-length name.now some) in
+    ∙ ap (λ t. if t || false then None else Some escape) (sym (ap is_empty named) ∙ none-length name.now some) in
     let two : length found + 2 ≡ suc (suc n) = ap (λ k. k + 2) (length-prefix_len is_in_name text) ∙ plus-two n in
     subst P (sym is) (ap (λ x. Variable x ∷ []) named, sym (ap (λ k. drop k (123 ∷ text)) two ∙ drop-more n b text rest.now left))
   where

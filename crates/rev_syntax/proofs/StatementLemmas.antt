@@ -7,7 +7,7 @@ use Rattle.rev_syntax.specs.declared.bytes.End.TheVariants.{PathEnd}
 use Rattle.rev_syntax.specs.declared.fault.SyntaxKind.TheVariants.{Syntax, Tab}
 use Rattle.rev_syntax.specs.declared.fault.SyntaxFault.{SyntaxFault}
 use Rattle.rev_syntax.specs.declared.paths.Mark.TheVariants.{Bar, TwoBars, BarAt}
-use Rattle.rev_syntax.specs.Bytes.{is_in_name, is_none, begins_with, after, is_space, without_spaces}
+use Rattle.rev_syntax.specs.Bytes.{is_in_name, is_empty, begins_with, after, is_space, without_spaces}
 use Rattle.rev_syntax.specs.Cutting.{spaces}
 use Rattle.rev_syntax.specs.Ends.{free_len, ends_at}
 use Rattle.rev_syntax.specs.Faults.{and_then, closed, stuck, refused}
@@ -163,7 +163,7 @@ build-given line ended (BuildLine {front} {bar} k rule {text} {outs} {implicit_o
     ap (λ t. if not t then Ok (record { outs = outs; implicit_outs = implicit_outs; rest = without_spaces behind }) else refused line Syntax) some
     ∙ ap (λ t. Ok (record { outs = outs; implicit_outs = implicit_outs; rest = t })) (spaced-name k rule text is) in
     goes (rule_and_inputs line) (goes (after_outs line) ((lists-read line (front ++ bar) bar outs).1 (front, refl, r, ends)) ∙ goes (outs_colon line (outs, bar)) (behind-given line b) ∙ parted)
-    ∙ (λ j. if is_none (cut.0 j) then stuck line rest else and_then (inputs_of line (cut.1 j)) (λ inputs. Ok (record {
+    ∙ (λ j. if is_empty (cut.0 j) then stuck line rest else and_then (inputs_of line (cut.1 j)) (λ inputs. Ok (record {
       outs = outs;
       implicit_outs = implicit_outs;
       rule = cut.0 j;
@@ -185,20 +185,20 @@ build-given line ended (BuildLine {front} {bar} k rule {text} {outs} {implicit_o
 record ColonFound (outs implicit_outs : List (List PieceValue)) (text : List ℕ) (outputs : OutputsValue) : Type 0 where
   behind : List ℕ
   is : text ≡ 58 ∷ behind
-  some : (is_none outs && is_none implicit_outs) ≡ false
+  some : (is_empty outs && is_empty implicit_outs) ≡ false
   made : record { outs = outs; implicit_outs = implicit_outs; rest = without_spaces behind } ≡ outputs
 
 colon-found : (line : LineValue) (outs implicit_outs : List (List PieceValue)) (text : List ℕ) (outputs : OutputsValue) → colon line outs implicit_outs text ≡ Ok outputs
     → ColonFound outs implicit_outs text outputs
 colon-found line outs implicit_outs [] outputs h = cc
-colon-found line outs implicit_outs (b ∷ bs) outputs h = by (b == 58 && not (is_none outs && is_none implicit_outs)) refl h
+colon-found line outs implicit_outs (b ∷ bs) outputs h = by (b == 58 && not (is_empty outs && is_empty implicit_outs)) refl h
   where
-    by : (t : Bool) → (b == 58 && not (is_none outs && is_none implicit_outs)) ≡ t
+    by : (t : Bool) → (b == 58 && not (is_empty outs && is_empty implicit_outs)) ≡ t
         → (if t then Ok (record { outs = outs; implicit_outs = implicit_outs; rest = without_spaces bs }) else refused line Syntax) ≡ Ok outputs
         → ColonFound outs implicit_outs (b ∷ bs) outputs
     by true e h =
-        let parts = both (b == 58) (not (is_none outs && is_none implicit_outs)) e in
-        record { behind = bs; is = ap (λ x. x ∷ bs) (eqb-true b 58 parts.0); some = not_true (is_none outs && is_none implicit_outs) parts.1; made = same-ok _ _ h }
+        let parts = both (b == 58) (not (is_empty outs && is_empty implicit_outs)) e in
+        record { behind = bs; is = ap (λ x. x ∷ bs) (eqb-true b 58 parts.0); some = not_true (is_empty outs && is_empty implicit_outs) parts.1; made = same-ok _ _ h }
     by false e h = cc
 
 record BuildFound (line : LineValue) (text : List ℕ) (build : BuildLineValue) : Type 0 where
@@ -258,7 +258,7 @@ last-name-given : (line : LineValue) (name : List ℕ) (l : ℕ) → line.ended 
 last-name-given line name l ended is =
     let a = a-name name is in
     let cut = name-front name (spaces l) a.1 (spaces-stop-all l) in
-    (λ j. if is_none (cut.0 j) then stuck line (name ++ spaces l) else and_then (closed line (without_spaces (cut.1 j))) (λ _. Ok (cut.0 j)))
+    (λ j. if is_empty (cut.0 j) then stuck line (name ++ spaces l) else and_then (closed line (without_spaces (cut.1 j))) (λ _. Ok (cut.0 j)))
     ∙ (λ j. if a.0 j then stuck line (name ++ spaces l) else and_then (closed line (without_spaces (spaces l))) (λ _. Ok name))
     ∙ closes line (without_spaces (spaces l)) name ended (no-spaces l)
 
@@ -303,7 +303,7 @@ last-path-given line raw path l ended is =
     let front : take (free_len PathEnd false text) text ≡ raw = ap (λ n. take n text) len ∙ take-len raw (spaces l) in
     let back : drop (free_len PathEnd false text) text ≡ spaces l = ap (λ n. drop n text) len ∙ drop-len raw (spaces l) in
     let read : path_of line text ≡ Ok (path, without_spaces (spaces l)) =
-    (λ j. if is_none (front j) then stuck line text else and_then (text_of line (front j)) (λ p. Ok (p, without_spaces (back j))))
+    (λ j. if is_empty (front j) then stuck line text else and_then (text_of line (front j)) (λ p. Ok (p, without_spaces (back j))))
     ∙ (λ j. if is.some j then stuck line text else and_then (text-read line raw path is.reads j) (λ p. Ok (p, without_spaces (spaces l)))) in
     goes {B = List PieceValue} (λ (p : Part (List PieceValue)). and_then (closed line p.1) (λ _. Ok p.0)) read ∙ closes line (without_spaces (spaces l)) path ended (no-spaces l)
 
@@ -345,25 +345,25 @@ last-path-found line text path h =
       is = record { some = some.0; whole = path-free false text; reads = subst (λ (p : List PieceValue). ReadsAs raw p) same (text-reads line raw b.value b.first_is) };
     }
 
-last-paths-given : (line : LineValue) (text : List ℕ) (paths : List (List PieceValue)) → line.ended ≡ true → is_none paths ≡ false → ListReads text paths → last_paths line text ≡ Ok paths
+last-paths-given : (line : LineValue) (text : List ℕ) (paths : List (List PieceValue)) → line.ended ≡ true → is_empty paths ≡ false → ListReads text paths → last_paths line text ≡ Ok paths
 last-paths-given line text paths ended some r =
-    goes {B = List (List PieceValue)} (λ (p : Part (List (List PieceValue))). if is_none p.0 then stuck line p.1 else and_then (closed line p.1) (λ _. Ok p.0))
+    goes {B = List (List PieceValue)} (λ (p : Part (List (List PieceValue))). if is_empty p.0 then stuck line p.1 else and_then (closed line p.1) (λ _. Ok p.0))
     ((lists-read line text [] paths).1 (text, sym (append_nil text), r, refl))
     ∙ ap (λ t. if t then stuck line [] else and_then (closed line []) (λ _. Ok paths)) some ∙ closes line [] paths ended refl
 
 record LastPathsFound (line : LineValue) (text : List ℕ) (paths : List (List PieceValue)) : Type 0 where
   ended : line.ended ≡ true
-  some : is_none paths ≡ false
+  some : is_empty paths ≡ false
   are : ListReads text paths
 
 unstuck-paths : {A : Type 0} (line : LineValue) (paths : List (List PieceValue)) (text : List ℕ) (others : Result A SyntaxFault) (answer : A)
-    → (if is_none paths then stuck line text else others) ≡ Ok answer → (is_none paths ≡ false) × (others ≡ Ok answer)
+    → (if is_empty paths then stuck line text else others) ≡ Ok answer → (is_empty paths ≡ false) × (others ≡ Ok answer)
 unstuck-paths line [] text others answer h = cc
 unstuck-paths line (p ∷ ps) text others answer h = (refl, h)
 
 last-paths-found : (line : LineValue) (text : List ℕ) (paths : List (List PieceValue)) → last_paths line text ≡ Ok paths → LastPathsFound line text paths
 last-paths-found line text paths h =
-    let a = went (list_of line text) (λ (p : Part (List (List PieceValue))). if is_none p.0 then stuck line p.1 else and_then (closed line p.1) (λ _. Ok p.0)) paths h in
+    let a = went (list_of line text) (λ (p : Part (List (List PieceValue))). if is_empty p.0 then stuck line p.1 else and_then (closed line p.1) (λ _. Ok p.0)) paths h in
     let found = a.value in
     let some = unstuck-paths line found.0 found.1 (and_then (closed line found.1) (λ _. Ok found.0)) paths a.next_is in
     let shut = went (closed line found.1) (λ _. Ok found.0) paths some.1 in
@@ -373,7 +373,7 @@ last-paths-found line text paths h =
     let whole : read.0 ≡ text = sym (append_nil read.0) ∙ ap (λ t. read.0 ++ t) (sym done.1) ∙ sym read.1 in
     record {
       ended = done.0;
-      some = sym (ap is_none same) ∙ some.0;
+      some = sym (ap is_empty same) ∙ some.0;
       are = subst (λ (ps : List (List PieceValue)). ListReads text ps) same (subst (λ (t : List ℕ). ListReads t found.0) whole read.2);
     }
 

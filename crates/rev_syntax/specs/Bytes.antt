@@ -32,9 +32,9 @@ after test text = drop (prefix_len test text) text
 abbrev pub without_spaces : List ℕ → List ℕ
 without_spaces text = after is_space text
 
-abbrev pub is_none : {A : Type 0} → List A → Bool
-is_none [] = true
-is_none (x ∷ xs) = false
+abbrev pub is_empty : {A : Type 0} → List A → Bool
+is_empty [] = true
+is_empty (x ∷ xs) = false
 
 abbrev pub begins_with : ℕ → List ℕ → Bool
 begins_with b [] = false

@@ -15,7 +15,7 @@ abbrev pub refused : {A : Type 0} → LineValue → SyntaxKind → Result A Synt
 refused line kind = Err (fault_at line kind)
 
 -- an answer that goes on from another: what is further left has the first fault
-abbrev pub and_then : {A B : Type 0} → Result A SyntaxFault → (A → Result B SyntaxFault) → Result B SyntaxFault
+abbrev pub and_then : {A B E : Type 0} → Result A E → (A → Result B E) → Result B E
 and_then (Ok value) next = next value
 and_then (Err fault) next = Err fault
 

@@ -1,9 +1,10 @@
--- How statements read: the table of forms, as a relation of bytes and values. Bytes of a line stand in the order in which they are written out.
+-- How statements read: the table of forms, as a relation of bytes and values. Bytes of a line stand in the order in
+-- which they are written out.
 use Rattle.std.specs.Prelude.{◌≡◌, ℕ, suc, ◌==◌, ◌↔◌, Bool, true, false, not, ◌&&◌, ◌||◌, List, [], ◌∷◌, ◌++◌, bytes_eq, codes, Ok}
 use Rattle.std.specs.List.{AllByRecursion}
 use Rattle.rev_syntax.specs.declared.paths.Mark.{Mark}
 use Rattle.rev_syntax.specs.declared.paths.Mark.TheVariants.{Bar, TwoBars, BarAt}
-use Rattle.rev_syntax.specs.Bytes.{is_in_name, is_none, begins_with}
+use Rattle.rev_syntax.specs.Bytes.{is_in_name, is_empty, begins_with}
 use Rattle.rev_syntax.specs.Cutting.{spaces}
 use Rattle.rev_syntax.specs.Grammar.{ReadsAs, is_name}
 use Rattle.rev_syntax.specs.Lines.{LineValue}
@@ -20,7 +21,8 @@ stops_name (b ∷ bs) = not (is_in_name b)
 pub data IsBinding : ℕ → List ℕ → BindingValue → Type 0 where
   Binding : {number : ℕ} (name : List ℕ) (k l : ℕ) {raw : List ℕ} {value : List PieceValue}
       → is_name is_in_name name ≡ true → begins_with 32 raw ≡ false → ReadsAs raw value
-      → IsBinding number (name ++ (spaces k ++ 61 ∷ (spaces l ++ raw))) (record { name = name; value = value; line = number })
+      → IsBinding number (name ++ (spaces k ++ 61 ∷ (spaces l ++ raw)))
+      (record { name = name; value = value; line = number })
 
 -- how a mark is written
 abbrev pub mark_bytes : Mark → List ℕ
@@ -45,14 +47,17 @@ pub data Behind : Mark → List ℕ → List (List PieceValue) → List ℕ → 
 -- `PATHS [| PATHS] [|| PATHS] [|@ PATHS]`, to the line's end
 pub data AreInputs : List ℕ → InputsValue → Type 0 where
   Inputs : {front bar two_bars bar_at : List ℕ} {ins implicit order_only validations : List (List PieceValue)}
-      → ListReads front ins → ends_list bar ≡ true → Behind Bar bar implicit two_bars → Behind TwoBars two_bars order_only bar_at → Behind BarAt bar_at validations []
-      → AreInputs (front ++ bar) (record { ins = ins; implicit = implicit; order_only = order_only; validations = validations })
+      → ListReads front ins → ends_list bar ≡ true → Behind Bar bar implicit two_bars
+      → Behind TwoBars two_bars order_only bar_at → Behind BarAt bar_at validations []
+      → AreInputs (front ++ bar)
+      (record { ins = ins; implicit = implicit; order_only = order_only; validations = validations })
 
 -- `PATHS [| PATHS] : NAME` and the inputs; there is an output
 pub data IsBuildLine : List ℕ → BuildLineValue → Type 0 where
-  BuildLine : {front bar : List ℕ} (k : ℕ) (rule : List ℕ) {text : List ℕ} {outs implicit_outs : List (List PieceValue)} {inputs : InputsValue}
+  BuildLine : {front bar : List ℕ} (k : ℕ) (rule : List ℕ) {text : List ℕ} {outs implicit_outs : List (List PieceValue)}
+      {inputs : InputsValue}
       → ListReads front outs → ends_list bar ≡ true → Behind Bar bar implicit_outs (58 ∷ (spaces k ++ (rule ++ text)))
-      → (is_none outs && is_none implicit_outs) ≡ false
+      → (is_empty outs && is_empty implicit_outs) ≡ false
       → is_name is_in_name rule ≡ true → stops_name text ≡ true → AreInputs text inputs
       → IsBuildLine (front ++ bar) (record {
         outs = outs;
@@ -78,27 +83,35 @@ pub data IsHeader : ℕ → List ℕ → HeaderValue → Type 0 where
       → IsHeader number (codes "build" ++ text) (BuildHeader build)
   PoolLine : {number : ℕ} (k : ℕ) (name : List ℕ) (l : ℕ) → is_name is_in_name name ≡ true
       → IsHeader number (codes "pool" ++ (spaces (suc k) ++ (name ++ spaces l))) (PoolHeader name)
-  DefaultLine : {number : ℕ} {text : List ℕ} {paths : List (List PieceValue)} → stops_name text ≡ true → is_none paths ≡ false → ListReads text paths
+  DefaultLine : {number : ℕ} {text : List ℕ} {paths : List (List PieceValue)} → stops_name text ≡ true
+      → is_empty paths ≡ false → ListReads text paths
       → IsHeader number (codes "default" ++ text) (DefaultHeader paths)
-  IncludeLine : {number : ℕ} (k l : ℕ) {raw : List ℕ} {path : List PieceValue} → stops_name (spaces k ++ (raw ++ spaces l)) ≡ true → IsPath raw path
+  IncludeLine : {number : ℕ} (k l : ℕ) {raw : List ℕ} {path : List PieceValue}
+      → stops_name (spaces k ++ (raw ++ spaces l)) ≡ true → IsPath raw path
       → IsHeader number (codes "include" ++ (spaces k ++ (raw ++ spaces l))) (IncludeHeader path)
-  SubninjaLine : {number : ℕ} (k l : ℕ) {raw : List ℕ} {path : List PieceValue} → stops_name (spaces k ++ (raw ++ spaces l)) ≡ true → IsPath raw path
+  SubninjaLine : {number : ℕ} (k l : ℕ) {raw : List ℕ} {path : List PieceValue}
+      → stops_name (spaces k ++ (raw ++ spaces l)) ≡ true → IsPath raw path
       → IsHeader number (codes "subninja" ++ (spaces k ++ (raw ++ spaces l))) (SubninjaHeader path)
-  VariableLine : {number : ℕ} {text : List ℕ} {binding : BindingValue} → is_keyword binding.name ≡ false → IsBinding number text binding
+  VariableLine : {number : ℕ} {text : List ℕ} {binding : BindingValue} → is_keyword binding.name ≡ false
+      → IsBinding number text binding
       → IsHeader number text (VariableHeader binding)
 
 -- the lines under a first line: bindings behind one space or more
 pub data IsBlock : List LineValue → List BindingValue → Type 0 where
   NoBindings : IsBlock [] []
-  OneMore : {number : ℕ} (k : ℕ) {text : List ℕ} {lines : List LineValue} {binding : BindingValue} {bindings : List BindingValue}
+  OneMore : {number : ℕ} (k : ℕ) {text : List ℕ} {lines : List LineValue} {binding : BindingValue}
+      {bindings : List BindingValue}
       → IsBinding number text binding → IsBlock lines bindings
       → IsBlock (record { number = number; text = spaces (suc k) ++ text; ended = true } ∷ lines) (binding ∷ bindings)
 
 -- under `rule`, `build` and `pool` stand bindings, under the others nothing
 pub data IsForm : HeaderValue → List LineValue → FormValue → Type 0 where
-  RuleBlock : {name : List ℕ} {block : List LineValue} {bindings : List BindingValue} → IsBlock block bindings → IsForm (RuleHeader name) block (RuleForm name bindings)
-  BuildBlock : {build : BuildLineValue} {block : List LineValue} {bindings : List BindingValue} → IsBlock block bindings → IsForm (BuildHeader build) block (BuildForm build bindings)
-  PoolBlock : {name : List ℕ} {block : List LineValue} {bindings : List BindingValue} → IsBlock block bindings → IsForm (PoolHeader name) block (PoolForm name bindings)
+  RuleBlock : {name : List ℕ} {block : List LineValue} {bindings : List BindingValue} → IsBlock block bindings
+      → IsForm (RuleHeader name) block (RuleForm name bindings)
+  BuildBlock : {build : BuildLineValue} {block : List LineValue} {bindings : List BindingValue} → IsBlock block bindings
+      → IsForm (BuildHeader build) block (BuildForm build bindings)
+  PoolBlock : {name : List ℕ} {block : List LineValue} {bindings : List BindingValue} → IsBlock block bindings
+      → IsForm (PoolHeader name) block (PoolForm name bindings)
   DefaultAlone : {paths : List (List PieceValue)} → IsForm (DefaultHeader paths) [] (DefaultForm paths)
   IncludeAlone : {path : List PieceValue} → IsForm (IncludeHeader path) [] (IncludeForm path)
   SubninjaAlone : {path : List PieceValue} → IsForm (SubninjaHeader path) [] (SubninjaForm path)
@@ -106,7 +119,8 @@ pub data IsForm : HeaderValue → List LineValue → FormValue → Type 0 where
 
 -- a line with those under it is a statement, which has the line's number
 pub data IsStatement : Group → StatementValue → Type 0 where
-  Statement : {number : ℕ} {text : List ℕ} {block : List LineValue} {header : HeaderValue} {form : FormValue} → IsHeader number text header → IsForm header block form
+  Statement : {number : ℕ} {text : List ℕ} {block : List LineValue} {header : HeaderValue} {form : FormValue}
+      → IsHeader number text header → IsForm header block form
       → IsStatement (record { head = record { number = number; text = text; ended = true }; block = block }) (record { line = number; form = form })
 
 -- the lines under a first line are indented
@@ -115,4 +129,6 @@ AreIndented lines = AllByRecursion (λ line. is_indented line ≡ true) lines
 
 -- A line with the indented lines under it is read as a statement exactly where they are one of the forms written out.
 abbrev pub StatementsAreRead : Type 0
-StatementsAreRead = (group : Group) (statement : StatementValue) → AreIndented group.block → (statement_of group ≡ Ok statement) ↔ IsStatement group statement
+StatementsAreRead =
+    (group : Group) (statement : StatementValue) → AreIndented group.block
+    → (statement_of group ≡ Ok statement) ↔ IsStatement group statement

@@ -10,4 +10,6 @@ begins_indented (line ∷ lines) = is_indented line
 
 -- what a statement says, and its fault, are those of its own lines: nothing above it or below it changes them
 abbrev pub StatementsStandApart : Type 0
-StatementsStandApart = (above below : List LineValue) → begins_indented below ≡ false → statements_of (above ++ below) ≡ statements_of above ++ statements_of below
+StatementsStandApart =
+    (above below : List LineValue) → begins_indented below ≡ false
+    → statements_of (above ++ below) ≡ statements_of above ++ statements_of below

@@ -1,7 +1,7 @@
 -- The lines of a manifest.
 use Rattle.std.specs.Prelude.{ℕ, suc, Bool, true, false, ◌||◌, ◌==◌, List, [], ◌∷◌, ◌++◌, if◌then◌else◌}
 use Rattle.std.specs.List.{slice_split}
-use Rattle.rev_syntax.specs.Bytes.{is_byte, without_spaces, is_none, begins_with}
+use Rattle.rev_syntax.specs.Bytes.{is_byte, without_spaces, is_empty, begins_with}
 
 -- a line as the grammar sees it, after joining
 pub record LineValue : Type 0 where
@@ -20,7 +20,7 @@ without_return (b ∷ c ∷ cs) = b ∷ without_return (c ∷ cs)
 -- of the pieces round the line feeds each ends in a line feed but the last, which is a line only where it has a byte
 abbrev pub lines_of_pieces : List (List ℕ) → List (List ℕ)
 lines_of_pieces [] = []
-lines_of_pieces (piece ∷ []) = if is_none piece then [] else piece ∷ []
+lines_of_pieces (piece ∷ []) = if is_empty piece then [] else piece ∷ []
 lines_of_pieces (piece ∷ next ∷ more) = without_return piece ∷ lines_of_pieces (next ∷ more)
 
 -- the lines as they stand in the file: it is split at its line feeds, and one CR before a line feed goes with it
@@ -29,7 +29,7 @@ file_lines content = lines_of_pieces (slice_split (is_byte 10) content)
 
 -- a line of spaces alone, or whose first byte after spaces is `#`
 abbrev pub is_dropped : List ℕ → Bool
-is_dropped line = is_none (without_spaces line) || begins_with 35 (without_spaces line)
+is_dropped line = is_empty (without_spaces line) || begins_with 35 (without_spaces line)
 
 -- whether a line ends in a `$` that no `$` before it takes along: each `$` takes the byte after it along
 abbrev pub ends_alone : List ℕ → Bool
@@ -58,7 +58,8 @@ abbrev pub lines_from : Bool → ℕ → List (List ℕ) → List LineValue
 lines_from false number [] = []
 lines_from true number [] = record { number = number; text = []; ended = false } ∷ []
 lines_from false number (line ∷ lines) =
-    if is_dropped line then lines_from false (suc number) lines else joined number line (lines_from (ends_alone line) (suc number) lines)
+    if is_dropped line then lines_from false (suc number) lines
+    else joined number line (lines_from (ends_alone line) (suc number) lines)
 lines_from true number (line ∷ lines) =
     joined number (without_spaces line) (lines_from (ends_alone (without_spaces line)) (suc number) lines)
 

@@ -6,7 +6,7 @@ use Rattle.rev_syntax.specs.declared.fault.SyntaxKind.{SyntaxKind}
 use Rattle.rev_syntax.specs.declared.fault.SyntaxFault.{SyntaxFault}
 use Rattle.rev_syntax.specs.declared.paths.Mark.{Mark}
 use Rattle.rev_syntax.specs.declared.paths.Mark.TheVariants.{Bar, TwoBars, BarAt}
-use Rattle.rev_syntax.specs.Bytes.{without_spaces, is_none, begins_with}
+use Rattle.rev_syntax.specs.Bytes.{without_spaces, is_empty, begins_with}
 use Rattle.rev_syntax.specs.Ends.{free_len}
 use Rattle.rev_syntax.specs.Lines.{LineValue}
 use Rattle.rev_syntax.specs.Texts.{PieceValue, fault_of, pieces_of}
@@ -28,7 +28,8 @@ Part A = A × List ℕ
 abbrev pub path_of : LineValue → List ℕ → Result (Part (List PieceValue)) SyntaxFault
 path_of line text =
     let n = free_len PathEnd false text in
-    if is_none (take n text) then stuck line text else and_then (text_of line (take n text)) (λ path. Ok (path, without_spaces (drop n text)))
+    if is_empty (take n text) then stuck line text
+    else and_then (text_of line (take n text)) (λ path. Ok (path, without_spaces (drop n text)))
 
 -- the pieces round the spaces that no `$` takes along; the flag says whether a `$` takes the first byte
 abbrev pub split_free : Bool → List ℕ → List (List ℕ)
@@ -38,12 +39,13 @@ split_free false (b ∷ bs) = if b == 32 then [] ∷ split_free false bs else on
 
 -- the paths between such spaces, as they stand there
 abbrev pub raw_paths : List ℕ → List (List ℕ)
-raw_paths text = filter (λ raw. not (is_none raw)) (split_free false text)
+raw_paths text = filter (λ raw. not (is_empty raw)) (split_free false text)
 
 -- the paths, or the first fault in them
 abbrev pub texts_of : LineValue → List (List ℕ) → Result (List (List PieceValue)) SyntaxFault
 texts_of line [] = Ok []
-texts_of line (raw ∷ raws) = and_then (text_of line raw) (λ text. and_then (texts_of line raws) (λ texts. Ok (text ∷ texts)))
+texts_of line (raw ∷ raws) =
+    and_then (text_of line raw) (λ text. and_then (texts_of line raws) (λ texts. Ok (text ∷ texts)))
 
 -- a list of paths, which goes on up to a colon, a bar or the line's end
 abbrev pub list_of : LineValue → List ℕ → Result (Part (List (List PieceValue))) SyntaxFault

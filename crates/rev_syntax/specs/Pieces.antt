@@ -15,4 +15,5 @@ abbrev pub IsEscape : Option EscapeValue → List ℕ → Option (Piece × Bor (
 IsEscape None rest None = Unit {0}
 IsEscape None rest (Some found) = ⊥
 IsEscape (Some escape) rest None = ⊥
-IsEscape (Some escape) rest (Some found) = (seen_piece found.0 ≡ escape.piece ∷ []) × (found.1.now ≡ drop escape.taken rest)
+IsEscape (Some escape) rest (Some found) =
+    (seen_piece found.0 ≡ escape.piece ∷ []) × (found.1.now ≡ drop escape.taken rest)

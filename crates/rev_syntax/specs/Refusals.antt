@@ -8,10 +8,13 @@ use Rattle.rev_syntax.specs.Grammar.{ReadsAs}
 use Rattle.rev_syntax.specs.Statements.{StatementValue, Group, statement_of}
 use Rattle.rev_syntax.specs.Texts.{PieceValue, is_no_text, fault_of}
 
--- A text cannot go on with these bytes: NUL or CR stands there, or a `$` that makes a piece with none of the bytes behind it.
+-- A text cannot go on with these bytes: NUL or CR stands there, or a `$` that makes a piece with none of the bytes
+-- behind it.
 pub data StopsAt : SyntaxKind → List ℕ → Type 0 where
   NoText : {b : ℕ} {rest : List ℕ} → is_no_text b ≡ true → StopsAt Syntax (b ∷ rest)
-  NoEscape : {rest : List ℕ} → ((front behind : List ℕ) (piece : PieceValue) → front ++ behind ≡ 36 ∷ rest → ReadsAs front (piece ∷ []) → ⊥) → StopsAt BadEscape (36 ∷ rest)
+  NoEscape : {rest : List ℕ}
+      → ((front behind : List ℕ) (piece : PieceValue) → front ++ behind ≡ 36 ∷ rest → ReadsAs front (piece ∷ []) → ⊥)
+      → StopsAt BadEscape (36 ∷ rest)
 
 -- The place of a text's fault: what stands before it reads, and with what stands there the text cannot go on.
 pub record IsPlace (kind : SyntaxKind) (raw : List ℕ) : Type 0 where
@@ -30,4 +33,5 @@ TextsStopThere = (kind : SyntaxKind) (raw : List ℕ) → (fault_of raw ≡ Some
 abbrev pub OnlyFormsAreRead : Type 0
 OnlyFormsAreRead =
     (group : Group) → AreIndented group.block
-    → ((fault : SyntaxFault) × (statement_of group ≡ Err fault)) ↔ ((statement : StatementValue) → IsStatement group statement → ⊥)
+    → ((fault : SyntaxFault) × (statement_of group ≡ Err fault))
+    ↔ ((statement : StatementValue) → IsStatement group statement → ⊥)

@@ -4,7 +4,7 @@ use Rattle.std.specs.List.{take_while}
 use Rattle.rev_syntax.specs.declared.fault.SyntaxKind.TheVariants.{Syntax, Tab}
 use Rattle.rev_syntax.specs.declared.fault.SyntaxFault.{SyntaxFault}
 use Rattle.rev_syntax.specs.declared.paths.Mark.TheVariants.{Bar, TwoBars, BarAt}
-use Rattle.rev_syntax.specs.Bytes.{is_in_name, after, without_spaces, is_none, begins_with}
+use Rattle.rev_syntax.specs.Bytes.{is_in_name, after, without_spaces, is_empty, begins_with}
 use Rattle.rev_syntax.specs.Lines.{LineValue}
 use Rattle.rev_syntax.specs.Texts.{PieceValue}
 use Rattle.rev_syntax.specs.Faults.{refused, and_then, finished, stuck, closed}
@@ -41,7 +41,7 @@ pub record StatementValue : Type 0 where
   pub line : ℕ
   pub form : FormValue
 
--- the name at the front of a text, and what follows it and its spaces
+-- the name that a text begins with, and what follows it and its spaces
 abbrev pub name_of : List ℕ → List ℕ
 name_of text = take_while is_in_name text
 
@@ -56,15 +56,17 @@ value_of line text = and_then (text_of line text) (finished line)
 abbrev pub bound : LineValue → List ℕ → List ℕ → Result BindingValue SyntaxFault
 bound line name [] = stuck line []
 bound line name (b ∷ bs) =
-    if b == 61 then and_then (value_of line (without_spaces bs)) (λ value. Ok (record { name = name; value = value; line = line.number })) else refused line Syntax
+    if b == 61 then and_then (value_of line (without_spaces bs))
+    (λ value. Ok (record { name = name; value = value; line = line.number })) else refused line Syntax
 
 -- `NAME = value`
 abbrev pub binding_of : LineValue → List ℕ → Result BindingValue SyntaxFault
-binding_of line text = if is_none (name_of text) then stuck line text else bound line (name_of text) (after_name text)
+binding_of line text = if is_empty (name_of text) then stuck line text else bound line (name_of text) (after_name text)
 
 -- a name that the line ends with
 abbrev pub last_name : LineValue → List ℕ → Result (List ℕ) SyntaxFault
-last_name line text = if is_none (name_of text) then stuck line text else and_then (closed line (after_name text)) (λ _. Ok (name_of text))
+last_name line text =
+    if is_empty (name_of text) then stuck line text else and_then (closed line (after_name text)) (λ _. Ok (name_of text))
 
 -- a path that the line ends with
 abbrev pub last_path : LineValue → List ℕ → Result (List PieceValue) SyntaxFault
@@ -72,7 +74,9 @@ last_path line text = and_then (path_of line text) (λ path. and_then (closed li
 
 -- one or more paths that the line ends with
 abbrev pub last_paths : LineValue → List ℕ → Result (List (List PieceValue)) SyntaxFault
-last_paths line text = and_then (list_of line text) (λ paths. if is_none paths.0 then stuck line paths.1 else and_then (closed line paths.1) (λ _. Ok paths.0))
+last_paths line text =
+    and_then (list_of line text)
+    (λ paths. if is_empty paths.0 then stuck line paths.1 else and_then (closed line paths.1) (λ _. Ok paths.0))
 
 -- the outputs of a build line: explicit, implicit, and what follows the colon
 pub record OutputsValue : Type 0 where
@@ -81,10 +85,12 @@ pub record OutputsValue : Type 0 where
   pub rest : List ℕ
 
 -- a colon, which stands behind one output or more
-abbrev pub colon : LineValue → List (List PieceValue) → List (List PieceValue) → List ℕ → Result OutputsValue SyntaxFault
+abbrev pub colon : LineValue → List (List PieceValue) → List (List PieceValue) → List ℕ
+    → Result OutputsValue SyntaxFault
 colon line outs implicit_outs [] = stuck line []
 colon line outs implicit_outs (b ∷ bs) =
-    if b == 58 && not (is_none outs && is_none implicit_outs) then Ok (record { outs = outs; implicit_outs = implicit_outs; rest = without_spaces bs })
+    if b == 58 && not (is_empty outs && is_empty implicit_outs)
+    then Ok (record { outs = outs; implicit_outs = implicit_outs; rest = without_spaces bs })
     else refused line Syntax
 
 -- `PATHS [| PATHS] :`
@@ -101,14 +107,22 @@ pub record InputsValue : Type 0 where
 -- `PATHS [| PATHS] [|| PATHS] [|@ PATHS]`, to the line's end
 abbrev pub inputs_of : LineValue → List ℕ → Result InputsValue SyntaxFault
 inputs_of line text =
-    and_then (list_of line text) (λ ins. and_then (list_after line Bar ins.1) (λ implicit. and_then (list_after line TwoBars implicit.1) (λ order_only.
+    and_then (list_of line text)
+    (λ ins. and_then (list_after line Bar ins.1)
+    (λ implicit. and_then (list_after line TwoBars implicit.1) (λ order_only.
     and_then (list_after line BarAt order_only.1) (λ validations.
-    and_then (closed line validations.1) (λ _. Ok (record { ins = ins.0; implicit = implicit.0; order_only = order_only.0; validations = validations.0 }))))))
+    and_then (closed line validations.1)
+    (λ _. Ok (record {
+      ins = ins.0;
+      implicit = implicit.0;
+      order_only = order_only.0;
+      validations = validations.0;
+    }))))))
 
 -- `NAME` and the inputs
 abbrev pub rule_and_inputs : LineValue → OutputsValue → Result BuildLineValue SyntaxFault
 rule_and_inputs line outputs =
-    if is_none (name_of outputs.rest) then stuck line outputs.rest
+    if is_empty (name_of outputs.rest) then stuck line outputs.rest
     else and_then (inputs_of line (after is_in_name outputs.rest)) (λ inputs. Ok (record {
       outs = outputs.outs;
       implicit_outs = outputs.implicit_outs;
@@ -165,7 +179,8 @@ indented_binding line = if has_tab line then refused line Tab else binding_of li
 -- the bindings of these lines, or the first fault in them
 abbrev pub bindings_of : List LineValue → Result (List BindingValue) SyntaxFault
 bindings_of [] = Ok []
-bindings_of (line ∷ lines) = and_then (indented_binding line) (λ binding. and_then (bindings_of lines) (λ bindings. Ok (binding ∷ bindings)))
+bindings_of (line ∷ lines) =
+    and_then (indented_binding line) (λ binding. and_then (bindings_of lines) (λ bindings. Ok (binding ∷ bindings)))
 
 -- no indented line may stand here
 abbrev pub alone : List LineValue → FormValue → Result FormValue SyntaxFault
@@ -188,7 +203,8 @@ pub record Group : Type 0 where
   pub block : List LineValue
 
 abbrev pub form_of : Group → Result FormValue SyntaxFault
-form_of group = if is_indented group.head then misplaced group.head else and_then (header_of group.head) (with_block group.block)
+form_of group =
+    if is_indented group.head then misplaced group.head else and_then (header_of group.head) (with_block group.block)
 
 -- what a group says, or its first fault: its lines in order, and in a line the leftmost
 abbrev pub statement_of : Group → Result StatementValue SyntaxFault
@@ -200,7 +216,8 @@ later_groups [] = []
 later_groups (line ∷ lines) =
     if is_indented line then later_groups lines else record { head = line; block = take_while is_indented lines } ∷ later_groups lines
 
--- the groups of lines: an indented line belongs to the line above it that is not indented, and is one by itself where there is none
+-- the groups of lines: an indented line belongs to the line above it that is not indented, and is one by itself where
+-- there is none
 abbrev pub groups_of : List LineValue → List Group
 groups_of [] = []
 groups_of (line ∷ lines) = record { head = line; block = take_while is_indented lines } ∷ later_groups lines

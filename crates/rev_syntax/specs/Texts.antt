@@ -3,7 +3,7 @@ use Rattle.std.specs.Prelude.{ℕ, zero, suc, ◌+◌, Bool, not, ◌||◌, ◌=
 use Rattle.std.specs.List.{take_while}
 use Rattle.rev_syntax.specs.declared.fault.SyntaxKind.{SyntaxKind}
 use Rattle.rev_syntax.specs.declared.fault.SyntaxKind.TheVariants.{Syntax, BadEscape}
-use Rattle.rev_syntax.specs.Bytes.{is_in_name, is_in_bare_name, after, is_none, begins_with}
+use Rattle.rev_syntax.specs.Bytes.{is_in_name, is_in_bare_name, after, is_empty, begins_with}
 
 -- a piece of a text: a byte that stands for itself, or the variable of a name
 pub data PieceValue : Type 0 where
@@ -25,18 +25,21 @@ pub record EscapeValue : Type 0 where
 
 -- `$name`: the whole run of letters, digits, `_` and `-`, of which there is at least one
 abbrev pub bare : List ℕ → Option EscapeValue
-bare name = if is_none name then None else Some (record { piece = Variable name; taken = length name })
+bare name = if is_empty name then None else Some (record { piece = Variable name; taken = length name })
 
 -- `${name}`, from the name on and from what follows its bytes, dots among them
 abbrev pub braced : List ℕ → List ℕ → Option EscapeValue
-braced name rest = if is_none name || not (begins_with 125 rest) then None else Some (record { piece = Variable name; taken = length name + 2 })
+braced name rest =
+    if is_empty name || not (begins_with 125 rest) then None
+    else Some (record { piece = Variable name; taken = length name + 2 })
 
 -- what a `$` before these bytes says: nothing where it can stand before none of them
 abbrev pub escape_of : List ℕ → Option EscapeValue
 escape_of [] = None
 escape_of (b ∷ bs) =
     if is_escaped b then Some (record { piece = Byte b; taken = 1 })
-    else (if b == 123 then braced (take_while is_in_name bs) (after is_in_name bs) else bare (take_while is_in_bare_name (b ∷ bs)))
+    else (if b == 123 then braced (take_while is_in_name bs) (after is_in_name bs)
+    else bare (take_while is_in_bare_name (b ∷ bs)))
 
 abbrev pub fault_after : Option EscapeValue → (ℕ → Option SyntaxKind) → Option SyntaxKind
 fault_after None others = Some BadEscape
@@ -48,7 +51,8 @@ abbrev pub text_fault : ℕ → List ℕ → Option SyntaxKind
 text_fault taken [] = None
 text_fault (suc taken) (b ∷ bs) = text_fault taken bs
 text_fault zero (b ∷ bs) =
-    if b == 36 then fault_after (escape_of bs) (λ taken. text_fault taken bs) else (if is_no_text b then Some Syntax else text_fault 0 bs)
+    if b == 36 then fault_after (escape_of bs) (λ taken. text_fault taken bs)
+    else (if is_no_text b then Some Syntax else text_fault 0 bs)
 
 abbrev pub pieces_after : Option EscapeValue → (ℕ → List PieceValue) → List PieceValue
 pieces_after None others = []
@@ -58,7 +62,8 @@ pieces_after (Some escape) others = escape.piece ∷ others escape.taken
 abbrev pub pieces_from : ℕ → List ℕ → List PieceValue
 pieces_from taken [] = []
 pieces_from (suc taken) (b ∷ bs) = pieces_from taken bs
-pieces_from zero (b ∷ bs) = if b == 36 then pieces_after (escape_of bs) (λ taken. pieces_from taken bs) else Byte b ∷ pieces_from 0 bs
+pieces_from zero (b ∷ bs) =
+    if b == 36 then pieces_after (escape_of bs) (λ taken. pieces_from taken bs) else Byte b ∷ pieces_from 0 bs
 
 abbrev pub fault_of : List ℕ → Option SyntaxKind
 fault_of raw = text_fault 0 raw

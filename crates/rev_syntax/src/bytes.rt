@@ -1,10 +1,10 @@
 //! Runs of bytes of one class.
-ghost use Rattle.std.specs.Prelude.{◌≡◌, ◌≤◌, false, length, take, drop};
+ghost use Rattle.std.specs.Prelude.{◌≡◌, ◌≤◌, ◌+◌, false, length, take, drop, unwrap_or};
 ghost use Rattle.rev_syntax.specs.Ends.{ends_at, free_len};
 ghost use Rattle.std.specs.List.{prefix_len, position_or_len, take_while};
 ghost use Rattle.rev_syntax.specs.Bytes.{has, is_byte, after, without_spaces, begins_with};
 
-use memchr::memchr;
+use memchr::{memchr, memchr2, memchr3};
 
 /// A class of bytes.
 #[derive(Clone, Copy)]
@@ -103,8 +103,30 @@ impl End {
     }
 }
 
-/// How many bytes stand before the first end that no `$` takes along.
-pub(crate) fn free_len(end: End, text: &[u8]) -> usize
+// The place that was found, or the length.
+fn place_or_len(found: Option<usize>, text: &[u8]) -> usize
+    ensures { result ≡ unwrap_or found (length text.now) }
+{
+    match found {
+        Some(place) => place,
+        None => text.len(),
+    }
+}
+
+// How many bytes stand before the first that may be an end or is a `$`. Of a path alone that is not looked for.
+fn plain_len(end: End, text: &[u8]) -> usize
+    ensures within { result ≤ length text.now }
+    ensures plain { free_len end false text.now ≡ result + free_len end false (drop result text.now) }
+{
+    match end {
+        End::PathEnd => 0,
+        End::SpaceEnd => place_or_len(memchr2(b' ', b'$', text), text),
+        End::ListEnd => place_or_len(memchr3(b':', b'|', b'$', text), text),
+    }
+}
+
+// How many bytes stand before the first end that no `$` takes along, byte by byte.
+fn walked_len(end: End, text: &[u8]) -> usize
     ensures within { result ≤ length text.now }
     ensures free { result ≡ free_len end false text.now }
 {
@@ -116,6 +138,15 @@ pub(crate) fn free_len(end: End, text: &[u8]) -> usize
         taken = !taken & (*byte == b'$');
     }
     text.len()
+}
+
+/// How many bytes stand before the first end that no `$` takes along.
+pub(crate) fn free_len(end: End, text: &[u8]) -> usize
+    ensures within { result ≤ length text.now }
+    ensures free { result ≡ free_len end false text.now }
+{
+    let plain = plain_len(end, text);
+    plain + walked_len(end, &text[plain..])
 }
 
 /// The bytes before the first end that no `$` takes along, and those from it on.

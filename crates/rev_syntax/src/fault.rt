@@ -10,7 +10,7 @@ use std::alloc::{AllocError, AllocFailed};
 pub enum SyntaxKind {
     /// 10: no line of the grammar goes on like this, or a NUL or CR stands in a line.
     Syntax,
-    /// 11: a tab stands among the blanks at the front of a line.
+    /// 11: a tab stands among the blanks at the beginning of a line.
     Tab,
     /// 12: a `$` with nothing after it that it can stand before.
     BadEscape,

@@ -41,7 +41,7 @@ pub(crate) struct Inputs<'a> {
     validations: Vec<Text<'a>>,
 }
 
-// The name at the front of a text, and what follows it and its spaces.
+// The name that a text begins with, and what follows it and its spaces.
 fn split_name(text: &[u8]) -> (&[u8], &[u8])
     ensures name { result.0.now ≡ name_of text.now }
     ensures rest { result.1.now ≡ after_name text.now }
@@ -275,7 +275,7 @@ pub(crate) fn is_indented(line: &Line) -> bool
     begins_with(b' ', line.text()) || begins_with(b'\t', line.text())
 }
 
-/// Whether a tab stands among the blanks at the front of a line.
+/// Whether a tab stands among the blanks at the beginning of a line.
 pub(crate) fn has_tab(line: &Line) -> bool
     ensures { result ≡ has_tab line.now }
 {

@@ -32,8 +32,8 @@ pub fn statements_are_read()
     ensures { StatementsAreRead }
 {}
 
-/// A text has the fault of the place at which it can go on no more: what stands before that reads, and what stands there
-/// makes no piece.
+/// A text has the fault of the place at which it can go on no more: what stands before that reads, and what stands
+/// there makes no piece.
 pub fn texts_stop_there()
     ensures { TextsStopThere }
 {}

@@ -91,7 +91,8 @@ pub(crate) fn list<'a>(
 
 // What follows a byte, where that byte stands.
 fn after_byte(byte: u8, text: &[u8]) -> Option<&[u8]>
-    ensures { MatchOption result (begins_with byte text.now ≡ false) (λ after. (begins_with byte text.now ≡ true) × (after.now ≡ drop 1 text.now)) }
+    ensures { MatchOption result (begins_with byte text.now ≡ false)
+        (λ after. (begins_with byte text.now ≡ true) × (after.now ≡ drop 1 text.now)) }
 {
     let (first, rest) = text.split_first()?;
     if *first != byte {
@@ -102,7 +103,8 @@ fn after_byte(byte: u8, text: &[u8]) -> Option<&[u8]>
 
 // What follows a mark, where that mark stands.
 fn after_mark(mark: Mark, text: &[u8]) -> Option<&[u8]>
-    ensures { MatchOption result (after_mark mark text.now ≡ None) (λ after. after_mark mark text.now ≡ Some after.now) }
+    ensures { MatchOption result (after_mark mark text.now ≡ None)
+        (λ after. after_mark mark text.now ≡ Some after.now) }
 {
     let (byte, rest) = text.split_first()?;
     if *byte != b'|' {

@@ -13,7 +13,8 @@ use std::alloc::Global;
 
 // The fault of an indented line where none may stand.
 fn misplaced(line: &Line) -> ReadFault
-    ensures { result ≡ ReadFault.Refused (fault_at line.now (if has_tab line.now then SyntaxKind.Tab else SyntaxKind.Syntax)) }
+    ensures { result ≡ ReadFault.Refused
+        (fault_at line.now (if has_tab line.now then SyntaxKind.Tab else SyntaxKind.Syntax)) }
 {
     if has_tab(line) {
         return line.fault(SyntaxKind::Tab);
@@ -105,12 +106,11 @@ fn split_block(lines: &[Line]) -> (&[Line], &[Line])
 /// The first statement of lines of a file, and the lines after it; none where there is no line. A caller
 /// takes the statements one by one, each with time and memory linear in its own lines.
 ///
-/// # Errors
-/// The first fault of that statement, by its lines in order, and in a line from the left.
-/// [`SyntaxKind::Tab`] where a tab stands among the blanks at the front of a line comes before the
-/// others of that line; [`SyntaxKind::Syntax`] at a byte, or a line's end, where no line of the grammar goes on,
-/// at a NUL or CR in a text, and at an indented line where none may stand; [`SyntaxKind::BadEscape`] at
-/// a `$` in a text that can stand before nothing that follows it. [`ReadFault::Memory`] where an allocation was refused.
+/// # Errors The first fault of that statement, by its lines in order, and in a line from the left. [`SyntaxKind::Tab`]
+/// where a tab stands among the blanks at the beginning of a line comes before the others of that line;
+/// [`SyntaxKind::Syntax`] at a byte, or a line's end, where no line of the grammar goes on, at a NUL or CR in a text,
+/// and at an indented line where none may stand; [`SyntaxKind::BadEscape`] at a `$` in a text that can stand before
+/// nothing that follows it. [`ReadFault::Memory`] where an allocation was refused.
 pub fn first_statement<'a>(
     alloc: Global,
     lines: &'a [Line],

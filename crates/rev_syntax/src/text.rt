@@ -1,7 +1,7 @@
 //! Texts of the grammar, as they stand in the file.
 ghost use Rattle.std.specs.Prelude.{◌≡◌, ◌≢◌, ◌++◌, ◌∷◌, ◌≤◌, [], None, Some, length, IfOk, IfSome, MatchResult, MatchOption};
 ghost use Rattle.std.specs.List.{take_while};
-ghost use Rattle.rev_syntax.specs.Bytes.{after, is_none, is_in_name, is_in_bare_name};
+ghost use Rattle.rev_syntax.specs.Bytes.{after, is_empty, is_in_name, is_in_bare_name};
 ghost use Rattle.rev_syntax.specs.Texts.{fault_of, pieces_of, escape_of, braced, bare};
 ghost use Rattle.rev_syntax.specs.Pieces.{seen_piece, IsEscape};
 
@@ -10,7 +10,7 @@ use crate::fault::SyntaxKind;
 use std::alloc::{AllocError, Global};
 use std::marker::Model;
 
-/// A piece at the front of a text.
+/// A piece that a text begins with.
 #[derive(Clone, Copy, Debug)]
 pub enum Piece<'a> {
     /// Bytes that stand for themselves, of which there is at least one.
@@ -59,7 +59,8 @@ impl Model for StoredText {
 
 // `{name}` after a `$`, from the name on.
 fn braced(rest: &[u8]) -> Option<(Piece<'_>, &[u8])>
-    ensures escape { IsEscape (braced (take_while is_in_name rest.now) (after is_in_name rest.now)) (123 ∷ rest.now) result }
+    ensures escape { IsEscape (braced (take_while is_in_name rest.now) (after is_in_name rest.now))
+        (123 ∷ rest.now) result }
     ensures within { IfSome result (λ found. length found.1.now ≤ length rest.now) }
 {
     let (name, left) = split_run(Class::Name, rest);
@@ -130,7 +131,8 @@ fn check_text(raw: &[u8]) -> Result<(), SyntaxKind>
 // The first piece of a text, and what follows it.
 fn split_piece(raw: &[u8]) -> Option<(Piece<'_>, &[u8])>
     requires { fault_of raw.now ≡ None }
-    ensures pieces { MatchOption result (raw.now ≡ []) (λ found. pieces_of raw.now ≡ seen_piece found.0 ++ pieces_of found.1.now) }
+    ensures pieces { MatchOption result (raw.now ≡ [])
+        (λ found. pieces_of raw.now ≡ seen_piece found.0 ++ pieces_of found.1.now) }
     ensures text { IfSome result (λ found. fault_of found.1.now ≡ None) }
     ensures some { IfSome result (λ found. seen_piece found.0 ≢ []) }
 {
@@ -159,7 +161,7 @@ impl<'a> Text<'a> {
 
     /// Whether it has no pieces.
     pub fn is_empty(&self) -> bool
-        ensures { result ≡ is_none self.now }
+        ensures { result ≡ is_empty self.now }
     {
         self.raw.is_empty()
     }

@@ -1,4 +1,5 @@
-//! A history over the machine of registers: its kept events can be undone out of order, by the values that each replaced.
+//! A history over the machine of registers: its kept events can be undone out of order, by the values that each
+//! replaced.
 
 ghost use Rattle.std.specs.Prelude.{◌≡◌, ◌↔◌, ℕ, ◌<◌, [], ◌∷◌, map, IfOk, IfErr, IsErrOf, OnOk, OnErr, MatchOption};
 ghost use Rattle.std.specs.declared.option.Option.TheVariants.{None};
@@ -48,7 +49,8 @@ pub enum HistoryFault {
 
 /// The first later event that conflicts.
 fn nearest(of: &Kept, later: &[Kept]) -> Option<u32>
-    ensures { result ≡ number_of register_machine (nearest_behind (clash register_machine) (entry_of of.now) (map entry_of later.now)) }
+    ensures { result ≡ number_of register_machine
+        (nearest_behind (clash register_machine) (entry_of of.now) (map entry_of later.now)) }
 {
     for k in later {
         if conflict(&of.footprint, &k.footprint) {
@@ -85,7 +87,8 @@ fn place_of(number: u32, kept: &[Kept]) -> usize
 /// The place at which the number is kept.
 fn kept_at(number: u32, kept: &[Kept]) -> Option<usize>
     requires { IsRising (map numbered kept.now) }
-    ensures { MatchOption result (event_at number (map numbered kept.now) ≡ None) (λ place. IsKeptAt number kept.now place) }
+    ensures { MatchOption result (event_at number (map numbered kept.now) ≡ None)
+        (λ place. IsKeptAt number kept.now place) }
 {
     let place = place_of(number, kept);
     if place < kept.len() {
@@ -107,9 +110,11 @@ fn dependent(number: u32, kept: &[Kept], place: usize) -> Option<u32>
 /// The place of a kept event on which no other depends.
 fn takeable(number: u32, kept: &[Kept]) -> Result<usize, HistoryFault>
     requires { IsRising (map numbered kept.now) }
-    ensures taken { IfOk result (λ place. IsKeptAt number kept.now place × (nearest_to register_machine number (map entry_of kept.now) ≡ None)) }
+    ensures taken { IfOk result (λ place. IsKeptAt number kept.now place
+        × (nearest_to register_machine number (map entry_of kept.now) ≡ None)) }
     ensures not_kept { IsErrOf result HistoryFault.NotKept ↔ (event_at number (map numbered kept.now) ≡ None) }
-    ensures needed { (m : ℕ) → IsErrOf result (HistoryFault.Needed m) ↔ (nearest_to register_machine number (map entry_of kept.now) ≡ Some m) }
+    ensures needed { (m : ℕ) → IsErrOf result (HistoryFault.Needed m)
+        ↔ (nearest_to register_machine number (map entry_of kept.now) ≡ Some m) }
 {
     let Some(place) = kept_at(number, kept) else {
         return Err(HistoryFault::NotKept);
@@ -122,7 +127,10 @@ fn takeable(number: u32, kept: &[Kept]) -> Result<usize, HistoryFault>
 
 /// The numbers of the cone of an event, among those that stand behind it.
 fn cone_behind(alloc: Global, first: &Kept, later: &[Kept]) -> Result<Vec<u32>, AllocError>
-    ensures { IfOk result (λ numbers. numbers.items ≡ map number_of_entry (entry_of first.now ∷ cone (clash register_machine) (entry_of first.now ∷ []) (map entry_of later.now))) }
+    ensures { IfOk result (λ numbers. numbers.items
+        ≡ map number_of_entry
+        (entry_of first.now
+        ∷ cone (clash register_machine) (entry_of first.now ∷ []) (map entry_of later.now))) }
 {
     let mut numbers = Vec::new(alloc);
     numbers.push(first.number)?;
@@ -139,9 +147,12 @@ fn cone_behind(alloc: Global, first: &Kept, later: &[Kept]) -> Result<Vec<u32>, 
 /// Whether the number is free and the event accepted in the cells.
 fn keepable(number: u32, event: Event, kept: &[Kept], cells: &Cells) -> Result<(), HistoryFault>
     requires { IsRising (map numbered kept.now) }
-    ensures ok { IfOk result (λ _. (event_at number (map numbered kept.now) ≡ None) × (registers.refusal cells.now event ≡ None)) }
+    ensures ok { IfOk result (λ _. (event_at number (map numbered kept.now) ≡ None)
+        × (registers.refusal cells.now event ≡ None)) }
     ensures is_kept { IsErrOf result HistoryFault.IsKept ↔ (event_at number (map numbered kept.now) ≡ None → ⊥) }
-    ensures refused { (r : Refusal) → IsErrOf result (HistoryFault.Refused r) ↔ ((event_at number (map numbered kept.now) ≡ None) × (registers.refusal cells.now event ≡ Some r)) }
+    ensures refused { (r : Refusal) → IsErrOf result (HistoryFault.Refused r)
+        ↔ ((event_at number (map numbered kept.now) ≡ None)
+        × (registers.refusal cells.now event ≡ Some r)) }
     ensures nothing_else { (m : ℕ) → IsErrOf result (HistoryFault.InTheWay m) → ⊥ }
 {
     if let Some(_place) = kept_at(number, kept) {
@@ -167,7 +178,8 @@ fn replaced_now(
 
 /// The cells after the event.
 fn cells_after(alloc: Global, cells: &Cells, event: Event) -> Result<Cells, AllocError>
-    ensures { IfOk result (λ after. after ≡ set_cells cell_cmp cells.now (registers.effect cells.now event)) }
+    ensures { IfOk result (λ after. after
+        ≡ set_cells cell_cmp cells.now (registers.effect cells.now event)) }
 {
     let writes = effect(alloc, cells, event)?;
     cells.written(alloc, &writes)
@@ -258,8 +270,11 @@ impl History {
         ensures ok { OnOk result (self.new ≡ kept_at_its_place number event self.old) }
         ensures nothing_in_the_way { IfOk result (λ _. in_the_way number event self.old ≡ None) }
         ensures is_kept { IsErrOf result HistoryFault.IsKept ↔ (event_at number self.old.kept ≡ None → ⊥) }
-        ensures refused { (r : Refusal) → IsErrOf result (HistoryFault.Refused r) ↔ ((event_at number self.old.kept ≡ None) × (registers.refusal (state_of self.old) event ≡ Some r)) }
-        ensures in_the_way { (m : ℕ) → IsErrOf result (HistoryFault.InTheWay m) → in_the_way number event self.old ≡ Some m }
+        ensures refused { (r : Refusal) → IsErrOf result (HistoryFault.Refused r)
+            ↔ ((event_at number self.old.kept ≡ None)
+            × (registers.refusal (state_of self.old) event ≡ Some r)) }
+        ensures in_the_way { (m : ℕ) → IsErrOf result (HistoryFault.InTheWay m)
+            → in_the_way number event self.old ≡ Some m }
         ensures err { OnErr result (self.new ≡ self.old) }
     {
         match self.made(alloc, number, event) {
@@ -272,9 +287,13 @@ impl History {
     pub fn redo(&mut self, alloc: Global, undone: &Kept) -> Result<(), HistoryFault>
         ensures ok { OnOk result (self.new ≡ kept_at_its_place undone.now.number undone.now.event self.old) }
         ensures nothing_in_the_way { IfOk result (λ _. in_the_way undone.now.number undone.now.event self.old ≡ None) }
-        ensures is_kept { IsErrOf result HistoryFault.IsKept ↔ (event_at undone.now.number self.old.kept ≡ None → ⊥) }
-        ensures refused { (r : Refusal) → IsErrOf result (HistoryFault.Refused r) ↔ ((event_at undone.now.number self.old.kept ≡ None) × (registers.refusal (state_of self.old) undone.now.event ≡ Some r)) }
-        ensures in_the_way { (m : ℕ) → IsErrOf result (HistoryFault.InTheWay m) → in_the_way undone.now.number undone.now.event self.old ≡ Some m }
+        ensures is_kept { IsErrOf result HistoryFault.IsKept
+            ↔ (event_at undone.now.number self.old.kept ≡ None → ⊥) }
+        ensures refused { (r : Refusal) → IsErrOf result (HistoryFault.Refused r)
+            ↔ ((event_at undone.now.number self.old.kept ≡ None)
+            × (registers.refusal (state_of self.old) undone.now.event ≡ Some r)) }
+        ensures in_the_way { (m : ℕ) → IsErrOf result (HistoryFault.InTheWay m)
+            → in_the_way undone.now.number undone.now.event self.old ≡ Some m }
         ensures err { OnErr result (self.new ≡ self.old) }
     {
         match self.made(alloc, undone.number, undone.event) {
@@ -287,8 +306,11 @@ impl History {
     fn made(&self, alloc: Global, number: u32, event: Event) -> Result<Kept, HistoryFault>
         ensures made { IfOk result (λ k. IsMadeFor self.now k × (k.number ≡ number) × (k.event ≡ event)) }
         ensures is_kept { IsErrOf result HistoryFault.IsKept ↔ (event_at number self.now.kept ≡ None → ⊥) }
-        ensures refused { (r : Refusal) → IsErrOf result (HistoryFault.Refused r) ↔ ((event_at number self.now.kept ≡ None) × (registers.refusal (state_of self.now) event ≡ Some r)) }
-        ensures in_the_way { (m : ℕ) → IsErrOf result (HistoryFault.InTheWay m) → in_the_way number event self.now ≡ Some m }
+        ensures refused { (r : Refusal) → IsErrOf result (HistoryFault.Refused r)
+            ↔ ((event_at number self.now.kept ≡ None)
+            × (registers.refusal (state_of self.now) event ≡ Some r)) }
+        ensures in_the_way { (m : ℕ) → IsErrOf result (HistoryFault.InTheWay m)
+            → in_the_way number event self.now ≡ Some m }
     {
         if let Err(fault) = keepable(number, event, &self.kept, &self.cells) {
             return Err(fault);

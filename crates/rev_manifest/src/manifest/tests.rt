@@ -38,15 +38,19 @@ fn answer_to(alloc: Global, contents: &[(&[u8], &[u8])]) -> Result<Answer, Alloc
     })
 }
 
-// The command of the first edge, or nothing.
-fn first_command(alloc: Global, contents: &[(&[u8], &[u8])]) -> Result<Vec<u8>, AllocError> {
+// The command of the first edge; none where the manifest has a fault or no edge.
+fn first_command(
+    alloc: Global,
+    contents: &[(&[u8], &[u8])],
+) -> Result<Option<Vec<u8>>, AllocError> {
     let files = given(alloc, contents)?;
-    if let Ok(manifest) = read(alloc, &files) {
-        for build in manifest.builds() {
-            return Vec::from_slice(alloc, build.command());
-        }
+    let Ok(manifest) = read(alloc, &files) else {
+        return Ok(None);
+    };
+    match manifest.builds().first() {
+        Some(build) => Ok(Some(Vec::from_slice(alloc, build.command())?)),
+        None => Ok(None),
     }
-    Ok(Vec::new(alloc))
 }
 
 const MANIFEST: &[u8; 38] = b"rule r\n  command = r $in\nbuild o: r a\n";
@@ -165,7 +169,7 @@ fn files_and_their_scopes(rt: HostRuntime) -> Result<(), Fail> {
     let main: &[u8] = b"f = 1\nrule r\n  command = r $f $in\nsubninja s.ninja\nbuild y: r b\n";
     let nested: (&[u8], &[u8]) = (b"./s.ninja", b"f = 2\nbuild x: r a\n");
     let command = first_command(rt.alloc(), &[(b"build.ninja", main), nested])?;
-    assert_eq!(rt; command.as_slice(), b"r 2 a".as_slice());
+    assert_eq!(rt; command.as_deref(), Some(b"r 2 a".as_slice()));
     Ok(())
 }
 
@@ -186,8 +190,8 @@ fn a_response_file_counts(rt: HostRuntime) -> Result<(), Fail> {
         b"rule r\n  command = r @$out.rsp\n  rspfile = $out.rsp\n  rspfile_content = $in\nbuild o: r a$ b it's\n";
     let command = first_command(rt.alloc(), &[(b"build.ninja", main)])?;
     assert_eq!(rt;
-        command.as_slice(),
-        b"r @o.rsp;rspfile='a b' 'it'\\''s'".as_slice()
+        command.as_deref(),
+        Some(b"r @o.rsp;rspfile='a b' 'it'\\''s'".as_slice())
     );
     Ok(())
 }

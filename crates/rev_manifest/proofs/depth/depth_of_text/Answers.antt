@@ -1,14 +1,14 @@
 use Rattle.std.proofs.Common.{◌∙◌}
 use Rattle.rev_syntax.specs.Pieces.{seen_piece}
 use Rattle.rev_scopes.specs.Scopes.{variable_in}
-use Rattle.rev_manifest.specs.Names.{is_none}
+use Rattle.rev_manifest.specs.Names.{is_empty}
 use Rattle.rev_manifest.proofs.DepthLemmas.{piece_some, piece_none, none_either, some_text}
 use Rattle.rev_manifest.proofs.depth.depth_of_text.Goals as goal
 
 pub returns-in_err-number : goal.returns-in_err-number
 returns-in_err-number c =
     let look_up = variable_in c.args.scopes.now c.args.scope in
-    c.from_residual-in_err-number.ensures ∙ none_either (is_none c.args.text.now) _
+    c.from_residual-in_err-number.ensures ∙ none_either (is_empty c.args.text.now) _
     (piece_none look_up 0 c.args.text.now (seen_piece c.in_ok-piece.piece) c.in_ok-piece.rest c.bytes_of.result.now c.in_ok-piece.ensures.pieces c.bytes_of.ensures c.in_err-number.ensures.value)
 
 pub loop-piece-init : goal.loop-piece-init
@@ -25,7 +25,7 @@ loop-piece-init c =
 pub returns-in_err-number-2 : goal.returns-in_err-number-2
 returns-in_err-number-2 c =
     let look_up = variable_in c.args.scopes.now c.args.scope in
-    c.from_residual-in_err-number-2.ensures ∙ none_either (is_none c.args.text.now) _
+    c.from_residual-in_err-number-2.ensures ∙ none_either (is_empty c.args.text.now) _
     (piece_none look_up c.loop-piece.number c.loop-piece.rest (seen_piece c.in-Some.piece) c.in-Some.after c.bytes_of-in-Some.result.now c.in-Some.ensures.pieces c.bytes_of-in-Some.ensures
     c.in_err-number-2.ensures.value ∙ c.loop-piece.invariant.value)
 

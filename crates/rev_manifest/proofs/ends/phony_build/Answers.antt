@@ -1,5 +1,5 @@
 use Rattle.std.proofs.Common.{◌≡◌, ℕ, ◌++◌, true, false, None, List, not, filter, ap, ◌∙◌}
-use Rattle.rev_manifest.specs.Names.{is_among, without}
+use Rattle.rev_manifest.specs.Names.{has_path, without}
 use Rattle.rev_manifest.proofs.NameLemmas.{filter-same}
 use Rattle.rev_manifest.proofs.ends.phony_build.Goals as goal
 
@@ -8,10 +8,10 @@ returns c =
     let paths = c.args.edge.paths in
     let own : List (List ℕ) = paths.outs.items ++ paths.implicit_outs.items in
     let keys = c.in_ok-own.own.keys in
-    let same : (path : List ℕ) → is_among keys path ≡ is_among own path =
-    λ path. c.in_ok-own.ensures path ∙ (λ i. is_among (c.deref.ensures.value i ++ c.deref-2.ensures.value i) path) in
-    let left : (names : List (List ℕ)) → filter (λ path. not (is_among keys path)) names ≡ without own names =
-    λ names. filter-same (λ path. not (is_among keys path)) (λ path. not (is_among own path)) (λ path. ap not (same path)) names in
+    let same : (path : List ℕ) → has_path keys path ≡ has_path own path =
+    λ path. c.in_ok-own.ensures path ∙ (λ i. has_path (c.deref.ensures.value i ++ c.deref-2.ensures.value i) path) in
+    let left : (names : List (List ℕ)) → filter (λ path. not (has_path keys path)) names ≡ without own names =
+    λ names. filter-same (λ path. not (has_path keys path)) (λ path. not (has_path own path)) (λ path. ap not (same path)) names in
     (λ i. record {
       phony = true;
       explicit_outs = paths.outs.items;

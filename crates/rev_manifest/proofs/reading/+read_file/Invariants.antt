@@ -3,7 +3,7 @@ use Rattle.rev_syntax.specs.Lines.{lines_of}
 use Rattle.rev_syntax.specs.Statements.{statements_of}
 use Rattle.rev_manifest.specs.Files.{content_at}
 use Rattle.rev_manifest.specs.Reading.{reading, with_statements}
-use Rattle.rev_manifest.specs.Held.{seen_above}
+use Rattle.rev_manifest.specs.Held.{seen_declarations}
 use Rattle.rev_manifest.proofs.reading.+read_file.Given as goal
 
 abbrev pub decreases-read_file : goal.decreases-read_file
@@ -14,8 +14,8 @@ abbrev pub invariant-loop-lines : goal.invariant-loop-lines
 invariant-loop-lines l =
     record {
       declared :
-          with_statements l.files (reading l.files (l.left - 1)) l.file l.inclusion.scope (seen_above l.above) (statements_of l.rest)
-          ≡ with_statements l.files (reading l.files (l.left - 1)) l.file l.inclusion.scope (seen_above l.fn.above) (statements_of (lines_of (content_at l.files l.inclusion.file)));
+          with_statements l.files (reading l.files (l.left - 1)) l.file l.inclusion.scope (seen_declarations l.above) (statements_of l.rest)
+          ≡ with_statements l.files (reading l.files (l.left - 1)) l.file l.inclusion.scope (seen_declarations l.fn.above) (statements_of (lines_of (content_at l.files l.inclusion.file)));
       grows : length l.fn.above.scopes ≤ length l.above.scopes;
       within : l.inclusion.scope < length l.above.scopes;
       place : l.file ≡ l.inclusion.file;

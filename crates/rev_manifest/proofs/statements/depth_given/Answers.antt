@@ -6,7 +6,7 @@ use Rattle.rev_syntax.specs.Texts.{PieceValue}
 use Rattle.rev_syntax.specs.Seen.{seen_binding}
 use Rattle.rev_scopes.specs.Scopes.{variable_in}
 use Rattle.rev_manifest.specs.Answers.{IsFault}
-use Rattle.rev_manifest.specs.Names.{is_none}
+use Rattle.rev_manifest.specs.Names.{is_empty}
 use Rattle.rev_manifest.specs.Blocks.{last_text}
 use Rattle.rev_manifest.specs.Statements.{depth_given}
 use Rattle.rev_manifest.proofs.DepthLemmas.{depth_empty, depth_none, depth_fault, depth_ok, value_is, last_is}
@@ -32,14 +32,14 @@ returns-in_err-value c =
     (sym (last c.args.bindings.now c.in-Some.field-0-1.now x c.in-Some.ensures.cases.0))
     (depth_fault c.args.place look_up x.value c.in-Some-depth_of_text.depth c.in_err-value.field-0.0 c.in-Some-depth_of_text.ensures c.in_err-value.ensures))
 
-pub returns-then-is_none : goal.returns-then-is_none
-returns-then-is_none c =
+pub returns-then-is_empty : goal.returns-then-is_empty
+returns-then-is_empty c =
     let look_up = variable_in c.args.scopes.now c.args.scope in
     let x = c.in-Some.binding.now in
-    rw c.fault-then-is_none.ensures
+    rw c.fault-then-is_empty.ensures
     (ap (depth_given c.args.place look_up) (last c.args.bindings.now c.in-Some.field-0-1.now x c.in-Some.ensures.cases.0)
     ∙ depth_empty c.args.place look_up x.value
-    (ap is_none (value_is c.args.place look_up x.value c.in_ok-value.value.items c.in_ok-value.ensures ∙ sym c.deref.ensures.value) ∙ sym c.if-is_none.ensures))
+    (ap is_empty (value_is c.args.place look_up x.value c.in_ok-value.value.items c.in_ok-value.ensures ∙ sym c.deref.ensures.value) ∙ sym c.if-is_empty.ensures))
 
 pub returns : goal.returns
 returns c =
@@ -47,4 +47,4 @@ returns c =
     let x = c.in-Some.binding.now in
     ap (depth_given c.args.place look_up) (last c.args.bindings.now c.in-Some.field-0-1.now x c.in-Some.ensures.cases.0)
     ∙ depth_ok c.args.place look_up x.value c.in-Some-depth_of_text.depth c.in_ok-value.value.items c.in-Some-depth_of_text.ensures c.in_ok-value.ensures
-    (ap is_none (sym c.deref.ensures.value) ∙ sym c.if-is_none.ensures)
+    (ap is_empty (sym c.deref.ensures.value) ∙ sym c.if-is_empty.ensures)

@@ -1,9 +1,9 @@
 use Rattle.std.proofs.Common.{◌≡◌, ◌≤◌, ℕ, List, None, Some, length, map, ap, sym, subst, ◌∙◌, arith, if◌then◌else◌}
 use Rattle.std.specs.List.{list_any}
-use Rattle.std.specs.Option.{option_map}
+use Rattle.std.specs.Option.{option_or, option_map}
 use Rattle.rev_manifest.specs.Builds.{BuildValue, ManifestValue, IsManifest}
 use Rattle.rev_graph.specs.Entries.{entry, given}
-use Rattle.rev_graph.specs.Graph.{first_double, input_producers, is_known, needs, or_else, producer_of, EdgeReaches, IsRanked}
+use Rattle.rev_graph.specs.Graph.{first_double, input_producers, is_known, needs, producer_of, EdgeReaches, IsRanked}
 use Rattle.rev_graph.proofs.GraphLemmas.{known-entry, outputs-producers}
 use Rattle.rev_graph.proofs.graph.Graph.build.Goals as goal
 
@@ -19,7 +19,7 @@ known : (c : goal.In_ok-manifest) → (path : List ℕ)
     → entry c.all_producers.new.table.entries path ≡ (if is_known c.builds-edges.result.now path then Some (producer_of c.builds-edges.result.now path) else None)
 known c path =
     c.in_ok-producers.ensures.entries path
-    ∙ (λ i. or_else (c.in_ok-table.ensures.entries path i) (given (list_any (needs path) c.builds-edges.result.now) None))
+    ∙ (λ i. option_or (c.in_ok-table.ensures.entries path i) (given (list_any (needs path) c.builds-edges.result.now) None))
     ∙ known-entry (producer_of c.builds-edges.result.now path) (list_any (needs path) c.builds-edges.result.now)
 
 pub invariant_of-result : goal.invariant_of-result

@@ -1,7 +1,7 @@
 //! What the statements above a place declare.
 ghost use Rattle.std.specs.Prelude.{◌≡◌, IfOk};
-ghost use Rattle.rev_manifest.specs.Above.{nothing};
-ghost use Rattle.rev_manifest.specs.Held.{seen_above};
+ghost use Rattle.rev_manifest.specs.Declarations.{nothing};
+ghost use Rattle.rev_manifest.specs.Held.{seen_declarations};
 
 use crate::edge_paths::EdgePaths;
 use crate::fault::Place;
@@ -12,7 +12,7 @@ use std::alloc::{AllocError, Global};
 
 /// An edge before all files are read.
 #[derive(Drop)]
-pub(crate) struct Edge {
+pub(crate) struct DeclaredEdge {
     /// Its rule as it stands in the scopes at the build line; `phony` is none.
     pub(crate) rule: Option<Rule>,
     /// The values of its block.
@@ -27,13 +27,13 @@ pub(crate) struct Edge {
 
 /// What the statements so far declare.
 #[derive(Drop)]
-pub(crate) struct Above {
+pub(crate) struct Declarations {
     /// The scopes of variables and rules.
     pub(crate) scopes: Scopes,
     /// The pools, which are known in all files.
     pub(crate) pools: Pools,
     /// The edges, in reading order.
-    pub(crate) edges: Vec<Edge>,
+    pub(crate) edges: Vec<DeclaredEdge>,
     /// What `default` statements name, if there was one.
     pub(crate) defaults: Option<Vec<Name>>,
     /// The paths so far, each once; equal ones share their bytes.
@@ -41,12 +41,12 @@ pub(crate) struct Above {
 }
 
 /// What stands above the first statement: the manifest's scope and the pool `console`.
-pub(crate) fn nothing(alloc: Global) -> Result<Above, AllocError>
-    ensures { IfOk result (λ above. seen_above above ≡ nothing) }
+pub(crate) fn nothing(alloc: Global) -> Result<Declarations, AllocError>
+    ensures { IfOk result (λ above. seen_declarations above ≡ nothing) }
 {
     let mut scopes = Scopes::new(alloc);
     scopes.add(alloc, None)?;
-    Ok(Above {
+    Ok(Declarations {
         scopes,
         pools: Pools::new(alloc)?,
         edges: Vec::new(alloc),

@@ -14,7 +14,7 @@ pub record PathsValue : Type 0 where
   pub validations : List (List ℕ)
 
 -- an edge before all files are read
-pub record EdgeValue : Type 0 where
+pub record DeclaredEdgeValue : Type 0 where
   -- its rule as it stands in the scopes at the build line; `phony` is none
   pub rule : Option RuleValue
   -- the values of its block
@@ -25,14 +25,14 @@ pub record EdgeValue : Type 0 where
   pub place : Place
 
 -- scopes and pools, edges in reading order, and what `default` statements name, if there was one
-pub record AboveValue : Type 0 where
+pub record DeclarationsValue : Type 0 where
   pub scopes : List ScopeValue
   pub pools : List PoolValue
-  pub edges : List EdgeValue
+  pub edges : List DeclaredEdgeValue
   pub defaults : Option (List (List ℕ))
 
 -- before the first statement there are the manifest's scope and the pool `console`
-abbrev pub nothing : AboveValue
+abbrev pub nothing : DeclarationsValue
 nothing = record { scopes = empty_scope None ∷ []; pools = console ∷ []; edges = []; defaults = None }
 
 -- the paths of a further `default` statement
