@@ -1,6 +1,6 @@
 -- Written lines and numbers, read again.
-use Rattle.std.proofs.Common.{◌≡◌, ℕ, zero, suc, ◌<◌, ◌≤◌, ◌^◌, ◌==◌, Bool, true, false, not, ◌&&◌, cond, nat_lt, List, [], ◌∷◌, ◌++◌, length, get_or, map, refl, sym, ap, ◌∙◌, subst, arith, inl, inr, ◌⊎◌, Option, Some, None, Result, Ok, Err, append_assoc, append-nil, length-append}
-use Rattle.std.proofs.lemmas.Bool.{cases_Bool, false≢true, ltb-true, lt-ltb, ne_eqb, eqb-true, and_parts, and_from, cases_lt, cases_eq}
+use Rattle.std.proofs.Common.{◌≡◌, ℕ, zero, suc, ◌<◌, ◌≤◌, ◌^◌, ◌==◌, true, false, not, ◌&&◌, cond, nat_lt, List, [], ◌∷◌, ◌++◌, length, get_or, map, refl, sym, ap, ◌∙◌, arith, inl, inr, ◌⊎◌, Option, Some, None, Ok, Err, append-nil, length-append}
+use Rattle.std.proofs.lemmas.Bool.{cases_Bool, false≢true, lt-ltb, ne_eqb, eqb-true, and_parts, and_from, cases_lt, cases_eq}
 use Rattle.std.proofs.lemmas.List.Splits.{slice_split_none, slice_split_at}
 use Rattle.std.proofs.lemmas.List.Elements.{All-append}
 use Rattle.std.proofs.lemmas.Fmt.{decimal_is_IsNumeral, digits_decimal, decimal_nonempty, first_decimal, decimal_digit}
@@ -13,8 +13,8 @@ use Rattle.std.specs.List.{All, slice_split, flat_map, list_all}
 use Rattle.rev_fields.specs.declared.faults.FaultKind.{FaultKind}
 use Rattle.rev_fields.specs.declared.faults.FaultKind.TheVariants.{Number}
 use Rattle.rev_fields.specs.Faults.{◌>>=◌, each_of}
-use Rattle.rev_fields.specs.Fields.{letter_of, written_as, written_byte, field_text, empty_field, text_of, texts_of, all_texts, before_texts, spaced, line_of}
-use Rattle.rev_fields.specs.Numbers.{is_decimal, number_below, numbers_below, numbers_text}
+use Rattle.rev_fields.specs.Fields.{letter_of, written_as, written_byte, field_text, all_texts, before_texts, line_of}
+use Rattle.rev_fields.specs.Numbers.{is_decimal, number_below, numbers_text}
 use Rattle.rev_fields.specs.Laws.{LinesAreRead, OneField, NumbersAreRead, NumberListsAreRead}
 use Rattle.rev_fields.proofs.InverseLemmas.{text_of-field_text, field_text-text_of}
 use Rattle.rev_fields.proofs.NumberLemmas.{number_below-above, list_all-digits}
@@ -91,7 +91,7 @@ split-line text [] =
 split-line text (next ∷ texts) =
     slice_split_at (λ b. b == 32) (field_text text) 32 (line_of (map field_text (next ∷ texts))) (field-inside text) refl ∙ ap (λ l. field_text text ∷ l) (split-line next texts)
 
-all_texts-written : (texts : List (List ℕ)) → all_texts (map field_text texts) ≡ Some texts
+pub all_texts-written : (texts : List (List ℕ)) → all_texts (map field_text texts) ≡ Some texts
 all_texts-written [] = refl
 all_texts-written (text ∷ texts) =
     ap (λ o. before_texts o (all_texts (map field_text texts))) (text_of-field_text text) ∙ ap (before_texts (Some text)) (all_texts-written texts)

@@ -8,3 +8,4 @@ pub mod SaidLemmas
 pub mod SliceLemmas
 pub mod EachLemmas
 pub mod LawLemmas
+pub mod GrammarLemmas

@@ -37,7 +37,8 @@ fault_in place kind = record { kind = kind; line = place + 1 }
 
 -- the first fault of a text of so many lines, from what is wrong at each place
 abbrev pub first_fault : (ℕ → Option FaultKind) → ℕ → Option TextFault
-first_fault wrong_at count = slice_get (filter_map (λ place. option_map (fault_in place) (wrong_at place)) (range_with_len 0 count)) 0
+first_fault wrong_at count =
+    slice_get (filter_map (λ place. option_map (fault_in place) (wrong_at place)) (range_with_len 0 count)) 0
 
 -- what is answered for a text, a line of which at this place is not read
 abbrev pub read_fault : ℕ → LineFault → ReadFault

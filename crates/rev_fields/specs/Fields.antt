@@ -1,5 +1,5 @@
--- Fields, the parts of a line between single spaces. A field writes a text: each byte as it is, but for five bytes that are written
--- as a backslash and a letter, and but for the empty text, which is written as a backslash and a `0`.
+-- Fields, the parts of a line between single spaces. A field writes a text: each byte as it is, but for five bytes that
+-- are written as a backslash and a letter, and but for the empty text, which is written as a backslash and a `0`.
 use Rattle.std.specs.Prelude.{ℕ, ◌==◌, if◌then◌else◌, bytes_eq, List, [], ◌∷◌, ◌++◌, Option, Some, None}
 use Rattle.std.specs.Option.{option_map, is_some}
 use Rattle.std.specs.List.{slice_split, flat_map}
@@ -7,12 +7,16 @@ use Rattle.std.specs.List.{slice_split, flat_map}
 -- the letter for a byte that does not stand for itself: space `s`, tab `t`, LF `n`, CR `r`, backslash `\`
 abbrev pub letter_of : ℕ → Option ℕ
 letter_of b =
-    if b == 32 then Some 115 else (if b == 9 then Some 116 else (if b == 10 then Some 110 else (if b == 13 then Some 114 else (if b == 92 then Some 92 else None))))
+    if b == 32 then Some 115
+    else (if b == 9 then Some 116
+    else (if b == 10 then Some 110 else (if b == 13 then Some 114 else (if b == 92 then Some 92 else None))))
 
 -- the byte that a letter after a backslash stands for
 abbrev pub byte_of : ℕ → Option ℕ
 byte_of l =
-    if l == 115 then Some 32 else (if l == 116 then Some 9 else (if l == 110 then Some 10 else (if l == 114 then Some 13 else (if l == 92 then Some 92 else None))))
+    if l == 115 then Some 32
+    else (if l == 116 then Some 9
+    else (if l == 110 then Some 10 else (if l == 114 then Some 13 else (if l == 92 then Some 92 else None))))
 
 -- a byte as it stands in a field, by its letter if it has one
 abbrev pub written_as : ℕ → Option ℕ → List ℕ
@@ -42,7 +46,8 @@ abbrev pub unescaped : List ℕ → Option (List ℕ)
 unescaped [] = Some []
 unescaped (b ∷ []) = if is_some (letter_of b) then None else Some (b ∷ [])
 unescaped (b ∷ c ∷ bs) =
-    if b == 92 then before_text (byte_of c) (unescaped bs) else (if is_some (letter_of b) then None else before_text (Some b) (unescaped (c ∷ bs)))
+    if b == 92 then before_text (byte_of c) (unescaped bs)
+    else (if is_some (letter_of b) then None else before_text (Some b) (unescaped (c ∷ bs)))
 
 -- the text that a field writes, if it writes one
 abbrev pub text_of : List ℕ → Option (List ℕ)

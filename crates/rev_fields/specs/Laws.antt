@@ -17,4 +17,6 @@ NumbersAreRead = (limit n : ℕ) → limit ≤ 2 ^ 64 → n < limit → number_b
 
 -- and so are numbers with commas between them, where there are any
 abbrev pub NumberListsAreRead : Type 0
-NumberListsAreRead = (limit : ℕ) (ns : List ℕ) → limit ≤ 2 ^ 64 → 0 < length ns → All (λ n. n < limit) ns → numbers_below limit (numbers_text ns) ≡ Ok ns
+NumberListsAreRead =
+    (limit : ℕ) (ns : List ℕ) → limit ≤ 2 ^ 64 → 0 < length ns → All (λ n. n < limit) ns
+    → numbers_below limit (numbers_text ns) ≡ Ok ns

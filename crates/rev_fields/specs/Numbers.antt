@@ -15,7 +15,8 @@ is_decimal (d ∷ e ∷ ds) = not (d == 48) && list_all is_ascii_digit (d ∷ e 
 
 -- the number that a text writes, where it is below the limit
 abbrev pub number_below : ℕ → List ℕ → Result ℕ FaultKind
-number_below limit text = if is_decimal text && nat_lt (digits_value 10 text) limit then Ok (digits_value 10 text) else Err Number
+number_below limit text =
+    if is_decimal text && nat_lt (digits_value 10 text) limit then Ok (digits_value 10 text) else Err Number
 
 -- the numbers that a text writes with commas between them, where each is below the limit
 abbrev pub numbers_below : ℕ → List ℕ → Result (List ℕ) FaultKind

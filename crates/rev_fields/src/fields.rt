@@ -96,7 +96,8 @@ pub fn read_fields(alloc: Global, line: &[u8]) -> Result<Vec<Vec<u8>>, LineFault
     Ok(texts)
 }
 
-/// Adds the field that writes a text, with a backslash and a letter for each space, tab, LF, CR and backslash, and `\0` for the empty text.
+/// Adds the field that writes a text, with a backslash and a letter for each space, tab, LF, CR and backslash, and `\0`
+/// for the empty text.
 pub fn push_field(line: &mut Vec<u8>, text: &[u8]) -> Result<(), AllocError>
     ensures { OnOk result (line.new.items ≡ line.old.items ++ field_text text.now) }
 {

@@ -33,7 +33,8 @@ pub fn paths(alloc: Global, texts: &[Vec<u8>]) -> Result<Vec<Name>, LineFault>
 
 /// Adds the fields of paths, each with a space before it.
 pub fn next_paths(line: &mut Vec<u8>, paths: &[Name]) -> Result<(), AllocError>
-    ensures text { OnOk result (line.new.items ≡ line.old.items ++ flat_map (λ path. spaced (field_text path)) paths.now) }
+    ensures text { OnOk result (line.new.items
+        ≡ line.old.items ++ flat_map (λ path. spaced (field_text path)) paths.now) }
     ensures canonical { OnOk result (All IsCanonical paths.now) }
 {
     for path in paths {

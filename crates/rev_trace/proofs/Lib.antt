@@ -3,3 +3,7 @@ pub mod LaneLemmas
 pub mod TraceLemmas
 pub mod HeadLemmas
 pub mod GrammarLemmas
+pub mod NumberLemmas
+pub mod ShapeLemmas
+pub mod JudgeLemmas
+pub mod SaysLemmas

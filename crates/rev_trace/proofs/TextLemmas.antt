@@ -188,7 +188,7 @@ decimal-no-colon : (n : ℕ) → IsShort n → All NoColon (decimal n)
 decimal-no-colon n h = digits-no-colon (decimal n) (digits-of n h)
 
 -- the name of an event is read as that name
-which-read : (w : Which) → IsWhich w → which_of (which_text w) ≡ Ok w
+pub which-read : (w : Which) → IsWhich w → which_of (which_text w) ≡ Ok w
 which-read (which.Number n) h =
     ap which_in (slice_split_none (λ b. b == 58) (decimal n) (decimal-no-colon n h)) ∙ ap (λ r. r >>= λ n. Ok (which.Number n)) (short-read n h)
 which-read (which.Label lane place) h =

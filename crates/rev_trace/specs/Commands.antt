@@ -66,7 +66,8 @@ abbrev pub start_of : List (List ℕ) → Result Command FaultKind
 start_of [] = Err Syntax
 start_of (out ∷ []) = Err Syntax
 start_of (out ∷ job ∷ []) = path_of out >>= λ o. short job >>= λ j. Ok (command.Event (event.Start o j None))
-start_of (out ∷ job ∷ slot ∷ []) = path_of out >>= λ o. short job >>= λ j. short slot >>= λ s. Ok (command.Event (event.Start o j (Some s)))
+start_of (out ∷ job ∷ slot ∷ []) =
+    path_of out >>= λ o. short job >>= λ j. short slot >>= λ s. Ok (command.Event (event.Start o j (Some s)))
 start_of (out ∷ job ∷ slot ∷ more ∷ rest) = Err Syntax
 
 -- `depfile TEXT`
@@ -83,14 +84,16 @@ list_of texts = paths_of texts >>= λ names. Ok (listing.Paths names)
 abbrev pub listing_of : List (List ℕ) → Result Listing FaultKind
 listing_of [] = Ok listing.Nothing
 listing_of (word ∷ rest) =
-    if bytes_eq word (codes "depfile") then depfile_of rest else (if bytes_eq word (codes "list") then list_of rest else Err Syntax)
+    if bytes_eq word (codes "depfile") then depfile_of rest
+    else (if bytes_eq word (codes "list") then list_of rest else Err Syntax)
 
 -- `finish OUT N,N...` and a listing
 abbrev pub finish_of : List (List ℕ) → Result Command FaultKind
 finish_of [] = Err Syntax
 finish_of (out ∷ []) = Err Syntax
 finish_of (out ∷ stamps ∷ rest) =
-    path_of out >>= λ o. listing_of rest >>= λ l. numbers_below (2 ^ 64) stamps >>= λ ns. Ok (command.Event (event.Finish o ns l))
+    path_of out >>= λ o. listing_of rest >>= λ l. numbers_below (2 ^ 64) stamps >>= λ ns.
+    Ok (command.Event (event.Finish o ns l))
 
 -- an output and stamps: `OUT N,N...`
 abbrev pub ending_of : List (List ℕ) → Result (List ℕ × List ℕ) FaultKind

@@ -2,7 +2,7 @@
 use Rattle.std.specs.Prelude.{◌≡◌, ◌↔◌, ℕ, List, [], Ok}
 use Rattle.rev_commands.specs.declared.command.Command.{Command}
 use Rattle.rev_trace.specs.Commands.{command_line}
-use Rattle.rev_trace.specs.Grammar.{LineSays}
+use Rattle.rev_trace.specs.Grammar.{Exact, LineSays}
 use Rattle.rev_trace.specs.Texts.{HasStamps, IsCommand, command_text}
 
 -- but for an empty list of stamps, which is an empty field
@@ -11,4 +11,6 @@ CommandsAreRead = (c : Command) → IsCommand c → HasStamps c → command_line
 
 -- a line is read as a command exactly where it says that command, where `plan` without a path means these targets
 abbrev pub LinesSayCommands : Type 0
-LinesSayCommands = (targets : List (List ℕ)) (line : List ℕ) (c : Command) → (command_line targets line ≡ Ok c) ↔ LineSays targets line c
+LinesSayCommands =
+    (targets : List (List ℕ)) (line : List ℕ) (c : Command)
+    → (command_line targets line ≡ Ok c) ↔ LineSays Exact targets line c

@@ -4,5 +4,6 @@ pub mod Heads
 pub mod Lanes
 pub mod Laws
 pub mod Records
+pub mod Says
 pub mod Texts
 pub mod Traces

@@ -78,8 +78,15 @@ empty_head = record { opening = no_records 1; targets = []; has_jobs = false }
 abbrev pub head_with : HeadValue → Record → HeadValue
 head_with h (Jobs n) = record h { opening = record h.opening { jobs = n }; has_jobs = true }
 head_with h (Stamp path n) = record h { opening = with_record h.opening (cell.Stamp path) (value.Stamp n) }
-head_with h (Built path n command) = record h { opening = with_record h.opening (cell.Built path) (value.Built (Some (record { command = command; stamp = n }))) }
-head_with h (Deps path n paths) = record h { opening = with_record h.opening (cell.Deps path) (value.Deps (Some (record { stamp = n; paths = paths }))) }
+head_with h (Built path n command) =
+    record h {
+      opening = with_record h.opening (cell.Built path)
+          (value.Built (Some (record { command = command; stamp = n })));
+    }
+head_with h (Deps path n paths) =
+    record h {
+      opening = with_record h.opening (cell.Deps path) (value.Deps (Some (record { stamp = n; paths = paths })));
+    }
 head_with h (Target path) = record h { targets = h.targets ++ path ∷ [] }
 
 abbrev pub head_of : List Record → HeadValue

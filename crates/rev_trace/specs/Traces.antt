@@ -1,4 +1,5 @@
--- Traces: a first line that names the format, then opening lines, then lanes of commands, each after the line that opens it.
+-- Traces: a first line that names the format, then opening lines, then lanes of commands, each after the line that
+-- opens it.
 use Rattle.std.specs.Prelude.{◌≡◌, ℕ, ◌<◌, ◌≤◌, ◌+◌, Bool, true, false, if◌then◌else◌, bytes_eq, codes, List, [], ◌∷◌, map, take, drop, length, Option, Some, None}
 use Rattle.std.specs.Result.{result_err}
 use Rattle.std.specs.List.{list_any, count_by, slice_index_or, slice_split, before_first}
@@ -72,16 +73,19 @@ wrong_after targets before line =
 abbrev pub wrong_in : List (List ℕ) → List (List ℕ) → List ℕ → Option FaultKind
 wrong_in targets before line = if is_blank line then None else wrong_after targets before line
 
--- what is wrong with a line of a trace that stands after these lines: the first is `rebug-trace 1`, and an empty one is skipped
+-- what is wrong with a line of a trace that stands after these lines: the first is `rebug-trace 1`, and an empty one is
+-- skipped
 abbrev pub trace_wrong : List (List ℕ) → List (List ℕ) → List ℕ → Option FaultKind
 trace_wrong targets [] line = if bytes_eq line (codes "rebug-trace 1") then None else Some Header
 trace_wrong targets (first ∷ before) line = wrong_in targets before line
 
--- The first fault of a trace. Its lines are looked at in turn, each with the lines before it. Of one line a fault of syntax counts
--- before one of a number, that before a lane out of turn, and that before a second record; a line that may not stand at its place
--- is a fault of syntax, whatever else is wrong with it.
+-- The first fault of a trace. Its lines are looked at in turn, each with the lines before it. Of one line a fault of
+-- syntax counts before one of a number, that before a lane out of turn, and that before a second record; a line that
+-- may not stand at its place is a fault of syntax, whatever else is wrong with it.
 abbrev pub trace_fault : List ℕ → Option TextFault
-trace_fault text = let lines = lines_of text in first_fault (λ place. trace_wrong (targets_in (drop 1 lines)) (take place lines) (slice_index_or lines place [])) (length lines)
+trace_fault text =
+    let lines = lines_of text in first_fault
+    (λ place. trace_wrong (targets_in (drop 1 lines)) (take place lines) (slice_index_or lines place [])) (length lines)
 
 -- what lines say that stand after the first and have no fault
 abbrev pub value_of : List (List ℕ) → TraceValue
@@ -100,8 +104,8 @@ trace_of text = value_of (drop 1 (lines_of text))
 abbrev pub wrong_at : List (List ℕ) → ℕ → Option FaultKind
 wrong_at lines place = wrong_in (targets_in lines) (take place lines) (slice_index_or lines place [])
 
--- a head that has what so many lines after the first say, up to the line that opens the first lane or the end; none of these lines
--- has a fault, nor has the one that opens the lane
+-- a head that has what so many lines after the first say, up to the line that opens the first lane or the end; none of
+-- these lines has a fault, nor has the one that opens the lane
 pub record IsOpened (lines : List (List ℕ)) (head : HeadValue) (count : ℕ) : Type 0 where
   pub within : count ≤ length lines
   pub no_lane : (k : ℕ) → k < count → opens_lane (slice_index_or lines k []) ≡ false
@@ -110,11 +114,15 @@ pub record IsOpened (lines : List (List ℕ)) (head : HeadValue) (count : ℕ) :
   pub sound : (k : ℕ) → k < count → wrong_at lines k ≡ None
   pub head_is : head ≡ head_in (take count lines)
 
--- what is wrong with a line that is not empty, where a lane is open: it opens the lane of the next number, or it is a command
+-- what is wrong with a line that is not empty, where a lane is open: it opens the lane of the next number, or it is a
+-- command
 abbrev pub wrong_in_lane : List (List ℕ) → ℕ → List ℕ → Option FaultKind
-wrong_in_lane targets count line = if opens_lane line then result_err (lane_line count line) else result_err (command_line targets line)
+wrong_in_lane targets count line =
+    if opens_lane line then result_err (lane_line count line) else result_err (command_line targets line)
 
 -- what is wrong with the line at a place of those after the one that opens the first lane
 abbrev pub lane_wrong : List (List ℕ) → List (List ℕ) → ℕ → Option FaultKind
 lane_wrong targets lines place =
-    let line = slice_index_or lines place [] in if is_blank line then None else wrong_in_lane targets (1 + lane_count (take place lines)) line
+    let line =
+    slice_index_or lines place [] in if is_blank line then None
+    else wrong_in_lane targets (1 + lane_count (take place lines)) line

@@ -54,7 +54,8 @@ pub(crate) fn empty_head(alloc: Global) -> Result<Head, LineFault>
 fn add(head: &mut Head, said: Record) -> Result<(), LineFault>
     ensures ok { OnOk result (seen head.new ≡ head_with (seen head.old) said) }
     ensures sound { OnOk result (record_wrong (seen head.old) said ≡ None) }
-    ensures fault { (kind : FaultKind) → IsErrOf result (LineFault.Kind kind) → record_wrong (seen head.old) said ≡ Some kind }
+    ensures fault { (kind : FaultKind) → IsErrOf result (LineFault.Kind kind)
+        → record_wrong (seen head.old) said ≡ Some kind }
 {
     match said {
         Record::Jobs(jobs) => {
@@ -97,7 +98,8 @@ fn is_second(head: &Head, texts: &[Vec<u8>]) -> bool
 /// Adds an opening line.
 pub(crate) fn add_line(alloc: Global, head: &mut Head, line: &[u8]) -> Result<(), LineFault>
     ensures ok { OnOk result (IsAdded (seen head.old) line.now (seen head.new)) }
-    ensures fault { (kind : FaultKind) → IsErrOf result (LineFault.Kind kind) → opening_wrong (seen head.old) line.now ≡ Some kind }
+    ensures fault { (kind : FaultKind) → IsErrOf result (LineFault.Kind kind)
+        → opening_wrong (seen head.old) line.now ≡ Some kind }
 {
     let texts = read_fields(alloc, line)?;
     if is_second(head, &texts) {

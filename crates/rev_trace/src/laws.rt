@@ -1,5 +1,6 @@
 //! Laws of lines, each the contract of a function that does nothing.
 ghost use Rattle.rev_trace.specs.Laws.{CommandsAreRead, LinesSayCommands};
+ghost use Rattle.rev_trace.specs.Says.{FaultsAreFirst, OneOrTheOther, TracesAreSaid};
 
 /// The line that says a command is read as that command, but for an empty list of stamps.
 pub fn commands_are_read()
@@ -9,4 +10,21 @@ pub fn commands_are_read()
 /// A line is read as a command exactly where the table of lines says so.
 pub fn lines_say_commands()
     ensures { LinesSayCommands }
+{}
+
+/// A text is read as a trace exactly where it says that trace: its first line names the format, and the other lines say
+/// records and lanes by the tables of lines.
+pub fn traces_are_said()
+    ensures { TracesAreSaid }
+{}
+
+/// A text has a fault exactly where that is its first: the lines before it say the beginning of a trace, and with it
+/// they do not, for a reason that its number names.
+pub fn faults_are_first()
+    ensures { FaultsAreFirst }
+{}
+
+/// Each text says one trace or has one first fault, and not both.
+pub fn one_or_the_other()
+    ensures { OneOrTheOther }
 {}

@@ -68,7 +68,8 @@ fn next_word(line: &mut Vec<u8>, verb: Verb) -> Result<(), AllocError>
 
 // Adds the word of events, and the output or path of these.
 fn next_named(line: &mut Vec<u8>, verb: Verb, name: &Name) -> Result<(), AllocError>
-    ensures text { OnOk result (line.new.items ≡ line.old.items ++ spaced (word_of verb) ++ spaced (field_text name.now)) }
+    ensures text { OnOk result (line.new.items
+        ≡ line.old.items ++ spaced (word_of verb) ++ spaced (field_text name.now)) }
     ensures canonical { IsCanonical name.now }
 {
     let bytes = name.as_bytes();

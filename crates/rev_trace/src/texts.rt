@@ -28,7 +28,8 @@ fn push_word(line: &mut Vec<u8>, verb: Verb) -> Result<(), AllocError>
 
 // Adds the word of a command and the output or path that it names.
 fn push_named(line: &mut Vec<u8>, verb: Verb, name: &Name) -> Result<(), AllocError>
-    ensures text { OnOk result (line.new.items ≡ line.old.items ++ word_of verb ++ spaced (field_text name.now)) }
+    ensures text { OnOk result (line.new.items
+        ≡ line.old.items ++ word_of verb ++ spaced (field_text name.now)) }
     ensures canonical { IsCanonical name.now }
 {
     let bytes = name.as_bytes();
@@ -61,7 +62,9 @@ fn push_start(line: &mut Vec<u8>, out: &Name, job: u32, slot: Option<u32>) -> Re
 
 // Adds an output and stamps: `WORD OUT N,N...`.
 fn push_ended(line: &mut Vec<u8>, verb: Verb, out: &Name, stamps: &[u64]) -> Result<(), AllocError>
-    ensures text { OnOk result (line.new.items ≡ line.old.items ++ line_of (word_of verb ∷ field_text out.now ∷ numbers_text stamps.now ∷ [])) }
+    ensures text { OnOk result (line.new.items
+        ≡ line.old.items ++ line_of
+        (word_of verb ∷ field_text out.now ∷ numbers_text stamps.now ∷ [])) }
     ensures canonical { IsCanonical out.now }
     ensures long { All IsLong stamps.now }
 {
@@ -72,7 +75,8 @@ fn push_ended(line: &mut Vec<u8>, verb: Verb, out: &Name, stamps: &[u64]) -> Res
 // Adds nothing, or ` depfile TEXT` or ` list PATH...`.
 #[tactic(auto, using(crate::proofs::TextLemmas::fields_of_paths))]
 fn push_listing(line: &mut Vec<u8>, listing: &Listing) -> Result<(), AllocError>
-    ensures text { OnOk result (line.new.items ≡ line.old.items ++ flat_map spaced (listing_fields listing.now)) }
+    ensures text { OnOk result (line.new.items
+        ≡ line.old.items ++ flat_map spaced (listing_fields listing.now)) }
     ensures sound { OnOk result (IsListing listing.now) }
 {
     match listing {
@@ -95,7 +99,8 @@ fn push_finish(
     stamps: &[u64],
     listing: &Listing,
 ) -> Result<(), AllocError>
-    ensures text { OnOk result (line.new.items ≡ line.old.items ++ event_text (event.Finish out.now stamps.now listing.now)) }
+    ensures text { OnOk result (line.new.items
+        ≡ line.old.items ++ event_text (event.Finish out.now stamps.now listing.now)) }
     ensures sound { OnOk result (IsEvent (event.Finish out.now stamps.now listing.now)) }
 {
     push_ended(line, Verb::Finish, out, stamps)?;
@@ -113,7 +118,8 @@ fn push_touch(line: &mut Vec<u8>, path: &Name, stamp: u64) -> Result<(), AllocEr
 
 // Adds a word and the name of an event.
 fn push_of_event(line: &mut Vec<u8>, verb: Verb, which: Which) -> Result<(), AllocError>
-    ensures text { OnOk result (line.new.items ≡ line.old.items ++ line_of (word_of verb ∷ which_text which ∷ [])) }
+    ensures text { OnOk result (line.new.items
+        ≡ line.old.items ++ line_of (word_of verb ∷ which_text which ∷ [])) }
     ensures sound { OnOk result (IsWhich which) }
 {
     push_word(line, verb)?;

@@ -38,7 +38,8 @@ const NO_HEADER: ReadFault = ReadFault::Numbered(TextFault {
 fn read_head(alloc: Global, lines: &[&[u8]]) -> Result<(Head, usize), ReadFault>
     requires { length lines.now + 1 < 2 ^ 64 }
     ensures opened { IfOk result (λ r. IsOpened (slices_of lines.now) (seen r.0) r.1) }
-    ensures fault { (f : TextFault) → IsErrOf result (ReadFault.Numbered f) → IsFirstWrong (wrong_at (slices_of lines.now)) (length lines.now) 1 f }
+    ensures fault { (f : TextFault) → IsErrOf result (ReadFault.Numbered f)
+        → IsFirstWrong (wrong_at (slices_of lines.now)) (length lines.now) 1 f }
 {
     let Ok(mut head) = empty_head(alloc) else {
         return Err(ReadFault::Memory);
@@ -69,10 +70,14 @@ fn read_lanes(
     before: usize,
 ) -> Result<Vec<Vec<Command>>, ReadFault>
     requires { before + length lines.now < 2 ^ 64 }
-    ensures lanes { IfOk result (λ lanes. lanes_of lanes.items ≡ map (commands_in targets.now) (parts_of (slices_of lines.now))) }
+    ensures lanes { IfOk result (λ lanes. lanes_of lanes.items
+        ≡ map (commands_in targets.now) (parts_of (slices_of lines.now))) }
     ensures few { IfOk result (λ lanes. length lanes.items ≤ 63) }
-    ensures sound { OnOk result ((k : ℕ) → k < length lines.now → lane_wrong targets.now (slices_of lines.now) k ≡ None) }
-    ensures fault { (f : TextFault) → IsErrOf result (ReadFault.Numbered f) → IsFirstWrong (lane_wrong targets.now (slices_of lines.now)) (length lines.now) before f }
+    ensures sound { OnOk result ((k : ℕ) → k < length lines.now
+        → lane_wrong targets.now (slices_of lines.now) k ≡ None) }
+    ensures fault { (f : TextFault) → IsErrOf result (ReadFault.Numbered f)
+        → IsFirstWrong (lane_wrong targets.now (slices_of lines.now)) (length lines.now) before
+        f }
 {
     let mut lanes = Vec::new(alloc);
     let mut commands = Vec::new(alloc);
@@ -105,7 +110,8 @@ fn read_lines(alloc: Global, lines: &[&[u8]]) -> Result<Trace, ReadFault>
     ensures lanes { IfOk result (λ trace. lanes_of trace.lanes.items ≡ (value_of (slices_of lines.now)).lanes) }
     ensures few { IfOk result (λ trace. length trace.lanes.items ≤ 63) }
     ensures sound { OnOk result ((k : ℕ) → k < length lines.now → wrong_at (slices_of lines.now) k ≡ None) }
-    ensures fault { (f : TextFault) → IsErrOf result (ReadFault.Numbered f) → IsFirstWrong (wrong_at (slices_of lines.now)) (length lines.now) 1 f }
+    ensures fault { (f : TextFault) → IsErrOf result (ReadFault.Numbered f)
+        → IsFirstWrong (wrong_at (slices_of lines.now)) (length lines.now) 1 f }
 {
     let (head, end) = read_head(alloc, lines)?;
     let Head {

@@ -1,4 +1,4 @@
-use Rattle.std.proofs.Common.{◌≡◌, ◌++◌, ◌+◌, ◌∷◌, ◌^◌, [], rules, ap, drop, get_or, Ok, Err, ◌∙◌, sym}
+use Rattle.std.proofs.Common.{◌≡◌, ◌+◌, ◌^◌, [], rules, ap, drop, Err, ◌∙◌, sym}
 use Rattle.std.specs.List.{slice_split}
 use Rattle.std.specs.Bool.{◌==◌}
 use Rattle.std.proofs.lemmas.Result.{err_from_is_err_and}
