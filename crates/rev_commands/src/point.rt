@@ -4,7 +4,8 @@ ghost use Rattle.std.specs.Prelude.{◌≡◌, ◌↔◌, IfOk, IsTrue};
 use rev_paths::Name;
 use std::alloc::AllocError;
 
-/// Events of one kind, and, where an output or a path is named, of that edge or path alone. An edge is named by any of its outputs.
+/// Events of one kind, and, where an output or a path is named, of that edge or path alone. An edge is named by any of
+/// its outputs.
 #[derive(Debug, Drop, PartialEq, Eq)]
 pub enum Point {
     /// A start of the edge that has this output.

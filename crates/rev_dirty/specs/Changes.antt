@@ -9,8 +9,11 @@ use Rattle.rev_dirty.specs.Reasons.{changed_outputs}
 
 -- keys are the outputs that an edge changed
 abbrev pub AreOutputs : List BuildValue → State → ℕ → List (List ℕ) → Type 0
-AreOutputs builds state edge keys = (path : List ℕ) → has_path keys path ≡ has_path (changed_outputs (mark_of state edge) (outputs_of (build_at builds edge))) path
+AreOutputs builds state edge keys =
+    (path : List ℕ) → has_path keys path
+    ≡ has_path (changed_outputs (mark_of state edge) (outputs_of (build_at builds edge))) path
 
 -- each edge that was met has the outputs that it changed
 abbrev pub AreChanges : {S : Type 0} → List BuildValue → State → List (ℕ × HashSet (List ℕ) S) → Type 0
-AreChanges builds state entries = (edge : ℕ) → IfSome (lookup (nat_eq edge) entries) (λ set. AreOutputs builds state edge set.keys)
+AreChanges builds state entries =
+    (edge : ℕ) → IfSome (lookup (nat_eq edge) entries) (λ set. AreOutputs builds state edge set.keys)

@@ -30,7 +30,8 @@ stamp_of_first (output ∷ outputs) = output.stamp
 -- the outputs that are older than a stamp, each with the position of the input that has it
 abbrev pub older_by : Option ℕ → ℕ → List Output → List Reason
 older_by None stamp outputs = []
-older_by (Some newest) stamp outputs = map (λ output. reason.Older output newest) (positions (λ (output : Output). nat_lt output.effective stamp) outputs)
+older_by (Some newest) stamp outputs =
+    map (λ output. reason.Older output newest) (positions (λ (output : Output). nat_lt output.effective stamp) outputs)
 
 -- a reason where it holds
 abbrev pub where_holds : Bool → Reason → List Reason
@@ -45,6 +46,7 @@ all_reasons entries outputs inputs changes lacks_deps has_old_deps =
     ++ where_holds has_old_deps reason.DepsOld
     ++ map reason.Rebuilt (positions (λ changed. changed) changes)
     ++ map reason.MissingDep (positions lacks inputs)
-    ++ older_by (position (has_shown entries (greatest (map (shown entries) inputs))) inputs) (greatest (map (shown entries) inputs)) outputs
+    ++ older_by (position (has_shown entries (greatest (map (shown entries) inputs))) inputs)
+    (greatest (map (shown entries) inputs)) outputs
     ++ map reason.NoRecord (positions (λ (output : Output). output.unrecorded) outputs)
     ++ map reason.Command (positions (λ (output : Output). output.command_changed) outputs)

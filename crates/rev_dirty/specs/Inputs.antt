@@ -31,7 +31,9 @@ paths_in (Some deps) = deps.paths
 
 -- the inputs of an edge: explicit, implicit, order-only, and then those that its deps record lists
 abbrev pub inputs : State → BuildValue → List InputValue
-inputs state build = map (an OnLine) (build.explicit ++ build.implicit) ++ map (an OrderOnly) build.order_only ++ map (an Listed) (paths_in (deps_record state build))
+inputs state build =
+    map (an OnLine) (build.explicit ++ build.implicit) ++ map (an OrderOnly) build.order_only
+    ++ map (an Listed) (paths_in (deps_record state build))
 
 -- Order-only inputs come first and are no reason to run (Ninja manual, order-only dependencies); all others count.
 abbrev pub counts : InputKind → Bool

@@ -9,4 +9,5 @@ use Rattle.rev_dirty.specs.Visible.{visible_stamp, seen_through}
 abbrev pub ShowsThrough : Type 0
 ShowsThrough =
     (graph : GraphValue) (state : State) (path : List ℕ) → IsGraph graph
-    → visible_stamp graph.manifest.builds state path ≡ seen_through graph.manifest.builds state (visible_stamp graph.manifest.builds state) path
+    → visible_stamp graph.manifest.builds state path
+    ≡ seen_through graph.manifest.builds state (visible_stamp graph.manifest.builds state) path

@@ -50,7 +50,8 @@ lacks_deps state build = build.keeps_deps && is_none (deps_record state build)
 
 -- the first output was changed after its deps were listed
 abbrev pub has_old_deps : State → BuildValue → Bool
-has_old_deps state build = holds (λ (deps : DepsRecord). nat_lt deps.stamp (first_stamp state (outputs_of build))) (deps_record state build)
+has_old_deps state build =
+    holds (λ (deps : DepsRecord). nat_lt deps.stamp (first_stamp state (outputs_of build))) (deps_record state build)
 
 -- the positions of the outputs that an edge changed, by its mark
 abbrev pub changed_positions : Mark → List ℕ
@@ -62,14 +63,17 @@ changed_outputs m outputs = filter_map (slice_get outputs) (changed_positions m)
 
 -- the edge that produces a path is done and changed it
 abbrev pub was_changed : List BuildValue → State → List ℕ → Bool
-was_changed builds state path = holds (λ producer. has_path (changed_outputs (mark_of state producer) (outputs_of (build_at builds producer))) path) (producer_of builds path)
+was_changed builds state path =
+    holds (λ producer. has_path (changed_outputs (mark_of state producer) (outputs_of (build_at builds producer))) path)
+    (producer_of builds path)
 
 abbrev pub is_rebuilt : List BuildValue → State → InputValue → Bool
 is_rebuilt builds state input = counts input.kind && was_changed builds state input.path
 
 -- an input that the deps record lists, that nothing produces and that is not there
 abbrev pub is_missing_dep : List BuildValue → State → InputValue → Bool
-is_missing_dep builds state input = is_listed input.kind && is_none (producer_of builds input.path) && (visible_stamp builds state input.path == 0)
+is_missing_dep builds state input =
+    is_listed input.kind && is_none (producer_of builds input.path) && (visible_stamp builds state input.path == 0)
 
 -- the inputs that count
 abbrev pub counted : List InputValue → List InputValue
@@ -77,7 +81,8 @@ counted all = filter (λ (input : InputValue). counts input.kind) all
 
 -- the greatest visible stamp of the inputs that count
 abbrev pub newest_stamp : List BuildValue → State → List InputValue → ℕ
-newest_stamp builds state all = greatest (map (λ (input : InputValue). visible_stamp builds state input.path) (counted all))
+newest_stamp builds state all =
+    greatest (map (λ (input : InputValue). visible_stamp builds state input.path) (counted all))
 
 -- an input that counts has that visible stamp
 abbrev pub shows : List BuildValue → State → ℕ → InputValue → Bool
@@ -91,20 +96,25 @@ abbrev pub recorded_stamp : Option BuiltRecord → ℕ
 recorded_stamp None = 0
 recorded_stamp (Some built) = built.stamp
 
--- The stamp that an output counts with: under restat that of its record where it is the greater one (Ninja manual, restat).
+-- The stamp that an output counts with: under restat that of its record where it is the greater one (Ninja manual,
+-- restat).
 abbrev pub effective_stamp : State → BuildValue → List ℕ → ℕ
-effective_stamp state build output = if build.restat then max (stamp_of state output) (recorded_stamp (built_of state output)) else stamp_of state output
+effective_stamp state build output =
+    if build.restat then max (stamp_of state output) (recorded_stamp (built_of state output)) else stamp_of state output
 
 -- an output is older than some input
 abbrev pub is_outdated : List BuildValue → State → BuildValue → List ℕ → Bool
-is_outdated builds state build output = nat_lt (effective_stamp state build output) (newest_stamp builds state (inputs state build))
+is_outdated builds state build output =
+    nat_lt (effective_stamp state build output) (newest_stamp builds state (inputs state build))
 
 abbrev pub lacks_record : State → BuildValue → List ℕ → Bool
 lacks_record state build output = not build.generator && is_none (built_of state output)
 
 -- an output was made by another command
 abbrev pub has_other_command : State → BuildValue → List ℕ → Bool
-has_other_command state build output = not build.generator && holds (λ (built : BuiltRecord). not (bytes_eq built.command build.command)) (built_of state output)
+has_other_command state build output =
+    not build.generator && holds (λ (built : BuiltRecord). not (bytes_eq built.command build.command))
+    (built_of state output)
 
 -- whether something is a reason to run an edge's command
 abbrev pub is_command_reason : List BuildValue → State → BuildValue → Reason → Bool
@@ -112,27 +122,35 @@ is_command_reason builds state build (reason.Missing o) = holds_at (is_missing s
 is_command_reason builds state build reason.NoDeps = lacks_deps state build
 is_command_reason builds state build reason.DepsOld = has_old_deps state build
 is_command_reason builds state build (reason.Rebuilt i) = holds_at (is_rebuilt builds state) (inputs state build) i
-is_command_reason builds state build (reason.MissingDep i) = holds_at (is_missing_dep builds state) (inputs state build) i
-is_command_reason builds state build (reason.Older o i) = holds_at (is_outdated builds state build) (outputs_of build) o && holds (λ first. first == i) (newest builds state (inputs state build))
+is_command_reason builds state build (reason.MissingDep i) =
+    holds_at (is_missing_dep builds state) (inputs state build) i
+is_command_reason builds state build (reason.Older o i) =
+    holds_at (is_outdated builds state build) (outputs_of build) o
+    && holds (λ first. first == i) (newest builds state (inputs state build))
 is_command_reason builds state build (reason.NoRecord o) = holds_at (lacks_record state build) (outputs_of build) o
 is_command_reason builds state build (reason.Command o) = holds_at (has_other_command state build) (outputs_of build) o
 
 -- A phony edge is dirty only where it has no input of any kind: for each output that is missing.
 abbrev pub is_phony_reason : State → BuildValue → Reason → Bool
-is_phony_reason state build (reason.Missing o) = (length (inputs state build) == 0) && holds_at (is_missing state) (outputs_of build) o
+is_phony_reason state build (reason.Missing o) =
+    (length (inputs state build) == 0) && holds_at (is_missing state) (outputs_of build) o
 is_phony_reason state build _ = false
 
 abbrev pub is_reason : List BuildValue → State → BuildValue → Reason → Bool
-is_reason builds state build r = if build.phony then is_phony_reason state build r else is_command_reason builds state build r
+is_reason builds state build r =
+    if build.phony then is_phony_reason state build r else is_command_reason builds state build r
 
 -- all that may be a reason, by kind, then output, then input
 abbrev pub candidates : List ℕ → List ℕ → List Reason
 candidates outs ins =
-    map reason.Missing outs ++ (reason.NoDeps ∷ []) ++ (reason.DepsOld ∷ []) ++ map reason.Rebuilt ins ++ map reason.MissingDep ins ++ flat_map (λ o. map (reason.Older o) ins) outs
+    map reason.Missing outs ++ (reason.NoDeps ∷ []) ++ (reason.DepsOld ∷ []) ++ map reason.Rebuilt ins
+    ++ map reason.MissingDep ins ++ flat_map (λ o. map (reason.Older o) ins) outs
     ++ map reason.NoRecord outs
     ++ map reason.Command outs
 
 -- the reasons of an edge in a state, in that order
 unfoldable pub reasons_of : List BuildValue → State → ℕ → List Reason
 reasons_of builds state edge =
-    filter (is_reason builds state (build_at builds edge)) (candidates (positions_in (outputs_of (build_at builds edge))) (positions_in (inputs state (build_at builds edge))))
+    filter (is_reason builds state (build_at builds edge))
+    (candidates (positions_in (outputs_of (build_at builds edge)))
+    (positions_in (inputs state (build_at builds edge))))

@@ -1,4 +1,5 @@
--- What contracts see of a scan: the graph and the state that it looks at. What it has learned of them shows in no answer.
+-- What contracts see of a scan: the graph and the state that it looks at. What it has learned of them shows in no
+-- answer.
 use Rattle.std.specs.Prelude.{refl}
 use Rattle.std.specs.Coded.{Coded, code_by, coded×}
 use Rattle.std.specs.FinMap as map

@@ -13,12 +13,14 @@ use Rattle.rev_dirty.specs.Visible.{line_inputs}
 -- the paths that are seen behind a path, where `deeper` gives those behind the paths of its producer
 abbrev pub behind : List BuildValue → (List ℕ → List (List ℕ)) → Option ℕ → List (List ℕ)
 behind builds deeper None = []
-behind builds deeper (Some edge) = if (build_at builds edge).phony then flat_map deeper (line_inputs (build_at builds edge)) else []
+behind builds deeper (Some edge) =
+    if (build_at builds edge).phony then flat_map deeper (line_inputs (build_at builds edge)) else []
 
 -- a path, and behind it the paths that are seen through so many phony edges at most, one behind the other
 abbrev pub seen_paths_within : List BuildValue → ℕ → List ℕ → List (List ℕ)
 seen_paths_within builds zero path = path ∷ []
-seen_paths_within builds (suc edges) path = path ∷ behind builds (seen_paths_within builds edges) (producer_of builds path)
+seen_paths_within builds (suc edges) path =
+    path ∷ behind builds (seen_paths_within builds edges) (producer_of builds path)
 
 -- the paths on whose stamps a visible stamp depends
 unfoldable pub seen_paths : List BuildValue → List ℕ → List (List ℕ)
@@ -55,5 +57,6 @@ joined (cs ∷ rest) = cs ++ joined rest
 -- what the reasons of an edge depend on
 abbrev pub reason_cells : List BuildValue → State → ℕ → List (List Cell)
 reason_cells builds state edge =
-    producer_marks builds (inputs state (build_at builds edge)) ∷ seen_stamps builds (inputs state (build_at builds edge)) ∷ stamp_cells (outputs_of (build_at builds edge))
+    producer_marks builds (inputs state (build_at builds edge))
+    ∷ seen_stamps builds (inputs state (build_at builds edge)) ∷ stamp_cells (outputs_of (build_at builds edge))
     ∷ built_cells (outputs_of (build_at builds edge)) ∷ deps_cells (build_at builds edge) ∷ []

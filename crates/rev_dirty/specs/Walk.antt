@@ -42,7 +42,8 @@ pub record IsKnowledge (builds : List BuildValue) (state : State) (entries : Lis
 
 -- what is known after one more edge
 abbrev pub IsAdded : List (ℕ × ℕ) → List (ℕ × ℕ) → ℕ → ℕ → Type 0
-IsAdded entries later edge stamp = (other : ℕ) → known later other ≡ (if nat_eq edge other then Some stamp else known entries other)
+IsAdded entries later edge stamp =
+    (other : ℕ) → known later other ≡ (if nat_eq edge other then Some stamp else known entries other)
 
 abbrev pub edge_of : Task → ℕ
 edge_of (Enter edge) = edge
@@ -58,12 +59,14 @@ is_covered entries tasks edge = is_some (known entries edge) || has_task tasks e
 -- an edge is left only once all that it is seen through was: it is known, or stands above
 abbrev pub IsReadyTask : List BuildValue → State → List (ℕ × ℕ) → Task → List Task → Type 0
 IsReadyTask builds state entries (Enter edge) above = Unit {0}
-IsReadyTask builds state entries (Leave edge) above = (other : ℕ) → Contains (needed builds state edge) other → is_covered entries above other ≡ true
+IsReadyTask builds state entries (Leave edge) above =
+    (other : ℕ) → Contains (needed builds state edge) other → is_covered entries above other ≡ true
 
 -- the first task is done last
 abbrev pub IsReady : List BuildValue → State → List (ℕ × ℕ) → List Task → Type 0
 IsReady builds state entries [] = Unit {0}
-IsReady builds state entries (task ∷ above) = IsReadyTask builds state entries task above × IsReady builds state entries above
+IsReady builds state entries (task ∷ above) =
+    IsReadyTask builds state entries task above × IsReady builds state entries above
 
 -- What holds between two steps of the walk.
 pub record IsWalk (builds : List BuildValue) (state : State) (entries : List (ℕ × ℕ)) (tasks : List Task) : Type 0 where
@@ -73,7 +76,8 @@ pub record IsWalk (builds : List BuildValue) (state : State) (entries : List (�
 
 -- The walk goes on: what was covered is.
 abbrev pub GoesOn : List (ℕ × ℕ) → List Task → List (ℕ × ℕ) → List Task → Type 0
-GoesOn entries tasks later_entries later = (edge : ℕ) → is_covered entries tasks edge ≡ true → is_covered later_entries later edge ≡ true
+GoesOn entries tasks later_entries later =
+    (edge : ℕ) → is_covered entries tasks edge ≡ true → is_covered later_entries later edge ≡ true
 
 -- how many steps there are below an edge at most, through as many edges, one behind the other
 abbrev pub work : List BuildValue → State → ℕ → ℕ → ℕ

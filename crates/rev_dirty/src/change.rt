@@ -36,7 +36,9 @@ fn outputs_at(
     implicit: &[Name],
     positions: &[u64],
 ) -> Result<IndexSet<Name>, AllocError>
-    ensures { IfOk result (λ set. (path : List ℕ) → has_path set.keys path ≡ has_path (filter_map (slice_get (explicit.now ++ implicit.now)) positions.now) path) }
+    ensures { IfOk result (λ set. (path : List ℕ)
+        → has_path set.keys path
+        ≡ has_path (filter_map (slice_get (explicit.now ++ implicit.now)) positions.now) path) }
 {
     let mut outputs = IndexSet::new(alloc);
     for position in positions {
@@ -84,7 +86,9 @@ fn has_changed(
 ) -> Result<bool, AllocError>
     requires edge { edge < length graph.now.manifest.builds }
     requires changed { AreChanges graph.now.manifest.builds cells.now.state changed.old.entries }
-    ensures value { IfOk result (λ found. found ≡ has_path (changed_outputs (mark_of cells.now.state edge) (outputs_of (build_at graph.now.manifest.builds edge))) path.now) }
+    ensures value { IfOk result (λ found. found
+        ≡ has_path (changed_outputs (mark_of cells.now.state edge)
+        (outputs_of (build_at graph.now.manifest.builds edge))) path.now) }
     ensures changed { AreChanges graph.now.manifest.builds cells.now.state changed.new.entries }
 {
     if let Some(outputs) = changed.get(&edge) {
@@ -107,7 +111,8 @@ fn was_changed(
 ) -> Result<bool, AllocError>
     requires producer { producer ≡ producer_of graph.now.manifest.builds path.now }
     requires changed { AreChanges graph.now.manifest.builds cells.now.state changed.old.entries }
-    ensures value { IfOk result (λ found. found ≡ was_changed_in graph.now.manifest.builds cells.now.state path.now) }
+    ensures value { IfOk result (λ found. found
+        ≡ was_changed_in graph.now.manifest.builds cells.now.state path.now) }
     ensures changed { AreChanges graph.now.manifest.builds cells.now.state changed.new.entries }
 {
     match producer {
@@ -131,7 +136,8 @@ fn is_rebuilt(
 ) -> Result<bool, AllocError>
     requires producer { producer ≡ producer_of graph.now.manifest.builds path.now }
     requires changed { AreChanges graph.now.manifest.builds cells.now.state changed.old.entries }
-    ensures value { IfOk result (λ rebuilt. rebuilt ≡ is_rebuilt_in graph.now.manifest.builds cells.now.state (an kind path.now)) }
+    ensures value { IfOk result (λ rebuilt. rebuilt
+        ≡ is_rebuilt_in graph.now.manifest.builds cells.now.state (an kind path.now)) }
     ensures changed { AreChanges graph.now.manifest.builds cells.now.state changed.new.entries }
 {
     if kind == InputKind::OrderOnly {
@@ -155,7 +161,10 @@ fn push_changes(
     requires producers { producers.now ≡ map (producer_of graph.now.manifest.builds) paths.now }
     requires changed { AreChanges graph.now.manifest.builds cells.now.state changed.old.entries }
     ensures changed { AreChanges graph.now.manifest.builds cells.now.state changed.new.entries }
-    ensures changes { OnOk result (changes.new.items ≡ changes.old.items ++ map (is_rebuilt_in graph.now.manifest.builds cells.now.state) (map (an kind) paths.now)) }
+    ensures changes { OnOk result (changes.new.items
+        ≡ changes.old.items
+        ++ map (is_rebuilt_in graph.now.manifest.builds cells.now.state)
+        (map (an kind) paths.now)) }
 {
     for (place, path) in paths.iter().enumerate() {
         let producer = producers[place];
@@ -179,9 +188,12 @@ pub(crate) fn changes_of(
     requires changed { AreChanges graph.now.manifest.builds cells.now.state changed.old.entries }
     requires edge { edge < length graph.now.manifest.builds }
     requires producers { producers.now ≡ map (producer_of graph.now.manifest.builds) listed.now }
-    requires listed { listed.now ≡ paths_in (deps_record cells.now.state (build_at graph.now.manifest.builds edge)) }
+    requires listed { listed.now ≡ paths_in
+        (deps_record cells.now.state (build_at graph.now.manifest.builds edge)) }
     ensures changed { AreChanges graph.now.manifest.builds cells.now.state changed.new.entries }
-    ensures changes { IfOk result (λ changes. changes.items ≡ map (is_rebuilt_in graph.now.manifest.builds cells.now.state) (inputs cells.now.state (build_at graph.now.manifest.builds edge))) }
+    ensures changes { IfOk result (λ changes. changes.items
+        ≡ map (is_rebuilt_in graph.now.manifest.builds cells.now.state)
+        (inputs cells.now.state (build_at graph.now.manifest.builds edge))) }
 {
     let on_line = graph.inputs(edge);
     let line = line_producers(graph, edge);

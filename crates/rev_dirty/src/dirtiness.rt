@@ -25,7 +25,8 @@ use rev_graph::Graph;
 use rev_paths::Name;
 use std::alloc::{AllocError, Global};
 
-/// The record that lists an edge's further inputs: the deps log's record of its first output, where the edge keeps deps.
+/// The record that lists an edge's further inputs: the deps log's record of its first output, where the edge keeps
+/// deps.
 ///
 /// # Errors
 /// [`AllocError`] only where an allocation was refused.
@@ -35,7 +36,8 @@ pub fn deps_record<'a>(
     edge: u32,
 ) -> Result<Option<&'a DepsRecord>, AllocError>
     requires { edge < length graph.now.manifest.builds }
-    ensures { IfOk result (λ deps. option_copied deps ≡ record_of cells.now.state (build_at graph.now.manifest.builds edge)) }
+    ensures { IfOk result (λ deps. option_copied deps
+        ≡ record_of cells.now.state (build_at graph.now.manifest.builds edge)) }
 {
     if !graph.keeps_deps(edge) {
         return Ok(None);
@@ -52,7 +54,9 @@ pub fn deps_record<'a>(
 
 // Adds the missing outputs.
 fn push_missing(reasons: &mut Vec<Reason>, outputs: &[Output]) -> Result<(), AllocError>
-    ensures { OnOk result (reasons.new.items ≡ reasons.old.items ++ map reason.Missing (positions (λ (output : Output). output.stamp == 0) outputs.now)) }
+    ensures { OnOk result (reasons.new.items
+        ≡ reasons.old.items
+        ++ map reason.Missing (positions (λ (output : Output). output.stamp == 0) outputs.now)) }
 {
     for (position, output) in outputs.iter().enumerate() {
         if output.stamp == 0 {
@@ -64,7 +68,8 @@ fn push_missing(reasons: &mut Vec<Reason>, outputs: &[Output]) -> Result<(), All
 
 // Adds the changed inputs.
 fn push_rebuilt(reasons: &mut Vec<Reason>, changes: &[bool]) -> Result<(), AllocError>
-    ensures { OnOk result (reasons.new.items ≡ reasons.old.items ++ map reason.Rebuilt (positions (λ changed. changed) changes.now)) }
+    ensures { OnOk result (reasons.new.items
+        ≡ reasons.old.items ++ map reason.Rebuilt (positions (λ changed. changed) changes.now)) }
 {
     for (position, changed) in changes.iter().enumerate() {
         if *changed {
@@ -83,7 +88,8 @@ fn lacks(input: &Input) -> bool
 
 // Adds the inputs that the deps record lists, that nothing produces and that are missing.
 fn push_missing_deps(reasons: &mut Vec<Reason>, inputs: &[Input]) -> Result<(), AllocError>
-    ensures { OnOk result (reasons.new.items ≡ reasons.old.items ++ map reason.MissingDep (positions lacks_of inputs.now)) }
+    ensures { OnOk result (reasons.new.items
+        ≡ reasons.old.items ++ map reason.MissingDep (positions lacks_of inputs.now)) }
 {
     for (position, input) in inputs.iter().enumerate() {
         if lacks(input) {
@@ -108,7 +114,10 @@ fn push_older(
     newest: usize,
     stamp: u64,
 ) -> Result<(), AllocError>
-    ensures { OnOk result (reasons.new.items ≡ reasons.old.items ++ map (λ output. reason.Older output newest) (positions (λ (output : Output). nat_lt output.effective stamp) outputs.now)) }
+    ensures { OnOk result (reasons.new.items
+        ≡ reasons.old.items
+        ++ map (λ output. reason.Older output newest)
+        (positions (λ (output : Output). nat_lt output.effective stamp) outputs.now)) }
 {
     for (position, output) in outputs.iter().enumerate() {
         if output.effective < stamp {
@@ -120,7 +129,9 @@ fn push_older(
 
 // Adds the outputs that have no record.
 fn push_unrecorded(reasons: &mut Vec<Reason>, outputs: &[Output]) -> Result<(), AllocError>
-    ensures { OnOk result (reasons.new.items ≡ reasons.old.items ++ map reason.NoRecord (positions (λ (output : Output). output.unrecorded) outputs.now)) }
+    ensures { OnOk result (reasons.new.items
+        ≡ reasons.old.items
+        ++ map reason.NoRecord (positions (λ (output : Output). output.unrecorded) outputs.now)) }
 {
     for (position, output) in outputs.iter().enumerate() {
         if output.unrecorded {
@@ -132,7 +143,10 @@ fn push_unrecorded(reasons: &mut Vec<Reason>, outputs: &[Output]) -> Result<(), 
 
 // Adds the outputs that were made by another command.
 fn push_command_changed(reasons: &mut Vec<Reason>, outputs: &[Output]) -> Result<(), AllocError>
-    ensures { OnOk result (reasons.new.items ≡ reasons.old.items ++ map reason.Command (positions (λ (output : Output). output.command_changed) outputs.now)) }
+    ensures { OnOk result (reasons.new.items
+        ≡ reasons.old.items
+        ++ map reason.Command
+        (positions (λ (output : Output). output.command_changed) outputs.now)) }
 {
     for (position, output) in outputs.iter().enumerate() {
         if output.command_changed {
@@ -149,7 +163,10 @@ fn push_outdated(
     inputs: &[Input],
     outputs: &[Output],
 ) -> Result<(), AllocError>
-    ensures { OnOk result (let stamp = greatest (map (shown_of known.now.entries) inputs.now) in reasons.new.items ≡ reasons.old.items ++ older_by (position (has_shown known.now.entries stamp) inputs.now) stamp outputs.now) }
+    ensures { OnOk result (let stamp = greatest (map (shown_of known.now.entries) inputs.now) in
+        reasons.new.items
+        ≡ reasons.old.items
+        ++ older_by (position (has_shown known.now.entries stamp) inputs.now) stamp outputs.now) }
 {
     let stamp = greatest_shown(known, inputs);
     match first_shown(known, inputs, stamp) {
@@ -180,7 +197,8 @@ fn lacks_deps(keeps_deps: bool, deps: Option<&DepsRecord>) -> bool
 
 // Whether deps were listed before the first output was last changed.
 fn are_old(deps: Option<&DepsRecord>, outputs: &[Output]) -> bool
-    ensures { result ≡ holds (λ (deps : DepsRecord). nat_lt deps.stamp (stamp_of_first outputs.now)) (option_copied deps.entry) }
+    ensures { result ≡ holds (λ (deps : DepsRecord). nat_lt deps.stamp (stamp_of_first outputs.now))
+        (option_copied deps.entry) }
 {
     let stamp = match outputs.first() {
         Some(output) => output.stamp,
@@ -212,7 +230,8 @@ pub fn listed_inputs<'a>(
     edge: u32,
 ) -> Result<&'a [Name], AllocError>
     requires { edge < length graph.now.manifest.builds }
-    ensures { IfOk result (λ listed. listed.now ≡ paths_in (record_of cells.now.state (build_at graph.now.manifest.builds edge))) }
+    ensures { IfOk result (λ listed. listed.now
+        ≡ paths_in (record_of cells.now.state (build_at graph.now.manifest.builds edge))) }
 {
     let deps = deps_record(graph, cells, edge)?;
     Ok(listed_in(deps))
@@ -228,7 +247,8 @@ fn any_changed(changes: &[bool]) -> bool
 // Whether an edge has no input of any kind, where `listed` are those that its deps record lists.
 fn has_no_input(graph: &Graph, edge: u32, listed: &[Name]) -> bool
     requires { edge < length graph.now.manifest.builds }
-    ensures { result ≡ (length (inputs_of (build_at graph.now.manifest.builds edge)) + length listed.now == 0) }
+    ensures { result ≡ (length (inputs_of (build_at graph.now.manifest.builds edge)) + length listed.now
+        == 0) }
 {
     let inputs = graph.inputs(edge);
     inputs.explicit.is_empty()
@@ -246,7 +266,8 @@ fn phony_reasons(
 ) -> Result<Vec<Reason>, AllocError>
     requires edge { edge < length graph.now.manifest.builds }
     requires phony { (build_at graph.now.manifest.builds edge).phony ≡ true }
-    ensures { IfOk result (λ reasons. reasons.items ≡ reasons_of graph.now.manifest.builds cells.now.state edge) }
+    ensures { IfOk result (λ reasons. reasons.items
+        ≡ reasons_of graph.now.manifest.builds cells.now.state edge) }
 {
     let deps = deps_record(graph, cells, edge)?;
     let mut reasons = Vec::new(alloc);
@@ -268,7 +289,9 @@ fn all_reasons(
     lacks_deps: bool,
     has_old_deps: bool,
 ) -> Result<Vec<Reason>, AllocError>
-    ensures { IfOk result (λ reasons. reasons.items ≡ all_reasons_of known.now.entries outputs.now inputs.now changes.now lacks_deps has_old_deps) }
+    ensures { IfOk result (λ reasons. reasons.items
+        ≡ all_reasons_of known.now.entries outputs.now inputs.now changes.now lacks_deps
+        has_old_deps) }
 {
     let mut reasons = Vec::new(alloc);
     push_missing(&mut reasons, outputs)?;
@@ -296,7 +319,8 @@ fn command_reasons(
     requires graph { IsGraph graph.now }
     requires knowledge { IsKnowledge graph.now.manifest.builds cells.now.state known.old.entries }
     requires changed { AreChanges graph.now.manifest.builds cells.now.state changed.old.entries }
-    ensures reasons { IfOk result (λ reasons. reasons.items ≡ reasons_of graph.now.manifest.builds cells.now.state edge) }
+    ensures reasons { IfOk result (λ reasons. reasons.items
+        ≡ reasons_of graph.now.manifest.builds cells.now.state edge) }
     ensures knowledge { IsKnowledge graph.now.manifest.builds cells.now.state known.new.entries }
     ensures changed { AreChanges graph.now.manifest.builds cells.now.state changed.new.entries }
 {
@@ -334,7 +358,8 @@ pub(crate) fn reasons_by(
     requires graph { IsGraph graph.now }
     requires knowledge { IsKnowledge graph.now.manifest.builds cells.now.state known.old.entries }
     requires changed { AreChanges graph.now.manifest.builds cells.now.state changed.old.entries }
-    ensures reasons { IfOk result (λ reasons. reasons.items ≡ reasons_of graph.now.manifest.builds cells.now.state edge) }
+    ensures reasons { IfOk result (λ reasons. reasons.items
+        ≡ reasons_of graph.now.manifest.builds cells.now.state edge) }
     ensures knowledge { IsKnowledge graph.now.manifest.builds cells.now.state known.new.entries }
     ensures changed { AreChanges graph.now.manifest.builds cells.now.state changed.new.entries }
 {
@@ -355,7 +380,9 @@ pub(crate) fn newest_stamp_by(
     requires edge { edge < length graph.now.manifest.builds }
     requires graph { IsGraph graph.now }
     requires knowledge { IsKnowledge graph.now.manifest.builds cells.now.state known.old.entries }
-    ensures stamp { IfOk result (λ stamp. stamp ≡ newest_stamp graph.now.manifest.builds cells.now.state (inputs_in cells.now.state (build_at graph.now.manifest.builds edge))) }
+    ensures stamp { IfOk result (λ stamp. stamp
+        ≡ newest_stamp graph.now.manifest.builds cells.now.state
+        (inputs_in cells.now.state (build_at graph.now.manifest.builds edge))) }
     ensures knowledge { IsKnowledge graph.now.manifest.builds cells.now.state known.new.entries }
 {
     let listed = listed_inputs(graph, cells, edge)?;
@@ -375,7 +402,9 @@ pub(crate) fn has_rebuilt_by(
 ) -> Result<bool, AllocError>
     requires edge { edge < length graph.now.manifest.builds }
     requires changed { AreChanges graph.now.manifest.builds cells.now.state changed.old.entries }
-    ensures rebuilt { IfOk result (λ rebuilt. rebuilt ≡ list_any (is_rebuilt graph.now.manifest.builds cells.now.state) (inputs_in cells.now.state (build_at graph.now.manifest.builds edge))) }
+    ensures rebuilt { IfOk result (λ rebuilt. rebuilt
+        ≡ list_any (is_rebuilt graph.now.manifest.builds cells.now.state)
+        (inputs_in cells.now.state (build_at graph.now.manifest.builds edge))) }
     ensures changed { AreChanges graph.now.manifest.builds cells.now.state changed.new.entries }
 {
     let listed = listed_inputs(graph, cells, edge)?;
@@ -394,7 +423,8 @@ pub(crate) fn visible_stamp_by(
 ) -> Result<u64, AllocError>
     requires graph { IsGraph graph.now }
     requires knowledge { IsKnowledge graph.now.manifest.builds cells.now.state known.old.entries }
-    ensures stamp { IfOk result (λ stamp. stamp ≡ visible_stamp graph.now.manifest.builds cells.now.state path.now) }
+    ensures stamp { IfOk result (λ stamp. stamp
+        ≡ visible_stamp graph.now.manifest.builds cells.now.state path.now) }
     ensures knowledge { IsKnowledge graph.now.manifest.builds cells.now.state known.new.entries }
 {
     let input = input_of(graph, cells, InputKind::OnLine, path, graph.producer(path))?;

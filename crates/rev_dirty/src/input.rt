@@ -46,9 +46,15 @@ pub(crate) struct Producers<'a> {
 /// The edges that produce the inputs on an edge's build line.
 pub(crate) fn line_producers(graph: &Graph, edge: u32) -> Producers<'_>
     requires { edge < length graph.now.manifest.builds }
-    ensures explicit { result.explicit.now ≡ map (producer_of graph.now.manifest.builds) (build_at graph.now.manifest.builds edge).explicit }
-    ensures implicit { result.implicit.now ≡ map (producer_of graph.now.manifest.builds) (build_at graph.now.manifest.builds edge).implicit }
-    ensures order_only { result.order_only.now ≡ map (producer_of graph.now.manifest.builds) (build_at graph.now.manifest.builds edge).order_only }
+    ensures explicit { result.explicit.now
+        ≡ map (producer_of graph.now.manifest.builds)
+        (build_at graph.now.manifest.builds edge).explicit }
+    ensures implicit { result.implicit.now
+        ≡ map (producer_of graph.now.manifest.builds)
+        (build_at graph.now.manifest.builds edge).implicit }
+    ensures order_only { result.order_only.now
+        ≡ map (producer_of graph.now.manifest.builds)
+        (build_at graph.now.manifest.builds edge).order_only }
 {
     let inputs = graph.inputs(edge);
     let (explicit, others) = graph.producers(edge).split_at(inputs.explicit.len());
@@ -66,7 +72,8 @@ pub(crate) fn producers_of(
     graph: &Graph,
     paths: &[Name],
 ) -> Result<Vec<Option<u32>>, AllocError>
-    ensures { IfOk result (λ producers. producers.items ≡ map (producer_of graph.now.manifest.builds) paths.now) }
+    ensures { IfOk result (λ producers. producers.items
+        ≡ map (producer_of graph.now.manifest.builds) paths.now) }
 {
     let mut producers = Vec::with_capacity(alloc, paths.len())?;
     for path in paths {
@@ -101,7 +108,8 @@ pub(crate) fn input_of(
     producer: Option<u32>,
 ) -> Result<Input, AllocError>
     requires { producer ≡ producer_of graph.now.manifest.builds path.now }
-    ensures { IfOk result (λ input. input ≡ input_facts graph.now.manifest.builds cells.now.state kind path.now) }
+    ensures { IfOk result (λ input. input
+        ≡ input_facts graph.now.manifest.builds cells.now.state kind path.now) }
 {
     if kind == InputKind::OrderOnly {
         return Ok(Input {
@@ -140,7 +148,9 @@ fn push_inputs(
     producers: &[Option<u32>],
 ) -> Result<(), AllocError>
     requires { producers.now ≡ map (producer_of graph.now.manifest.builds) paths.now }
-    ensures { OnOk result (inputs.new.items ≡ inputs.old.items ++ map (input_facts graph.now.manifest.builds cells.now.state kind) paths.now) }
+    ensures { OnOk result (inputs.new.items
+        ≡ inputs.old.items
+        ++ map (input_facts graph.now.manifest.builds cells.now.state kind) paths.now) }
 {
     for (place, path) in paths.iter().enumerate() {
         inputs.push(input_of(graph, cells, kind, path, producers[place])?)?;
@@ -156,7 +166,9 @@ pub(crate) fn counted_on_line(
     edge: u32,
 ) -> Result<Vec<Input>, AllocError>
     requires { edge < length graph.now.manifest.builds }
-    ensures { IfOk result (λ inputs. inputs.items ≡ map (input_facts graph.now.manifest.builds cells.now.state OnLine) (line_inputs (build_at graph.now.manifest.builds edge))) }
+    ensures { IfOk result (λ inputs. inputs.items
+        ≡ map (input_facts graph.now.manifest.builds cells.now.state OnLine)
+        (line_inputs (build_at graph.now.manifest.builds edge))) }
 {
     let on_line = graph.inputs(edge);
     let producers = line_producers(graph, edge);
@@ -192,8 +204,11 @@ pub(crate) fn all_inputs(
 ) -> Result<Vec<Input>, AllocError>
     requires edge { edge < length graph.now.manifest.builds }
     requires producers { producers.now ≡ map (producer_of graph.now.manifest.builds) listed.now }
-    requires listed { listed.now ≡ paths_in (deps_record cells.now.state (build_at graph.now.manifest.builds edge)) }
-    ensures { IfOk result (λ all. all.items ≡ map (facts_of_input graph.now.manifest.builds cells.now.state) (inputs cells.now.state (build_at graph.now.manifest.builds edge))) }
+    requires listed { listed.now ≡ paths_in
+        (deps_record cells.now.state (build_at graph.now.manifest.builds edge)) }
+    ensures { IfOk result (λ all. all.items
+        ≡ map (facts_of_input graph.now.manifest.builds cells.now.state)
+        (inputs cells.now.state (build_at graph.now.manifest.builds edge))) }
 {
     let mut all = counted_on_line(alloc, graph, cells, edge)?;
     push_inputs(

@@ -46,7 +46,8 @@ fn effective(restat: bool, stamp: u64, built: Option<&BuiltRecord>) -> u64
 // What is asked of an output of an edge.
 fn output_of(graph: &Graph, cells: &Cells, edge: u32, path: &Name) -> Result<Output, AllocError>
     requires { edge < length graph.now.manifest.builds }
-    ensures { IfOk result (λ output. output ≡ output_facts cells.now.state (build_at graph.now.manifest.builds edge) path.now) }
+    ensures { IfOk result (λ output. output
+        ≡ output_facts cells.now.state (build_at graph.now.manifest.builds edge) path.now) }
 {
     let stamp = stamp(cells, path)?;
     let built = built(cells, path)?;
@@ -87,7 +88,10 @@ fn push_outputs(
     paths: &[Name],
 ) -> Result<(), AllocError>
     requires { edge < length graph.now.manifest.builds }
-    ensures { OnOk result (outputs.new.items ≡ outputs.old.items ++ map (output_facts cells.now.state (build_at graph.now.manifest.builds edge)) paths.now) }
+    ensures { OnOk result (outputs.new.items
+        ≡ outputs.old.items
+        ++ map (output_facts cells.now.state (build_at graph.now.manifest.builds edge))
+        paths.now) }
 {
     for path in paths {
         outputs.push(output_of(graph, cells, edge, path)?)?;
@@ -103,7 +107,9 @@ pub(crate) fn outputs_of(
     edge: u32,
 ) -> Result<Vec<Output>, AllocError>
     requires { edge < length graph.now.manifest.builds }
-    ensures { IfOk result (λ outputs. outputs.items ≡ map (output_facts cells.now.state (build_at graph.now.manifest.builds edge)) (outputs_on (build_at graph.now.manifest.builds edge))) }
+    ensures { IfOk result (λ outputs. outputs.items
+        ≡ map (output_facts cells.now.state (build_at graph.now.manifest.builds edge))
+        (outputs_on (build_at graph.now.manifest.builds edge))) }
 {
     let paths = graph.outputs(edge);
     let mut outputs = Vec::new(alloc);

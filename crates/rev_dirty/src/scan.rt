@@ -17,8 +17,9 @@ use rev_paths::Name;
 use std::alloc::{AllocError, Global};
 use std::marker::Model;
 
-/// A scan over the edges of a graph in one state. It keeps what it learned of phony edges, each of which is entered once in
-/// its life, and of what edges changed (Ninja has the name `DependencyScan`). What it has learned shows in no answer.
+/// A scan over the edges of a graph in one state. It keeps what it learned of phony edges, each of which is entered
+/// once in its life, and of what edges changed (Ninja has the name `DependencyScan`). What it has learned shows in no
+/// answer.
 ///
 /// Calls about one edge take a number below [`Graph::edges`]. After an error the scan answers as before.
 #[derive(Drop)]
@@ -50,7 +51,8 @@ impl<'a> DependencyScan<'a> {
         ensures graph { result.graph ≡ graph.now }
         ensures state { result.state ≡ cells.now.state }
     {
-        // What it promises of every graph, ranks that fall along its steps, is what the stamps behind phony edges rest on.
+        // What it promises of every graph, ranks that fall along its steps, is what the stamps behind phony edges rest
+        // on.
         let _edges = graph.edges();
         DependencyScan {
             alloc,
@@ -61,21 +63,23 @@ impl<'a> DependencyScan<'a> {
         }
     }
 
-    /// The reasons why an edge is dirty, all of them: by kind, then by the position of the output, then of the input. Where
-    /// there is none the edge is clean.
+    /// The reasons why an edge is dirty, all of them: by kind, then by the position of the output, then of the input.
+    /// Where there is none the edge is clean.
     ///
-    /// An edge that is not phony is dirty where an output is missing, is older than an input or has no record of this edge's
-    /// command, where its deps are not known or out of date, or where an input was rebuilt (Ninja manual, the build log,
-    /// deps, restat, generator). A phony edge is dirty only where it has no input of any kind, for each output that is missing.
+    /// An edge that is not phony is dirty where an output is missing, is older than an input or has no record of this
+    /// edge's command, where its deps are not known or out of date, or where an input was rebuilt (Ninja manual, the
+    /// build log, deps, restat, generator). A phony edge is dirty only where it has no input of any kind, for each
+    /// output that is missing.
     ///
-    /// It takes time linear in the edge's inputs and outputs, and in what those phony edges behind its inputs have that the
-    /// scan enters for the first time, up to hashing.
+    /// It takes time linear in the edge's inputs and outputs, and in what those phony edges behind its inputs have that
+    /// the scan enters for the first time, up to hashing.
     ///
     /// # Errors
     /// [`AllocError`] only where an allocation was refused.
     pub fn reasons(&mut self, edge: u32) -> Result<Vec<Reason>, AllocError>
         requires { edge < length self.old.graph.manifest.builds }
-        ensures reasons { IfOk result (λ reasons. reasons.items ≡ reasons_of self.old.graph.manifest.builds self.old.state edge) }
+        ensures reasons { IfOk result (λ reasons. reasons.items
+            ≡ reasons_of self.old.graph.manifest.builds self.old.state edge) }
         ensures same { self.new ≡ self.old }
     {
         reasons_by(
@@ -88,14 +92,16 @@ impl<'a> DependencyScan<'a> {
         )
     }
 
-    /// The greatest visible stamp of the inputs of an edge that are not order-only, 0 where there is none: what its command
-    /// sees when it is started.
+    /// The greatest visible stamp of the inputs of an edge that are not order-only, 0 where there is none: what its
+    /// command sees when it is started.
     ///
     /// # Errors
     /// [`AllocError`] only where an allocation was refused.
     pub fn newest_stamp(&mut self, edge: u32) -> Result<u64, AllocError>
         requires { edge < length self.old.graph.manifest.builds }
-        ensures stamp { IfOk result (λ stamp. stamp ≡ newest_stamp self.old.graph.manifest.builds self.old.state (inputs self.old.state (build_at self.old.graph.manifest.builds edge))) }
+        ensures stamp { IfOk result (λ stamp. stamp
+            ≡ newest_stamp self.old.graph.manifest.builds self.old.state
+            (inputs self.old.state (build_at self.old.graph.manifest.builds edge))) }
         ensures same { self.new ≡ self.old }
     {
         newest_stamp_by(self.alloc, self.graph, self.cells, &mut self.known, edge)
@@ -107,19 +113,22 @@ impl<'a> DependencyScan<'a> {
     /// [`AllocError`] only where an allocation was refused.
     pub fn has_rebuilt(&mut self, edge: u32) -> Result<bool, AllocError>
         requires { edge < length self.old.graph.manifest.builds }
-        ensures rebuilt { IfOk result (λ rebuilt. rebuilt ≡ list_any (is_rebuilt self.old.graph.manifest.builds self.old.state) (inputs self.old.state (build_at self.old.graph.manifest.builds edge))) }
+        ensures rebuilt { IfOk result (λ rebuilt. rebuilt
+            ≡ list_any (is_rebuilt self.old.graph.manifest.builds self.old.state)
+            (inputs self.old.state (build_at self.old.graph.manifest.builds edge))) }
         ensures same { self.new ≡ self.old }
     {
         has_rebuilt_by(self.alloc, self.graph, self.cells, &mut self.changed, edge)
     }
 
-    /// The visible stamp of a path: its stamp; but of a missing output of a phony edge the greatest visible stamp of that
-    /// edge's explicit and implicit inputs, 0 where it has none.
+    /// The visible stamp of a path: its stamp; but of a missing output of a phony edge the greatest visible stamp of
+    /// that edge's explicit and implicit inputs, 0 where it has none.
     ///
     /// # Errors
     /// [`AllocError`] only where an allocation was refused.
     pub fn visible_stamp(&mut self, path: &Name) -> Result<u64, AllocError>
-        ensures stamp { IfOk result (λ stamp. stamp ≡ visible_stamp self.old.graph.manifest.builds self.old.state path.now) }
+        ensures stamp { IfOk result (λ stamp. stamp
+            ≡ visible_stamp self.old.graph.manifest.builds self.old.state path.now) }
         ensures same { self.new ≡ self.old }
     {
         visible_stamp_by(self.alloc, self.graph, self.cells, &mut self.known, path)
@@ -137,7 +146,8 @@ pub fn reasons(
     edge: u32,
 ) -> Result<Vec<Reason>, AllocError>
     requires { edge < length graph.now.manifest.builds }
-    ensures { IfOk result (λ reasons. reasons.items ≡ reasons_of graph.now.manifest.builds cells.now.state edge) }
+    ensures { IfOk result (λ reasons. reasons.items
+        ≡ reasons_of graph.now.manifest.builds cells.now.state edge) }
 {
     DependencyScan::new(alloc, graph, cells).reasons(edge)
 }

@@ -54,7 +54,8 @@ pub(crate) fn greatest_shown(known: &Known, inputs: &[Input]) -> u64
 
 // The phony edges through which inputs are seen.
 fn edges_through(alloc: Global, inputs: &[Input]) -> Result<Vec<u32>, AllocError>
-    ensures { IfOk result (λ edges. edges.items ≡ filter_map (λ (input : Input). input.through) inputs.now) }
+    ensures { IfOk result (λ edges. edges.items
+        ≡ filter_map (λ (input : Input). input.through) inputs.now) }
 {
     inputs
         .iter()
@@ -82,10 +83,15 @@ fn enter(
     edge: u32,
 ) -> Result<(), AllocError>
     requires graph { IsGraph graph.now }
-    requires walk { IsWalk graph.now.manifest.builds cells.now.state known.now.entries (tasks.old.items ++ Enter edge ∷ []) }
-    ensures walk { OnOk result (IsWalk graph.now.manifest.builds cells.now.state known.now.entries tasks.new.items) }
-    ensures goes_on { OnOk result (GoesOn known.now.entries (tasks.old.items ++ Enter edge ∷ []) known.now.entries tasks.new.items) }
-    ensures less { OnOk result (work_left graph.now.manifest.builds cells.now.state graph.now.ranks tasks.new.items < work_left graph.now.manifest.builds cells.now.state graph.now.ranks (tasks.old.items ++ Enter edge ∷ [])) }
+    requires walk { IsWalk graph.now.manifest.builds cells.now.state known.now.entries
+        (tasks.old.items ++ Enter edge ∷ []) }
+    ensures walk { OnOk result (IsWalk graph.now.manifest.builds cells.now.state known.now.entries
+        tasks.new.items) }
+    ensures goes_on { OnOk result (GoesOn known.now.entries (tasks.old.items ++ Enter edge ∷ []) known.now.entries
+        tasks.new.items) }
+    ensures less { OnOk result (work_left graph.now.manifest.builds cells.now.state graph.now.ranks
+        tasks.new.items < work_left graph.now.manifest.builds cells.now.state graph.now.ranks
+        (tasks.old.items ++ Enter edge ∷ [])) }
 {
     if known.contains_key(&edge) {
         return Ok(());
@@ -108,8 +114,10 @@ fn leave(
     requires graph { IsGraph graph.now }
     requires edge { IsPhonyEdge graph.now.manifest.builds edge }
     requires knowledge { IsKnowledge graph.now.manifest.builds cells.now.state known.old.entries }
-    requires needed { (other : ℕ) → Contains (needed graph.now.manifest.builds cells.now.state edge) other → is_some (known_by known.old.entries other) ≡ true }
-    ensures added { OnOk result (IsAdded known.old.entries known.new.entries edge (shown_behind graph.now.manifest.builds cells.now.state edge)) }
+    requires needed { (other : ℕ) → Contains (needed graph.now.manifest.builds cells.now.state edge) other
+        → is_some (known_by known.old.entries other) ≡ true }
+    ensures added { OnOk result (IsAdded known.old.entries known.new.entries edge
+        (shown_behind graph.now.manifest.builds cells.now.state edge)) }
     ensures knowledge { IsKnowledge graph.now.manifest.builds cells.now.state known.new.entries }
 {
     let inputs = counted_on_line(alloc, graph, cells, edge)?;
@@ -128,10 +136,15 @@ fn step(
     task: Task,
 ) -> Result<(), AllocError>
     requires graph { IsGraph graph.now }
-    requires walk { IsWalk graph.now.manifest.builds cells.now.state known.old.entries (tasks.old.items ++ task ∷ []) }
-    ensures walk { OnOk result (IsWalk graph.now.manifest.builds cells.now.state known.new.entries tasks.new.items) }
-    ensures goes_on { OnOk result (GoesOn known.old.entries (tasks.old.items ++ task ∷ []) known.new.entries tasks.new.items) }
-    ensures less { OnOk result (work_left graph.now.manifest.builds cells.now.state graph.now.ranks tasks.new.items < work_left graph.now.manifest.builds cells.now.state graph.now.ranks (tasks.old.items ++ task ∷ [])) }
+    requires walk { IsWalk graph.now.manifest.builds cells.now.state known.old.entries
+        (tasks.old.items ++ task ∷ []) }
+    ensures walk { OnOk result (IsWalk graph.now.manifest.builds cells.now.state known.new.entries
+        tasks.new.items) }
+    ensures goes_on { OnOk result (GoesOn known.old.entries (tasks.old.items ++ task ∷ []) known.new.entries
+        tasks.new.items) }
+    ensures less { OnOk result (work_left graph.now.manifest.builds cells.now.state graph.now.ranks
+        tasks.new.items < work_left graph.now.manifest.builds cells.now.state graph.now.ranks
+        (tasks.old.items ++ task ∷ [])) }
     ensures knowledge { IsKnowledge graph.now.manifest.builds cells.now.state known.new.entries }
 {
     match task {
@@ -146,8 +159,8 @@ fn step(
     }
 }
 
-/// Makes the phony edges known through which inputs are seen, and those behind them. Each that was not known is entered once
-/// and left once. What was known stays so, also where memory is short.
+/// Makes the phony edges known through which inputs are seen, and those behind them. Each that was not known is entered
+/// once and left once. What was known stays so, also where memory is short.
 pub(crate) fn know(
     alloc: Global,
     graph: &Graph,
@@ -156,10 +169,13 @@ pub(crate) fn know(
     inputs: &[Input],
 ) -> Result<(), AllocError>
     requires graph { IsGraph graph.now }
-    requires phony { All (IsPhonyEdge graph.now.manifest.builds) (filter_map (λ (input : Input). input.through) inputs.now) }
+    requires phony { All (IsPhonyEdge graph.now.manifest.builds)
+        (filter_map (λ (input : Input). input.through) inputs.now) }
     requires knowledge { IsKnowledge graph.now.manifest.builds cells.now.state known.old.entries }
     ensures knowledge { IsKnowledge graph.now.manifest.builds cells.now.state known.new.entries }
-    ensures all { OnOk result ((edge : ℕ) → Contains (filter_map (λ (input : Input). input.through) inputs.now) edge → is_some (known_by known.new.entries edge) ≡ true) }
+    ensures all { OnOk result ((edge : ℕ)
+        → Contains (filter_map (λ (input : Input). input.through) inputs.now) edge
+        → is_some (known_by known.new.entries edge) ≡ true) }
 {
     let edges = edges_through(alloc, inputs)?;
     let mut tasks = Vec::new(alloc);

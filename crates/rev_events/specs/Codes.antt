@@ -26,12 +26,16 @@ listing_of-listing_parts (Depfile text) = refl
 listing_of-listing_parts (Paths paths) = refl
 
 abbrev pub coded_listing : Coded Listing
-coded_listing = code_by ListingParts (coded⊎ coded_ℕ (coded⊎ (coded_list coded_ℕ) (coded_list (coded_list coded_ℕ)))) listing_parts listing_of listing_of-listing_parts
+coded_listing =
+    code_by ListingParts (coded⊎ coded_ℕ (coded⊎ (coded_list coded_ℕ) (coded_list (coded_list coded_ℕ)))) listing_parts
+    listing_of listing_of-listing_parts
 
 -- a name, and what stands beside it, by the kind of the event
 abbrev pub EventParts : Type 0
 EventParts =
-    List (List ℕ) ⊎ ((List ℕ × (ℕ × Option ℕ)) ⊎ ((List ℕ × (List ℕ × Listing)) ⊎ ((List ℕ × List ℕ) ⊎ ((List ℕ × List ℕ) ⊎ (List ℕ ⊎ (List ℕ ⊎ ((List ℕ × ℕ) ⊎ ℕ)))))))
+    List (List ℕ) ⊎ ((List ℕ × (ℕ × Option ℕ))
+    ⊎ ((List ℕ × (List ℕ × Listing))
+    ⊎ ((List ℕ × List ℕ) ⊎ ((List ℕ × List ℕ) ⊎ (List ℕ ⊎ (List ℕ ⊎ ((List ℕ × ℕ) ⊎ ℕ)))))))
 
 abbrev pub event_parts : Event → EventParts
 event_parts (Plan targets) = inl targets
@@ -69,7 +73,11 @@ event_of-event_parts Interrupt = refl
 abbrev pub coded_event : Coded Event
 coded_event =
     code_by EventParts
-    (coded⊎ (coded_list (coded_list coded_ℕ)) (coded⊎ (coded× (coded_list coded_ℕ) (coded× coded_ℕ (coded_option coded_ℕ))) (coded⊎ (coded× (coded_list coded_ℕ) (coded× (coded_list coded_ℕ) coded_listing))
-    (coded⊎ (coded× (coded_list coded_ℕ) (coded_list coded_ℕ)) (coded⊎ (coded× (coded_list coded_ℕ) (coded_list coded_ℕ)) (coded⊎ (coded_list coded_ℕ) (coded⊎ (coded_list coded_ℕ)
+    (coded⊎ (coded_list (coded_list coded_ℕ))
+    (coded⊎ (coded× (coded_list coded_ℕ) (coded× coded_ℕ (coded_option coded_ℕ)))
+    (coded⊎ (coded× (coded_list coded_ℕ) (coded× (coded_list coded_ℕ) coded_listing))
+    (coded⊎ (coded× (coded_list coded_ℕ) (coded_list coded_ℕ))
+    (coded⊎ (coded× (coded_list coded_ℕ) (coded_list coded_ℕ))
+    (coded⊎ (coded_list coded_ℕ) (coded⊎ (coded_list coded_ℕ)
     (coded⊎ (coded× (coded_list coded_ℕ) coded_ℕ) coded_ℕ))))))))
     event_parts event_of event_of-event_parts

@@ -43,7 +43,8 @@ pub record Adds (old new : List (Cell × Value)) (added : Effect) : Type 0 where
 -- THE INPUTS
 -- the edges that produce the inputs of an edge, of all kinds in their order
 abbrev pub producers_of_inputs : List BuildValue → State → BuildValue → List (Option ℕ)
-producers_of_inputs builds state build = map (λ (input : InputValue). producer_of builds input.path) (inputs state build)
+producers_of_inputs builds state build =
+    map (λ (input : InputValue). producer_of builds input.path) (inputs state build)
 
 -- the edge that produces an input, where one does, is not settled
 abbrev pub is_waiting : State → Option ℕ → Bool
@@ -100,25 +101,30 @@ rest_of (x ∷ xs) = xs
 -- each output gets its given stamp
 abbrev pub write_stamps : List (List ℕ) → List ℕ → Effect
 write_stamps [] stamps = []
-write_stamps (path ∷ paths) stamps = write (cell.Stamp path) (value.Stamp (first_of 0 stamps)) ∷ write_stamps paths (rest_of stamps)
+write_stamps (path ∷ paths) stamps =
+    write (cell.Stamp path) (value.Stamp (first_of 0 stamps)) ∷ write_stamps paths (rest_of stamps)
 
 -- for each output whether it changed: always, or under restat where its stamp is another one
 abbrev pub changes : Bool → List ℕ → List ℕ → List Bool
 changes restat [] stamps = []
-changes restat (before ∷ befores) stamps = (not restat || not (before == first_of 0 stamps)) ∷ changes restat befores (rest_of stamps)
+changes restat (before ∷ befores) stamps =
+    (not restat || not (before == first_of 0 stamps)) ∷ changes restat befores (rest_of stamps)
 
 abbrev pub where_true : List Bool → List ℕ
 where_true flags = positions (λ flag. flag) flags
 
--- the record that an output gets: with its given stamp, or, where it did not change, with the stamp that the command has seen
+-- the record that an output gets: with its given stamp, or, where it did not change, with the stamp that the command
+-- has seen
 abbrev pub built_with : List ℕ → ℕ → Bool → ℕ → Value
-built_with command seen changed stamp = value.Built (Some (record { command = command; stamp = if changed then stamp else seen }))
+built_with command seen changed stamp =
+    value.Built (Some (record { command = command; stamp = if changed then stamp else seen }))
 
 -- Each output gets a built record.
 abbrev pub write_built : List ℕ → ℕ → List (List ℕ) → List Bool → List ℕ → Effect
 write_built command seen [] flags stamps = []
 write_built command seen (path ∷ paths) flags stamps =
-    write (cell.Built path) (built_with command seen (first_of true flags) (first_of 0 stamps)) ∷ write_built command seen paths (rest_of flags) (rest_of stamps)
+    write (cell.Built path) (built_with command seen (first_of true flags) (first_of 0 stamps))
+    ∷ write_built command seen paths (rest_of flags) (rest_of stamps)
 
 -- the paths that a command read, by what is said of them
 abbrev pub listed : Listing → List (List ℕ)
@@ -128,7 +134,8 @@ listed (Paths paths) = first_mentions paths
 
 abbrev pub write_first_deps : List (List ℕ) → List ℕ → Listing → Effect
 write_first_deps [] stamps listing = []
-write_first_deps (path ∷ paths) stamps listing = write (cell.Deps path) (value.Deps (Some (record { stamp = first_of 0 stamps; paths = listed listing }))) ∷ []
+write_first_deps (path ∷ paths) stamps listing =
+    write (cell.Deps path) (value.Deps (Some (record { stamp = first_of 0 stamps; paths = listed listing }))) ∷ []
 
 -- an edge that keeps deps gets a deps record on its first output
 abbrev pub write_deps : BuildValue → List ℕ → Listing → Effect
@@ -136,7 +143,8 @@ write_deps build stamps listing = if build.keeps_deps then write_first_deps (out
 
 -- PASS
 
--- what a phony edge that is wanted changes: without inputs its missing outputs, else all of them where an input that counts was changed
+-- what a phony edge that is wanted changes: without inputs its missing outputs, else all of them where an input that
+-- counts was changed
 abbrev pub passed_on : List InputValue → Bool → List Bool → List ℕ
 passed_on [] rebuilt missing = where_true missing
 passed_on (input ∷ all) rebuilt missing = if rebuilt then positions_in missing else []

@@ -30,12 +30,13 @@ pub record RunsIn (pools : ℕ → Option (ℕ × ℕ)) (w : Words) (edge pool p
   pub is : w.mark edge ≡ mark.Running job (Some place) seen
   pub of_pool : pools edge ≡ Some (pool, depth)
 
--- The jobs and the slots that are held are exactly those of the edges that run; these are edges of the manifest, and each has a slot below the
--- depth of its pool, and none where its pool has none.
+-- The jobs and the slots that are held are exactly those of the edges that run; these are edges of the manifest, and
+-- each has a slot below the depth of its pool, and none where its pool has none.
 pub record IsHeld (pools : ℕ → Option (ℕ × ℕ)) (count : ℕ) (w : Words) : Type 0 where
   pub jobs : (job edge : ℕ) → (w.job job ≡ Some edge) ↔ RunsOn w edge job
   pub slots : (pool place edge : ℕ) → (w.slot pool place ≡ Some edge) ↔ RunsIn pools w edge pool place
-  pub placed : (edge job : ℕ) (slot : Option ℕ) (seen : ℕ) → w.mark edge ≡ mark.Running job slot seen → pool_slot (pools edge) slot ≡ None
+  pub placed : (edge job : ℕ) (slot : Option ℕ) (seen : ℕ) → w.mark edge ≡ mark.Running job slot seen
+      → pool_slot (pools edge) slot ≡ None
   pub edges : (edge job : ℕ) → RunsOn w edge job → edge < count
 
 abbrev pub IsHeldExactly : ManifestValue → State → Type 0

@@ -18,24 +18,30 @@ use Rattle.rev_events.specs.Refusal.{phony_edge, not_phony, halted, not_halted, 
 use Rattle.rev_events.specs.Edge.{Effect, write, first_blocking, slot_holder, write_slot, free_held, seen_by, write_stamps, changes, where_true, write_built, write_deps, pass_changes}
 
 -- THE TESTS OF EACH KIND, in their order, by the values that they ask for
-abbrev pub start_tests : BuildValue → Option (ℕ × ℕ) → ℕ → ℕ → Option ℕ → Bool → Mark → Option ℕ → List Reason → Option ℕ → Option ℕ → Option Refusal
+abbrev pub start_tests : BuildValue → Option (ℕ × ℕ) → ℕ → ℕ → Option ℕ → Bool → Mark → Option ℕ → List Reason
+    → Option ℕ → Option ℕ → Option Refusal
 start_tests build pool jobs job slot is m blocking reasons holder other =
-    first_some (phony_edge build ∷ halted is ∷ not_wanted m ∷ blocked blocking ∷ not_dirty reasons ∷ no_such_job jobs job ∷ job_busy holder ∷ pool_slot pool slot ∷ slot_busy other ∷ [])
+    first_some (phony_edge build ∷ halted is ∷ not_wanted m ∷ blocked blocking ∷ not_dirty reasons
+    ∷ no_such_job jobs job ∷ job_busy holder ∷ pool_slot pool slot ∷ slot_busy other ∷ [])
 
 abbrev pub clean_tests : BuildValue → Mark → Option ℕ → List Reason → Option Refusal
-clean_tests build m blocking reasons = first_some (phony_edge build ∷ not_wanted m ∷ blocked blocking ∷ dirty reasons ∷ [])
+clean_tests build m blocking reasons =
+    first_some (phony_edge build ∷ not_wanted m ∷ blocked blocking ∷ dirty reasons ∷ [])
 
 abbrev pub pass_tests : BuildValue → Mark → Option ℕ → Option Refusal
 pass_tests build m blocking = first_some (not_phony build m ∷ not_marked m ∷ blocked blocking ∷ [])
 
 abbrev pub finish_tests : BuildValue → List ℕ → Listing → Mark → Option Refusal
-finish_tests build stamps listing m = first_some (phony_edge build ∷ not_running m ∷ wrong_outputs build stamps ∷ unexpected_listing build listing ∷ bad_depfile build listing ∷ [])
+finish_tests build stamps listing m =
+    first_some (phony_edge build ∷ not_running m ∷ wrong_outputs build stamps ∷ unexpected_listing build listing
+    ∷ bad_depfile build listing ∷ [])
 
 abbrev pub fail_tests : BuildValue → List ℕ → Mark → Option Refusal
 fail_tests build stamps m = first_some (phony_edge build ∷ not_running m ∷ wrong_outputs build stamps ∷ [])
 
 abbrev pub abort_tests : BuildValue → List ℕ → Bool → Mark → Option Refusal
-abort_tests build stamps is m = first_some (phony_edge build ∷ not_halted is ∷ not_running m ∷ wrong_outputs build stamps ∷ [])
+abort_tests build stamps is m =
+    first_some (phony_edge build ∷ not_halted is ∷ not_running m ∷ wrong_outputs build stamps ∷ [])
 
 module _ (manifest : ManifestValue) where
   abbrev pub build_of : ℕ → BuildValue
@@ -47,30 +53,36 @@ module _ (manifest : ManifestValue) where
   -- START: the edge runs in its job and slot, and has seen the greatest visible stamp of the inputs that count
   unfoldable pub start_refusal : ℕ → ℕ → ℕ → Option ℕ → State → Option Refusal
   start_refusal jobs edge job slot state =
-      start_tests (build_of edge) (pool_of manifest edge) jobs job slot (is_halted state) (mark_of state edge) (first_blocking manifest.builds state (inputs state (build_of edge)))
+      start_tests (build_of edge) (pool_of manifest edge) jobs job slot (is_halted state) (mark_of state edge)
+      (first_blocking manifest.builds state (inputs state (build_of edge)))
       (reasons_of manifest.builds state edge) (job_of state job) (slot_holder state (pool_of manifest edge) slot)
 
   unfoldable pub start_effect : ℕ → ℕ → Option ℕ → State → Effect
   start_effect edge job slot state =
-      write (cell.Mark edge) (value.Mark (mark.Running job slot (newest_stamp manifest.builds state (inputs state (build_of edge)))))
+      write (cell.Mark edge)
+      (value.Mark (mark.Running job slot (newest_stamp manifest.builds state (inputs state (build_of edge)))))
       ∷ write (cell.Job job) (value.Job (Some edge)) ∷ write_slot (pool_of manifest edge) slot (Some edge)
 
   -- CLEAN
   unfoldable pub clean_refusal : ℕ → State → Option Refusal
   clean_refusal edge state =
-      clean_tests (build_of edge) (mark_of state edge) (first_blocking manifest.builds state (inputs state (build_of edge))) (reasons_of manifest.builds state edge)
+      clean_tests (build_of edge) (mark_of state edge)
+      (first_blocking manifest.builds state (inputs state (build_of edge))) (reasons_of manifest.builds state edge)
 
   unfoldable pub clean_effect : ℕ → State → Effect
   clean_effect edge state = write (cell.Mark edge) (value.Mark mark.Clean) ∷ []
 
   -- PASS: the edge is done without a command
   unfoldable pub pass_refusal : ℕ → State → Option Refusal
-  pass_refusal edge state = pass_tests (build_of edge) (mark_of state edge) (first_blocking manifest.builds state (inputs state (build_of edge)))
+  pass_refusal edge state =
+      pass_tests (build_of edge) (mark_of state edge)
+      (first_blocking manifest.builds state (inputs state (build_of edge)))
 
   unfoldable pub pass_effect : ℕ → State → Effect
   pass_effect edge state =
       write (cell.Mark edge) (value.Mark (mark.Done (pass_changes (mark_of state edge) (inputs state (build_of edge))
-      (list_any (is_rebuilt manifest.builds state) (inputs state (build_of edge))) (map (is_missing state) (outputs edge))))) ∷ []
+      (list_any (is_rebuilt manifest.builds state) (inputs state (build_of edge)))
+      (map (is_missing state) (outputs edge))))) ∷ []
 
   -- FINISH: the edge is done; job and slot are free; the outputs have their stamps and records
   unfoldable pub finish_refusal : ℕ → List ℕ → Listing → State → Option Refusal
@@ -78,12 +90,15 @@ module _ (manifest : ManifestValue) where
 
   abbrev pub finish_by : ℕ → List ℕ → Listing → Mark → List Bool → Effect
   finish_by edge stamps listing m flags =
-      write (cell.Mark edge) (value.Mark (mark.Done (where_true flags))) ∷ free_held (pool_of manifest edge) m ++ (write_stamps (outputs edge) stamps
-      ++ (write_built (build_of edge).command (seen_by m) (outputs edge) flags stamps ++ write_deps (build_of edge) stamps listing))
+      write (cell.Mark edge) (value.Mark (mark.Done (where_true flags))) ∷ free_held (pool_of manifest edge) m
+      ++ (write_stamps (outputs edge) stamps
+      ++ (write_built (build_of edge).command (seen_by m) (outputs edge) flags stamps
+      ++ write_deps (build_of edge) stamps listing))
 
   unfoldable pub finish_effect : ℕ → List ℕ → Listing → State → Effect
   finish_effect edge stamps listing state =
-      finish_by edge stamps listing (mark_of state edge) (changes (build_of edge).restat (map (stamp_of state) (outputs edge)) stamps)
+      finish_by edge stamps listing (mark_of state edge)
+      (changes (build_of edge).restat (map (stamp_of state) (outputs edge)) stamps)
 
   -- FAIL and ABORT: the edge gets this mark; job and slot are free; the outputs have their stamps
   unfoldable pub fail_refusal : ℕ → List ℕ → State → Option Refusal
@@ -93,4 +108,6 @@ module _ (manifest : ManifestValue) where
   abort_refusal edge stamps state = abort_tests (build_of edge) stamps (is_halted state) (mark_of state edge)
 
   unfoldable pub end_effect : ℕ → List ℕ → Mark → State → Effect
-  end_effect edge stamps ended state = write (cell.Mark edge) (value.Mark ended) ∷ free_held (pool_of manifest edge) (mark_of state edge) ++ write_stamps (outputs edge) stamps
+  end_effect edge stamps ended state =
+      write (cell.Mark edge) (value.Mark ended) ∷ free_held (pool_of manifest edge) (mark_of state edge)
+      ++ write_stamps (outputs edge) stamps

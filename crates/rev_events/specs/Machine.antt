@@ -37,10 +37,14 @@ module _ (manifest : ManifestValue) where
   -- why an event is refused in a state: the first refusal in the stated order
   unfoldable pub refusal : ℕ → State → Event → Option Refusal
   refusal jobs s (Plan targets) = option_map of_plan (plan_refusal manifest s targets)
-  refusal jobs s (Start out job slot) = of_edge (Some NoSuchEdge) (λ edge. start_refusal manifest jobs edge job slot s) (edge_of out)
-  refusal jobs s (Finish out stamps listing) = of_edge (Some NoSuchEdge) (λ edge. finish_refusal manifest edge stamps listing s) (edge_of out)
-  refusal jobs s (Fail out stamps) = of_edge (Some NoSuchEdge) (λ edge. fail_refusal manifest edge stamps s) (edge_of out)
-  refusal jobs s (Abort out stamps) = of_edge (Some NoSuchEdge) (λ edge. abort_refusal manifest edge stamps s) (edge_of out)
+  refusal jobs s (Start out job slot) =
+      of_edge (Some NoSuchEdge) (λ edge. start_refusal manifest jobs edge job slot s) (edge_of out)
+  refusal jobs s (Finish out stamps listing) =
+      of_edge (Some NoSuchEdge) (λ edge. finish_refusal manifest edge stamps listing s) (edge_of out)
+  refusal jobs s (Fail out stamps) =
+      of_edge (Some NoSuchEdge) (λ edge. fail_refusal manifest edge stamps s) (edge_of out)
+  refusal jobs s (Abort out stamps) =
+      of_edge (Some NoSuchEdge) (λ edge. abort_refusal manifest edge stamps s) (edge_of out)
   refusal jobs s (Clean out) = of_edge (Some NoSuchEdge) (λ edge. clean_refusal manifest edge s) (edge_of out)
   refusal jobs s (Pass out) = of_edge (Some NoSuchEdge) (λ edge. pass_refusal manifest edge s) (edge_of out)
   refusal jobs s (Touch path stamp) = None
@@ -48,7 +52,9 @@ module _ (manifest : ManifestValue) where
 
   -- the cells that it writes, with what they then hold
   unfoldable pub effect : State → Event → Effect
-  effect s (Plan targets) = write_marks (edge_numbers manifest.builds) (marks_of manifest s targets) ++ write cell.Halted (value.Halted false) ∷ []
+  effect s (Plan targets) =
+      write_marks (edge_numbers manifest.builds) (marks_of manifest s targets) ++ write cell.Halted (value.Halted false)
+      ∷ []
   effect s (Start out job slot) = of_edge [] (λ edge. start_effect manifest edge job slot s) (edge_of out)
   effect s (Finish out stamps listing) = of_edge [] (λ edge. finish_effect manifest edge stamps listing s) (edge_of out)
   effect s (Fail out stamps) = of_edge [] (λ edge. end_effect manifest edge stamps mark.Failed s) (edge_of out)

@@ -166,7 +166,8 @@ slot_busy holder = option_map SlotBusy holder
 
 -- not one stamp for each output
 abbrev pub wrong_outputs : BuildValue → List ℕ → Option Refusal
-wrong_outputs build stamps = refuse_if (not (length stamps == length (outputs_of build))) (WrongOutputs (length (outputs_of build)))
+wrong_outputs build stamps =
+    refuse_if (not (length stamps == length (outputs_of build))) (WrongOutputs (length (outputs_of build)))
 
 -- the files that a command read are listed, where its edge keeps no list
 abbrev pub unexpected_listing : BuildValue → Listing → Option Refusal

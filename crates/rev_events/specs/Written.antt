@@ -25,11 +25,13 @@ module _ (manifest : ManifestValue) where
 
   unfoldable pub finish_writes : ℕ → State → List Cell
   finish_writes edge state =
-      cell.Mark edge ∷ held_cells (pool_of manifest edge) (mark_of state edge) ++ (stamp_cells (outputs_of (build edge)) ++ (built_cells (outputs_of (build edge)) ++ deps_cells (build edge)))
+      cell.Mark edge ∷ held_cells (pool_of manifest edge) (mark_of state edge)
+      ++ (stamp_cells (outputs_of (build edge)) ++ (built_cells (outputs_of (build edge)) ++ deps_cells (build edge)))
 
   -- Fail and Abort write the mark, what the edge held, and the stamps
   unfoldable pub end_writes : ℕ → State → List Cell
-  end_writes edge state = cell.Mark edge ∷ held_cells (pool_of manifest edge) (mark_of state edge) ++ stamp_cells (outputs_of (build edge))
+  end_writes edge state =
+      cell.Mark edge ∷ held_cells (pool_of manifest edge) (mark_of state edge) ++ stamp_cells (outputs_of (build edge))
 
   unfoldable pub written : State → Event → List Cell
   written s (Plan targets) = map cell.Mark (edge_numbers manifest.builds) ++ cell.Halted ∷ []

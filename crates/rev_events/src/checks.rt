@@ -64,7 +64,8 @@ fn start_refusal(
     slot: Option<u32>,
 ) -> Result<Option<Refusal>, AllocError>
     requires { edge < length graph.now.manifest.builds }
-    ensures { IfOk result (λ refusal. refusal ≡ start_refusal_in graph.now.manifest cells.now.jobs edge job slot cells.now.state) }
+    ensures { IfOk result (λ refusal. refusal
+        ≡ start_refusal_in graph.now.manifest cells.now.jobs edge job slot cells.now.state) }
 {
     if graph.is_phony(edge) {
         return Ok(Some(Refusal::Phony));
@@ -154,7 +155,8 @@ fn wrong_outputs(
     stamps: &[u64],
 ) -> Result<Option<Refusal>, AllocError>
     requires { edge < length graph.now.manifest.builds }
-    ensures { IfOk result (λ refusal. refusal ≡ wrong_outputs_in (build_at graph.now.manifest.builds edge) stamps.now) }
+    ensures { IfOk result (λ refusal. refusal
+        ≡ wrong_outputs_in (build_at graph.now.manifest.builds edge) stamps.now) }
 {
     let count = all_outputs(alloc, graph, edge)?.len();
     if stamps.len() == count {
@@ -188,7 +190,8 @@ fn bad_depfile(
     listing: &Listing,
 ) -> Result<Option<Refusal>, AllocError>
     requires { edge < length graph.now.manifest.builds }
-    ensures { IfOk result (λ refusal. refusal ≡ bad_depfile_in (build_at graph.now.manifest.builds edge) listing.now) }
+    ensures { IfOk result (λ refusal. refusal
+        ≡ bad_depfile_in (build_at graph.now.manifest.builds edge) listing.now) }
 {
     let Listing::Depfile(text) = listing else {
         return Ok(None);
@@ -214,7 +217,8 @@ fn finish_refusal(
     listing: &Listing,
 ) -> Result<Option<Refusal>, AllocError>
     requires { edge < length graph.now.manifest.builds }
-    ensures { IfOk result (λ refusal. refusal ≡ finish_refusal_in graph.now.manifest edge stamps.now listing.now cells.now.state) }
+    ensures { IfOk result (λ refusal. refusal
+        ≡ finish_refusal_in graph.now.manifest edge stamps.now listing.now cells.now.state) }
 {
     if graph.is_phony(edge) {
         return Ok(Some(Refusal::Phony));
@@ -241,7 +245,8 @@ fn fail_refusal(
     stamps: &[u64],
 ) -> Result<Option<Refusal>, AllocError>
     requires { edge < length graph.now.manifest.builds }
-    ensures { IfOk result (λ refusal. refusal ≡ fail_refusal_in graph.now.manifest edge stamps.now cells.now.state) }
+    ensures { IfOk result (λ refusal. refusal
+        ≡ fail_refusal_in graph.now.manifest edge stamps.now cells.now.state) }
 {
     if graph.is_phony(edge) {
         return Ok(Some(Refusal::Phony));
@@ -262,7 +267,8 @@ fn abort_refusal(
     stamps: &[u64],
 ) -> Result<Option<Refusal>, AllocError>
     requires { edge < length graph.now.manifest.builds }
-    ensures { IfOk result (λ refusal. refusal ≡ abort_refusal_in graph.now.manifest edge stamps.now cells.now.state) }
+    ensures { IfOk result (λ refusal. refusal
+        ≡ abort_refusal_in graph.now.manifest edge stamps.now cells.now.state) }
 {
     if graph.is_phony(edge) {
         return Ok(Some(Refusal::Phony));
@@ -293,7 +299,8 @@ fn plan_refusal(
     cells: &Cells,
     targets: &[Name],
 ) -> Result<Option<Refusal>, AllocError>
-    ensures { IfOk result (λ refusal. refusal ≡ option_map of_plan (plan_refusal_in graph.now.manifest cells.now.state targets.now)) }
+    ensures { IfOk result (λ refusal. refusal
+        ≡ option_map of_plan (plan_refusal_in graph.now.manifest cells.now.state targets.now)) }
 {
     match plan(alloc, graph, cells, targets) {
         Ok(_) => Ok(None),
@@ -313,7 +320,8 @@ fn refusal(
     cells: &Cells,
     event: &Event,
 ) -> Result<Option<Refusal>, AllocError>
-    ensures { IfOk result (λ refusal. refusal ≡ refusal_in graph.now.manifest cells.now.jobs cells.now.state event.now) }
+    ensures { IfOk result (λ refusal. refusal
+        ≡ refusal_in graph.now.manifest cells.now.jobs cells.now.state event.now) }
 {
     match event {
         Event::Plan(targets) => plan_refusal(alloc, graph, cells, targets.as_slice()),
@@ -359,7 +367,8 @@ fn refusal(
 /// # Errors
 /// [`Fault::Refused`] with the refusal, [`Fault::Memory`] only where an allocation was refused.
 pub fn check(alloc: Global, graph: &Graph, cells: &Cells, event: &Event) -> Result<(), Fault>
-    ensures refused { (r : Refusal) → IsErrOf result (Fault.Refused r) → refusal_in graph.now.manifest cells.now.jobs cells.now.state event.now ≡ Some r }
+    ensures refused { (r : Refusal) → IsErrOf result (Fault.Refused r)
+        → refusal_in graph.now.manifest cells.now.jobs cells.now.state event.now ≡ Some r }
     ensures accepted { OnOk result (refusal_in graph.now.manifest cells.now.jobs cells.now.state event.now ≡ None) }
 {
     match refusal(alloc, graph, cells, event)? {

@@ -35,7 +35,8 @@ fn push_copies(names: &mut Vec<Name>, paths: &[Name]) -> Result<(), AllocError>
 /// The outputs of an edge, explicit before implicit.
 pub(crate) fn all_outputs(alloc: Global, graph: &Graph, edge: u32) -> Result<Vec<Name>, AllocError>
     requires { edge < length graph.now.manifest.builds }
-    ensures { IfOk result (λ outputs. outputs.items ≡ outputs_of (build_at graph.now.manifest.builds edge)) }
+    ensures { IfOk result (λ outputs. outputs.items
+        ≡ outputs_of (build_at graph.now.manifest.builds edge)) }
 {
     let outputs = graph.outputs(edge);
     let mut all = Vec::new(alloc);
@@ -50,7 +51,8 @@ fn push_producers(
     graph: &Graph,
     paths: &[Name],
 ) -> Result<(), AllocError>
-    ensures { OnOk result (producers.new.items ≡ producers.old.items ++ map (producer_of graph.now.manifest.builds) paths.now) }
+    ensures { OnOk result (producers.new.items
+        ≡ producers.old.items ++ map (producer_of graph.now.manifest.builds) paths.now) }
 {
     for path in paths {
         producers.push(graph.producer(path))?;
@@ -66,7 +68,9 @@ pub(crate) fn all_producers(
     edge: u32,
 ) -> Result<Vec<Option<u32>>, AllocError>
     requires { edge < length graph.now.manifest.builds }
-    ensures { IfOk result (λ all. all.items ≡ producers_of_inputs graph.now.manifest.builds cells.now.state (build_at graph.now.manifest.builds edge)) }
+    ensures { IfOk result (λ all. all.items
+        ≡ producers_of_inputs graph.now.manifest.builds cells.now.state
+        (build_at graph.now.manifest.builds edge)) }
 {
     let listed = listed_inputs(graph, cells, edge)?;
     let mut all = Vec::from_slice(alloc, graph.producers(edge))?;
@@ -101,7 +105,9 @@ pub(crate) fn blocking_input(
     edge: u32,
 ) -> Result<Option<u64>, AllocError>
     requires { edge < length graph.now.manifest.builds }
-    ensures { IfOk result (λ blocking. blocking ≡ first_blocking graph.now.manifest.builds cells.now.state (inputs cells.now.state (build_at graph.now.manifest.builds edge))) }
+    ensures { IfOk result (λ blocking. blocking
+        ≡ first_blocking graph.now.manifest.builds cells.now.state
+        (inputs cells.now.state (build_at graph.now.manifest.builds edge))) }
 {
     let all = all_producers(alloc, graph, cells, edge)?;
     match first_waiting(cells, &all) {
@@ -118,7 +124,9 @@ pub(crate) fn stamp_seen(
     edge: u32,
 ) -> Result<u64, AllocError>
     requires { edge < length graph.now.manifest.builds }
-    ensures { IfOk result (λ stamp. stamp ≡ newest_stamp graph.now.manifest.builds cells.now.state (inputs cells.now.state (build_at graph.now.manifest.builds edge))) }
+    ensures { IfOk result (λ stamp. stamp
+        ≡ newest_stamp graph.now.manifest.builds cells.now.state
+        (inputs cells.now.state (build_at graph.now.manifest.builds edge))) }
 {
     DependencyScan::new(alloc, graph, cells).newest_stamp(edge)
 }
@@ -131,7 +139,9 @@ pub(crate) fn has_rebuilt(
     edge: u32,
 ) -> Result<bool, AllocError>
     requires { edge < length graph.now.manifest.builds }
-    ensures { IfOk result (λ rebuilt. rebuilt ≡ list_any (is_rebuilt graph.now.manifest.builds cells.now.state) (inputs cells.now.state (build_at graph.now.manifest.builds edge))) }
+    ensures { IfOk result (λ rebuilt. rebuilt
+        ≡ list_any (is_rebuilt graph.now.manifest.builds cells.now.state)
+        (inputs cells.now.state (build_at graph.now.manifest.builds edge))) }
 {
     DependencyScan::new(alloc, graph, cells).has_rebuilt(edge)
 }
@@ -144,7 +154,8 @@ pub(crate) fn lacks_inputs(
     edge: u32,
 ) -> Result<bool, AllocError>
     requires { edge < length graph.now.manifest.builds }
-    ensures { IfOk result (λ none. none ≡ (length (inputs cells.now.state (build_at graph.now.manifest.builds edge)) == 0)) }
+    ensures { IfOk result (λ none. none
+        ≡ (length (inputs cells.now.state (build_at graph.now.manifest.builds edge)) == 0)) }
 {
     let all = all_producers(alloc, graph, cells, edge)?;
     Ok(all.as_slice().is_empty())

@@ -38,7 +38,8 @@ fn start_effect(
     slot: Option<u32>,
 ) -> Result<Writes, AllocError>
     requires { edge < length graph.now.manifest.builds }
-    ensures { IfOk result (λ writes. Adds [] writes.items (start_effect_in graph.now.manifest edge job slot cells.now.state)) }
+    ensures { IfOk result (λ writes.
+        Adds [] writes.items (start_effect_in graph.now.manifest edge job slot cells.now.state)) }
 {
     let seen = stamp_seen(alloc, graph, cells, edge)?;
     let mut writes = Vec::new(alloc);
@@ -57,7 +58,9 @@ fn missing_positions(
     edge: u32,
 ) -> Result<Vec<u64>, AllocError>
     requires { edge < length graph.now.manifest.builds }
-    ensures { IfOk result (λ missing. missing.items ≡ where_true (map (is_missing cells.now.state) (outputs_of (build_at graph.now.manifest.builds edge)))) }
+    ensures { IfOk result (λ missing. missing.items
+        ≡ where_true (map (is_missing cells.now.state)
+        (outputs_of (build_at graph.now.manifest.builds edge)))) }
 {
     let outputs = all_outputs(alloc, graph, edge)?;
     let flags = missing_flags(alloc, cells, &outputs)?;
@@ -68,7 +71,8 @@ fn missing_positions(
 // The positions of all outputs of an edge.
 fn output_positions(alloc: Global, graph: &Graph, edge: u32) -> Result<Vec<u64>, AllocError>
     requires { edge < length graph.now.manifest.builds }
-    ensures { IfOk result (λ all. all.items ≡ range_with_len 0 (length (outputs_of (build_at graph.now.manifest.builds edge)))) }
+    ensures { IfOk result (λ all. all.items
+        ≡ range_with_len 0 (length (outputs_of (build_at graph.now.manifest.builds edge)))) }
 {
     let outputs = all_outputs(alloc, graph, edge)?;
     let all = all_positions(alloc, outputs.as_slice().len())?;
@@ -79,7 +83,12 @@ fn output_positions(alloc: Global, graph: &Graph, edge: u32) -> Result<Vec<u64>,
 // missing; of one with inputs all of them where an input that counts was changed; else none.
 fn passed_on(alloc: Global, graph: &Graph, cells: &Cells, edge: u32) -> Result<Vec<u64>, AllocError>
     requires { edge < length graph.now.manifest.builds }
-    ensures { IfOk result (λ changed. let build = build_at graph.now.manifest.builds edge in let all = inputs cells.now.state build in changed.items ≡ pass_changes (mark_of cells.now.state edge) all (list_any (is_rebuilt graph.now.manifest.builds cells.now.state) all) (map (is_missing cells.now.state) (outputs_of build))) }
+    ensures { IfOk result (λ changed.
+        let build = build_at graph.now.manifest.builds edge in let all = inputs cells.now.state
+        build in changed.items
+        ≡ pass_changes (mark_of cells.now.state edge) all
+        (list_any (is_rebuilt graph.now.manifest.builds cells.now.state) all)
+        (map (is_missing cells.now.state) (outputs_of build))) }
 {
     let wanted = is_wanted(cells, edge);
     if !wanted {
@@ -102,7 +111,8 @@ fn passed_on(alloc: Global, graph: &Graph, cells: &Cells, edge: u32) -> Result<V
 #[tactic(auto, unfolding(crate::specs::Kinds::pass_effect))]
 fn pass_effect(alloc: Global, graph: &Graph, cells: &Cells, edge: u32) -> Result<Writes, AllocError>
     requires { edge < length graph.now.manifest.builds }
-    ensures { IfOk result (λ writes. Adds [] writes.items (pass_effect_in graph.now.manifest edge cells.now.state)) }
+    ensures { IfOk result (λ writes.
+        Adds [] writes.items (pass_effect_in graph.now.manifest edge cells.now.state)) }
 {
     let changed = passed_on(alloc, graph, cells, edge)?;
     let mut writes = Vec::new(alloc);
@@ -122,7 +132,9 @@ fn finish_effect(
 ) -> Result<Writes, AllocError>
     requires edge { edge < length graph.now.manifest.builds }
     requires listing { HasNoFault (outputs_of (build_at graph.now.manifest.builds edge)) listing.now }
-    ensures { IfOk result (λ writes. Adds [] writes.items (finish_effect_in graph.now.manifest edge stamps.now listing.now cells.now.state)) }
+    ensures { IfOk result (λ writes.
+        Adds [] writes.items
+        (finish_effect_in graph.now.manifest edge stamps.now listing.now cells.now.state)) }
 {
     let paths = all_outputs(alloc, graph, edge)?;
     let outputs = paths.as_slice();
@@ -158,7 +170,9 @@ fn end_effect(
     ended: Mark,
 ) -> Result<Writes, AllocError>
     requires { edge < length graph.now.manifest.builds }
-    ensures { IfOk result (λ writes. Adds [] writes.items (end_effect_in graph.now.manifest edge stamps.now ended cells.now.state)) }
+    ensures { IfOk result (λ writes.
+        Adds [] writes.items
+        (end_effect_in graph.now.manifest edge stamps.now ended cells.now.state)) }
 {
     let paths = all_outputs(alloc, graph, edge)?;
     let outputs = paths.as_slice();
@@ -194,7 +208,8 @@ fn plan_effect(
     targets: &[Name],
 ) -> Result<Writes, AllocError>
     requires { plan_refusal graph.now.manifest cells.now.state targets.now ≡ None }
-    ensures { IfOk result (λ writes. Adds [] writes.items (effect_in graph.now.manifest cells.now.state (Plan targets.now))) }
+    ensures { IfOk result (λ writes.
+        Adds [] writes.items (effect_in graph.now.manifest cells.now.state (Plan targets.now))) }
 {
     // What it promises of every graph is that there are few edges.
     let _edges = graph.edges();
@@ -210,7 +225,8 @@ fn plan_effect(
 #[tactic(auto, unfolding(crate::specs::Machine::effect, crate::specs::Kinds::clean_effect))]
 fn writes(alloc: Global, graph: &Graph, cells: &Cells, event: &Event) -> Result<Writes, AllocError>
     requires { refusal graph.now.manifest cells.now.jobs cells.now.state event.now ≡ None }
-    ensures { IfOk result (λ writes. Adds [] writes.items (effect_in graph.now.manifest cells.now.state event.now)) }
+    ensures { IfOk result (λ writes.
+        Adds [] writes.items (effect_in graph.now.manifest cells.now.state event.now)) }
 {
     match event {
         Event::Plan(targets) => plan_effect(alloc, graph, cells, targets.as_slice()),
@@ -264,7 +280,8 @@ pub fn effect(
 ) -> Result<Vec<(Cell, Value)>, AllocError>
     requires { refusal graph.now.manifest cells.now.jobs cells.now.state event.now ≡ None }
     // Each value is of the kind that its cell holds, so that it is known also where the cell goes back to its default.
-    ensures writes { IfOk result (λ writes. stored writes.items ≡ effect_in graph.now.manifest cells.now.state event.now) }
+    ensures writes { IfOk result (λ writes. stored writes.items
+        ≡ effect_in graph.now.manifest cells.now.state event.now) }
     ensures fit { IfOk result (λ writes. AllFit writes.items) }
 {
     writes(alloc, graph, cells, event)

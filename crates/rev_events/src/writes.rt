@@ -70,7 +70,8 @@ pub(crate) fn push_freed(
     edge: u32,
 ) -> Result<(), AllocError>
     requires { edge < length graph.now.manifest.builds }
-    ensures { OnOk result (Adds writes.old.items writes.new.items (free_held (pool_of graph.now.manifest edge) (mark_of cells.now.state edge))) }
+    ensures { OnOk result (Adds writes.old.items writes.new.items
+        (free_held (pool_of graph.now.manifest edge) (mark_of cells.now.state edge))) }
 {
     match running(cells, edge) {
         Some(run) => {
@@ -135,7 +136,9 @@ pub(crate) fn changed_flags(
     stamps: &[u64],
 ) -> Result<Vec<bool>, AllocError>
     requires { edge < length graph.now.manifest.builds }
-    ensures { IfOk result (λ flags. flags.items ≡ changes (build_at graph.now.manifest.builds edge).restat (map (stamp_of cells.now.state) outputs.now) stamps.now) }
+    ensures { IfOk result (λ flags. flags.items
+        ≡ changes (build_at graph.now.manifest.builds edge).restat
+        (map (stamp_of cells.now.state) outputs.now) stamps.now) }
 {
     let restat = graph.restat(edge);
     let mut flags = Vec::new(alloc);
@@ -206,7 +209,9 @@ fn built_at(
     stamps: &[u64],
     place: usize,
 ) -> Result<BuiltRecord, AllocError>
-    ensures { IfOk result (λ built. value.Built (Some built) ≡ built_with command.now seen (first_of true (drop place flags.now)) (first_of 0 (drop place stamps.now))) }
+    ensures { IfOk result (λ built. value.Built (Some built)
+        ≡ built_with command.now seen (first_of true (drop place flags.now))
+        (first_of 0 (drop place stamps.now))) }
 {
     let command = Text::new(Vec::from_slice(alloc, command)?);
     if flag_at(flags, place) {
@@ -234,7 +239,9 @@ pub(crate) fn push_built(
     stamps: &[u64],
 ) -> Result<(), AllocError>
     requires { edge < length graph.now.manifest.builds }
-    ensures { OnOk result (Adds writes.old.items writes.new.items (write_built (build_at graph.now.manifest.builds edge).command (seen_by (mark_of cells.now.state edge)) outputs.now flags.now stamps.now)) }
+    ensures { OnOk result (Adds writes.old.items writes.new.items
+        (write_built (build_at graph.now.manifest.builds edge).command
+        (seen_by (mark_of cells.now.state edge)) outputs.now flags.now stamps.now)) }
 {
     let seen = seen(cells, edge);
     let command = graph.command(edge);
@@ -300,7 +307,8 @@ pub(crate) fn push_deps(
     requires edge { edge < length graph.now.manifest.builds }
     requires outputs { outputs.now ≡ outputs_of (build_at graph.now.manifest.builds edge) }
     requires listing { HasNoFault outputs.now listing.now }
-    ensures { OnOk result (Adds writes.old.items writes.new.items (write_deps (build_at graph.now.manifest.builds edge) stamps.now listing.now)) }
+    ensures { OnOk result (Adds writes.old.items writes.new.items
+        (write_deps (build_at graph.now.manifest.builds edge) stamps.now listing.now)) }
 {
     if !graph.keeps_deps(edge) {
         return Ok(());
@@ -319,7 +327,8 @@ pub(crate) fn push_deps(
 /// Adds a mark for each edge.
 pub(crate) fn push_marks(writes: &mut Writes, marks: &[Mark]) -> Result<(), AllocError>
     requires { length marks.now < 2 ^ 32 }
-    ensures { OnOk result (Adds writes.old.items writes.new.items (write_marks (range_with_len 0 (length marks.now)) marks.now)) }
+    ensures { OnOk result (Adds writes.old.items writes.new.items
+        (write_marks (range_with_len 0 (length marks.now)) marks.now)) }
 {
     for (edge, mark) in marks.iter().enumerate() {
         push_write(writes, Cell::Mark(edge as u32), Value::Mark(mark.copy()?))?;

@@ -21,7 +21,8 @@ next_edges builds edge = phony_producers builds (line_inputs (build_at builds ed
 -- An edge is behind edges where it is one of them, or comes next of one that is behind them.
 pub data IsBehind (builds : List BuildValue) (edges : List ℕ) : ℕ → Type 0 where
   itself : {edge : ℕ} → Has edges edge → IsBehind builds edges edge
-  further : {edge other : ℕ} → IsBehind builds edges edge → Has (next_edges builds edge) other → IsBehind builds edges other
+  further : {edge other : ℕ} → IsBehind builds edges edge → Has (next_edges builds edge) other
+      → IsBehind builds edges other
 
 abbrev pub ArePhony : List BuildValue → List ℕ → Type 0
 ArePhony builds edges = (edge : ℕ) → Has edges edge → IsPhonyEdge builds edge

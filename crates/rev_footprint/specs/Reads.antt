@@ -15,8 +15,9 @@ module _ (manifest : ManifestValue) where
   abbrev build_of : ℕ → BuildValue
   build_of edge = build_at manifest.builds edge
 
-  -- whether the build is halted, and what the reasons of the edge depend on: the marks of the producers of its inputs, the
-  -- stamps that are seen of them, the stamps and built records of its outputs, and its deps record where it keeps one
+  -- whether the build is halted, and what the reasons of the edge depend on: the marks of the producers of its inputs,
+  -- the stamps that are seen of them, the stamps and built records of its outputs, and its deps record where it keeps
+  -- one
   unfoldable pub start_reads : ℕ → State → List Cell
   start_reads edge state = joined ((cell.Halted ∷ []) ∷ reason_cells manifest.builds state edge)
 
@@ -24,9 +25,12 @@ module _ (manifest : ManifestValue) where
   unfoldable pub clean_reads : ℕ → State → List Cell
   clean_reads edge state = joined (reason_cells manifest.builds state edge)
 
-  -- no visible stamp: the marks of the producers of its inputs, the stamps of its outputs, its deps record where it keeps one
+  -- no visible stamp: the marks of the producers of its inputs, the stamps of its outputs, its deps record where it
+  -- keeps one
   unfoldable pub pass_reads : ℕ → State → List Cell
-  pass_reads edge state = joined (producer_marks manifest.builds (inputs state (build_of edge)) ∷ stamp_cells (outputs_of (build_of edge)) ∷ deps_cells (build_of edge) ∷ [])
+  pass_reads edge state =
+      joined (producer_marks manifest.builds (inputs state (build_of edge)) ∷ stamp_cells (outputs_of (build_of edge))
+      ∷ deps_cells (build_of edge) ∷ [])
 
   -- the cells that an event reads besides those that it writes; a plan reads every cell, and names none
   unfoldable pub reads_besides : State → Event → List Cell

@@ -6,8 +6,8 @@ use Rattle.rev_cells.specs.declared.cell.Cell.{Cell}
 use Rattle.rev_cells.specs.Keys.{cell_cmp, coded_cell}
 use Rattle.rev_causal.specs.Store.{Footprint, Footprint.Whole, Footprint.Cells}
 
--- The cells that are read, those that are written among them; the written ones, in the order of the effect; and whether the
--- event is whole: it reads every cell, and `reads` names those alone that it writes.
+-- The cells that are read, those that are written among them; the written ones, in the order of the effect; and whether
+-- the event is whole: it reads every cell, and `reads` names those alone that it writes.
 pub record FootprintValue : Type 0 where
   pub reads : cells.FinSet cell_cmp
   pub writes : List Cell
@@ -15,7 +15,8 @@ pub record FootprintValue : Type 0 where
 
 abbrev pub footprint_code : Coded FootprintValue
 footprint_code =
-    code_by (cells.FinSet cell_cmp × (List Cell × Bool)) (coded× (cells.code coded_cell) (coded× (coded_list coded_cell) coded_bool))
+    code_by (cells.FinSet cell_cmp × (List Cell × Bool))
+    (coded× (cells.code coded_cell) (coded× (coded_list coded_cell) coded_bool))
     (λ f. (f.reads, (f.writes, f.whole))) (λ p. record { reads = p.0; writes = p.1.0; whole = p.1.1 }) (λ _. refl)
 
 -- the same for the theory of undo

@@ -12,7 +12,8 @@ use std::alloc::AllocError;
 
 // The edge that produces a path, where it is phony.
 fn phony_producer(graph: &Graph, path: &Name) -> Option<u32>
-    ensures { result ≡ phony_only graph.now.manifest.builds (producer_of graph.now.manifest.builds path.now) }
+    ensures { result ≡ phony_only graph.now.manifest.builds
+        (producer_of graph.now.manifest.builds path.now) }
 {
     match graph.producer(path) {
         Some(edge) => {
@@ -45,7 +46,8 @@ pub(crate) fn add_phony(
     edges: &mut IndexSet<u32>,
     paths: &[Name],
 ) -> Result<(), AllocError>
-    ensures { OnOk result (Grows edges.old.keys edges.new.keys (phony_producers graph.now.manifest.builds paths.now)) }
+    ensures { OnOk result (Grows edges.old.keys edges.new.keys
+        (phony_producers graph.now.manifest.builds paths.now)) }
 {
     for path in paths {
         add_edge(edges, phony_producer(graph, path))?;
@@ -56,7 +58,8 @@ pub(crate) fn add_phony(
 // Adds the phony edges that come next of one.
 fn add_next(graph: &Graph, edges: &mut IndexSet<u32>, edge: u32) -> Result<(), AllocError>
     requires { edge < length graph.now.manifest.builds }
-    ensures { OnOk result (Grows edges.old.keys edges.new.keys (next_edges graph.now.manifest.builds edge)) }
+    ensures { OnOk result (Grows edges.old.keys edges.new.keys
+        (next_edges graph.now.manifest.builds edge)) }
 {
     let inputs = graph.inputs(edge);
     add_phony(graph, edges, inputs.explicit)?;

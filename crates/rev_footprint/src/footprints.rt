@@ -37,7 +37,12 @@ impl Footprint {
     // The footprint of an event that writes these cells, and reads these, in which the written ones are.
     pub(crate) fn of(reads: IndexSet<Cell>, writes: Vec<Cell>, whole: bool) -> Footprint
         requires { (c : Cell) → among cell_cmp writes.items c ≡ true → among cell_cmp reads.keys c ≡ true }
-        ensures { result ≡ record { reads = cells.from_list reads.keys; writes = writes.items; whole = whole } }
+        ensures { result ≡ record {
+          reads = cells.from_list reads.keys;
+          writes = writes.items;
+          whole =
+              whole;
+        } }
     {
         Footprint {
             reads,
@@ -46,7 +51,8 @@ impl Footprint {
         }
     }
 
-    /// The cells that are read, each once, the written ones first; of a whole event, which reads every cell, those alone.
+    /// The cells that are read, each once, the written ones first; of a whole event, which reads every cell, those
+    /// alone.
     pub fn reads(&self) -> &[Cell]
         ensures same { cells.from_list result.now ≡ self.now.reads }
         ensures distinct { IsDistinct (eq_by_cmp cell_cmp) result.now }

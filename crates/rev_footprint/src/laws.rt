@@ -1,4 +1,5 @@
-//! Laws of builds: what an event asks and does depends on the cells of its footprint alone, and so the laws of undo hold.
+//! Laws of builds: what an event asks and does depends on the cells of its footprint alone, and so the laws of undo
+//! hold.
 ghost use Rattle.rev_footprint.specs.Laws.{EqualConflict, EventsAreLocal, MachineIsLocal, RefusalsAreLocal, RunsAreCausal, RunsHoldExactly};
 
 /// Where a state agrees with the event's on what the event reads and writes, it accepts the event too, which then has
@@ -28,7 +29,8 @@ pub fn equal_conflict()
     ensures { EqualConflict }
 {}
 
-/// Wherever legal events lead from an opening, the jobs and slots that are held are exactly those of the edges that run.
+/// Wherever legal events lead from an opening, the jobs and slots that are held are exactly those of the edges that
+/// run.
 pub fn runs_hold_exactly()
     ensures { RunsHoldExactly }
 {}

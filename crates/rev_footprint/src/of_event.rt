@@ -23,7 +23,8 @@ use std::alloc::{AllocError, Global};
 // Adds the stamps of an edge's outputs.
 fn add_output_stamps(graph: &Graph, reads: &mut IndexSet<Cell>, edge: u32) -> Result<(), AllocError>
     requires { edge < length graph.now.manifest.builds }
-    ensures { OnOk result (Adds reads.old.keys reads.new.keys (stamp_cells (outputs_of (build_at graph.now.manifest.builds edge)))) }
+    ensures { OnOk result (Adds reads.old.keys reads.new.keys
+        (stamp_cells (outputs_of (build_at graph.now.manifest.builds edge)))) }
 {
     let outputs = graph.outputs(edge);
     add_stamps(reads, outputs.explicit)?;
@@ -38,7 +39,8 @@ fn add_output_records(
     edge: u32,
 ) -> Result<(), AllocError>
     requires { edge < length graph.now.manifest.builds }
-    ensures { OnOk result (Adds reads.old.keys reads.new.keys (built_cells (outputs_of (build_at graph.now.manifest.builds edge)))) }
+    ensures { OnOk result (Adds reads.old.keys reads.new.keys
+        (built_cells (outputs_of (build_at graph.now.manifest.builds edge)))) }
 {
     let outputs = graph.outputs(edge);
     add_built(reads, outputs.explicit)?;
@@ -49,7 +51,8 @@ fn add_output_records(
 // Adds the deps record of an edge that keeps one.
 fn add_deps(graph: &Graph, reads: &mut IndexSet<Cell>, edge: u32) -> Result<(), AllocError>
     requires { edge < length graph.now.manifest.builds }
-    ensures { OnOk result (Adds reads.old.keys reads.new.keys (deps_cells (build_at graph.now.manifest.builds edge))) }
+    ensures { OnOk result (Adds reads.old.keys reads.new.keys
+        (deps_cells (build_at graph.now.manifest.builds edge))) }
 {
     match deps_cell(graph, edge)? {
         Some(cell) => {
@@ -69,7 +72,8 @@ fn add_reason_cells(
     edge: u32,
 ) -> Result<(), AllocError>
     requires { edge < length graph.now.manifest.builds }
-    ensures { OnOk result (Adds reads.old.keys reads.new.keys (clean_reads graph.now.manifest edge cells.now.state)) }
+    ensures { OnOk result (Adds reads.old.keys reads.new.keys
+        (clean_reads graph.now.manifest edge cells.now.state)) }
 {
     let listed = listed_inputs(graph, cells, edge)?;
     add_producer_marks(graph, cells, reads, edge, listed)?;
@@ -89,7 +93,8 @@ fn add_start_cells(
     edge: u32,
 ) -> Result<(), AllocError>
     requires { edge < length graph.now.manifest.builds }
-    ensures { OnOk result (Adds reads.old.keys reads.new.keys (start_reads graph.now.manifest edge cells.now.state)) }
+    ensures { OnOk result (Adds reads.old.keys reads.new.keys
+        (start_reads graph.now.manifest edge cells.now.state)) }
 {
     add(reads, Cell::Halted)?;
     add_reason_cells(alloc, graph, cells, reads, edge)?;
@@ -104,7 +109,8 @@ fn add_pass_cells(
     edge: u32,
 ) -> Result<(), AllocError>
     requires { edge < length graph.now.manifest.builds }
-    ensures { OnOk result (Adds reads.old.keys reads.new.keys (pass_reads graph.now.manifest edge cells.now.state)) }
+    ensures { OnOk result (Adds reads.old.keys reads.new.keys
+        (pass_reads graph.now.manifest edge cells.now.state)) }
 {
     let listed = listed_inputs(graph, cells, edge)?;
     add_producer_marks(graph, cells, reads, edge, listed)?;
@@ -121,7 +127,9 @@ fn of_start(
     reads: &mut IndexSet<Cell>,
     out: &Name,
 ) -> Result<(), AllocError>
-    ensures { OnOk result (Adds reads.old.keys reads.new.keys (of_edge [] (λ edge. start_reads graph.now.manifest edge cells.now.state) (edge_of graph.now.manifest out.now))) }
+    ensures { OnOk result (Adds reads.old.keys reads.new.keys
+        (of_edge [] (λ edge. start_reads graph.now.manifest edge cells.now.state)
+        (edge_of graph.now.manifest out.now))) }
 {
     match graph.producer(out) {
         Some(edge) => {
@@ -140,7 +148,9 @@ fn of_clean(
     reads: &mut IndexSet<Cell>,
     out: &Name,
 ) -> Result<(), AllocError>
-    ensures { OnOk result (Adds reads.old.keys reads.new.keys (of_edge [] (λ edge. clean_reads graph.now.manifest edge cells.now.state) (edge_of graph.now.manifest out.now))) }
+    ensures { OnOk result (Adds reads.old.keys reads.new.keys
+        (of_edge [] (λ edge. clean_reads graph.now.manifest edge cells.now.state)
+        (edge_of graph.now.manifest out.now))) }
 {
     match graph.producer(out) {
         Some(edge) => {
@@ -158,7 +168,9 @@ fn of_pass(
     reads: &mut IndexSet<Cell>,
     out: &Name,
 ) -> Result<(), AllocError>
-    ensures { OnOk result (Adds reads.old.keys reads.new.keys (of_edge [] (λ edge. pass_reads graph.now.manifest edge cells.now.state) (edge_of graph.now.manifest out.now))) }
+    ensures { OnOk result (Adds reads.old.keys reads.new.keys
+        (of_edge [] (λ edge. pass_reads graph.now.manifest edge cells.now.state)
+        (edge_of graph.now.manifest out.now))) }
 {
     match graph.producer(out) {
         Some(edge) => {
@@ -177,7 +189,8 @@ fn add_besides(
     reads: &mut IndexSet<Cell>,
     event: &Event,
 ) -> Result<(), AllocError>
-    ensures { OnOk result (Adds reads.old.keys reads.new.keys (reads_besides graph.now.manifest cells.now.state event.now)) }
+    ensures { OnOk result (Adds reads.old.keys reads.new.keys
+        (reads_besides graph.now.manifest cells.now.state event.now)) }
 {
     match event {
         Event::Start {
@@ -210,13 +223,13 @@ fn is_plan(event: &Event) -> bool
     }
 }
 
-/// The footprint of an event in a state: exactly the cells that an accepted event of its kind reads and writes there. A plan is
-/// whole.
+/// The footprint of an event in a state: exactly the cells that an accepted event of its kind reads and writes there. A
+/// plan is whole.
 ///
-/// A start or a clean reads the marks of the producers of the edge's inputs, the stamps and built records of its outputs, its
-/// deps record where it keeps one, and the stamps that are seen of its inputs that are not order-only, through phony edges
-/// whatever the stamps are; a start whether the build is halted, too. A pass reads no visible stamp. An abort reads whether the
-/// build is halted.
+/// A start or a clean reads the marks of the producers of the edge's inputs, the stamps and built records of its
+/// outputs, its deps record where it keeps one, and the stamps that are seen of its inputs that are not order-only,
+/// through phony edges whatever the stamps are; a start whether the build is halted, too. A pass reads no visible
+/// stamp. An abort reads whether the build is halted.
 ///
 /// It takes time linear in the cells and in what the phony edges behind the inputs have, up to hashing.
 ///
@@ -228,7 +241,8 @@ pub fn footprint(
     cells: &Cells,
     event: &Event,
 ) -> Result<Footprint, AllocError>
-    ensures { IfOk result (λ footprint. footprint ≡ footprint_of graph.now.manifest cells.now.state event.now) }
+    ensures { IfOk result (λ footprint. footprint
+        ≡ footprint_of graph.now.manifest cells.now.state event.now) }
 {
     let writes = written(alloc, graph, cells, event)?;
     let mut reads = IndexSet::new(alloc);

@@ -69,7 +69,8 @@ fn add_mark(reads: &mut IndexSet<Cell>, edge: Option<u32>) -> Result<(), AllocEr
 
 // Adds the marks of the edges that produce some of the paths.
 fn add_marks(graph: &Graph, reads: &mut IndexSet<Cell>, paths: &[Name]) -> Result<(), AllocError>
-    ensures { OnOk result (Adds reads.old.keys reads.new.keys (map Mark (producers_in graph.now.manifest.builds paths.now))) }
+    ensures { OnOk result (Adds reads.old.keys reads.new.keys
+        (map Mark (producers_in graph.now.manifest.builds paths.now))) }
 {
     for path in paths {
         add_mark(reads, graph.producer(path))?;
@@ -86,8 +87,11 @@ pub(crate) fn add_producer_marks(
     listed: &[Name],
 ) -> Result<(), AllocError>
     requires edge { edge < length graph.now.manifest.builds }
-    requires listed { listed.now ≡ paths_in (deps_record cells.now.state (build_at graph.now.manifest.builds edge)) }
-    ensures { OnOk result (Adds reads.old.keys reads.new.keys (producer_marks graph.now.manifest.builds (inputs cells.now.state (build_at graph.now.manifest.builds edge)))) }
+    requires listed { listed.now ≡ paths_in
+        (deps_record cells.now.state (build_at graph.now.manifest.builds edge)) }
+    ensures { OnOk result (Adds reads.old.keys reads.new.keys
+        (producer_marks graph.now.manifest.builds
+        (inputs cells.now.state (build_at graph.now.manifest.builds edge)))) }
 {
     let on_line = graph.inputs(edge);
     add_marks(graph, reads, on_line.explicit)?;
@@ -104,7 +108,8 @@ fn add_stamps_behind(
     edges: &[u32],
 ) -> Result<(), AllocError>
     requires { ArePhony graph.now.manifest.builds edges.now }
-    ensures { OnOk result (Adds reads.old.keys reads.new.keys (stamps_behind graph.now.manifest.builds edges.now)) }
+    ensures { OnOk result (Adds reads.old.keys reads.new.keys
+        (stamps_behind graph.now.manifest.builds edges.now)) }
 {
     for edge in edges {
         let inputs = graph.inputs(*edge);
@@ -122,7 +127,10 @@ fn edges_behind(
     listed: &[Name],
 ) -> Result<IndexSet<u32>, AllocError>
     requires { edge < length graph.now.manifest.builds }
-    ensures behind { IfOk result (λ edges. AreBehind graph.now.manifest.builds (phony_producers graph.now.manifest.builds (line_inputs (build_at graph.now.manifest.builds edge) ++ listed.now)) edges.keys) }
+    ensures behind { IfOk result (λ edges.
+        AreBehind graph.now.manifest.builds
+        (phony_producers graph.now.manifest.builds
+        (line_inputs (build_at graph.now.manifest.builds edge) ++ listed.now)) edges.keys) }
     ensures phony { IfOk result (λ edges. ArePhony graph.now.manifest.builds edges.keys) }
 {
     let on_line = graph.inputs(edge);
@@ -142,7 +150,8 @@ fn add_input_stamps(
     listed: &[Name],
 ) -> Result<(), AllocError>
     requires { edge < length graph.now.manifest.builds }
-    ensures { OnOk result (Adds reads.old.keys reads.new.keys (stamp_cells (line_inputs (build_at graph.now.manifest.builds edge) ++ listed.now))) }
+    ensures { OnOk result (Adds reads.old.keys reads.new.keys
+        (stamp_cells (line_inputs (build_at graph.now.manifest.builds edge) ++ listed.now))) }
 {
     let on_line = graph.inputs(edge);
     add_stamps(reads, on_line.explicit)?;
@@ -151,8 +160,8 @@ fn add_input_stamps(
     Ok(())
 }
 
-/// Adds the stamps that are seen of an edge's inputs that count, of which its deps record lists some: their own, and those
-/// of what stands behind them, through phony edges, whatever the stamps are.
+/// Adds the stamps that are seen of an edge's inputs that count, of which its deps record lists some: their own, and
+/// those of what stands behind them, through phony edges, whatever the stamps are.
 pub(crate) fn add_seen_stamps(
     alloc: Global,
     graph: &Graph,
@@ -162,8 +171,11 @@ pub(crate) fn add_seen_stamps(
     listed: &[Name],
 ) -> Result<(), AllocError>
     requires edge { edge < length graph.now.manifest.builds }
-    requires listed { listed.now ≡ paths_in (deps_record cells.now.state (build_at graph.now.manifest.builds edge)) }
-    ensures { OnOk result (Adds reads.old.keys reads.new.keys (seen_stamps graph.now.manifest.builds (inputs cells.now.state (build_at graph.now.manifest.builds edge)))) }
+    requires listed { listed.now ≡ paths_in
+        (deps_record cells.now.state (build_at graph.now.manifest.builds edge)) }
+    ensures { OnOk result (Adds reads.old.keys reads.new.keys
+        (seen_stamps graph.now.manifest.builds
+        (inputs cells.now.state (build_at graph.now.manifest.builds edge)))) }
 {
     // What it promises of every graph, that no edge reaches itself, is what the stamps behind phony edges rest on.
     let _edges = graph.edges();

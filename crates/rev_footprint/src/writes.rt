@@ -72,7 +72,9 @@ fn push_held(
     edge: u32,
 ) -> Result<(), AllocError>
     requires { edge < length graph.now.manifest.builds }
-    ensures { OnOk result (writes.new.items ≡ writes.old.items ++ held_cells (pool_of graph.now.manifest edge) (mark_of cells.now.state edge)) }
+    ensures { OnOk result (writes.new.items
+        ≡ writes.old.items
+        ++ held_cells (pool_of graph.now.manifest edge) (mark_of cells.now.state edge)) }
 {
     push_run(writes, graph.pool(edge), running(cells, edge))?;
     Ok(())
@@ -101,7 +103,9 @@ fn push_built(writes: &mut Vec<Cell>, paths: &[Name]) -> Result<(), AllocError>
 // Adds the stamps of an edge's outputs.
 fn push_output_stamps(writes: &mut Vec<Cell>, graph: &Graph, edge: u32) -> Result<(), AllocError>
     requires { edge < length graph.now.manifest.builds }
-    ensures { OnOk result (writes.new.items ≡ writes.old.items ++ stamp_cells (outputs_of (build_at graph.now.manifest.builds edge))) }
+    ensures { OnOk result (writes.new.items
+        ≡ writes.old.items
+        ++ stamp_cells (outputs_of (build_at graph.now.manifest.builds edge))) }
 {
     let outputs = graph.outputs(edge);
     push_stamps(writes, outputs.explicit)?;
@@ -112,7 +116,9 @@ fn push_output_stamps(writes: &mut Vec<Cell>, graph: &Graph, edge: u32) -> Resul
 // Adds the built records of an edge's outputs.
 fn push_output_records(writes: &mut Vec<Cell>, graph: &Graph, edge: u32) -> Result<(), AllocError>
     requires { edge < length graph.now.manifest.builds }
-    ensures { OnOk result (writes.new.items ≡ writes.old.items ++ built_cells (outputs_of (build_at graph.now.manifest.builds edge))) }
+    ensures { OnOk result (writes.new.items
+        ≡ writes.old.items
+        ++ built_cells (outputs_of (build_at graph.now.manifest.builds edge))) }
 {
     let outputs = graph.outputs(edge);
     push_built(writes, outputs.explicit)?;
@@ -123,7 +129,8 @@ fn push_output_records(writes: &mut Vec<Cell>, graph: &Graph, edge: u32) -> Resu
 /// The deps record of an edge that keeps one: that of its first output.
 pub(crate) fn deps_cell(graph: &Graph, edge: u32) -> Result<Option<Cell>, AllocError>
     requires { edge < length graph.now.manifest.builds }
-    ensures { IfOk result (λ cell. option_to_list cell ≡ deps_cells (build_at graph.now.manifest.builds edge)) }
+    ensures { IfOk result (λ cell. option_to_list cell
+        ≡ deps_cells (build_at graph.now.manifest.builds edge)) }
 {
     if !graph.keeps_deps(edge) {
         return Ok(None);
@@ -160,7 +167,8 @@ fn start_writes(
     slot: Option<u32>,
 ) -> Result<Vec<Cell>, AllocError>
     requires { edge < length graph.now.manifest.builds }
-    ensures { IfOk result (λ writes. (state : State) → writes.items ≡ start_writes_of graph.now.manifest edge job slot state) }
+    ensures { IfOk result (λ writes. (state : State)
+        → writes.items ≡ start_writes_of graph.now.manifest edge job slot state) }
 {
     let mut writes = Vec::new(alloc);
     writes.push(Cell::Mark(edge))?;
@@ -194,7 +202,8 @@ fn finish_writes(
     edge: u32,
 ) -> Result<Vec<Cell>, AllocError>
     requires { edge < length graph.now.manifest.builds }
-    ensures { IfOk result (λ writes. writes.items ≡ finish_writes_of graph.now.manifest edge cells.now.state) }
+    ensures { IfOk result (λ writes. writes.items
+        ≡ finish_writes_of graph.now.manifest edge cells.now.state) }
 {
     let mut writes = Vec::new(alloc);
     writes.push(Cell::Mark(edge))?;
@@ -217,7 +226,8 @@ fn one(alloc: Global, cell: Cell) -> Result<Vec<Cell>, AllocError>
 // The cells that a clean or a pass writes.
 fn mark_writes(alloc: Global, graph: &Graph, edge: u32) -> Result<Vec<Cell>, AllocError>
     requires { edge < length graph.now.manifest.builds }
-    ensures { IfOk result (λ writes. (state : State) → writes.items ≡ mark_writes_of graph.now.manifest edge state) }
+    ensures { IfOk result (λ writes. (state : State)
+        → writes.items ≡ mark_writes_of graph.now.manifest edge state) }
 {
     let writes = one(alloc, Cell::Mark(edge))?;
     Ok(writes)
@@ -225,7 +235,8 @@ fn mark_writes(alloc: Global, graph: &Graph, edge: u32) -> Result<Vec<Cell>, All
 
 // The marks of all edges, and whether the build is halted.
 fn plan_writes(alloc: Global, graph: &Graph) -> Result<Vec<Cell>, AllocError>
-    ensures { IfOk result (λ writes. writes.items ≡ map MarkCell (edge_numbers graph.now.manifest.builds) ++ Halted ∷ []) }
+    ensures { IfOk result (λ writes. writes.items
+        ≡ map MarkCell (edge_numbers graph.now.manifest.builds) ++ Halted ∷ []) }
 {
     let mut writes = Vec::new(alloc);
     for edge in 0..graph.edges() {
@@ -243,7 +254,10 @@ fn of_start(
     job: u32,
     slot: Option<u32>,
 ) -> Result<Vec<Cell>, AllocError>
-    ensures { IfOk result (λ writes. (state : State) → writes.items ≡ of_edge [] (λ edge. start_writes_of graph.now.manifest edge job slot state) (edge_of graph.now.manifest out.now)) }
+    ensures { IfOk result (λ writes. (state : State)
+        → writes.items ≡ of_edge []
+        (λ edge. start_writes_of graph.now.manifest edge job slot state)
+        (edge_of graph.now.manifest out.now)) }
 {
     match graph.producer(out) {
         Some(edge) => start_writes(alloc, graph, edge, job, slot),
@@ -258,7 +272,9 @@ fn of_finish(
     cells: &Cells,
     out: &Name,
 ) -> Result<Vec<Cell>, AllocError>
-    ensures { IfOk result (λ writes. writes.items ≡ of_edge [] (λ edge. finish_writes_of graph.now.manifest edge cells.now.state) (edge_of graph.now.manifest out.now)) }
+    ensures { IfOk result (λ writes. writes.items
+        ≡ of_edge [] (λ edge. finish_writes_of graph.now.manifest edge cells.now.state)
+        (edge_of graph.now.manifest out.now)) }
 {
     match graph.producer(out) {
         Some(edge) => finish_writes(alloc, graph, cells, edge),
@@ -268,7 +284,9 @@ fn of_finish(
 
 // The cells that an end without success of the edge writes which has the output.
 fn of_end(alloc: Global, graph: &Graph, cells: &Cells, out: &Name) -> Result<Vec<Cell>, AllocError>
-    ensures { IfOk result (λ writes. writes.items ≡ of_edge [] (λ edge. end_writes_of graph.now.manifest edge cells.now.state) (edge_of graph.now.manifest out.now)) }
+    ensures { IfOk result (λ writes. writes.items
+        ≡ of_edge [] (λ edge. end_writes_of graph.now.manifest edge cells.now.state)
+        (edge_of graph.now.manifest out.now)) }
 {
     match graph.producer(out) {
         Some(edge) => end_writes(alloc, graph, cells, edge),
@@ -278,7 +296,9 @@ fn of_end(alloc: Global, graph: &Graph, cells: &Cells, out: &Name) -> Result<Vec
 
 // The mark of the edge that has the output.
 fn of_mark(alloc: Global, graph: &Graph, out: &Name) -> Result<Vec<Cell>, AllocError>
-    ensures { IfOk result (λ writes. (state : State) → writes.items ≡ of_edge [] (λ edge. mark_writes_of graph.now.manifest edge state) (edge_of graph.now.manifest out.now)) }
+    ensures { IfOk result (λ writes. (state : State)
+        → writes.items ≡ of_edge [] (λ edge. mark_writes_of graph.now.manifest edge state)
+        (edge_of graph.now.manifest out.now)) }
 {
     match graph.producer(out) {
         Some(edge) => mark_writes(alloc, graph, edge),
@@ -300,7 +320,8 @@ pub(crate) fn written(
     cells: &Cells,
     event: &Event,
 ) -> Result<Vec<Cell>, AllocError>
-    ensures { IfOk result (λ writes. writes.items ≡ written_by graph.now.manifest cells.now.state event.now) }
+    ensures { IfOk result (λ writes. writes.items
+        ≡ written_by graph.now.manifest cells.now.state event.now) }
 {
     match event {
         Event::Plan(_) => plan_writes(alloc, graph),

@@ -1,4 +1,5 @@
--- `built PATH N COMMAND` for each record of the build log, then `deps PATH N PATH...` for each of the deps log, in byte order of the paths.
+-- `built PATH N COMMAND` for each record of the build log, then `deps PATH N PATH...` for each of the deps log, in byte
+-- order of the paths.
 use Rattle.std.specs.Prelude.{ℕ, List, [], ◌∷◌, codes, decimal, map, Option, Some, None}
 use Rattle.rev_cells.specs.declared.cell.Cell.{Cell}
 use Rattle.rev_cells.specs.declared.cell.Cell.TheVariants as cell

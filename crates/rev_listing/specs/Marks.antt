@@ -1,4 +1,5 @@
--- `mark E OUT WORD` for each edge that is not Idle, then `job J E` and `slot POOL S E` for what is held, in rising numbers, then `halted`.
+-- `mark E OUT WORD` for each edge that is not Idle, then `job J E` and `slot POOL S E` for what is held, in rising
+-- numbers, then `halted`.
 use Rattle.std.specs.Prelude.{ℕ, Bool, List, [], ◌∷◌, codes, decimal, Option, Some, None, if◌then◌else◌}
 use Rattle.std.specs.List.{slice_index_or}
 use Rattle.rev_cells.specs.declared.cell.Cell.{Cell}
@@ -49,7 +50,8 @@ abbrev pub halted_text : Bool → List ℕ
 halted_text halted = if halted then line (codes "halted" ∷ []) else []
 
 abbrev pub mark_text : List BuildValue → Cell → Value → List ℕ
-mark_text builds (cell.Mark edge) v = line (codes "mark" ∷ decimal edge ∷ output_field builds edge ∷ mark_fields (mark_in v))
+mark_text builds (cell.Mark edge) v =
+    line (codes "mark" ∷ decimal edge ∷ output_field builds edge ∷ mark_fields (mark_in v))
 mark_text builds (cell.Job job) v = job_text job (job_in v)
 mark_text builds (cell.Slot pool place) v = slot_text pool place (slot_in v)
 mark_text builds cell.Halted v = halted_text (halted_in v)

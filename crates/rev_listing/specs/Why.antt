@@ -18,7 +18,8 @@ output_at builds edge position = field_text (slice_index_or (outputs_of (build_a
 
 -- the path of an edge's input at a position, of all its inputs, those of the deps record among them
 abbrev pub input_at : List BuildValue → State → ℕ → ℕ → List ℕ
-input_at builds state edge position = field_text (slice_index_or (paths_of (inputs state (build_at builds edge))) position [])
+input_at builds state edge position =
+    field_text (slice_index_or (paths_of (inputs state (build_at builds edge))) position [])
 
 abbrev pub reason_fields : List BuildValue → State → ℕ → Reason → List (List ℕ)
 reason_fields builds state edge (reason.Missing o) = codes "missing" ∷ output_at builds edge o ∷ []
@@ -26,13 +27,15 @@ reason_fields builds state edge reason.NoDeps = codes "no-deps" ∷ []
 reason_fields builds state edge reason.DepsOld = codes "deps-old" ∷ []
 reason_fields builds state edge (reason.Rebuilt i) = codes "rebuilt" ∷ input_at builds state edge i ∷ []
 reason_fields builds state edge (reason.MissingDep i) = codes "missing-dep" ∷ input_at builds state edge i ∷ []
-reason_fields builds state edge (reason.Older o i) = codes "older" ∷ output_at builds edge o ∷ input_at builds state edge i ∷ []
+reason_fields builds state edge (reason.Older o i) =
+    codes "older" ∷ output_at builds edge o ∷ input_at builds state edge i ∷ []
 reason_fields builds state edge (reason.NoRecord o) = codes "no-record" ∷ output_at builds edge o ∷ []
 reason_fields builds state edge (reason.Command o) = codes "command" ∷ output_at builds edge o ∷ []
 
 -- `why OUT via IN` for a step by an input
 abbrev pub step_text : List BuildValue → State → ℕ × ℕ → List ℕ
-step_text builds state step = line (codes "why" ∷ output_field builds step.0 ∷ codes "via" ∷ input_at builds state step.0 step.1 ∷ [])
+step_text builds state step =
+    line (codes "why" ∷ output_field builds step.0 ∷ codes "via" ∷ input_at builds state step.0 step.1 ∷ [])
 
 -- `why OUT REASON`
 abbrev pub reason_text : List BuildValue → State → ℕ → Reason → List ℕ
@@ -44,7 +47,8 @@ reasons_text builds state edge [] = line (codes "why" ∷ output_field builds ed
 reasons_text builds state edge (r ∷ rs) = flat_map (reason_text builds state edge) (r ∷ rs)
 
 abbrev pub chain_text : List BuildValue → State → ChainValue → List ℕ
-chain_text builds state chain = flat_map (step_text builds state) chain.steps ++ reasons_text builds state chain.last chain.reasons
+chain_text builds state chain =
+    flat_map (step_text builds state) chain.steps ++ reasons_text builds state chain.last chain.reasons
 
 abbrev pub why_text : List BuildValue → State → ℕ → List ℕ
 why_text builds state edge = chain_text builds state (chain_of builds state edge)

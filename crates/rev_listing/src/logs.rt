@@ -38,7 +38,8 @@ fn push_built(
     path: &Name,
     built: Option<&BuiltRecord>,
 ) -> Result<(), AllocError>
-    ensures { OnOk result (text.new.items ≡ text.old.items ++ built_text path.now (option_copied built.entry)) }
+    ensures { OnOk result (text.new.items
+        ≡ text.old.items ++ built_text path.now (option_copied built.entry)) }
 {
     let Some(built) = built else {
         return Ok(());
@@ -59,7 +60,8 @@ fn push_paths(text: &mut Vec<u8>, paths: &[Name]) -> Result<(), AllocError>
 
 // Adds `deps PATH N PATH...`, if there is such a record.
 fn push_deps(text: &mut Vec<u8>, path: &Name, deps: Option<&DepsRecord>) -> Result<(), AllocError>
-    ensures { OnOk result (text.new.items ≡ text.old.items ++ deps_text path.now (option_copied deps.entry)) }
+    ensures { OnOk result (text.new.items
+        ≡ text.old.items ++ deps_text path.now (option_copied deps.entry)) }
 {
     let Some(deps) = deps else {
         return Ok(());
@@ -73,7 +75,8 @@ fn push_deps(text: &mut Vec<u8>, path: &Name, deps: Option<&DepsRecord>) -> Resu
 
 // Adds the line of a cell that is a record of a log.
 fn push_cell(text: &mut Vec<u8>, cells: &Cells, cell: &Cell) -> Result<(), AllocError>
-    ensures { OnOk result (text.new.items ≡ text.old.items ++ log_text cell.now (value_at cells.now.state cell.now)) }
+    ensures { OnOk result (text.new.items
+        ≡ text.old.items ++ log_text cell.now (value_at cells.now.state cell.now)) }
 {
     match cell {
         Cell::Built(path) => push_built(text, path, built_at(cells, cell)),
@@ -86,8 +89,8 @@ fn push_cell(text: &mut Vec<u8>, cells: &Cells, cell: &Cell) -> Result<(), Alloc
     }
 }
 
-/// A line `built PATH N COMMAND` for each record of the build log, then `deps PATH N PATH...` for each of the deps log, in byte order of
-/// the paths.
+/// A line `built PATH N COMMAND` for each record of the build log, then `deps PATH N PATH...` for each of the deps log,
+/// in byte order of the paths.
 pub fn logs_text(alloc: Global, cells: &Cells) -> Result<Vec<u8>, AllocError>
     ensures { IfOk result (λ text. text.items ≡ logs_text cells.now.state) }
 {

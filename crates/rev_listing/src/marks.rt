@@ -42,7 +42,8 @@ fn push_running(
     slot: Option<u32>,
     seen: u64,
 ) -> Result<(), AllocError>
-    ensures { OnOk result (text.new.items ≡ text.old.items ++ flat_map spaced (mark_fields (mark.Running job slot seen))) }
+    ensures { OnOk result (text.new.items
+        ≡ text.old.items ++ flat_map spaced (mark_fields (mark.Running job slot seen))) }
 {
     text.extend_from_slice(b" running")?;
     next_number(text, u64::from(job))?;
@@ -52,7 +53,8 @@ fn push_running(
 
 // Adds a mark of a command that is done.
 fn push_done(text: &mut Vec<u8>, changed: &[u64]) -> Result<(), AllocError>
-    ensures { OnOk result (text.new.items ≡ text.old.items ++ flat_map spaced (mark_fields (mark.Done changed.now))) }
+    ensures { OnOk result (text.new.items
+        ≡ text.old.items ++ flat_map spaced (mark_fields (mark.Done changed.now))) }
 {
     text.extend_from_slice(b" done")?;
     next_positions(text, changed)
@@ -76,7 +78,9 @@ fn push_mark(text: &mut Vec<u8>, mark: &Mark) -> Result<(), AllocError>
 
 // Adds the mark that a cell holds, Idle where it is of another kind.
 fn push_mark_at(text: &mut Vec<u8>, cells: &Cells, cell: &Cell) -> Result<(), AllocError>
-    ensures { OnOk result (text.new.items ≡ text.old.items ++ flat_map spaced (mark_fields (mark_in (value_at cells.now.state cell.now)))) }
+    ensures { OnOk result (text.new.items
+        ≡ text.old.items ++ flat_map spaced
+        (mark_fields (mark_in (value_at cells.now.state cell.now)))) }
 {
     match cells.get(cell) {
         Some(Value::Mark(mark)) => push_mark(text, mark),
@@ -92,7 +96,10 @@ fn push_edge(
     cell: &Cell,
     edge: u32,
 ) -> Result<(), AllocError>
-    ensures { OnOk result (text.new.items ≡ text.old.items ++ line (codes "mark" ∷ decimal edge ∷ output_field graph.now.manifest.builds edge ∷ mark_fields (mark_in (value_at cells.now.state cell.now)))) }
+    ensures { OnOk result (text.new.items
+        ≡ text.old.items ++ line
+        (codes "mark" ∷ decimal edge ∷ output_field graph.now.manifest.builds edge
+        ∷ mark_fields (mark_in (value_at cells.now.state cell.now)))) }
 {
     text.extend_from_slice(b"mark")?;
     next_number(text, u64::from(edge))?;
@@ -180,7 +187,9 @@ fn push_cell(
     cells: &Cells,
     cell: &Cell,
 ) -> Result<(), AllocError>
-    ensures { OnOk result (text.new.items ≡ text.old.items ++ mark_text graph.now.manifest.builds cell.now (value_at cells.now.state cell.now)) }
+    ensures { OnOk result (text.new.items
+        ≡ text.old.items ++ mark_text graph.now.manifest.builds cell.now
+        (value_at cells.now.state cell.now)) }
 {
     match cell {
         Cell::Mark(edge) => push_edge(text, graph, cells, cell, *edge),
@@ -193,8 +202,8 @@ fn push_cell(
     }
 }
 
-/// A line `mark E OUT WORD` for each edge that is not `Idle`, then `job J E` and `slot POOL S E` for what is held, in rising numbers, then
-/// `halted` where the build was interrupted.
+/// A line `mark E OUT WORD` for each edge that is not `Idle`, then `job J E` and `slot POOL S E` for what is held, in
+/// rising numbers, then `halted` where the build was interrupted.
 pub fn marks_text(alloc: Global, graph: &Graph, cells: &Cells) -> Result<Vec<u8>, AllocError>
     ensures { IfOk result (λ text. text.items ≡ marks_text graph.now.manifest.builds cells.now.state) }
 {

@@ -44,7 +44,8 @@ pub(crate) fn next_output(
     edge: u32,
     position: u64,
 ) -> Result<(), AllocError>
-    ensures { OnOk result (text.new.items ≡ text.old.items ++ spaced (output_at graph.now.manifest.builds edge position)) }
+    ensures { OnOk result (text.new.items
+        ≡ text.old.items ++ spaced (output_at graph.now.manifest.builds edge position)) }
 {
     if edge >= graph.edges() {
         return next_field(text, b"");
@@ -58,7 +59,8 @@ pub(crate) fn next_output(
 
 /// Adds a space and the first output of an edge.
 pub(crate) fn next_edge(text: &mut Vec<u8>, graph: &Graph, edge: u32) -> Result<(), AllocError>
-    ensures { OnOk result (text.new.items ≡ text.old.items ++ spaced (output_field graph.now.manifest.builds edge)) }
+    ensures { OnOk result (text.new.items
+        ≡ text.old.items ++ spaced (output_field graph.now.manifest.builds edge)) }
 {
     next_output(text, graph, edge, 0)
 }
@@ -71,7 +73,9 @@ pub(crate) fn next_input(
     edge: u32,
     position: u64,
 ) -> Result<(), AllocError>
-    ensures { OnOk result (text.new.items ≡ text.old.items ++ spaced (input_at graph.now.manifest.builds cells.now.state edge position)) }
+    ensures { OnOk result (text.new.items
+        ≡ text.old.items ++ spaced
+        (input_at graph.now.manifest.builds cells.now.state edge position)) }
 {
     if edge >= graph.edges() {
         return next_field(text, b"");

@@ -20,7 +20,9 @@ fn push_with_output(
     edge: u32,
     position: u64,
 ) -> Result<(), AllocError>
-    ensures { OnOk result (text.new.items ≡ text.old.items ++ word.now ++ spaced (output_at graph.now.manifest.builds edge position)) }
+    ensures { OnOk result (text.new.items
+        ≡ text.old.items ++ word.now
+        ++ spaced (output_at graph.now.manifest.builds edge position)) }
 {
     text.extend_from_slice(word)?;
     next_output(text, graph, edge, position)
@@ -35,7 +37,9 @@ fn push_with_input(
     edge: u32,
     position: u64,
 ) -> Result<(), AllocError>
-    ensures { OnOk result (text.new.items ≡ text.old.items ++ word.now ++ spaced (input_at graph.now.manifest.builds cells.now.state edge position)) }
+    ensures { OnOk result (text.new.items
+        ≡ text.old.items ++ word.now
+        ++ spaced (input_at graph.now.manifest.builds cells.now.state edge position)) }
 {
     text.extend_from_slice(word)?;
     next_input(text, graph, cells, edge, position)
@@ -49,7 +53,9 @@ fn push_reason(
     edge: u32,
     reason: Reason,
 ) -> Result<(), AllocError>
-    ensures { OnOk result (text.new.items ≡ text.old.items ++ flat_map spaced (reason_fields graph.now.manifest.builds cells.now.state edge reason)) }
+    ensures { OnOk result (text.new.items
+        ≡ text.old.items ++ flat_map spaced
+        (reason_fields graph.now.manifest.builds cells.now.state edge reason)) }
 {
     match reason {
         Reason::Missing(output) => push_with_output(text, b" missing", graph, edge, output),
@@ -76,7 +82,8 @@ fn push_reason_line(
     edge: u32,
     reason: Reason,
 ) -> Result<(), AllocError>
-    ensures { OnOk result (text.new.items ≡ text.old.items ++ reason_text graph.now.manifest.builds cells.now.state edge reason) }
+    ensures { OnOk result (text.new.items
+        ≡ text.old.items ++ reason_text graph.now.manifest.builds cells.now.state edge reason) }
 {
     text.extend_from_slice(b"why")?;
     next_edge(text, graph, edge)?;
@@ -92,7 +99,9 @@ fn push_reason_lines(
     edge: u32,
     reasons: &[Reason],
 ) -> Result<(), AllocError>
-    ensures { OnOk result (text.new.items ≡ text.old.items ++ flat_map (reason_text graph.now.manifest.builds cells.now.state edge) reasons.now) }
+    ensures { OnOk result (text.new.items
+        ≡ text.old.items ++ flat_map
+        (reason_text graph.now.manifest.builds cells.now.state edge) reasons.now) }
 {
     for reason in reasons {
         push_reason_line(text, graph, cells, edge, *reason)?;
@@ -108,7 +117,9 @@ fn push_reasons(
     edge: u32,
     reasons: &[Reason],
 ) -> Result<(), AllocError>
-    ensures { OnOk result (text.new.items ≡ text.old.items ++ reasons_text graph.now.manifest.builds cells.now.state edge reasons.now) }
+    ensures { OnOk result (text.new.items
+        ≡ text.old.items ++ reasons_text graph.now.manifest.builds cells.now.state edge
+        reasons.now) }
 {
     if reasons.is_empty() {
         text.extend_from_slice(b"why")?;
@@ -120,7 +131,8 @@ fn push_reasons(
 
 // Adds `why OUT`.
 fn push_why(text: &mut Vec<u8>, graph: &Graph, edge: u32) -> Result<(), AllocError>
-    ensures { OnOk result (text.new.items ≡ text.old.items ++ codes "why" ++ spaced (output_field graph.now.manifest.builds edge)) }
+    ensures { OnOk result (text.new.items
+        ≡ text.old.items ++ codes "why" ++ spaced (output_field graph.now.manifest.builds edge)) }
 {
     text.extend_from_slice(b"why")?;
     next_edge(text, graph, edge)
@@ -134,7 +146,9 @@ fn push_step(
     edge: u32,
     position: u64,
 ) -> Result<(), AllocError>
-    ensures { OnOk result (text.new.items ≡ text.old.items ++ step_text graph.now.manifest.builds cells.now.state (edge, position)) }
+    ensures { OnOk result (text.new.items
+        ≡ text.old.items ++ step_text graph.now.manifest.builds cells.now.state
+        (edge, position)) }
 {
     push_why(text, graph, edge)?;
     push_with_input(text, b" via", graph, cells, edge, position)?;
@@ -148,7 +162,9 @@ fn push_steps(
     cells: &Cells,
     steps: &[(u32, u64)],
 ) -> Result<(), AllocError>
-    ensures { OnOk result (text.new.items ≡ text.old.items ++ flat_map (step_text graph.now.manifest.builds cells.now.state) steps.now) }
+    ensures { OnOk result (text.new.items
+        ≡ text.old.items ++ flat_map (step_text graph.now.manifest.builds cells.now.state)
+        steps.now) }
 {
     for (edge, position) in steps {
         push_step(text, graph, cells, *edge, *position)?;
@@ -156,8 +172,8 @@ fn push_steps(
     Ok(())
 }
 
-/// The lines `why OUT via IN` of the way from an edge to one with reasons, and then `why OUT REASON` for each reason of that one, or
-/// `why OUT nothing`.
+/// The lines `why OUT via IN` of the way from an edge to one with reasons, and then `why OUT REASON` for each reason of
+/// that one, or `why OUT nothing`.
 pub fn why_text(
     alloc: Global,
     graph: &Graph,

@@ -36,7 +36,8 @@ fn stamp_at(cells: &Cells, cell: &Cell) -> u64
 
 // Adds the line of a cell that is a file's stamp.
 fn push_cell(text: &mut Vec<u8>, cells: &Cells, cell: &Cell) -> Result<(), AllocError>
-    ensures { OnOk result (text.new.items ≡ text.old.items ++ stamp_text cell.now (value_at cells.now.state cell.now)) }
+    ensures { OnOk result (text.new.items
+        ≡ text.old.items ++ stamp_text cell.now (value_at cells.now.state cell.now)) }
 {
     let Cell::Stamp(path) = cell else {
         return Ok(());

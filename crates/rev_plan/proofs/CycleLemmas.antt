@@ -12,37 +12,10 @@ use Rattle.rev_plan.specs.Laws.{CycleIsNamed}
 use Rattle.rev_plan.specs.Least.{Reached, Reached.target, Reached.needed, WayBy, WayBy.one_step, WayBy.then_on, IsLeast, IsCyclic}
 use Rattle.rev_plan.specs.Plan.{PlanRefusal, PlanRefusal.DepsCycle, input_paths, edges_by, edge_numbers, is_reached, is_on_cycle, deps_cycle}
 use Rattle.rev_ranks.proofs.LeadsLemmas.{leads-sound, leads-complete}
+use Rattle.rev_plan.proofs.Searches.{HoldsLeast, find-holds}
 use Rattle.rev_plan.proofs.LeastLemmas.{to-node, from-node, reached-sound, reached-complete, and-both, both-and}
 
--- WHAT A SEARCH FINDS
-record Found (p : ℕ → Bool) (a k : ℕ) : Type 0 where
-  passes : p k ≡ true
-  before : (j : ℕ) → a ≤ j → j < k → p j ≡ false
-
-found-by : (p : ℕ → Bool) (n a k : ℕ) → (find p (range_with_len (a + 1) n) ≡ Some k → Found p (a + 1) k) → (b : Bool) → p a ≡ b → cond b (Some a) (find p (range_with_len (a + 1) n)) ≡ Some k → Found p a k
-found-by p n a k rest true e h =
-    let same : a ≡ k = cc in
-    record { passes = ap p (sym same) ∙ e; before = λ j low high. absurd (omega arith) }
-found-by p n a k rest false e h =
-    let r = rest h in
-    record { passes = r.passes; before = λ j low high. elim (cases_eq a j) [ inl same ↦ ap p (sym same) ∙ e | inr other ↦ r.before j (omega arith) high ] }
-
-found : (p : ℕ → Bool) (n a k : ℕ) → find p (range_with_len a n) ≡ Some k → Found p a k
-found p zero a k h =
-    let no : None ≡ Some k = h in
-    cc
-found p (suc n) a k h = found-by p n a k (found p n (a + 1) k) (p a) refl h
-
-missed-by : (p : ℕ → Bool) (n a k : ℕ) → a ≤ k → k < a + suc n → (find p (range_with_len (a + 1) n) ≡ None → a < k → p k ≡ false) → (b : Bool) → p a ≡ b → cond b (Some a) (find p (range_with_len (a + 1) n)) ≡ None → p k ≡ false
-missed-by p n a k low high rest true e h =
-    let no : Some a ≡ None = h in
-    cc
-missed-by p n a k low high rest false e h = elim (cases_eq a k) [ inl same ↦ ap p (sym same) ∙ e | inr other ↦ rest h (omega arith) ]
-
-missed : (p : ℕ → Bool) (n a k : ℕ) → a ≤ k → k < a + n → find p (range_with_len a n) ≡ None → p k ≡ false
-missed p zero a k low high h = absurd (omega arith)
-missed p (suc n) a k low high h = missed-by p n a k low high (λ g less. missed p n (a + 1) k (omega arith) (omega arith) g) (p a) refl h
-
+-- WHAT IS NAMED
 mapped-some : {A : Type 0} (f : ℕ → A) (g : A → ℕ) → ((n : ℕ) → g (f n) ≡ n) → (o : Option ℕ) (k : ℕ) → option_map f o ≡ Some (f k) → o ≡ Some k
 mapped-some f g back None k h =
     let no : None ≡ Some (f k) = h in
@@ -89,21 +62,21 @@ module _ (builds : List BuildValue) (state : State) (targets : List (List ℕ)) 
       both-and (is_reached builds state (producers_in builds targets) edge) (is_on_cycle builds state edge) (reached-complete builds state targets c.0)
       (leads-complete Inputs (nat_eq edge) edge edge (node-way c.1) (eq-eqb edge edge refl))
 
-  reached-within : {edge : ℕ} → Reached builds state targets edge → edge < length builds
+  pub reached-within : {edge : ℕ} → Reached builds state targets edge → edge < length builds
   reached-within {edge} (target path h e) = producer_of-within path builds edge e
   reached-within {edge} (needed r s) = producer_of-within s.path builds edge s.produced
 
+  pub cyclic-holds : HoldsLeast (IsCyclic builds state targets) (find (λ edge. is_reached builds state (producers_in builds targets) edge && is_on_cycle builds state edge) (edge_numbers builds))
+  unfolding test
+  cyclic-holds =
+      find-holds test (length builds) (IsCyclic builds state targets) (λ k p. cyclic k p.passes) (λ k c. record { within = reached-within c.0; passes = is-cyclic k c })
+
   named : (edge : ℕ) → deps_cycle builds state (producers_in builds targets) ≡ Some (DepsCycle edge) → IsLeast (IsCyclic builds state targets) edge
-  unfolding edge_in test
-  named edge h =
-      let f = found test (length builds) 0 edge (mapped-some DepsCycle edge_in (λ n. refl) (find test (edge_numbers builds)) edge h) in
-      record { has = cyclic edge f.passes; least = λ k less c. true≢false (sym (is-cyclic k c) ∙ f.before k (omega arith) less) }
+  unfolding edge_in
+  named edge h = cyclic-holds.some edge (mapped-some DepsCycle edge_in (λ n. refl) _ edge h)
 
   none : deps_cycle builds state (producers_in builds targets) ≡ None → (edge : ℕ) → IsCyclic builds state targets edge → ⊥
-  unfolding test
-  none h edge c =
-      true≢false (sym (is-cyclic edge c)
-      ∙ missed test (length builds) 0 edge (omega arith) (omega (arith, reached-within c.0)) (mapped-none DepsCycle (find test (edge_numbers builds)) h))
+  none h = cyclic-holds.none (mapped-none DepsCycle _ h)
 
 pub cycle-is-named : CycleIsNamed
 cycle-is-named = record { named = named; none = none }

@@ -1,5 +1,9 @@
 pub mod LeastLemmas
+pub mod Searches
 pub mod CycleLemmas
 pub mod StepsLemmas
 pub mod PlanLemmas
 pub mod ChainLemmas
+pub mod RefusalLemmas
+pub mod OneChain
+pub mod PlannedLemmas

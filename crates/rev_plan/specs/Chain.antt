@@ -1,6 +1,6 @@
 -- The chain from an edge to the reasons behind it.
-use Rattle.std.specs.Prelude.{◌≡◌, ◌≢◌, ℕ, zero, suc, Bool, true, false, not, ◌&&◌, List, [], ◌∷◌, ◌++◌, map, length, Option, Some, None, slice_get, option_and_then, if◌then◌else◌}
-use Rattle.std.specs.List.{position}
+use Rattle.std.specs.Prelude.{◌≡◌, ◌≢◌, ℕ, ◌<◌, zero, suc, Bool, true, false, not, ◌&&◌, List, [], ◌∷◌, ◌++◌, map, length, Option, Some, None, slice_get, option_and_then, if◌then◌else◌}
+use Rattle.std.specs.List.{position, Contains}
 use Rattle.rev_manifest.specs.Manifest.{BuildValue}
 use Rattle.rev_graph.specs.Graph.{build_at, producer_of}
 use Rattle.rev_ranks.specs.Leads.{is_one_of}
@@ -11,12 +11,52 @@ use Rattle.rev_dirty.specs.declared.reason.Reason.{Reason}
 use Rattle.rev_dirty.specs.Inputs.{InputValue, inputs, counts}
 use Rattle.rev_dirty.specs.Reasons.{holds, reasons_of}
 
--- the steps of a chain, each an edge and the position of an input; the edge at which it ends, and what is told of it there
+-- the steps of a chain, each an edge and the position of an input; the edge at which it ends, and what is told of it
+-- there
 pub record ChainValue : Type 0 where
   pub steps : List (ℕ × ℕ)
   pub last : ℕ
   pub reasons : List Reason
 
+-- a chain with one step more before it
+abbrev pub step_before : ℕ × ℕ → ChainValue → ChainValue
+step_before step chain = record { steps = step ∷ chain.steps; last = chain.last; reasons = chain.reasons }
+
+abbrev pub ends_at : ℕ → List Reason → ChainValue
+ends_at edge reasons = record { steps = []; last = edge; reasons = reasons }
+
+-- A chain that has come to an edge can go on by its input at a position: the input is not order-only, and the edge that
+-- produces it is wanted and not yet in the chain.
+pub record CanGoBy (builds : List BuildValue) (state : State) (chain : List ℕ) (edge at next : ℕ) : Type 0 where
+  pub input : InputValue
+  pub stands_there : slice_get (inputs state (build_at builds edge)) at ≡ Some input
+  pub not_order_only : counts input.kind ≡ true
+  pub produced : producer_of builds input.path ≡ Some next
+  pub is_wanted : mark_of state next ≡ mark.Wanted
+  pub not_yet : Contains chain next → ⊥
+
+-- It goes on by the first of these inputs.
+pub record GoesBy (builds : List BuildValue) (state : State) (chain : List ℕ) (edge at next : ℕ) : Type 0 where
+  pub can : CanGoBy builds state chain edge at next
+  pub first : (earlier other : ℕ) → earlier < at → CanGoBy builds state chain edge earlier other → ⊥
+
+-- How a chain goes on at an edge, where those before it are in the chain already. At an edge that is not wanted it ends
+-- with no reasons. At one with reasons it ends with them. Else it steps by the first input, not order-only, whose
+-- producer is wanted and not yet in the chain; without one it ends with no reasons.
+pub data IsChain (builds : List BuildValue) (state : State) : List ℕ → ℕ → ChainValue → Type 0 where
+  unwanted : {before : List ℕ} {edge : ℕ} → mark_of state edge ≢ mark.Wanted
+      → IsChain builds state before edge (ends_at edge [])
+  explained : {before : List ℕ} {edge : ℕ} → mark_of state edge ≡ mark.Wanted → reasons_of builds state edge ≢ []
+      → IsChain builds state before edge (ends_at edge (reasons_of builds state edge))
+  stuck : {before : List ℕ} {edge : ℕ} → mark_of state edge ≡ mark.Wanted → reasons_of builds state edge ≡ []
+      → ((at next : ℕ) → CanGoBy builds state (before ++ edge ∷ []) edge at next → ⊥)
+      → IsChain builds state before edge (ends_at edge [])
+  stepping : {before : List ℕ} {edge : ℕ} (at next : ℕ) (chain : ChainValue) → mark_of state edge ≡ mark.Wanted
+      → reasons_of builds state edge ≡ []
+      → GoesBy builds state (before ++ edge ∷ []) edge at next → IsChain builds state (before ++ edge ∷ []) next chain
+      → IsChain builds state before edge (step_before (edge, at) chain)
+
+-- THE CHAIN AS A FUNCTION
 abbrev pub is_wanted_mark : Mark → Bool
 is_wanted_mark mark.Wanted = true
 is_wanted_mark _ = false
@@ -42,31 +82,14 @@ next_input builds state has edge = position (holds (can_follow state has)) (coun
 
 -- the edge that produces the input at a position
 abbrev pub producer_at : List BuildValue → State → ℕ → ℕ → Option ℕ
-producer_at builds state edge at = option_and_then (λ (producer : Option ℕ). producer) (slice_get (counted_producers builds state edge) at)
+producer_at builds state edge at =
+    option_and_then (λ (producer : Option ℕ). producer) (slice_get (counted_producers builds state edge) at)
 
--- a chain with one step more before it
-abbrev pub step_before : ℕ × ℕ → ChainValue → ChainValue
-step_before step chain = record { steps = step ∷ chain.steps; last = chain.last; reasons = chain.reasons }
-
-abbrev pub ends_at : ℕ → List Reason → ChainValue
-ends_at edge reasons = record { steps = []; last = edge; reasons = reasons }
-
--- How a chain goes on at an edge, where those before it are in the chain already. At an edge that is not wanted it ends with
--- no reasons. At one with reasons it ends with them. Else it steps by the first input, not order-only, whose producer is
--- wanted and not yet in the chain; without one it ends with no reasons.
-pub data IsChain (builds : List BuildValue) (state : State) : List ℕ → ℕ → ChainValue → Type 0 where
-  unwanted : {before : List ℕ} {edge : ℕ} → has_wanted_mark state edge ≡ false → IsChain builds state before edge (ends_at edge [])
-  explained : {before : List ℕ} {edge : ℕ} → has_wanted_mark state edge ≡ true → reasons_of builds state edge ≢ [] → IsChain builds state before edge (ends_at edge (reasons_of builds state edge))
-  stuck : {before : List ℕ} {edge : ℕ} → has_wanted_mark state edge ≡ true → reasons_of builds state edge ≡ [] → next_input builds state (is_one_of (before ++ edge ∷ [])) edge ≡ None
-      → IsChain builds state before edge (ends_at edge [])
-  stepping : {before : List ℕ} {edge : ℕ} (at next : ℕ) (chain : ChainValue) → has_wanted_mark state edge ≡ true → reasons_of builds state edge ≡ []
-      → next_input builds state (is_one_of (before ++ edge ∷ [])) edge ≡ Some at → producer_at builds state edge at ≡ Some next → IsChain builds state (before ++ edge ∷ []) next chain
-      → IsChain builds state before edge (step_before (edge, at) chain)
-
--- THE CHAIN AS A FUNCTION
 -- where a chain goes from an edge: by an input to the edge that produces it
 abbrev pub step_from : List BuildValue → State → (ℕ → Bool) → ℕ → Option (ℕ × ℕ)
-step_from builds state has edge = option_and_then (λ at. option_and_then (λ next. Some (at, next)) (producer_at builds state edge at)) (next_input builds state has edge)
+step_from builds state has edge =
+    option_and_then (λ at. option_and_then (λ next. Some (at, next)) (producer_at builds state edge at))
+    (next_input builds state has edge)
 
 abbrev pub chain_on : (ℕ → ChainValue) → ℕ → Option (ℕ × ℕ) → ChainValue
 chain_on rest edge None = ends_at edge []
@@ -80,7 +103,9 @@ chain_by step rest edge (reason ∷ reasons) = ends_at edge (reason ∷ reasons)
 abbrev pub chain_within : List BuildValue → State → ℕ → List ℕ → ℕ → ChainValue
 chain_within builds state zero before edge = ends_at edge []
 chain_within builds state (suc most) before edge =
-    if has_wanted_mark state edge then chain_by (step_from builds state (is_one_of (before ++ edge ∷ [])) edge) (chain_within builds state most (before ++ edge ∷ [])) edge (reasons_of builds state edge) else ends_at edge []
+    if has_wanted_mark state edge
+    then chain_by (step_from builds state (is_one_of (before ++ edge ∷ [])) edge)
+    (chain_within builds state most (before ++ edge ∷ [])) edge (reasons_of builds state edge) else ends_at edge []
 
 -- The chain of an edge. No edge stands in it twice, so it has no more of them than there are.
 unfoldable pub chain_of : List BuildValue → State → ℕ → ChainValue

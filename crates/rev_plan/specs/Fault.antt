@@ -5,7 +5,7 @@ use Rattle.rev_plan.specs.declared.fault.PlanFault.{PlanFault}
 use Rattle.rev_plan.specs.declared.fault.PlanFault.TheVariants as fault
 use Rattle.rev_plan.specs.Plan.{PlanRefusal, PlanRefusal.StillRunning, PlanRefusal.UnknownTarget, PlanRefusal.MissingInput, PlanRefusal.DepsCycle}
 
--- the number of a fault, which want of memory lacks
+-- the number of a fault, which `Memory` lacks
 abbrev pub code_of : PlanFault → Option ℕ
 code_of fault.Memory = None
 code_of (fault.StillRunning edge) = Some 50

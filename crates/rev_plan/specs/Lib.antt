@@ -4,4 +4,6 @@ pub mod Laws
 pub mod Least
 pub mod Options
 pub mod Plan
+pub mod Planned
+pub mod Refusals
 pub mod Steps

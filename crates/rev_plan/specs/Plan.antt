@@ -49,15 +49,20 @@ is_reached builds state roots edge = is_reachable (edges_by (needed_paths state)
 
 -- wanted: reached, and dirty or leading to a dirty edge by inputs that count
 unfoldable pub is_wanted : List BuildValue → State → List ℕ → ℕ → Bool
-is_wanted builds state roots edge = is_reached builds state roots edge && (is_dirty builds state edge || leads_to (edges_by (counted_paths state) builds) (is_dirty builds state) edge)
+is_wanted builds state roots edge =
+    is_reached builds state roots edge
+    && (is_dirty builds state edge || leads_to (edges_by (counted_paths state) builds) (is_dirty builds state) edge)
 
 -- through: reached and not wanted, and leading to a wanted edge by inputs
 unfoldable pub is_through : List BuildValue → State → List ℕ → ℕ → Bool
 is_through builds state roots edge =
-    is_reached builds state roots edge && not (is_wanted builds state roots edge) && leads_to (edges_by (input_paths state) builds) (is_wanted builds state roots) edge
+    is_reached builds state roots edge && not (is_wanted builds state roots edge)
+    && leads_to (edges_by (input_paths state) builds) (is_wanted builds state roots) edge
 
 abbrev pub mark_for : List BuildValue → State → List ℕ → ℕ → Mark
-mark_for builds state roots edge = if is_wanted builds state roots edge then mark.Wanted else if is_through builds state roots edge then mark.Through else mark.Idle
+mark_for builds state roots edge =
+    if is_wanted builds state roots edge then mark.Wanted else if is_through builds state roots edge then mark.Through
+    else mark.Idle
 
 -- the marks that a plan gives the edges
 unfoldable pub marks_of : ManifestValue → State → List (List ℕ) → List Mark
@@ -106,7 +111,8 @@ lacking_at builds state (Some edge) = option_map (λ at. MissingInput at edge) (
 
 -- the least edge of some that lacks an input, and the first that it lacks
 abbrev pub missing_among : List BuildValue → State → (ℕ → Bool) → Option PlanRefusal
-missing_among builds state test = lacking_at builds state (find (λ edge. test edge && is_some (lacking builds state edge)) (edge_numbers builds))
+missing_among builds state test =
+    lacking_at builds state (find (λ edge. test edge && is_some (lacking builds state edge)) (edge_numbers builds))
 
 -- of the reached edges
 abbrev pub missing_input : List BuildValue → State → List ℕ → Option PlanRefusal
@@ -114,7 +120,9 @@ missing_input builds state roots = missing_among builds state (is_reached builds
 
 -- the least reached edge on a cycle
 abbrev pub deps_cycle : List BuildValue → State → List ℕ → Option PlanRefusal
-deps_cycle builds state roots = option_map DepsCycle (find (λ edge. is_reached builds state roots edge && is_on_cycle builds state edge) (edge_numbers builds))
+deps_cycle builds state roots =
+    option_map DepsCycle (find (λ edge. is_reached builds state roots edge && is_on_cycle builds state edge)
+    (edge_numbers builds))
 
 -- what the edges that the roots need lack: the first of these
 unfoldable pub needs_refusal : List BuildValue → State → List ℕ → Option PlanRefusal
@@ -125,4 +133,5 @@ unfoldable pub plan_refusal : ManifestValue → State → List (List ℕ) → Op
 plan_refusal manifest state targets =
     let all = targets_or manifest.defaults targets in
     let roots = producers_in manifest.builds all in
-    first_some (still_running manifest.builds state ∷ unknown_target manifest.builds all ∷ missing_input manifest.builds state roots ∷ deps_cycle manifest.builds state roots ∷ [])
+    first_some (still_running manifest.builds state ∷ unknown_target manifest.builds all
+    ∷ missing_input manifest.builds state roots ∷ deps_cycle manifest.builds state roots ∷ [])

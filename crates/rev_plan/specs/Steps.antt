@@ -45,4 +45,5 @@ pub record AreReached (builds : List BuildValue) (state : State) (roots : List �
 
 -- the mark of an edge, by those that are wanted and those that wait for some
 abbrev pub mark_by : List Bool → List Bool → ℕ → Mark
-mark_by wanted waiting edge = if is_marked wanted edge then mark.Wanted else if is_marked waiting edge then mark.Through else mark.Idle
+mark_by wanted waiting edge =
+    if is_marked wanted edge then mark.Wanted else if is_marked waiting edge then mark.Through else mark.Idle

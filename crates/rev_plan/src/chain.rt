@@ -58,7 +58,8 @@ fn each_producer(
     graph: &Graph,
     paths: &[Name],
 ) -> Result<Vec<Option<u32>>, AllocError>
-    ensures { IfOk result (λ producers. producers.items ≡ map (producer_of graph.now.manifest.builds) paths.now) }
+    ensures { IfOk result (λ producers. producers.items
+        ≡ map (producer_of graph.now.manifest.builds) paths.now) }
 {
     paths.iter().map(|path| graph.producer(path)).collect(alloc)
 }
@@ -71,7 +72,8 @@ fn counted_producers(
     edge: u32,
 ) -> Result<Vec<Option<u32>>, AllocError>
     requires { edge < length graph.now.manifest.builds }
-    ensures { IfOk result (λ producers. producers.items ≡ counted_producers_in graph.now.manifest.builds cells.now.state edge) }
+    ensures { IfOk result (λ producers. producers.items
+        ≡ counted_producers_in graph.now.manifest.builds cells.now.state edge) }
 {
     let (counted, order_only) = line_producers(graph, edge);
     let mut producers = Vec::from_slice(alloc, counted)?;
@@ -84,7 +86,8 @@ fn counted_producers(
 
 // The position of the first producer that is wanted and has no mark.
 fn first_follower(cells: &Cells, in_chain: &[bool], producers: &[Option<u32>]) -> Option<usize>
-    ensures { result ≡ position (holds (can_follow cells.now.state (is_marked in_chain.now))) producers.now }
+    ensures { result ≡ position (holds (can_follow cells.now.state (is_marked in_chain.now)))
+        producers.now }
 {
     producers
         .iter()
@@ -93,7 +96,8 @@ fn first_follower(cells: &Cells, in_chain: &[bool], producers: &[Option<u32>]) -
 
 // The producer at a position, if there is one.
 fn producer_at(producers: &[Option<u32>], position: usize) -> Option<u32>
-    ensures { result ≡ option_and_then (λ (producer : Option ℕ). producer) (slice_get producers.now position) }
+    ensures { result ≡ option_and_then (λ (producer : Option ℕ). producer)
+        (slice_get producers.now position) }
 {
     match producers.get(position) {
         Some(producer) => *producer,
@@ -110,7 +114,8 @@ fn next_step(
     edge: u32,
 ) -> Result<Option<(u64, u32)>, AllocError>
     requires { edge < length graph.now.manifest.builds }
-    ensures { IfOk result (λ step. step ≡ step_from graph.now.manifest.builds cells.now.state (is_marked in_chain.now) edge) }
+    ensures { IfOk result (λ step. step
+        ≡ step_from graph.now.manifest.builds cells.now.state (is_marked in_chain.now) edge) }
 {
     let producers = counted_producers(alloc, graph, cells, edge)?;
     let Some(position) = first_follower(cells, in_chain, &producers) else {
@@ -122,17 +127,20 @@ fn next_step(
     }
 }
 
-/// The chain from an edge. At an edge that is not `Wanted` it ends with no reasons. At one with reasons it ends with them.
-/// Else it steps by the first input, not order-only, whose producer is `Wanted` and not yet in the chain; without one it ends
-/// with no reasons.
+/// The chain from an edge. At an edge that is not `Wanted` it ends with no reasons. At one with reasons it ends with
+/// them. Else it steps by the first input, not order-only, whose producer is `Wanted` and not yet in the chain; without
+/// one it ends with no reasons.
 ///
 /// # Errors
 /// [`AllocError`] only where an allocation was refused.
 pub fn why(alloc: Global, graph: &Graph, cells: &Cells, edge: u32) -> Result<Chain, AllocError>
     requires { edge < length graph.now.manifest.builds }
-    ensures steps { IfOk result (λ chain. chain.steps.items ≡ (chain_of graph.now.manifest.builds cells.now.state edge).steps) }
-    ensures last { IfOk result (λ chain. chain.last ≡ (chain_of graph.now.manifest.builds cells.now.state edge).last) }
-    ensures reasons { IfOk result (λ chain. chain.reasons.items ≡ (chain_of graph.now.manifest.builds cells.now.state edge).reasons) }
+    ensures steps { IfOk result (λ chain. chain.steps.items
+        ≡ (chain_of graph.now.manifest.builds cells.now.state edge).steps) }
+    ensures last { IfOk result (λ chain. chain.last
+        ≡ (chain_of graph.now.manifest.builds cells.now.state edge).last) }
+    ensures reasons { IfOk result (λ chain. chain.reasons.items
+        ≡ (chain_of graph.now.manifest.builds cells.now.state edge).reasons) }
 {
     let mut scan = DependencyScan::new(alloc, graph, cells);
     let mut in_chain = vec![in alloc; false; graph.edges() as usize]?;

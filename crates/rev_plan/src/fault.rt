@@ -14,9 +14,9 @@ pub enum PlanFault {
     StillRunning(u32),
     /// The position of the first target that stands on no build line (Ninja: "unknown target").
     UnknownTarget(u64),
-    /// An input that is missing and that no edge produces: its position among the explicit, implicit and order-only inputs
-    /// of the build line, and the edge. The edge is the least of those that the targets need, and the input its first
-    /// (Ninja: "missing and no known rule to make it").
+    /// An input that is missing and that no edge produces: its position among the explicit, implicit and order-only
+    /// inputs of the build line, and the edge. The edge is the least of those that the targets need, and the input its
+    /// first (Ninja: "missing and no known rule to make it").
     MissingInput(u64, u32),
     /// The least edge that the targets need and that reaches itself through its inputs, where a deps record closes the
     /// cycle (Ninja: "dependency cycle").
@@ -24,7 +24,7 @@ pub enum PlanFault {
 }
 
 impl PlanFault {
-    /// The number of the fault. Want of memory has none.
+    /// The number of the fault. `Memory` has none.
     pub fn code(self) -> Option<u16>
         ensures { result ≡ code_of self }
     {

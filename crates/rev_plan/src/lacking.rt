@@ -40,7 +40,8 @@ fn producer_at(producers: &[Option<u32>], position: usize) -> Option<u32>
 
 // Whether a path is missing and nothing produces it.
 fn is_lacking(cells: &Cells, path: &Name, producer: Option<u32>) -> Result<bool, AllocError>
-    ensures { IfOk result (λ lacking. lacking ≡ (is_none producer && (stamp_of cells.now.state path.now == 0))) }
+    ensures { IfOk result (λ lacking. lacking
+        ≡ (is_none producer && (stamp_of cells.now.state path.now == 0))) }
 {
     if producer.is_some() {
         return Ok(false);
@@ -51,7 +52,8 @@ fn is_lacking(cells: &Cells, path: &Name, producer: Option<u32>) -> Result<bool,
 // The position of the first input on an edge's build line that is missing and that no edge produces.
 fn first_lacking(graph: &Graph, cells: &Cells, edge: u32) -> Result<Option<usize>, AllocError>
     requires { edge < length graph.now.manifest.builds }
-    ensures { IfOk result (λ position. position ≡ lacking_in graph.now.manifest.builds cells.now.state edge) }
+    ensures { IfOk result (λ position. position
+        ≡ lacking_in graph.now.manifest.builds cells.now.state edge) }
 {
     let producers = graph.producers(edge);
     for position in 0..producers.len() {
@@ -72,7 +74,8 @@ pub(crate) fn missing_input_among(
     marks: &[bool],
 ) -> Result<Option<(u64, u32)>, AllocError>
     requires { length marks.now ≡ length graph.now.manifest.builds }
-    ensures { IfOk result (λ found. option_map (λ (at : ℕ × ℕ). MissingInput at.0 at.1) found ≡ missing_among graph.now.manifest.builds cells.now.state (is_marked marks.now)) }
+    ensures { IfOk result (λ found. option_map (λ (at : ℕ × ℕ). MissingInput at.0 at.1) found
+        ≡ missing_among graph.now.manifest.builds cells.now.state (is_marked marks.now)) }
 {
     for edge in 0..graph.edges() {
         if marks[edge as usize] {

@@ -1,7 +1,7 @@
 //! Which edges of a build are to run, and why.
 //!
-//! [`plan`] marks the edges that the targets need, or says why it cannot; [`why`] gives the chain of edges from one that
-//! waits for others to the reasons behind it.
+//! [`plan`] marks the edges that the targets need, or says why it cannot; [`why`] gives the chain of edges from one
+//! that waits for others to the reasons behind it.
 #![tactic(auto)]
 
 mod chain;
@@ -10,6 +10,8 @@ mod lacking;
 pub mod laws;
 mod marks;
 mod steps;
+#[cfg(test)]
+mod tests;
 
 pub use chain::{Chain, why};
 pub use fault::PlanFault;

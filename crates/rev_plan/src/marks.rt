@@ -68,7 +68,8 @@ fn has_own_reason(reasons: &[Reason]) -> bool
 // Whether an edge that has a mark has a reason of its own.
 fn is_dirty_where(scan: &mut DependencyScan, edge: u32, is_marked: bool) -> Result<bool, AllocError>
     requires { edge < length scan.old.graph.manifest.builds }
-    ensures dirty { IfOk result (λ dirty. dirty ≡ (is_marked && is_dirty scan.old.graph.manifest.builds scan.old.state edge)) }
+    ensures dirty { IfOk result (λ dirty. dirty
+        ≡ (is_marked && is_dirty scan.old.graph.manifest.builds scan.old.state edge)) }
     ensures same { scan.new ≡ scan.old }
 {
     if !is_marked {
@@ -87,7 +88,8 @@ fn dirty_among(
 ) -> Result<Vec<bool>, AllocError>
     requires each { length marks.now ≡ length graph.now.manifest.builds }
     requires few { length graph.now.manifest.builds ≤ 262144 }
-    ensures { IfOk result (λ dirty. AreDirty graph.now.manifest.builds cells.now.state marks.now dirty.items) }
+    ensures { IfOk result (λ dirty.
+        AreDirty graph.now.manifest.builds cells.now.state marks.now dirty.items) }
 {
     let mut scan = DependencyScan::new(alloc, graph, cells);
     let mut dirty = Vec::with_capacity(alloc, marks.len())?;
@@ -111,7 +113,8 @@ fn mark_of(is_wanted: bool, is_waiting: bool) -> Mark
 // The marks of edges of which some are wanted, and some wait for these.
 fn marks_by(alloc: Global, wanted: &[bool], waiting: &[bool]) -> Result<Vec<Mark>, AllocError>
     requires { length waiting.now ≡ length wanted.now }
-    ensures { IfOk result (λ marks. marks.items ≡ map (mark_by wanted.now waiting.now) (range_with_len 0 (length wanted.now))) }
+    ensures { IfOk result (λ marks. marks.items
+        ≡ map (mark_by wanted.now waiting.now) (range_with_len 0 (length wanted.now))) }
 {
     let mut marks = Vec::with_capacity(alloc, wanted.len())?;
     for edge in 0..wanted.len() {
@@ -129,7 +132,8 @@ fn reached_from(
 ) -> Result<Vec<bool>, AllocError>
     requires nodes { All (λ edge. edge < length graph.now.manifest.builds) roots.now }
     requires few { length graph.now.manifest.builds ≤ 262144 }
-    ensures { IfOk result (λ reached. AreReached graph.now.manifest.builds cells.now.state roots.now reached.items) }
+    ensures { IfOk result (λ reached.
+        AreReached graph.now.manifest.builds cells.now.state roots.now reached.items) }
 {
     let all = vec![in alloc; true; graph.edges() as usize]?;
     let needs = steps_among(alloc, graph, cells, &all, Along::Needs)?;
@@ -160,9 +164,12 @@ fn plan_for(
 ) -> Result<Vec<Mark>, PlanFault>
     requires nodes { All (λ edge. edge < length graph.now.manifest.builds) roots.now }
     requires few { length graph.now.manifest.builds ≤ 262144 }
-    ensures marks { IfOk result (λ marks. marks.items ≡ map (mark_for graph.now.manifest.builds cells.now.state roots.now) (edge_numbers graph.now.manifest.builds)) }
+    ensures marks { IfOk result (λ marks. marks.items
+        ≡ map (mark_for graph.now.manifest.builds cells.now.state roots.now)
+        (edge_numbers graph.now.manifest.builds)) }
     ensures accepted { OnOk result (needs_refusal graph.now.manifest.builds cells.now.state roots.now ≡ None) }
-    ensures refused { IfErr result (λ fault. Explains fault (needs_refusal graph.now.manifest.builds cells.now.state roots.now)) }
+    ensures refused { IfErr result (λ fault.
+        Explains fault (needs_refusal graph.now.manifest.builds cells.now.state roots.now)) }
 {
     let reached = reached_from(alloc, graph, cells, roots)?;
     if let Some((position, edge)) = missing_input_among(graph, cells, &reached)? {
@@ -178,14 +185,15 @@ fn plan_for(
     Ok(marks)
 }
 
-/// A mark for each edge: `Wanted` where its command is to be run, `Through` where it only waits for such an edge, and `Idle`.
-/// Where no target is named the graph's defaults are the targets.
+/// A mark for each edge: `Wanted` where its command is to be run, `Through` where it only waits for such an edge, and
+/// `Idle`. Where no target is named the graph's defaults are the targets.
 ///
-/// The edges that produce the targets are reached, and those that produce an input or a validation of a reached edge (Ninja
-/// manual, validations). A reached edge is wanted where it is dirty, and where an input that is not order-only is produced by
-/// a wanted edge. An edge that only has to wait for such an edge is a way through.
+/// The edges that produce the targets are reached, and those that produce an input or a validation of a reached edge
+/// (Ninja manual, validations). A reached edge is wanted where it is dirty, and where an input that is not order-only
+/// is produced by a wanted edge. An edge that only has to wait for such an edge is a way through.
 ///
-/// It takes time linear in edges, inputs and deps records, up to hashing: each reached edge is asked for its reasons once.
+/// It takes time linear in edges, inputs and deps records, up to hashing: each reached edge is asked for its reasons
+/// once.
 ///
 /// # Errors
 /// The first of: [`PlanFault::StillRunning`], [`PlanFault::UnknownTarget`], [`PlanFault::MissingInput`],
@@ -198,7 +206,8 @@ pub fn plan(
 ) -> Result<Vec<Mark>, PlanFault>
     ensures marks { IfOk result (λ marks. marks.items ≡ marks_of graph.now.manifest cells.now.state targets.now) }
     ensures accepted { OnOk result (plan_refusal graph.now.manifest cells.now.state targets.now ≡ None) }
-    ensures refused { IfErr result (λ fault. Explains fault (plan_refusal graph.now.manifest cells.now.state targets.now)) }
+    ensures refused { IfErr result (λ fault.
+        Explains fault (plan_refusal graph.now.manifest cells.now.state targets.now)) }
 {
     let targets = targets_or_defaults(graph, targets);
     if let Some(edge) = first_running(graph, cells) {

@@ -51,8 +51,11 @@ pub(crate) fn producers_of(
 /// For the explicit and implicit inputs of an edge, and for the order-only ones, the edges that produce them.
 pub(crate) fn line_producers(graph: &Graph, edge: u32) -> (&[Option<u32>], &[Option<u32>])
     requires { edge < length graph.now.manifest.builds }
-    ensures counted { result.0.now ≡ map (producer_of graph.now.manifest.builds) ((build_at graph.now.manifest.builds edge).explicit ++ (build_at graph.now.manifest.builds edge).implicit) }
-    ensures order_only { result.1.now ≡ map (producer_of graph.now.manifest.builds) (build_at graph.now.manifest.builds edge).order_only }
+    ensures counted { result.0.now ≡ map (producer_of graph.now.manifest.builds)
+        ((build_at graph.now.manifest.builds edge).explicit
+        ++ (build_at graph.now.manifest.builds edge).implicit) }
+    ensures order_only { result.1.now ≡ map (producer_of graph.now.manifest.builds)
+        (build_at graph.now.manifest.builds edge).order_only }
 {
     let producers = graph.producers(edge);
     let order_only = graph.inputs(edge).order_only.len();
@@ -89,7 +92,9 @@ fn steps_of(
     along: Along,
 ) -> Result<Vec<u32>, AllocError>
     requires { edge < length graph.now.manifest.builds }
-    ensures { IfOk result (λ steps. steps.items ≡ producers_in graph.now.manifest.builds (paths_along along cells.now.state (build_at graph.now.manifest.builds edge))) }
+    ensures { IfOk result (λ steps. steps.items
+        ≡ producers_in graph.now.manifest.builds
+        (paths_along along cells.now.state (build_at graph.now.manifest.builds edge))) }
 {
     let (counted, order_only) = line_producers(graph, edge);
     let mut steps = edges_among(alloc, counted)?;
@@ -112,7 +117,9 @@ fn steps_where(
     is_marked: bool,
 ) -> Result<Vec<u32>, AllocError>
     requires { edge < length graph.now.manifest.builds }
-    ensures { IfOk result (λ steps. steps.items ≡ (if is_marked then producers_in graph.now.manifest.builds (paths_along along cells.now.state (build_at graph.now.manifest.builds edge)) else [])) }
+    ensures { IfOk result (λ steps. steps.items
+        ≡ (if is_marked then producers_in graph.now.manifest.builds
+        (paths_along along cells.now.state (build_at graph.now.manifest.builds edge)) else [])) }
 {
     if !is_marked {
         return Ok(Vec::new(alloc));
@@ -131,8 +138,11 @@ pub(crate) fn steps_among(
 ) -> Result<Vec<Vec<u32>>, AllocError>
     requires each { length marks.now ≡ length graph.now.manifest.builds }
     requires few { length graph.now.manifest.builds ≤ 262144 }
-    ensures steps { IfOk result (λ steps. IsSubgraph (edges_by (paths_along along cells.now.state) graph.now.manifest.builds) marks.now (graph_of steps.items)) }
-    ensures inside { IfOk result (λ steps. All (λ v. All (λ s. s < length graph.now.manifest.builds) v.items) steps.items) }
+    ensures steps { IfOk result (λ steps.
+        IsSubgraph (edges_by (paths_along along cells.now.state) graph.now.manifest.builds)
+        marks.now (graph_of steps.items)) }
+    ensures inside { IfOk result (λ steps.
+        All (λ v. All (λ s. s < length graph.now.manifest.builds) v.items) steps.items) }
     ensures each { IfOk result (λ steps. vec_len steps ≡ length graph.now.manifest.builds) }
 {
     let mut all = Vec::with_capacity(alloc, marks.len())?;
