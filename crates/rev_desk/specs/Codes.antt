@@ -26,14 +26,22 @@ refusal_parts r = (code_of r, (first_number r, second_number r))
 
 abbrev pub refusal_numbered : ℕ → ℕ → ℕ → Option ℕ → Refusal
 refusal_numbered code first second last =
-    if code == 50 then refusal.StillRunning first else if code == 51 then refusal.UnknownTarget first else if code == 52 then refusal.MissingInput first second
-    else if code == 53 then refusal.DepsCycle first else if code == 60 then refusal.NoSuchEdge else if code == 61 then refusal.Phony else if code == 62 then refusal.NotPhony
-    else if code == 63 then refusal.Halted else if code == 64 then refusal.NotHalted else if code == 65 then refusal.AlreadyHalted else if code == 66 then refusal.NotWanted
-    else if code == 67 then refusal.NotRunning else if code == 68 then refusal.Blocked first else if code == 69 then refusal.NotDirty else if code == 70 then refusal.Dirty first
-    else if code == 71 then refusal.NoSuchJob else if code == 72 then refusal.JobBusy first else if code == 73 then refusal.PoolSlot else if code == 74 then refusal.SlotBusy first
-    else if code == 75 then refusal.WrongOutputs first else if code == 76 then refusal.UnexpectedDepfile else if code == 77 then refusal.Depfile first second
-    else if code == 80 then refusal.NoSuchEvent else if code == 81 then refusal.NotKept else if code == 82 then refusal.DependedOn first else if code == 83 then refusal.AlreadyKept
-    else if code == 84 then refusal.NotNow first last else if code == 85 then refusal.Overtaken first else if code == 86 then refusal.NothingKept
+    if code == 50 then refusal.StillRunning first else if code == 51 then refusal.UnknownTarget first else if code == 52
+    then refusal.MissingInput first second
+    else if code == 53 then refusal.DepsCycle first else if code == 60 then refusal.NoSuchEdge else if code == 61
+    then refusal.Phony else if code == 62 then refusal.NotPhony
+    else if code == 63 then refusal.Halted else if code == 64 then refusal.NotHalted else if code == 65
+    then refusal.AlreadyHalted else if code == 66 then refusal.NotWanted
+    else if code == 67 then refusal.NotRunning else if code == 68 then refusal.Blocked first else if code == 69
+    then refusal.NotDirty else if code == 70 then refusal.Dirty first
+    else if code == 71 then refusal.NoSuchJob else if code == 72 then refusal.JobBusy first else if code == 73
+    then refusal.PoolSlot else if code == 74 then refusal.SlotBusy first
+    else if code == 75 then refusal.WrongOutputs first else if code == 76 then refusal.UnexpectedDepfile
+    else if code == 77 then refusal.Depfile first second
+    else if code == 80 then refusal.NoSuchEvent else if code == 81 then refusal.NotKept else if code == 82
+    then refusal.DependedOn first else if code == 83 then refusal.AlreadyKept
+    else if code == 84 then refusal.NotNow first last else if code == 85 then refusal.Overtaken first else if code == 86
+    then refusal.NothingKept
     else if code == 92 then refusal.Paused else refusal.NoSuchBreak
 
 abbrev pub refusal_of : RefusalParts → Refusal
@@ -73,7 +81,9 @@ refusal_of-refusal_parts refusal.Paused = refl
 refusal_of-refusal_parts refusal.NoSuchBreak = refl
 
 abbrev pub coded_refusal : Coded Refusal
-coded_refusal = code_by RefusalParts (coded× coded_ℕ (coded× (coded_option coded_ℕ) (coded_option coded_ℕ))) refusal_parts refusal_of refusal_of-refusal_parts
+coded_refusal =
+    code_by RefusalParts (coded× coded_ℕ (coded× (coded_option coded_ℕ) (coded_option coded_ℕ))) refusal_parts refusal_of
+    refusal_of-refusal_parts
 
 abbrev pub WhichParts : Type 0
 WhichParts = ℕ ⊎ (ℕ × ℕ)
@@ -107,8 +117,10 @@ point_parts point.Interrupt = (8, [])
 
 abbrev pub point_numbered : ℕ → List ℕ → Point
 point_numbered kind out =
-    if kind == 0 then point.Start out else if kind == 1 then point.Finish out else if kind == 2 then point.Fail out else if kind == 3 then point.Abort out
-    else if kind == 4 then point.Clean out else if kind == 5 then point.Pass out else if kind == 6 then point.Touch out else if kind == 7 then point.Plan else point.Interrupt
+    if kind == 0 then point.Start out else if kind == 1 then point.Finish out else if kind == 2 then point.Fail out
+    else if kind == 3 then point.Abort out
+    else if kind == 4 then point.Clean out else if kind == 5 then point.Pass out else if kind == 6 then point.Touch out
+    else if kind == 7 then point.Plan else point.Interrupt
 
 abbrev pub point_of : ℕ × List ℕ → Point
 point_of p = point_numbered p.0 p.1
@@ -162,7 +174,8 @@ command_of-command_parts command.Continue = refl
 
 abbrev pub coded_command : Coded Command
 coded_command =
-    code_by CommandParts (coded⊎ coded_event (coded⊎ coded_which (coded⊎ coded_which (coded⊎ coded_which (coded⊎ coded_point (coded⊎ coded_ℕ coded_bool))))))
+    code_by CommandParts (coded⊎ coded_event
+    (coded⊎ coded_which (coded⊎ coded_which (coded⊎ coded_which (coded⊎ coded_point (coded⊎ coded_ℕ coded_bool))))))
     command_parts command_of command_of-command_parts
 
 abbrev pub ReplyParts : Type 0
@@ -184,7 +197,9 @@ reply_of-reply_parts (reply.Coned n count) = refl
 reply_of-reply_parts (reply.Refused r) = refl
 
 abbrev pub coded_reply : Coded Reply
-coded_reply = code_by ReplyParts (coded⊎ (coded× coded_ℕ (coded_option coded_ℕ)) (coded⊎ (coded× coded_ℕ coded_ℕ) coded_refusal)) reply_parts reply_of reply_of-reply_parts
+coded_reply =
+    code_by ReplyParts (coded⊎ (coded× coded_ℕ (coded_option coded_ℕ)) (coded⊎ (coded× coded_ℕ coded_ℕ) coded_refusal))
+    reply_parts reply_of reply_of-reply_parts
 
 abbrev pub coded_entry : Coded Entry
 coded_entry =

@@ -10,7 +10,8 @@ lists_of j = map (λ v. v.items) j.numbers.items
 
 -- Beside each lane stand the numbers of its entries, and each entry is of a lane.
 pub record IsIndexed (j : Journal) : Type 0 where
-  pub numbers : (lane : ℕ) → lane < length j.numbers.items → slice_get (lists_of j) lane ≡ Some (lane_numbers j.entries.items lane)
+  pub numbers : (lane : ℕ) → lane < length j.numbers.items
+      → slice_get (lists_of j) lane ≡ Some (lane_numbers j.entries.items lane)
   pub lanes : AllByRecursion (λ e. e.lane < length j.numbers.items) j.entries.items
 
 -- an entry of the lane can be added without memory

@@ -12,17 +12,23 @@ use Rattle.rev_desk.specs.declared.reply.Reply.TheVariants.{Refused}
 use Rattle.rev_desk.specs.Machine.{DeskValue, after, bench_of, refusal_of, reply_to}
 use Rattle.rev_desk.specs.Sound.{IsDesk}
 
--- Whatever is said to a desk, its kept events are accepted one after the other from the opening: the state is what they lead to.
+-- Whatever is said to a desk, its kept events are accepted one after the other from the opening: the state is what they
+-- lead to.
 abbrev pub KeptEventsLead : Type 0
 KeptEventsLead = (d : DeskValue) → IsDesk d → IsHistory d.history
 
 -- a command that is refused leaves the history, the breaks and the pause as they were
 abbrev pub RefusedChangesNothing : Type 0
-RefusedChangesNothing = (d : DeskValue) (lane : ℕ) (c : Command) (r : Refusal) → reply_to d c ≡ Refused r → bench_of (after d lane c) ≡ bench_of d
+RefusedChangesNothing =
+    (d : DeskValue) (lane : ℕ) (c : Command) (r : Refusal) → reply_to d c ≡ Refused r
+    → bench_of (after d lane c) ≡ bench_of d
 
 -- an event can be undone exactly where it is kept and no event of a later kept number depends on it
 abbrev pub UndoExactlyWhenIndependent : Type 0
-UndoExactlyWhenIndependent = (d : DeskValue) (n : ℕ) → IsDesk d → (refusal_of d (Undo (Number n)) ≡ None) ↔ ((is_among d.history.kept n ≡ true) × ((m : ℕ) → DependsOn d.history m n → ⊥))
+UndoExactlyWhenIndependent =
+    (d : DeskValue) (n : ℕ) → IsDesk d
+    → (refusal_of d (Undo (Number n)) ≡ None)
+    ↔ ((is_among d.history.kept n ≡ true) × ((m : ℕ) → DependsOn d.history m n → ⊥))
 
 -- what an undo leaves is the history without that event, and the others are accepted one after the other
 abbrev pub UndoLeavesTheOthers : Type 0
@@ -44,9 +50,11 @@ abbrev pub AllRefused : DeskValue → List (ℕ × Command) → Type 0
 AllRefused d [] = Unit {0}
 AllRefused d (x ∷ xs) = IsSome (refusal_of d x.1) × AllRefused (after d x.0 x.1) xs
 
--- Redoing what was undone, with no accepted command between, is not refused, and restores the history and with it the state.
+-- Redoing what was undone, with no accepted command between, is not refused, and restores the history and with it the
+-- state.
 abbrev pub RedoNextRestores : Type 0
 RedoNextRestores =
-    (d : DeskValue) (lane other n : ℕ) (between : List (ℕ × Command)) → IsDesk d → refusal_of d (Undo (Number n)) ≡ None → AllRefused (after d lane (Undo (Number n))) between
+    (d : DeskValue) (lane other n : ℕ) (between : List (ℕ × Command)) → IsDesk d → refusal_of d (Undo (Number n)) ≡ None
+    → AllRefused (after d lane (Undo (Number n))) between
     → (refusal_of (after_all (after d lane (Undo (Number n))) between) (Redo (Number n)) ≡ None)
     × ((after (after_all (after d lane (Undo (Number n))) between) other (Redo (Number n))).history ≡ d.history)

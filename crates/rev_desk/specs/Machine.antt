@@ -16,7 +16,8 @@ use Rattle.rev_desk.specs.Codes.{coded_entry, coded_point}
 pub use Rattle.rev_desk.specs.Names.{lane_numbers, accepted_event, named, target}
 pub use Rattle.rev_desk.specs.Spots.{meets, point_spot, least_met, stands, without_break}
 
--- what commands change: the history of the build, the breaks that stand, under their numbers, and whether events wait for a `continue`
+-- what commands change: the history of the build, the breaks that stand, under their numbers, and whether events wait
+-- for a `continue`
 pub record BenchValue : Type 0 where
   pub history : Timeline
   pub breaks : List (ℕ × Point)
@@ -32,7 +33,9 @@ pub record DeskValue : Type 0 where
 
 abbrev pub desk_code : Coded DeskValue
 desk_code =
-    code_by (Timeline × (List (ℕ × Point) × (Bool × (List Entry × ℕ)))) (coded× timeline_code (coded× (coded_list (coded× coded_ℕ coded_point)) (coded× coded_bool (coded× (coded_list coded_entry) coded_ℕ))))
+    code_by (Timeline × (List (ℕ × Point) × (Bool × (List Entry × ℕ))))
+    (coded× timeline_code (coded× (coded_list (coded× coded_ℕ coded_point))
+    (coded× coded_bool (coded× (coded_list coded_entry) coded_ℕ))))
     (λ d. (d.history, (d.breaks, (d.paused, (d.journal, d.lanes))))) (λ p. record { history = p.0; breaks = p.1.0; paused = p.1.1.0; journal = p.1.1.1.0; lanes = p.1.1.1.1 }) (λ _. refl)
 
 -- nothing was said yet
@@ -71,7 +74,8 @@ answer_on s n m _ = reply.Accepted n None
 
 -- what it changes
 abbrev pub moved_on : BenchValue → ℕ → Option ℕ → Command → BenchValue
-moved_on s n m (command.Event e) = record s { history = accepted_as n e s.history; paused = is_some (least_met s.history.manifest e s.breaks) }
+moved_on s n m (command.Event e) =
+    record s { history = accepted_as n e s.history; paused = is_some (least_met s.history.manifest e s.breaks) }
 moved_on s n m (command.Undo w) = record s { history = undone (unwrap_or m 0) s.history }
 moved_on s n m (command.Redo w) = record s { history = redone (unwrap_or m 0) s.history }
 moved_on s n m command.Back = record s { history = undone (unwrap_or (greatest_kept s.history) 0) s.history }

@@ -36,10 +36,12 @@ if_accepted n e = if is_event e.command then (if is_accepted e.reply then Some n
 abbrev pub accepted_event : List Entry → ℕ → Option ℕ
 accepted_event journal n = option_and_then (if_accepted n) (at_place journal n)
 
--- the number that a name stands for: a number for itself, a label for the entry that has that place among its lane's, where this is an accepted event
+-- the number that a name stands for: a number for itself, a label for the entry that has that place among its lane's,
+-- where this is an accepted event
 abbrev pub named : List Entry → Which → Option ℕ
 named journal (which.Number n) = Some n
-named journal (which.Label lane place) = option_and_then (accepted_event journal) (at_place (lane_numbers journal lane) place)
+named journal (which.Label lane place) =
+    option_and_then (accepted_event journal) (at_place (lane_numbers journal lane) place)
 
 -- the name in a command, where it has one
 abbrev pub target : List Entry → Command → Option ℕ

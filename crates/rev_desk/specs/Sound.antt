@@ -17,9 +17,11 @@ run_of d (e ∷ es) = run_of (after d e.lane e.command) es
 -- A journal is legal where each entry is of a lane, and its reply is the machine's at its place.
 abbrev pub IsLegalFrom : DeskValue → List Entry → Type 0
 IsLegalFrom d [] = Unit {0}
-IsLegalFrom d (e ∷ es) = (e.lane < d.lanes) × (e.reply ≡ reply_to d e.command) × IsLegalFrom (after d e.lane e.command) es
+IsLegalFrom d (e ∷ es) =
+    (e.lane < d.lanes) × (e.reply ≡ reply_to d e.command) × IsLegalFrom (after d e.lane e.command) es
 
--- The journal is legal from the opening, and leads to the desk, whose kept events are accepted one after the other from the opening.
+-- The journal is legal from the opening, and leads to the desk, whose kept events are accepted one after the other from
+-- the opening.
 pub record IsDesk (d : DeskValue) : Type 0 where
   pub legal : IsLegalFrom (opening_of d) d.journal
   pub led : run_of (opening_of d) d.journal ≡ d

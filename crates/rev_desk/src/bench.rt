@@ -252,7 +252,8 @@ impl Bench {
     }
 
     fn redo_refused(&self, target: Option<u32>) -> Result<Option<Refusal>, AllocError>
-        ensures { IfOk result (λ refused. refused ≡ refused_by (redo_refusal self.now.history.timeline) target) }
+        ensures { IfOk result (λ refused. refused
+            ≡ refused_by (redo_refusal self.now.history.timeline) target) }
     {
         match target {
             Some(target) => self.history.redo_refused(target),

@@ -108,7 +108,8 @@ impl Breaks {
     /// The least break that an event meets.
     pub(crate) fn least_met(&self, graph: &Graph, event: &Event) -> Result<Option<u32>, AllocError>
         requires { AreSound graph.now.manifest self.now }
-        ensures { IfOk result (λ met. met ≡ least_met graph.now.manifest event.now self.now.standing.items) }
+        ensures { IfOk result (λ met. met
+            ≡ least_met graph.now.manifest event.now self.now.standing.items) }
     {
         match event_spot(graph, event)? {
             Some(spot) => Ok(self.first_at(&spot)),

@@ -16,7 +16,7 @@ pub enum DeskFault {
 }
 
 impl DeskFault {
-    /// The number of the fault. Want of memory has none.
+    /// The number of the fault. `Memory` has none.
     pub fn code(self) -> Option<u16>
         ensures { result ≡ code_of self }
     {
@@ -45,7 +45,7 @@ pub enum Why {
 }
 
 impl Why {
-    /// Its number. Want of memory has none.
+    /// Its number. `Memory` has none.
     pub fn code(self) -> Option<u16>
         ensures { result ≡ why_code self }
     {

@@ -1,9 +1,9 @@
 -- A cone is taken out from its last number down.
-use Rattle.std.proofs.Common.{◌≡◌, ℕ, ◌-◌, ◌<◌, ◌≤◌, Bool, true, false, cond, List, [], ◌∷◌, ◌++◌, map, take, get_or, Option, None, Some, IsSome, length, refl, sym, ap, ap₂, subst, ◌∙◌, ◌⊎◌, inl, inr, eqb-true, eq-eqb, ◌||◌, arith, zero, suc}
+use Rattle.std.proofs.Common.{◌≡◌, ℕ, ◌-◌, ◌<◌, ◌≤◌, Bool, true, false, cond, List, [], ◌∷◌, ◌++◌, take, get_or, Option, None, Some, length, refl, sym, ap, ap₂, subst, ◌∙◌, inl, inr, eq-eqb, ◌||◌, arith, zero, suc}
 use Rattle.std.specs.Prelude.{nat_eq}
-use Rattle.rev_causal.specs.Machine.{Machine, Legal}
+use Rattle.rev_causal.specs.Machine.{Machine}
 use Rattle.rev_causal.specs.Order.{Has, cone, outside}
-use Rattle.rev_causal.specs.Entries.{Entry, entries, clash, events}
+use Rattle.rev_causal.specs.Entries.{Entry, entries, clash}
 use Rattle.rev_causal.specs.History as causal
 use Rattle.rev_causal.specs.Laws.{IsTakenFirst}
 use Rattle.rev_causal.proofs.Chosen.{AllAccepted, some_is, chosen-rises, accepted_among}
@@ -11,10 +11,9 @@ use Rattle.rev_causal.proofs.ConeDown as down
 use Rattle.rev_causal.proofs.Cones as cones
 use Rattle.rev_causal.proofs.Runs.{either}
 use Rattle.rev_events.specs.declared.event.Event.{Event}
-use Rattle.rev_events.specs.declared.refusal.Refusal.{Refusal}
 use Rattle.rev_events.specs.declared.refusal.Refusal.TheVariants.{NotKept}
 use Rattle.rev_footprint.proofs.Local.{machine-local}
-use Rattle.rev_history.specs.Timeline.{Timeline, IsHistory, IsRising, machine_at, event_at, under, chosen, kept_events, kept_entries, is_among, without, undo_refusal, undone, cone_refusal_of, cone_refusal, numbers_of, cone_numbers, coned}
+use Rattle.rev_history.specs.Timeline.{Timeline, IsHistory, machine_at, event_at, under, chosen, kept_events, kept_entries, is_among, undo_refusal, undone, cone_refusal_of, cone_refusal, numbers_of, cone_numbers, coned}
 use Rattle.rev_history.proofs.Commands.{free_undo, kept_undone, undone_history}
 
 -- what it says that a cone is not refused

@@ -38,7 +38,7 @@ use Rattle.rev_history.specs.declared.history.History.TheInside.{Inside}
 use Rattle.rev_history.specs.declared.steps.Step.{Step}
 use Rattle.rev_history.specs.Sound.{timeline_of, CanPutBack, IsFootprintOf, HaveFootprints, IsSound}
 use Rattle.rev_history.specs.Steps.{footprint_of, print_of, values_of, footprints_of, prints_of}
-use Rattle.rev_history.specs.Timeline.{Timeline, IsHistory, event_at, kept_events, kept_entries, last_of, state_at, is_among, depended_on, undo_refusal_of, undo_refusal, undone, without, placed, overtaken, redo_refusal_now, redo_refusal_of, redo_refusal, redone, accept_refusal, kept_footprint}
+use Rattle.rev_history.specs.Timeline.{Timeline, IsHistory, event_at, kept_events, kept_entries, last_of, state_at, is_among, depended_on, undo_refusal_of, undo_refusal, undone, without, placed, overtaken, redo_refusal_now, redo_refusal_of, redo_refusal, redone, accept_refusal, kept_footprint, nearest_conflict}
 use Rattle.rev_history.specs.Value.{cells_written}
 use Rattle.rev_history.proofs.Commands.{IsFree, is_free, IsReady, is_ready}
 use Rattle.rev_history.proofs.Effects.{set_all-is, length_stored, has_former}
@@ -91,30 +91,29 @@ prints-footprints n (e ∷ es) (s ∷ steps) = by (nat_eq e.0 n) s.footprint (ca
     by false f o q h = h
 
 -- the same, as the code finds it: the footprint beside the number, and the nearest conflict with it
-pub undo_refusal_found : (a : Inside) → IsSound a → (t : Timeline) → timeline_of a ≡ t → (n : ℕ) (f : FootprintValue) (ks numbers : List ℕ) (steps : List Step) →
-    ks ≡ a.kept.items → is_among ks n ≡ true → steps ≡ a.steps.items → Some f ≡ causal.event_at n (footprints_of a.accepted.entries steps) → numbers ≡ a.kept.items →
-    IsSome (event_at t n) → (o : Option ℕ) → o ≡ nearest_in cell_cmp n (footprints.print_of f) (chosen (prints_of a.accepted.entries steps) numbers) → depended_on o ≡ undo_refusal t n
-undo_refusal_found a s t view n f ks numbers steps kept among same_steps is same_numbers some o found =
+pub undo_refusal_found : (a : Inside) → IsSound a → (t : Timeline) → timeline_of a ≡ t → (n : ℕ) (f : FootprintValue) (ks : List ℕ) (steps : List Step) →
+    ks ≡ a.kept.items → is_among ks n ≡ true → steps ≡ a.steps.items → Some f ≡ causal.event_at n (footprints_of a.accepted.entries steps) →
+    IsSome (event_at t n) → (o : Option ℕ) → o ≡ nearest_conflict n f t → depended_on o ≡ undo_refusal t n
+undo_refusal_found a s t view n f ks steps kept among same_steps is some o found =
     let u : Timeline = timeline_of a in
     let e = some_is (event_at u n) (subst (λ (v : Timeline). IsSome (event_at v n)) (sym view) some) in
     let among_kept : is_among a.kept.items n ≡ true = ap (λ xs. is_among xs n) (sym kept) ∙ among in
     let print : causal.event_at n (prints_of a.accepted.entries a.steps.items) ≡ Some (footprints.print_of f) =
     prints-footprints n a.accepted.entries a.steps.items ∙ ap (option_map footprints.print_of) (ap (λ xs. causal.event_at n (footprints_of a.accepted.entries xs)) (sym same_steps) ∙ sym is) in
     undo_refusal_kept u n e.0 o e.1 among_kept
-    (found ∙ ap₂ (λ xs ns. nearest_in cell_cmp n (footprints.print_of f) (chosen (prints_of a.accepted.entries xs) ns)) same_steps same_numbers
-    ∙ found_dependent a s n (footprints.print_of f) among_kept print)
+    (found ∙ ap (nearest_conflict n f) (sym view) ∙ sym (found_above a s n (footprints.print_of f)) ∙ found_dependent a s n (footprints.print_of f) among_kept print)
     ∙ ap (λ (v : Timeline). undo_refusal v n) view
 
 -- the same for a redo
-pub redo_refusal_found : (a : Inside) → IsSound a → (t : Timeline) → timeline_of a ≡ t → (n : ℕ) (e : Event) (f : FootprintValue) (ks numbers : List ℕ) (steps : List Step) →
-    ks ≡ a.kept.items → is_among ks n ≡ false → f ≡ footprint a.graph.manifest a.cells.state e → numbers ≡ a.kept.items → steps ≡ a.steps.items →
-    Some e ≡ event_at t n → None ≡ refusal a.graph.manifest a.cells.jobs a.cells.state e → (o : Option ℕ) → o ≡ nearest_in cell_cmp n (footprints.print_of f) (chosen (prints_of a.accepted.entries steps) numbers) → overtaken o ≡ redo_refusal t n
-redo_refusal_found a s t view n e f ks numbers steps kept apart is same_numbers same_steps at accepts o found =
+pub redo_refusal_found : (a : Inside) → IsSound a → (t : Timeline) → timeline_of a ≡ t → (n : ℕ) (e : Event) (f : FootprintValue) (ks : List ℕ) →
+    ks ≡ a.kept.items → is_among ks n ≡ false → f ≡ footprint a.graph.manifest a.cells.state e →
+    Some e ≡ event_at t n → None ≡ refusal a.graph.manifest a.cells.jobs a.cells.state e → (o : Option ℕ) → o ≡ nearest_conflict n f t → overtaken o ≡ redo_refusal t n
+redo_refusal_found a s t view n e f ks kept apart is at accepts o found =
     let u : Timeline = timeline_of a in
     let now : a.cells.state ≡ state_at u = state_of a s in
     redo_refusal_free u n e o (ap (λ (v : Timeline). event_at v n) view ∙ sym at) (ap (λ xs. is_among xs n) (sym kept) ∙ apart)
     (ap₂ (λ j v. refusal a.graph.manifest j v e) (sym s.jobs) (sym now) ∙ sym accepts)
-    (found ∙ ap₂ (λ xs ns. nearest_in cell_cmp n (footprints.print_of f) (chosen (prints_of a.accepted.entries xs) ns)) same_steps same_numbers ∙ found_above a s n (footprints.print_of f)
+    (found ∙ ap (nearest_conflict n f) (sym view)
     ∙ ap (λ g. causal.nearest_above (machine a.graph.manifest a.opening.jobs) n (footprints.print_of g) (kept_entries u)) (is ∙ ap (λ v. footprint a.graph.manifest v e) now))
     ∙ ap (λ (v : Timeline). redo_refusal v n) view
 
@@ -159,7 +158,7 @@ still_ready : (old new : List Cell) (steps : List Step) → ((c : Cell) → Cont
 still_ready old new [] more h = tt
 still_ready old new (s ∷ steps) more h = (record { has = more_places old new s.replaced.items more h.0.has; fits = h.0.fits }, still_ready old new steps more h.1)
 
-map_end : {A B : Type 0} (f : A → B) (xs : List A) (x : A) → map f (xs ++ x ∷ []) ≡ map f xs ++ f x ∷ []
+pub map_end : {A B : Type 0} (f : A → B) (xs : List A) (x : A) → map f (xs ++ x ∷ []) ≡ map f xs ++ f x ∷ []
 map_end f [] x = refl
 map_end f (y ∷ xs) x = ap (λ zs. f y ∷ zs) (map_end f xs x)
 

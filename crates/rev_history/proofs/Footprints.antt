@@ -1,5 +1,5 @@
 -- The footprints of kept events at their places.
-use Rattle.std.proofs.Common.{◌≡◌, ◌≢◌, ℕ, ◌<◌, Bool, true, false, cond, List, [], ◌∷◌, ◌++◌, Option, None, Some, option_map, length, map, get_or, set, refl, sym, ap, subst, if◌then◌else◌, ◌∙◌, inl, inr, eq-eqb, eqb-true, ne_eqb, arith, zero, suc}
+use Rattle.std.proofs.Common.{◌≡◌, ◌≢◌, ℕ, ◌<◌, Bool, true, false, cond, List, [], ◌∷◌, ◌++◌, Option, None, Some, option_map, length, get_or, set, refl, sym, ap, subst, if◌then◌else◌, ◌∙◌, inl, inr, eqb-true, ne_eqb, arith, zero, suc}
 use Rattle.std.specs.Prelude.{nat_eq, nat_lt}
 use Rattle.std.specs.FinSet as finset
 use Rattle.rev_causal.specs.Entries.{entries}
@@ -21,7 +21,7 @@ use Rattle.rev_events.specs.Written.{written}
 use Rattle.rev_footprint.specs.Reads.{reads_besides}
 use Rattle.rev_footprint.specs.Value.{FootprintValue, print_of}
 use Rattle.rev_footprint.specs.Footprint.{footprint}
-use Rattle.rev_footprint.specs.Machine.{machine, table}
+use Rattle.rev_footprint.specs.Machine.{machine}
 use Rattle.rev_footprint.proofs.Local.{machine-local}
 use Rattle.rev_history.specs.declared.steps.Step.{Step}
 use Rattle.rev_history.specs.Sound.{IsFootprintOf, HaveFootprints}

@@ -3,8 +3,7 @@ pub mod Cones
 pub mod Effects
 pub mod Fields
 pub mod Footprints
+pub mod Listed
 pub mod Members
-pub mod Nearest
-pub mod Places
 pub mod Promises
 pub mod Written

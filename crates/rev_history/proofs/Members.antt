@@ -1,8 +1,7 @@
 -- The members of a cone, as the code finds them, number by number.
-use Rattle.std.proofs.Common.{◌≡◌, ℕ, ◌-◌, ◌<◌, ◌≤◌, Bool, true, false, ◌&&◌, ◌||◌, cond, List, [], ◌∷◌, ◌++◌, map, Option, None, Some, option_map, length, drop, take, get_or, drop-cons, refl, sym, ap, ap₂, subst, ◌∙◌, inl, inr, arith, zero, suc, add-one}
-use Rattle.std.specs.Prelude.{nat_eq, nat_lt, IfOk, Result}
+use Rattle.std.proofs.Common.{◌≡◌, ℕ, ◌<◌, false, ◌&&◌, ◌||◌, cond, List, [], ◌∷◌, ◌++◌, map, None, Some, option_map, length, drop, get_or, drop-cons, refl, sym, ap, ap₂, ◌∙◌, suc}
+use Rattle.std.specs.Prelude.{nat_lt}
 use Rattle.std.specs.List.{list_any}
-use Rattle.rev_causal.specs.Entries.{Entry}
 use Rattle.rev_causal.specs.History as causal
 use Rattle.rev_causal.specs.Store.{Footprint, conflict}
 use Rattle.rev_causal.specs.Chosen.{under, chosen}
@@ -20,9 +19,8 @@ use Rattle.rev_footprint.specs.Machine.{machine}
 use Rattle.rev_history.specs.declared.history.History.TheInside.{Inside}
 use Rattle.rev_history.specs.declared.steps.Step.{Step}
 use Rattle.rev_history.specs.Sound.{timeline_of, IsSound}
-use Rattle.rev_history.specs.Steps as steps_of
 use Rattle.rev_history.specs.Steps.{footprint_of, footprints_of, prints_of, conflicts_before, conflicts_with_any, joins, cone_behind}
-use Rattle.rev_history.specs.Timeline.{Timeline, kept_events, kept_entries, is_among, cone_refusal, cone_numbers}
+use Rattle.rev_history.specs.Timeline.{Timeline, kept_events, cone_refusal, cone_numbers}
 use Rattle.rev_history.proofs.Cones.{IsKept, some_kept}
 use Rattle.rev_history.proofs.Fields.{as_many, prints-footprints}
 

@@ -1,13 +1,12 @@
 -- The laws of histories.
-use Rattle.std.proofs.Common.{◌≡◌, ◌≢◌, ℕ, ◌-◌, ◌<◌, ◌≤◌, Bool, true, false, cond, List, [], ◌∷◌, ◌++◌, map, Option, None, Some, length, slice_get, refl, sym, ap, ap₂, subst, ◌∙◌, inl, inr, eq-eqb, eqb-true, ne_eqb, arith, suc}
-use Rattle.std.specs.Prelude.{nat_eq, nat_lt}
+use Rattle.std.proofs.Common.{◌≡◌, ℕ, ◌-◌, ◌<◌, ◌≤◌, true, cond, List, [], ◌∷◌, ◌++◌, Option, None, Some, length, slice_get, refl, sym, ap, ap₂, subst, ◌∙◌, inl, inr, arith, suc}
 use Rattle.std.specs.List.{AllByRecursion}
-use Rattle.rev_causal.specs.Machine.{Machine, Legal, run}
-use Rattle.rev_causal.specs.Entries.{Entry, entries, events}
+use Rattle.rev_causal.specs.Machine.{run}
+use Rattle.rev_causal.specs.Entries.{entries}
 use Rattle.rev_causal.specs.History as causal
-use Rattle.rev_causal.specs.Laws.{IsLeastDependent, IsLeastInTheWay, IsLeastCone}
+use Rattle.rev_causal.specs.Laws.{IsLeastDependent, IsLeastCone}
 use Rattle.rev_causal.proofs.ByNumber as by_number
-use Rattle.rev_causal.proofs.Chosen.{AllAccepted, all_below, chosen-rises, event_at-chosen, event_at-not_chosen, without-last, placed-without, without-not_among, accepted_among, chosen-front}
+use Rattle.rev_causal.proofs.Chosen.{all_below, chosen-rises, event_at-chosen, event_at-not_chosen, without-last, placed-without, without-not_among, accepted_among, chosen-front}
 use Rattle.rev_causal.proofs.Laws as theory
 use Rattle.rev_causal.proofs.Runs.{either}
 use Rattle.rev_events.specs.declared.event.Event.{Event}
@@ -18,8 +17,8 @@ use Rattle.rev_footprint.specs.Value.{print_of}
 use Rattle.rev_footprint.specs.Footprint.{footprint}
 use Rattle.rev_footprint.proofs.Local.{machine-local}
 use Rattle.rev_history.specs.Laws.{DependsOn, StepBack, UndoExactlyWhenIndependent, NearestIsNamed, UndoLeavesTheOthers, RedoNextRestores, RedoRunsNow, OvertakingIsNamed, UndoKeepsFootprints, RedoKeepsFootprints, GreatestIsGreatest, ConeIsLeast}
-use Rattle.rev_history.specs.Timeline.{Timeline, IsHistory, IsRising, machine_at, event_at, chosen, kept_events, kept_entries, state_at, last_of, is_among, without, placed, depended_on, undo_refusal_of, undo_refusal, undone, overtaken, redo_refusal_now, redo_refusal_of, redo_refusal, redone, accept_refusal, accepted_as, greatest_kept, footprints_along}
-use Rattle.rev_history.proofs.Commands.{IsFree, is_free, free_undo, IsReady, is_ready, ready_redo, kept_undone, kept_redone, undone_by, redone_by, undone_history, redone_history, EndsIn, ends_in, below_last, all_last}
+use Rattle.rev_history.specs.Timeline.{Timeline, IsHistory, IsRising, machine_at, event_at, chosen, kept_events, kept_entries, state_at, is_among, without, placed, depended_on, undo_refusal_of, undone, overtaken, redo_refusal_now, redo_refusal_of, accept_refusal, footprints_along}
+use Rattle.rev_history.proofs.Commands.{IsFree, is_free, free_undo, IsReady, is_ready, ready_redo, kept_undone, kept_redone, undone_by, redone_by, undone_history, redone_history, EndsIn, ends_in, below_last}
 use Rattle.rev_history.proofs.Footprints.{along-without, along-put}
 use Rattle.rev_history.proofs.Cones.{some_kept, coned_history}
 

@@ -1,5 +1,5 @@
 -- Each cell is written once.
-use Rattle.std.proofs.Common.{◌≡◌, ℕ, ◌<◌, ◌≤◌, Bool, true, false, List, [], ◌∷◌, map, length, All, get_or, bytes_eq, sym, ap, subst, refl, ◌∙◌, ◌⊎◌, inl, inr, true≢false, arith, zero, suc}
+use Rattle.std.proofs.Common.{◌≡◌, ℕ, false, List, [], ◌∷◌, length, All, bytes_eq, sym, ap, subst, refl, ◌∙◌, inl, inr, true≢false, arith, zero, suc}
 use Rattle.std.specs.List.{AllByRecursion, IsDistinct}
 use Rattle.std.specs.Ordering.{eq_by_cmp}
 use Rattle.rev_causal.specs.Order.{Has, Distinct}
@@ -13,7 +13,7 @@ use Rattle.rev_cells.specs.Values.{Fits, unless_default}
 use Rattle.rev_cells.proofs.EntryLemmas.{other_cell}
 use Rattle.rev_manifest.specs.Builds.{BuildValue, ManifestValue, IsManifest, IsBuild}
 use Rattle.rev_graph.proofs.EntryLemmas.{own_bytes}
-use Rattle.rev_graph.specs.Graph.{build_at, outputs_of, no_build}
+use Rattle.rev_graph.specs.Graph.{build_at, outputs_of}
 use Rattle.rev_events.specs.declared.event.Event.{Event}
 use Rattle.rev_events.specs.Edge.{stored, AllFit}
 use Rattle.rev_events.specs.Laws.{OutputsOnce}

@@ -1,3 +1,4 @@
+pub mod Checked
 pub mod Laws
 pub mod Sound
 pub mod Steps

@@ -29,15 +29,6 @@ footprints_of es steps = numbered_by es (map footprint_of steps)
 abbrev pub prints_of : List (ℕ × Event) → List Step → List (ℕ × Footprint Cell)
 prints_of es steps = numbered_by es (map print_of steps)
 
--- whether a footprint conflicts with one, where there is one
-abbrev pub conflicts_with : FootprintValue → Option FootprintValue → Bool
-conflicts_with f None = false
-conflicts_with f (Some g) = conflict cell_cmp (footprints.print_of f) (footprints.print_of g)
-
--- whether an event stands above a number and conflicts with a footprint
-abbrev pub stands_in_the_way : ℕ → FootprintValue → List (ℕ × Event) → List Step → ℕ → Bool
-stands_in_the_way n f es steps k = nat_lt n k && conflicts_with f (event_at k (footprints_of es steps))
-
 -- whether one, where there is one, conflicts with a footprint
 abbrev pub conflicts_before : FootprintValue → Option FootprintValue → Bool
 conflicts_before g None = false
@@ -50,9 +41,12 @@ conflicts_with_any prints members (Some g) = list_any (λ m. conflicts_before g 
 
 -- whether an event stands above a number and conflicts with that of a member
 abbrev pub joins : ℕ → List (ℕ × Event) → List Step → List ℕ → ℕ → Bool
-joins n es steps members k = nat_lt n k && conflicts_with_any (footprints_of es steps) members (event_at k (footprints_of es steps))
+joins n es steps members k =
+    nat_lt n k && conflicts_with_any (footprints_of es steps) members (event_at k (footprints_of es steps))
 
 -- those of some numbers that stand above one and conflict with a member, or with one that joined before them
 abbrev pub cone_behind : ℕ → List (ℕ × Event) → List Step → List ℕ → List ℕ → List ℕ
 cone_behind n es steps members [] = []
-cone_behind n es steps members (k ∷ ks) = cond (joins n es steps members k) (k ∷ cone_behind n es steps (members ++ k ∷ []) ks) (cone_behind n es steps members ks)
+cone_behind n es steps members (k ∷ ks) =
+    cond (joins n es steps members k) (k ∷ cone_behind n es steps (members ++ k ∷ []) ks)
+    (cone_behind n es steps members ks)

@@ -36,7 +36,9 @@ pub record Timeline : Type 0 where
 abbrev pub timeline_code : Coded Timeline
 timeline_code =
     code_by (ManifestValue × (ℕ × (State × (Numbered × List ℕ))))
-    (coded× coded_manifest (coded× coded_ℕ (coded× (finmap.code coded_cell coded_value) (coded× (coded_list (coded× coded_ℕ coded_event)) (coded_list coded_ℕ)))))
+    (coded× coded_manifest (coded× coded_ℕ
+    (coded× (finmap.code coded_cell coded_value)
+    (coded× (coded_list (coded× coded_ℕ coded_event)) (coded_list coded_ℕ)))))
     (λ t. (t.manifest, (t.jobs, (t.opening, (t.accepted, t.kept)))))
     (λ p. record { manifest = p.0; jobs = p.1.0; opening = p.1.1.0; accepted = p.1.1.1.0; kept = p.1.1.1.1 }) (λ _. refl)
 
@@ -67,13 +69,19 @@ kept_entries t = entries (machine_at t) t.opening (kept_events t)
 -- each event's footprint in the state at its place, under its number
 abbrev pub footprints_along : ManifestValue → State → Numbered → List (ℕ × FootprintValue)
 footprints_along manifest s [] = []
-footprints_along manifest s (e ∷ es) = (e.0, footprint manifest s e.1) ∷ footprints_along manifest (after manifest s e.1) es
+footprints_along manifest s (e ∷ es) =
+    (e.0, footprint manifest s e.1) ∷ footprints_along manifest (after manifest s e.1) es
 
 -- the footprint that a kept event has at its place
 abbrev pub kept_footprint : Timeline → ℕ → Option FootprintValue
 kept_footprint t n = causal.event_at n (footprints_along t.manifest t.opening (kept_events t))
 
--- the kept numbers rise, an event was accepted under each, and each of these events is accepted in the state that those before it leave
+-- the least kept number above n whose event, with the footprint of its place, conflicts with a footprint
+abbrev pub nearest_conflict : ℕ → FootprintValue → Timeline → Option ℕ
+nearest_conflict n f t = causal.nearest_above (machine_at t) n (print_of f) (kept_entries t)
+
+-- the kept numbers rise, an event was accepted under each, and each of these events is accepted in the state that those
+-- before it leave
 pub record IsHistory (t : Timeline) : Type 0 where
   pub rising : IsRising t.kept
   pub accepted : AllByRecursion (λ n. IsSome (event_at t n)) t.kept
@@ -94,9 +102,11 @@ depended_on (Some m) = Some (DependedOn m)
 
 abbrev pub undo_refusal_of : Timeline → ℕ → Option Event → Option Refusal
 undo_refusal_of t n None = Some NoSuchEvent
-undo_refusal_of t n (Some e) = if is_among t.kept n then depended_on (causal.nearest_to (machine_at t) n (kept_entries t)) else Some NotKept
+undo_refusal_of t n (Some e) =
+    if is_among t.kept n then depended_on (causal.nearest_to (machine_at t) n (kept_entries t)) else Some NotKept
 
--- why the undo of n is refused: no event was accepted under n; n is not kept; the event of a later kept number conflicts with that of n, and the least such number
+-- why the undo of n is refused: no event was accepted under n; n is not kept; the event of a later kept number
+-- conflicts with that of n, and the least such number
 abbrev pub undo_refusal : Timeline → ℕ → Option Refusal
 undo_refusal t n = undo_refusal_of t n (event_at t n)
 
@@ -110,14 +120,17 @@ overtaken (Some m) = Some (Overtaken m)
 
 abbrev pub redo_refusal_now : Timeline → ℕ → Event → Option Refusal → Option Refusal
 redo_refusal_now t n e (Some r) = Some (not_now r)
-redo_refusal_now t n e None = overtaken (causal.nearest_above (machine_at t) n (print_of (footprint t.manifest (state_at t) e)) (kept_entries t))
+redo_refusal_now t n e None =
+    overtaken (causal.nearest_above (machine_at t) n (print_of (footprint t.manifest (state_at t) e)) (kept_entries t))
 
 abbrev pub redo_refusal_of : Timeline → ℕ → Option Event → Option Refusal
 redo_refusal_of t n None = Some NoSuchEvent
-redo_refusal_of t n (Some e) = if is_among t.kept n then Some AlreadyKept else redo_refusal_now t n e (accept_refusal t e)
+redo_refusal_of t n (Some e) =
+    if is_among t.kept n then Some AlreadyKept else redo_refusal_now t n e (accept_refusal t e)
 
 -- why the redo of n is refused: no event was accepted under n; n is kept; the event is refused in the present state;
--- the event of a kept number above n conflicts with the footprint that n's event has in the present state, and the least such number
+-- the event of a kept number above n conflicts with the footprint that n's event has in the present state, and the
+-- least such number
 abbrev pub redo_refusal : Timeline → ℕ → Option Refusal
 redo_refusal t n = redo_refusal_of t n (event_at t n)
 

@@ -4,13 +4,15 @@ ghost use Rattle.std.specs.Option.{option_copied};
 ghost use Rattle.rev_cells.specs.Table.{raised_by};
 ghost use Rattle.rev_cells.specs.Opened.{IsOpened};
 ghost use Rattle.rev_events.specs.declared.refusal.Refusal.{Refusal};
-ghost use Rattle.rev_history.specs.Timeline.{IsHistory, Timeline, accept_refusal, accepted_as, back_refusal, cone_numbers, cone_refusal, coned, event_at, greatest_kept, kept_footprint, last_of, opened, redo_refusal, redone, state_at, undo_refusal, undone};
+ghost use Rattle.rev_history.specs.Checked.{HasNow, IsChecked};
+ghost use Rattle.rev_history.specs.Timeline.{IsHistory, Timeline, accept_refusal, accepted_as, back_refusal, cone_numbers, cone_refusal, coned, event_at, greatest_kept, kept_footprint, last_of, nearest_conflict, opened, redo_refusal, redone, state_at, undo_refusal, undone};
 ghost use Rattle.rev_history.specs.Value.{cells_written};
 
-use crate::numbers::{place_of, put_in, take_out};
-use crate::step::{effect, refusal};
-use crate::steps::{Step, cone, footprint_at, nearest};
+use crate::prints::{nearest, take_print, write_noted};
+use crate::step::{Checked, effect, refusal};
+use crate::steps::{Step, cone, footprint_at};
 use indexmap::IndexMap;
+use rev_accesses::{Accesses, place_of, put_in, take_out};
 use rev_cells::{Cells, Opening};
 use rev_events::{Event, Fault, Refusal};
 use rev_footprint::{Footprint, footprint as footprint_now};
@@ -18,9 +20,10 @@ use rev_graph::Graph;
 use std::alloc::{AllocError, Global};
 use std::marker::Model;
 
-/// A graph, an opening, the events that were accepted since under rising numbers, and those of them that are kept. The state is
-/// that which the kept events lead to from the opening, in the order of their numbers. Beside each event stand its footprint
-/// and what it replaced, so that an undo puts that back.
+/// A graph, an opening, the events that were accepted since under rising numbers, and those of them that are kept. The
+/// state is that which the kept events lead to from the opening, in the order of their numbers. Beside each event stand
+/// its footprint and what it replaced, so that an undo puts that back; and under each cell stand the kept numbers that
+/// access it.
 #[derive(Drop)]
 pub struct History {
     alloc: Global,
@@ -29,6 +32,7 @@ pub struct History {
     accepted: IndexMap<u32, Event>,
     steps: Vec<Step>,
     kept: Vec<u32>,
+    accesses: Accesses,
     cells: Cells,
     last: u32,
 }
@@ -40,17 +44,21 @@ impl Model for History {
 
     ghost coded = { value_code };
 
-    ghost use Rattle.rev_history.specs.Sound.{value_of, IsSound};
+    ghost use Rattle.rev_history.specs.Sound.{value_of, IsListed};
 
     ghost view = { value_of };
 
-    ghost invariant = { IsSound };
+    ghost invariant = { IsListed };
 }
 
 impl History {
     /// A history in which nothing was accepted yet.
     pub fn new(alloc: Global, graph: Graph, opening: &Opening) -> Result<History, AllocError>
-        ensures { IfOk result (λ h. h ≡ record { timeline = opened graph.manifest opening.now.jobs opening.now.state; writes = 0 }) }
+        ensures { IfOk result (λ h. h
+            ≡ record {
+              timeline = opened graph.manifest opening.now.jobs opening.now.state;
+              writes = 0;
+            }) }
     {
         Ok(History {
             alloc,
@@ -59,6 +67,7 @@ impl History {
             accepted: IndexMap::new(alloc),
             steps: Vec::new(alloc),
             kept: Vec::new(alloc),
+            accesses: Accesses::new(alloc),
             cells: Cells::new(alloc, opening)?,
             last: 0,
         })
@@ -113,11 +122,20 @@ impl History {
         footprint_at(&self.accepted, &self.steps, number)
     }
 
-    /// Accepts an event under a number above all others, and keeps it. Its refusal is that of the present state. Want of memory may
-    /// be answered before that is known.
+    /// The least kept number above another whose event conflicts with a footprint. It takes no memory, and looks at the
+    /// footprint's cells alone.
+    pub fn nearest(&self, number: u32, footprint: &Footprint) -> Option<u32>
+        ensures { result ≡ nearest_conflict number footprint.now self.now.timeline }
+    {
+        nearest(number, footprint, &self.kept, &self.accesses)
+    }
+
+    /// Accepts an event under a number above all others, and keeps it. Its refusal is that of the present state. Want
+    /// of memory may be answered before that is known.
     pub fn accept(&mut self, number: u32, event: &Event) -> Result<(), Fault>
         requires { last_of self.old.timeline.accepted < number }
-        ensures refused { (r : Refusal) → IsErrOf result (Fault.Refused r) → accept_refusal self.old.timeline event.now ≡ Some r }
+        ensures refused { (r : Refusal) → IsErrOf result (Fault.Refused r)
+            → accept_refusal self.old.timeline event.now ≡ Some r }
         ensures free { OnOk result (accept_refusal self.old.timeline event.now ≡ None) }
         ensures ok { OnOk result (self.new.timeline ≡ accepted_as number event.now self.old.timeline) }
         ensures err { OnErr result (self.new ≡ self.old) }
@@ -132,7 +150,13 @@ impl History {
         self.accepted.reserve(1)?;
         self.steps.reserve(1)?;
         self.kept.reserve(1)?;
-        let replaced = self.cells.write_all(writes)?;
+        let replaced = write_noted(
+            &mut self.accesses,
+            &mut self.cells,
+            number,
+            &footprint,
+            writes,
+        )?;
         self.accepted.insert(number, event)?;
         self.steps.push(Step {
             footprint,
@@ -146,11 +170,13 @@ impl History {
     /// Takes a kept event out, whichever it is of those on which no later kept one depends. The other events stay, and
     /// the state is then that of these alone. It takes no memory, and writes the cells that the event wrote.
     pub fn undo(&mut self, number: u32) -> Result<(), Fault>
-        ensures refused { (r : Refusal) → IsErrOf result (Fault.Refused r) ↔ (undo_refusal self.old.timeline number ≡ Some r) }
+        ensures refused { (r : Refusal) → IsErrOf result (Fault.Refused r)
+            ↔ (undo_refusal self.old.timeline number ≡ Some r) }
         ensures free { OnOk result (undo_refusal self.old.timeline number ≡ None) }
         ensures no_memory { IsErrOf result Fault.Memory → ⊥ }
         ensures ok { OnOk result (self.new.timeline ≡ undone number self.old.timeline) }
-        ensures writes { OnOk result (self.new.writes ≡ raised_by (cells_written number self.old.timeline) self.old.writes) }
+        ensures writes { OnOk result (self.new.writes
+            ≡ raised_by (cells_written number self.old.timeline) self.old.writes) }
         ensures err { OnErr result (self.new ≡ self.old) }
     {
         if let Some(refusal) = self.undo_refused(number) {
@@ -160,29 +186,34 @@ impl History {
         Ok(())
     }
 
-    /// Puts an event that was undone back at its number's place. Want of memory may be answered before it is known
+    /// Puts an event that was undone back at its number's place. `Memory` may be answered before it is known
     /// whether another event stands in the way.
     pub fn redo(&mut self, number: u32) -> Result<(), Fault>
-        ensures refused { (r : Refusal) → IsErrOf result (Fault.Refused r) → redo_refusal self.old.timeline number ≡ Some r }
+        ensures refused { (r : Refusal) → IsErrOf result (Fault.Refused r)
+            → redo_refusal self.old.timeline number ≡ Some r }
         ensures free { OnOk result (redo_refusal self.old.timeline number ≡ None) }
         ensures ok { OnOk result (self.new.timeline ≡ redone number self.old.timeline) }
         ensures err { OnErr result (self.new ≡ self.old) }
     {
-        if let Some(refusal) = self.redo_refused(number)? {
-            return Err(Fault::Refused(refusal));
+        match self.redo_checked(number)? {
+            Checked::Refused(refusal) => Err(Fault::Refused(refusal)),
+            Checked::Free(footprint) => {
+                self.keep(number, footprint)?;
+                Ok(())
+            }
         }
-        self.keep(number)?;
-        Ok(())
     }
 
-    /// Takes out the event of the greatest kept number, and gives that number. It takes no memory, and writes the cells that
-    /// the event wrote.
+    /// Takes out the event of the greatest kept number, and gives that number. It takes no memory, and writes the cells
+    /// that the event wrote.
     pub fn back(&mut self) -> Result<u32, Fault>
-        ensures refused { (r : Refusal) → IsErrOf result (Fault.Refused r) ↔ (back_refusal self.old.timeline ≡ Some r) }
+        ensures refused { (r : Refusal) → IsErrOf result (Fault.Refused r)
+            ↔ (back_refusal self.old.timeline ≡ Some r) }
         ensures no_memory { IsErrOf result Fault.Memory → ⊥ }
         ensures greatest { IfOk result (λ n. greatest_kept self.old.timeline ≡ Some n) }
         ensures ok { IfOk result (λ n. self.new.timeline ≡ undone n self.old.timeline) }
-        ensures writes { IfOk result (λ n. self.new.writes ≡ raised_by (cells_written n self.old.timeline) self.old.writes) }
+        ensures writes { IfOk result (λ n. self.new.writes
+            ≡ raised_by (cells_written n self.old.timeline) self.old.writes) }
         ensures err { OnErr result (self.new ≡ self.old) }
     {
         let Some(number) = self.greatest() else {
@@ -192,10 +223,11 @@ impl History {
         Ok(number)
     }
 
-    /// Takes out a kept event and all later ones that depend on it, one by way of another, and gives their numbers, which rise. The other events
-    /// stay, and the state is then that of these alone.
+    /// Takes out a kept event and all later ones that depend on it, one by way of another, and gives their numbers,
+    /// which rise. The other events stay, and the state is then that of these alone.
     pub fn cone(&mut self, number: u32) -> Result<Vec<u32>, Fault>
-        ensures refused { (r : Refusal) → IsErrOf result (Fault.Refused r) ↔ (cone_refusal self.old.timeline number ≡ Some r) }
+        ensures refused { (r : Refusal) → IsErrOf result (Fault.Refused r)
+            ↔ (cone_refusal self.old.timeline number ≡ Some r) }
         ensures free { OnOk result (cone_refusal self.old.timeline number ≡ None) }
         ensures numbers { IfOk result (λ numbers. numbers.items ≡ cone_numbers number self.old.timeline) }
         ensures ok { OnOk result (self.new.timeline ≡ coned number self.old.timeline) }
@@ -248,7 +280,8 @@ impl History {
         cone(self.alloc, number, &self.kept, &self.accepted, &self.steps)
     }
 
-    // Takes the members of a cone out, from the last down: on the last none depends, and without it the others are the cone.
+    // Takes the members of a cone out, from the last down: on the last none depends, and without it the others are the
+    // cone.
     fn take_down(&mut self, number: u32, members: &[u32])
         requires legal { IsHistory self.old.timeline }
         requires members { members.now ≡ cone_numbers number self.old.timeline }
@@ -282,7 +315,7 @@ impl History {
         let Some(footprint) = footprint_at(&self.accepted, &self.steps, number) else {
             unreachable!()
         };
-        let dependent = nearest(number, footprint, &self.kept, &self.accepted, &self.steps)?;
+        let dependent = self.nearest(number, footprint)?;
         Some(Refusal::DependedOn(dependent))
     }
 
@@ -290,24 +323,34 @@ impl History {
     pub fn redo_refused(&self, number: u32) -> Result<Option<Refusal>, AllocError>
         ensures { IfOk result (λ refused. refused ≡ redo_refusal self.now.timeline number) }
     {
+        match self.redo_checked(number)? {
+            Checked::Refused(refusal) => Ok(Some(refusal)),
+            Checked::Free(_) => Ok(None),
+        }
+    }
+
+    // Whether `redo` would put an event back now.
+    fn redo_checked(&self, number: u32) -> Result<Checked, AllocError>
+        ensures { IfOk result (IsChecked self.now.timeline number) }
+    {
         let Some(event) = self.event(number) else {
-            return Ok(Some(Refusal::NoSuchEvent));
+            return Ok(Checked::Refused(Refusal::NoSuchEvent));
         };
         if place_of(&self.kept, number).is_some() {
-            return Ok(Some(Refusal::AlreadyKept));
+            return Ok(Checked::Refused(Refusal::AlreadyKept));
         }
         let refused = refusal(self.alloc, &self.graph, &self.cells, event)?;
         if let Some(refusal) = refused {
             let [first, _] = refusal.numbers();
-            return Ok(Some(Refusal::NotNow {
+            return Ok(Checked::Refused(Refusal::NotNow {
                 refusal: refusal.code(),
                 first,
             }));
         }
         let footprint = footprint_now(self.alloc, &self.graph, &self.cells, event)?;
-        match nearest(number, &footprint, &self.kept, &self.accepted, &self.steps) {
-            Some(other) => Ok(Some(Refusal::Overtaken(other))),
-            None => Ok(None),
+        match self.nearest(number, &footprint) {
+            Some(other) => Ok(Checked::Refused(Refusal::Overtaken(other))),
+            None => Ok(Checked::Free(footprint)),
         }
     }
 
@@ -322,12 +365,14 @@ impl History {
         };
         let step = &mut self.steps[index];
         self.cells.exchange(&mut step.replaced);
+        take_print(&mut self.accesses, number, &step.footprint);
         take_out(&mut self.kept, number);
     }
 
-    // Keeps an event at its number's place that nothing stands in the way of.
-    fn keep(&mut self, number: u32) -> Result<(), AllocError>
-        requires { redo_refusal self.old.timeline number ≡ None }
+    // Keeps an event at its number's place that nothing stands in the way of, with the footprint that it has now.
+    fn keep(&mut self, number: u32, footprint: Footprint) -> Result<(), AllocError>
+        requires free { redo_refusal self.old.timeline number ≡ None }
+        requires print { HasNow self.old.timeline number footprint }
         ensures ok { OnOk result (self.new.timeline ≡ redone number self.old.timeline) }
         ensures err { OnErr result (self.new ≡ self.old) }
     {
@@ -337,10 +382,15 @@ impl History {
         let Some(event) = self.accepted.get(&number) else {
             unreachable!()
         };
-        let footprint = footprint_now(self.alloc, &self.graph, &self.cells, event)?;
         let writes = effect(self.alloc, &self.graph, &self.cells, event)?;
         self.kept.reserve(1)?;
-        let replaced = self.cells.write_all(writes)?;
+        let replaced = write_noted(
+            &mut self.accesses,
+            &mut self.cells,
+            number,
+            &footprint,
+            writes,
+        )?;
         put_in(&mut self.kept, number)?;
         self.steps[index] = Step {
             footprint,

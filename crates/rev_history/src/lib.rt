@@ -4,7 +4,7 @@
 
 mod history;
 pub mod laws;
-mod numbers;
+mod prints;
 mod step;
 mod steps;
 #[cfg(test)]

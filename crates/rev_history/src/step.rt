@@ -11,8 +11,16 @@ ghost use Rattle.rev_events.specs.Machine.{effect as effect_in, refusal as refus
 
 use rev_cells::{Cell, Cells, Value};
 use rev_events::{Event, Fault, Refusal, check, effect as effect_now};
+use rev_footprint::Footprint;
 use rev_graph::Graph;
 use std::alloc::{AllocError, Global};
+
+/// Whether the event of a number can be put back now: why it cannot, or the footprint that it has now.
+#[derive(Drop)]
+pub(crate) enum Checked {
+    Refused(Refusal),
+    Free(Footprint),
+}
 
 /// Why an event is refused in the present state, where it is.
 pub(crate) fn refusal(
@@ -21,7 +29,8 @@ pub(crate) fn refusal(
     cells: &Cells,
     event: &Event,
 ) -> Result<Option<Refusal>, AllocError>
-    ensures { IfOk result (λ refused. refused ≡ refusal_in graph.now.manifest cells.now.jobs cells.now.state event.now) }
+    ensures { IfOk result (λ refused. refused
+        ≡ refusal_in graph.now.manifest cells.now.jobs cells.now.state event.now) }
 {
     match check(alloc, graph, cells, event) {
         Ok(()) => Ok(None),
@@ -38,7 +47,8 @@ pub(crate) fn effect(
     event: &Event,
 ) -> Result<Vec<(Cell, Value)>, AllocError>
     requires { refusal_in graph.now.manifest cells.now.jobs cells.now.state event.now ≡ None }
-    ensures writes { IfOk result (λ writes. stored_values writes.items ≡ effect_in graph.now.manifest cells.now.state event.now) }
+    ensures writes { IfOk result (λ writes. stored_values writes.items
+        ≡ effect_in graph.now.manifest cells.now.state event.now) }
     ensures fits { IfOk result (λ writes. AllByRecursion (λ (w : Cell × Value). Fits w.0 w.1) writes.items) }
     ensures once { IfOk result (λ writes. IsDistinct (eq_by_cmp cell_cmp) (cells_of writes.items)) }
 {

@@ -2,12 +2,8 @@
 ghost use Rattle.std.specs.Prelude.{◌≡◌, [], ◌∷◌, length, IfOk};
 ghost use Rattle.std.specs.List.{list_any};
 ghost use Rattle.std.specs.Option.{option_copied};
-ghost use Rattle.rev_causal.specs.Chosen.{chosen};
 ghost use Rattle.rev_causal.specs.History.{event_at};
-ghost use Rattle.rev_causal.specs.KeptHistory.{nearest_in};
-ghost use Rattle.rev_cells.specs.Keys.{cell_cmp};
-ghost use Rattle.rev_footprint.specs.Value.{print_of};
-ghost use Rattle.rev_history.specs.Steps.{cone_behind, conflicts_before as conflicts_before_in, footprints_of, joins, prints_of, stands_in_the_way};
+ghost use Rattle.rev_history.specs.Steps.{cone_behind, conflicts_before as conflicts_before_in, footprints_of, joins};
 
 use indexmap::IndexMap;
 use rev_cells::{Cell, Value};
@@ -15,8 +11,8 @@ use rev_events::Event;
 use rev_footprint::{Footprint, conflict};
 use std::alloc::{AllocError, Global};
 
-/// What is kept beside an accepted event: the cells that it reads and writes, and what those that it writes held before it. As
-/// long as the event is not kept these are of no use, and the memory that they take waits for a redo.
+/// What is kept beside an accepted event: the cells that it reads and writes, and what those that it writes held before
+/// it. As long as the event is not kept these are of no use, and the memory that they take waits for a redo.
 #[derive(Drop)]
 pub(crate) struct Step {
     pub(crate) footprint: Footprint,
@@ -38,45 +34,6 @@ pub(crate) fn footprint_at<'a>(
     Some(&steps[index].footprint)
 }
 
-// Whether the event of a number stands above another number, and conflicts with a footprint.
-fn is_in_the_way(
-    number: u32,
-    footprint: &Footprint,
-    accepted: &IndexMap<u32, Event>,
-    steps: &[Step],
-    other: u32,
-) -> bool
-    requires { length steps.now ≡ length accepted.now.entries }
-    ensures { result ≡ stands_in_the_way number footprint.now accepted.now.entries steps.now other }
-{
-    if number >= other {
-        return false;
-    }
-    match footprint_at(accepted, steps, other) {
-        Some(beside) => conflict(footprint, beside),
-        None => false,
-    }
-}
-
-/// The least kept number above another whose event conflicts with a footprint.
-pub(crate) fn nearest(
-    number: u32,
-    footprint: &Footprint,
-    kept: &[u32],
-    accepted: &IndexMap<u32, Event>,
-    steps: &[Step],
-) -> Option<u32>
-    requires { length steps.now ≡ length accepted.now.entries }
-    ensures { result ≡ nearest_in cell_cmp number (print_of footprint.now) (chosen (prints_of accepted.now.entries steps.now) kept.now) }
-{
-    for other in kept {
-        if is_in_the_way(number, footprint, accepted, steps, *other) {
-            return Some(*other);
-        }
-    }
-    None
-}
-
 // Whether the event of a number, if there is one, conflicts with a later footprint.
 fn conflicts_before(
     footprint: &Footprint,
@@ -85,7 +42,8 @@ fn conflicts_before(
     member: u32,
 ) -> bool
     requires { length steps.now ≡ length accepted.now.entries }
-    ensures { result ≡ conflicts_before_in footprint.now (event_at member (footprints_of accepted.now.entries steps.now)) }
+    ensures { result ≡ conflicts_before_in footprint.now
+        (event_at member (footprints_of accepted.now.entries steps.now)) }
 {
     match footprint_at(accepted, steps, member) {
         Some(before) => conflict(before, footprint),
@@ -101,7 +59,9 @@ fn conflicts_with_member(
     steps: &[Step],
 ) -> bool
     requires { length steps.now ≡ length accepted.now.entries }
-    ensures { result ≡ list_any (λ member. conflicts_before_in footprint.now (event_at member (footprints_of accepted.now.entries steps.now))) members.now }
+    ensures { result ≡ list_any (λ member.
+        conflicts_before_in footprint.now
+        (event_at member (footprints_of accepted.now.entries steps.now))) members.now }
 {
     members.iter().any(|member| conflicts_before(footprint, accepted, steps, *member))
 }
@@ -135,7 +95,8 @@ pub(crate) fn cone(
     steps: &[Step],
 ) -> Result<Vec<u32>, AllocError>
     requires { length steps.now ≡ length accepted.now.entries }
-    ensures { IfOk result (λ members. members.items ≡ number ∷ cone_behind number accepted.now.entries steps.now (number ∷ []) kept.now) }
+    ensures { IfOk result (λ members. members.items
+        ≡ number ∷ cone_behind number accepted.now.entries steps.now (number ∷ []) kept.now) }
 {
     let mut members = Vec::new(alloc);
     members.push(number)?;

@@ -8,6 +8,10 @@ use Rattle.rev_history.specs.declared.steps.Step.{Step}
 use Rattle.rev_history.specs.Timeline.{Numbered, last_of, accepted_as}
 use Rattle.rev_history.specs.Value.{HistoryValue}
 use Rattle.rev_history.proofs.Effects.{values_found, state_found, has_found}
+use Rattle.rev_accesses.specs.Value.{Shows}
+use Rattle.rev_history.specs.declared.history.History.TheInside.{Inside}
+use Rattle.rev_history.specs.Sound.{kept_prints}
+use Rattle.rev_history.proofs.Listed.{prints_rise, print_missing, accepted_prints, same_prints}
 use Rattle.rev_history.proofs.Fields.{same_sound, accepted_sound, accept_refusal_found}
 use Rattle.rev_history.proofs.history.History.accept.Goals as goal
 
@@ -19,25 +23,38 @@ inserted m es fs n e event is before same above =
 
 pub invariant_of-self-in_err-replaced : goal.invariant_of-self-in_err-replaced
 invariant_of-self-in_err-replaced c =
-    same_sound c.self.inside _ c.self.invariant refl refl c.reserve.ensures.entries c.reserve-2.ensures.items c.reserve-3.ensures.items c.in_err-replaced.ensures.unchanged c.in_err-replaced.ensures.jobs refl c.in_err-replaced.ensures.more
+    let above : last_of c.self.inside.accepted.entries < c.args.number = subst (λ (h : HistoryValue). last_of h.timeline.accepted < c.args.number) (sym c.self.view_is) c.requires in
+    let after : Inside = record c.self.inside { accepted = c.reserve.new.self; steps = c.reserve-2.new.self; kept = c.reserve-3.new.self; accesses = c.write_noted.new.accesses; cells = c.write_noted.new.cells } in
+    record {
+      sound = same_sound c.self.inside after c.self.invariant.sound refl refl c.reserve.ensures.entries c.reserve-2.ensures.items c.reserve-3.ensures.items c.in_err-replaced.ensures.unchanged c.in_err-replaced.ensures.jobs refl c.in_err-replaced.ensures.more;
+      shown = subst (Shows c.write_noted.new.accesses) (same_prints c.self.inside after c.reserve.ensures.entries c.reserve-2.ensures.items c.reserve-3.ensures.items)
+          (c.in_err-replaced.ensures.not_noted (kept_prints c.self.inside) (prints_rise c.self.inside c.self.invariant.sound) (print_missing c.self.inside c.self.invariant.sound c.args.number above) c.self.invariant.shown);
+    }
 
 pub invariant_of-self-2 : goal.invariant_of-self-2
 invariant_of-self-2 c =
     let above : last_of c.self.inside.accepted.entries < c.args.number = subst (λ (h : HistoryValue). last_of h.timeline.accepted < c.args.number) (sym c.self.view_is) c.requires in
     let step : Step = record { footprint = c.in_ok-footprint.footprint; replaced = c.in_ok-replaced.replaced } in
-    accepted_sound c.self.inside _ c.args.number c.args.event.now step c.self.invariant above (sym c.in_ok-refused.ensures ∙ c.in_default.is) refl refl
-    (inserted c.reserve.new.self c.self.inside.accepted.entries c.insert.new.self.entries c.args.number c.in_ok-event.event c.args.event.now c.in_ok-insert.ensures.entries c.reserve.ensures.entries c.in_ok-event.ensures above)
-    (c.in_ok-push-2.ensures.items ∙ ap (λ ks. ks ++ c.args.number ∷ []) c.reserve-3.ensures.items)
-    (c.in_ok-push.ensures.items ∙ ap (λ ss. ss ++ step ∷ []) c.reserve-2.ensures.items)
-    c.in_ok-footprint.ensures
-    (values_found c.self.inside.graph.manifest c.self.inside.cells.state c.args.event.now c.in_ok-writes.writes.items c.in_ok-replaced.replaced.items c.in_ok-writes.ensures.once c.in_ok-replaced.ensures.stored c.in_ok-writes.ensures.writes)
-    (record {
-      has = has_found c.write_all.new.self.places c.self.inside.cells.state c.in_ok-writes.writes.items c.in_ok-replaced.replaced.items c.in_ok-replaced.ensures.has c.in_ok-replaced.ensures.former;
-      fits = c.in_ok-replaced.ensures.former_fits;
-    })
-    c.in_ok-replaced.ensures.more
-    (state_found c.self.inside.graph.manifest c.self.inside.cells.state c.write_all.new.self.state c.args.event.now c.in_ok-writes.writes.items c.in_ok-replaced.ensures.state c.in_ok-writes.ensures.writes)
-    c.in_ok-replaced.ensures.jobs refl
+    let accepted : c.insert.new.self.entries ≡ c.self.inside.accepted.entries ++ (c.args.number, c.args.event.now) ∷ [] =
+    inserted c.reserve.new.self c.self.inside.accepted.entries c.insert.new.self.entries c.args.number c.in_ok-event.event c.args.event.now c.in_ok-insert.ensures.entries c.reserve.ensures.entries c.in_ok-event.ensures above in
+    let kept : c.push-2.new.self.items ≡ c.self.inside.kept.items ++ c.args.number ∷ [] = c.in_ok-push-2.ensures.items ∙ ap (λ ks. ks ++ c.args.number ∷ []) c.reserve-3.ensures.items in
+    let steps : c.push.new.self.items ≡ c.self.inside.steps.items ++ step ∷ [] = c.in_ok-push.ensures.items ∙ ap (λ ss. ss ++ step ∷ []) c.reserve-2.ensures.items in
+    let after : Inside = record c.self.inside { accepted = c.insert.new.self; steps = c.push.new.self; kept = c.push-2.new.self; accesses = c.write_noted.new.accesses; cells = c.write_noted.new.cells; last = c.args.number } in
+    record {
+      shown = subst (Shows c.write_noted.new.accesses) (accepted_prints c.self.inside after c.args.number c.args.event.now step c.self.invariant.sound above accepted kept steps)
+          (c.in_ok-replaced.ensures.noted (kept_prints c.self.inside) (prints_rise c.self.inside c.self.invariant.sound) (print_missing c.self.inside c.self.invariant.sound c.args.number above) c.self.invariant.shown);
+      sound = accepted_sound c.self.inside after c.args.number c.args.event.now step c.self.invariant.sound above (sym c.in_ok-refused.ensures ∙ c.in_default.is) refl refl
+          accepted kept steps
+          c.in_ok-footprint.ensures
+          (values_found c.self.inside.graph.manifest c.self.inside.cells.state c.args.event.now c.in_ok-writes.writes.items c.in_ok-replaced.replaced.items c.in_ok-writes.ensures.once c.in_ok-replaced.ensures.stored c.in_ok-writes.ensures.writes)
+          (record {
+            has = has_found c.write_noted.new.cells.places c.self.inside.cells.state c.in_ok-writes.writes.items c.in_ok-replaced.replaced.items c.in_ok-replaced.ensures.has c.in_ok-replaced.ensures.former;
+            fits = c.in_ok-replaced.ensures.former_fits;
+          })
+          c.in_ok-replaced.ensures.more
+          (state_found c.self.inside.graph.manifest c.self.inside.cells.state c.write_noted.new.cells.state c.args.event.now c.in_ok-writes.writes.items c.in_ok-replaced.ensures.state c.in_ok-writes.ensures.writes)
+          c.in_ok-replaced.ensures.jobs refl;
+    }
 
 pub returns-clause-ok : goal.returns-clause-ok
 returns-clause-ok c =
@@ -51,4 +68,4 @@ returns-clause-ok c =
 
 pub returns-clause-free : goal.returns-clause-free
 returns-clause-free c =
-    sym (accept_refusal_found c.self.inside c.self.invariant c.args.self.now.timeline (ap (λ (h : HistoryValue). h.timeline) c.self.view_is) c.args.event.now) ∙ sym c.in_ok-refused.ensures ∙ c.in_default.is
+    sym (accept_refusal_found c.self.inside c.self.invariant.sound c.args.self.now.timeline (ap (λ (h : HistoryValue). h.timeline) c.self.view_is) c.args.event.now) ∙ sym c.in_ok-refused.ensures ∙ c.in_default.is

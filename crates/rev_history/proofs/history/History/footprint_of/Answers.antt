@@ -12,4 +12,4 @@ returns-in_err-_place c =
 pub returns : goal.returns
 returns c =
     c.footprint_at.ensures
-    ∙ print_found c.self.inside c.self.invariant c.args.self.now.timeline (ap (λ (h : HistoryValue). h.timeline) c.self.view_is) c.args.number c.deref.result.now c.deref-2.result.now c.deref.ensures.value c.in_ok-_place.ensures.among c.deref-2.ensures.value
+    ∙ print_found c.self.inside c.self.invariant.sound c.args.self.now.timeline (ap (λ (h : HistoryValue). h.timeline) c.self.view_is) c.args.number c.deref.result.now c.deref-2.result.now c.deref.ensures.value c.in_ok-_place.ensures.among c.deref-2.ensures.value

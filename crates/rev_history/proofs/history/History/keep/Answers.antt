@@ -1,10 +1,15 @@
-use Rattle.std.proofs.Common.{◌≡◌, None, Some, sym, refl, ap, ◌∙◌}
+use Rattle.std.proofs.Common.{◌≡◌, false, None, Some, sym, refl, ap, subst, ◌∙◌}
 use Rattle.rev_causal.specs.History as causal
-use Rattle.rev_causal.proofs.Beside.{place_found}
+use Rattle.rev_causal.proofs.Beside.{IsPlace, place_found}
 use Rattle.rev_causal.proofs.Chosen.{lookup-event_at}
 use Rattle.rev_history.specs.declared.steps.Step.{Step}
-use Rattle.rev_history.specs.Sound.{timeline_of}
-use Rattle.rev_history.specs.Timeline.{redo_refusal, placed}
+use Rattle.rev_history.specs.Sound.{timeline_of, kept_prints}
+use Rattle.rev_footprint.specs.Footprint.{footprint}
+use Rattle.rev_history.specs.Timeline.{redo_refusal, placed, is_among}
+use Rattle.std.specs.Vec.{with_item}
+use Rattle.rev_accesses.specs.Value.{Shows}
+use Rattle.rev_history.specs.declared.history.History.TheInside.{Inside}
+use Rattle.rev_history.proofs.Listed.{print_now, prints_rise, print_apart, put_prints, same_prints}
 use Rattle.rev_history.specs.Value.{HistoryValue}
 use Rattle.rev_history.proofs.Commands.{is_ready}
 use Rattle.rev_history.proofs.Effects.{values_found, state_found, has_found}
@@ -13,31 +18,46 @@ use Rattle.rev_history.proofs.history.History.keep.Goals as goal
 
 pub unreachable-requires : goal.unreachable-requires
 unreachable-requires c =
-    let r = is_ready (timeline_of c.self.inside) c.args.number (ap (λ (h : HistoryValue). redo_refusal h.timeline c.args.number) c.self.view_is ∙ c.requires) in
+    let r = is_ready (timeline_of c.self.inside) c.args.number (ap (λ (h : HistoryValue). redo_refusal h.timeline c.args.number) c.self.view_is ∙ c.requires.free) in
     has_index c.self.inside c.args.number r.event r.at c.in_default.ensures.found
 
 pub effect-requires : goal.effect-requires
 effect-requires c =
-    accepted_now c.self.inside c.self.invariant c.args.number c.in-Some-get.event.now (ap (λ (h : HistoryValue). redo_refusal h.timeline c.args.number) c.self.view_is ∙ c.requires)
+    accepted_now c.self.inside c.self.invariant.sound c.args.number c.in-Some-get.event.now (ap (λ (h : HistoryValue). redo_refusal h.timeline c.args.number) c.self.view_is ∙ c.requires.free)
     (sym (c.in-Some-get.ensures.value ∙ lookup-event_at c.args.number c.self.inside.accepted.entries))
 
 pub invariant_of-self-in_err-replaced : goal.invariant_of-self-in_err-replaced
 invariant_of-self-in_err-replaced c =
-    same_sound c.self.inside _ c.self.invariant refl refl refl refl c.reserve.ensures.items c.in_err-replaced.ensures.unchanged c.in_err-replaced.ensures.jobs refl c.in_err-replaced.ensures.more
+    let apart : is_among c.self.inside.kept.items c.args.number ≡ false = (is_ready (timeline_of c.self.inside) c.args.number (ap (λ (h : HistoryValue). redo_refusal h.timeline c.args.number) c.self.view_is ∙ c.requires.free)).apart in
+    let after : Inside = record c.self.inside { kept = c.reserve.new.self; accesses = c.write_noted.new.accesses; cells = c.write_noted.new.cells } in
+    record {
+      sound = same_sound c.self.inside after c.self.invariant.sound refl refl refl refl c.reserve.ensures.items c.in_err-replaced.ensures.unchanged c.in_err-replaced.ensures.jobs refl c.in_err-replaced.ensures.more;
+      shown = subst (Shows c.write_noted.new.accesses) (same_prints c.self.inside after refl refl c.reserve.ensures.items)
+          (c.in_err-replaced.ensures.not_noted (kept_prints c.self.inside) (prints_rise c.self.inside c.self.invariant.sound) (print_apart c.self.inside c.args.number apart) c.self.invariant.shown);
+    }
 
 pub invariant_of-self-2 : goal.invariant_of-self-2
 invariant_of-self-2 c =
-    let free : redo_refusal (timeline_of c.self.inside) c.args.number ≡ None = ap (λ (h : HistoryValue). redo_refusal h.timeline c.args.number) c.self.view_is ∙ c.requires in
+    let free : redo_refusal (timeline_of c.self.inside) c.args.number ≡ None = ap (λ (h : HistoryValue). redo_refusal h.timeline c.args.number) c.self.view_is ∙ c.requires.free in
     let at : causal.event_at c.args.number c.self.inside.accepted.entries ≡ Some c.in-Some-get.event.now = sym (c.in-Some-get.ensures.value ∙ lookup-event_at c.args.number c.self.inside.accepted.entries) in
-    let step : Step = record { footprint = c.in_ok-footprint.footprint; replaced = c.in_ok-replaced.replaced } in
-    (put_in c.self.inside _ c.args.number c.in-Some.index c.in-Some-get.event.now step c.self.invariant (place_found c.args.number c.self.inside.accepted.entries c.in-Some.index (sym c.in-Some.ensures.index)) at free
-    refl refl refl refl refl c.in_ok-footprint.ensures
-    (values_found c.self.inside.graph.manifest c.self.inside.cells.state c.in-Some-get.event.now c.in_ok-writes.writes.items c.in_ok-replaced.replaced.items c.in_ok-writes.ensures.once c.in_ok-replaced.ensures.stored c.in_ok-writes.ensures.writes)
-    (record {
-      has = has_found c.write_all.new.self.places c.self.inside.cells.state c.in_ok-writes.writes.items c.in_ok-replaced.replaced.items c.in_ok-replaced.ensures.has c.in_ok-replaced.ensures.former;
-      fits = c.in_ok-replaced.ensures.former_fits;
-    })
-    c.in_ok-replaced.ensures.more
-    (state_found c.self.inside.graph.manifest c.self.inside.cells.state c.write_all.new.self.state c.in-Some-get.event.now c.in_ok-writes.writes.items c.in_ok-replaced.ensures.state c.in_ok-writes.ensures.writes)
-    c.in_ok-replaced.ensures.jobs
-    (c.in_ok-put_in.ensures.ok ∙ ap (placed c.args.number) c.reserve.ensures.items)).sound
+    let step : Step = record { footprint = c.args.footprint; replaced = c.in_ok-replaced.replaced } in
+    let print : c.args.footprint ≡ footprint c.self.inside.graph.manifest c.self.inside.cells.state c.in-Some-get.event.now = print_now c.self.inside c.self.invariant.sound c.args.self.now.timeline (ap (λ (h : HistoryValue). h.timeline) c.self.view_is) c.args.number c.in-Some-get.event.now c.args.footprint c.requires.print at in
+    let place : IsPlace c.args.number c.self.inside.accepted.entries c.in-Some.index = place_found c.args.number c.self.inside.accepted.entries c.in-Some.index (sym c.in-Some.ensures.index) in
+    let apart : is_among c.self.inside.kept.items c.args.number ≡ false = (is_ready (timeline_of c.self.inside) c.args.number free).apart in
+    let kept : c.put_in.new.numbers.items ≡ placed c.args.number c.self.inside.kept.items = c.in_ok-put_in.ensures.ok ∙ ap (placed c.args.number) c.reserve.ensures.items in
+    let after : Inside = record c.self.inside { steps = with_item c.self.inside.steps c.in-Some.index step; kept = c.put_in.new.numbers; accesses = c.write_noted.new.accesses; cells = c.write_noted.new.cells } in
+    record {
+      shown = subst (Shows c.write_noted.new.accesses) (put_prints c.self.inside after c.args.number c.in-Some.index c.in-Some-get.event.now step c.self.invariant.sound place apart refl refl kept)
+          (c.in_ok-replaced.ensures.noted (kept_prints c.self.inside) (prints_rise c.self.inside c.self.invariant.sound) (print_apart c.self.inside c.args.number apart) c.self.invariant.shown);
+      sound = (put_in c.self.inside after c.args.number c.in-Some.index c.in-Some-get.event.now step c.self.invariant.sound place at free
+          refl refl refl refl refl print
+          (values_found c.self.inside.graph.manifest c.self.inside.cells.state c.in-Some-get.event.now c.in_ok-writes.writes.items c.in_ok-replaced.replaced.items c.in_ok-writes.ensures.once c.in_ok-replaced.ensures.stored c.in_ok-writes.ensures.writes)
+          (record {
+            has = has_found c.write_noted.new.cells.places c.self.inside.cells.state c.in_ok-writes.writes.items c.in_ok-replaced.replaced.items c.in_ok-replaced.ensures.has c.in_ok-replaced.ensures.former;
+            fits = c.in_ok-replaced.ensures.former_fits;
+          })
+          c.in_ok-replaced.ensures.more
+          (state_found c.self.inside.graph.manifest c.self.inside.cells.state c.write_noted.new.cells.state c.in-Some-get.event.now c.in_ok-writes.writes.items c.in_ok-replaced.ensures.state c.in_ok-writes.ensures.writes)
+          c.in_ok-replaced.ensures.jobs
+          kept).sound;
+    }

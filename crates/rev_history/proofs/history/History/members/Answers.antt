@@ -8,8 +8,8 @@ use Rattle.rev_history.proofs.history.History.members.Goals as goal
 pub returns-clause-members : goal.returns-clause-members
 returns-clause-members c =
     subst (λ (ns : List ℕ). IfOk c.cone.result (λ members. members.items ≡ ns))
-    (cone_is_found c.self.inside c.self.invariant c.args.self.now.timeline (ap (λ (h : HistoryValue). h.timeline) c.self.view_is) c.args.number c.deref.result.now c.deref-2.result.now c.deref.ensures.value c.deref-2.ensures.value c.requires)
+    (cone_is_found c.self.inside c.self.invariant.sound c.args.self.now.timeline (ap (λ (h : HistoryValue). h.timeline) c.self.view_is) c.args.number c.deref.result.now c.deref-2.result.now c.deref.ensures.value c.deref-2.ensures.value c.requires)
     c.cone.ensures
 
 pub returns-clause-legal : goal.returns-clause-legal
-returns-clause-legal c = subst (λ (h : HistoryValue). IsHistory h.timeline) c.self.view_is (history_of c.self.inside c.self.invariant)
+returns-clause-legal c = subst (λ (h : HistoryValue). IsHistory h.timeline) c.self.view_is (history_of c.self.inside c.self.invariant.sound)

@@ -1,5 +1,5 @@
-use Rattle.std.proofs.Common.{◌≡◌, ◌≤◌, length, take, get_or, ◌-◌, sym, ap, subst, ◌∙◌, arith}
-use Rattle.rev_history.specs.Timeline.{Timeline, IsHistory, cone_numbers, coned}
+use Rattle.std.proofs.Common.{◌≤◌, length, sym, ap, subst, ◌∙◌, arith}
+use Rattle.rev_history.specs.Timeline.{IsHistory, cone_numbers, coned}
 use Rattle.rev_history.proofs.Cones.{down_step, down_last}
 use Rattle.rev_history.proofs.history.History.take_down.Goals as goal
 

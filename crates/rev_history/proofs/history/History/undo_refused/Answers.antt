@@ -1,4 +1,4 @@
-use Rattle.std.proofs.Common.{◌≡◌, true, List, ℕ, Some, None, IsSome, ap, sym, subst, ◌∙◌, rules}
+use Rattle.std.proofs.Common.{◌≡◌, true, List, ℕ, Some, None, IsSome, ap, subst, ◌∙◌, rules}
 use Rattle.rev_causal.specs.History as causal
 use Rattle.rev_history.specs.declared.steps.Step.{Step}
 use Rattle.rev_history.specs.Steps.{footprints_of}
@@ -9,22 +9,18 @@ use Rattle.rev_history.proofs.history.History.undo_refused.Goals as goal
 
 pub unreachable-requires : goal.unreachable-requires
 unreachable-requires c =
-    has_print c.self.inside c.self.invariant c.args.number (subst (λ (ks : List ℕ). is_among ks c.args.number ≡ true) c.deref.ensures.value c.in-Some.ensures.among)
+    has_print c.self.inside c.self.invariant.sound c.args.number (subst (λ (ks : List ℕ). is_among ks c.args.number ≡ true) c.deref.ensures.value c.in-Some.ensures.among)
     (c.in_default-footprint_at.ensures ∙ ap (λ (xs : List Step). causal.event_at c.args.number (footprints_of c.self.inside.accepted.entries xs)) c.deref-2.ensures.value)
 
 pub returns-in_err-dependent : goal.returns-in_err-dependent
 returns-in_err-dependent c =
     let some : IsSome (event_at c.args.self.now.timeline c.args.number) = search rules in
     c.from_residual.ensures
-    ∙ undo_refusal_found c.self.inside c.self.invariant c.args.self.now.timeline (ap (λ (h : HistoryValue). h.timeline) c.self.view_is) c.args.number c.in-Some-footprint_at.footprint.now c.deref.result.now c.deref-3.result.now c.deref-4.result.now
-    c.deref.ensures.value c.in-Some.ensures.among c.deref-4.ensures.value
-    (c.in-Some-footprint_at.ensures ∙ ap (λ (xs : List Step). causal.event_at c.args.number (footprints_of c.self.inside.accepted.entries xs)) (c.deref-2.ensures.value ∙ sym c.deref-4.ensures.value))
-    c.deref-3.ensures.value some None c.in_err-dependent.ensures
+    ∙ undo_refusal_found c.self.inside c.self.invariant.sound c.args.self.now.timeline (ap (λ (h : HistoryValue). h.timeline) c.self.view_is) c.args.number c.in-Some-footprint_at.footprint.now c.deref.result.now c.deref-2.result.now
+    c.deref.ensures.value c.in-Some.ensures.among c.deref-2.ensures.value c.in-Some-footprint_at.ensures some None c.in_err-dependent.ensures
 
 pub returns : goal.returns
 returns c =
     let some : IsSome (event_at c.args.self.now.timeline c.args.number) = search rules in
-    undo_refusal_found c.self.inside c.self.invariant c.args.self.now.timeline (ap (λ (h : HistoryValue). h.timeline) c.self.view_is) c.args.number c.in-Some-footprint_at.footprint.now c.deref.result.now c.deref-3.result.now c.deref-4.result.now
-    c.deref.ensures.value c.in-Some.ensures.among c.deref-4.ensures.value
-    (c.in-Some-footprint_at.ensures ∙ ap (λ (xs : List Step). causal.event_at c.args.number (footprints_of c.self.inside.accepted.entries xs)) (c.deref-2.ensures.value ∙ sym c.deref-4.ensures.value))
-    c.deref-3.ensures.value some (Some c.in_ok-dependent.dependent) c.in_ok-dependent.ensures
+    undo_refusal_found c.self.inside c.self.invariant.sound c.args.self.now.timeline (ap (λ (h : HistoryValue). h.timeline) c.self.view_is) c.args.number c.in-Some-footprint_at.footprint.now c.deref.result.now c.deref-2.result.now
+    c.deref.ensures.value c.in-Some.ensures.among c.deref-2.ensures.value c.in-Some-footprint_at.ensures some (Some c.in_ok-dependent.dependent) c.in_ok-dependent.ensures

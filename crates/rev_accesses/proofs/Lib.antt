@@ -1,0 +1,4 @@
+pub mod IndexLemmas
+pub mod Places
+pub mod RisingLemmas
+pub mod ShowsLemmas

@@ -1,0 +1,130 @@
+//! The access lists.
+ghost use Rattle.std.specs.Prelude.{◌≡◌, [], None, Some, OnOk, OnErr};
+ghost use Rattle.rev_causal.specs.History.{IsRising, event_at, put, without};
+ghost use Rattle.rev_causal.specs.KeptHistory.{nearest_in};
+ghost use Rattle.rev_causal.specs.Store.{Footprint, Footprint.Whole};
+ghost use Rattle.rev_cells.specs.declared.cell.Cell.{Cell};
+ghost use Rattle.rev_cells.specs.Keys.{cell_cmp};
+ghost use Rattle.rev_accesses.specs.Value.{Names, PartlyPut, Prints, PutUnder, Shows, TakenFrom};
+
+use crate::index::{lesser, nearest, put_all, take_all};
+use crate::rising::Rising;
+use indexmap::IndexMap;
+use rev_cells::Cell;
+use std::alloc::{AllocError, Global};
+use std::marker::Model;
+
+/// Under each cell the rising numbers of the events that write it, and of those that read it; beside them those of
+/// whole events, which read and write every cell. A list that was made for a cell stays, so that taking out takes no
+/// memory.
+#[derive(Drop)]
+pub struct Accesses {
+    alloc: Global,
+    writers: IndexMap<Cell, Rising>,
+    readers: IndexMap<Cell, Rising>,
+    whole: Rising,
+}
+
+impl Model for Accesses {
+    ghost use Rattle.rev_accesses.specs.Value.{AccessesValue, accesses_code};
+
+    ghost Value = { AccessesValue };
+
+    ghost coded = { accesses_code };
+
+    ghost view = { λ a. record { writers = a.writers.entries; readers = a.readers.entries; whole = a.whole } };
+}
+
+impl Accesses {
+    /// No numbers.
+    pub fn new(alloc: Global) -> Accesses
+        ensures { Shows result [] }
+    {
+        Accesses {
+            alloc,
+            writers: IndexMap::new(alloc),
+            readers: IndexMap::new(alloc),
+            whole: Rising::new(alloc),
+        }
+    }
+
+    /// Puts the number of a whole event at its place.
+    pub fn put_whole(&mut self, number: u32) -> Result<(), AllocError>
+        ensures ok { OnOk result ((prints : Prints) → IsRising prints → event_at number prints ≡ None
+            → Shows self.old prints → Shows self.new (put number Whole prints)) }
+        ensures err { OnErr result (self.new ≡ self.old) }
+    {
+        self.whole.put(number)?;
+        Ok(())
+    }
+
+    /// Takes the number of a whole event out. It takes no memory.
+    pub fn take_whole(&mut self, number: u32)
+        ensures { (prints : Prints) → IsRising prints → event_at number prints ≡ Some Whole
+            → Shows self.old prints → Shows self.new (without number prints) }
+    {
+        self.whole.take(number);
+    }
+
+    /// Puts the number of an event that reads and writes these cells at its place under each.
+    pub fn put(&mut self, number: u32, reads: &[Cell], writes: &[Cell]) -> Result<(), AllocError>
+        ensures ok { OnOk result ((prints : Prints) (f : Footprint Cell) → Names f reads.now writes.now
+            → IsRising prints → event_at number prints ≡ None → Shows self.old prints
+            → Shows self.new (put number f prints)) }
+        ensures err { OnErr result ((prints : Prints) → event_at number prints ≡ None → Shows self.old prints
+            → Shows self.new prints) }
+    {
+        match self.note(number, reads, writes) {
+            Ok(()) => Ok(()),
+            Err(AllocError) => {
+                self.take_from(number, reads, writes);
+                Err(AllocError)
+            }
+        }
+    }
+
+    /// Takes the number of an event that reads and writes these cells out from under each. It takes no memory.
+    pub fn take(&mut self, number: u32, reads: &[Cell], writes: &[Cell])
+        ensures { (prints : Prints) (f : Footprint Cell) → Names f reads.now writes.now → IsRising prints
+            → event_at number prints ≡ Some f → Shows self.old prints
+            → Shows self.new (without number prints) }
+    {
+        self.take_from(number, reads, writes);
+    }
+
+    /// The least number above another whose event conflicts with one that reads and writes these cells. It takes no
+    /// memory, and time linear in the cells, up to hashing, and in the logarithm of the longest list.
+    pub fn nearest(&self, number: u32, reads: &[Cell], writes: &[Cell]) -> Option<u32>
+        ensures { (prints : Prints) (f : Footprint Cell) → Names f reads.now writes.now → IsRising prints
+            → Shows self.now prints → result ≡ nearest_in cell_cmp number f prints }
+    {
+        let whole = self.whole.first_above(number);
+        let written = nearest(&self.writers, writes, number);
+        let used = nearest(&self.readers, writes, number);
+        let source = nearest(&self.writers, reads, number);
+        lesser(whole, lesser(lesser(written, used), source))
+    }
+
+    // Puts a number under cells. At an error it may stand under some of them.
+    fn note(&mut self, number: u32, reads: &[Cell], writes: &[Cell]) -> Result<(), AllocError>
+        ensures written { OnOk result (PutUnder number writes.now self.old.writers self.new.writers) }
+        ensures read { OnOk result (PutUnder number reads.now self.old.readers self.new.readers) }
+        ensures partly_written { PartlyPut number writes.now self.old.writers self.new.writers }
+        ensures partly_read { PartlyPut number reads.now self.old.readers self.new.readers }
+        ensures whole { self.new.whole ≡ self.old.whole }
+    {
+        put_all(self.alloc, &mut self.writers, writes, number)?;
+        put_all(self.alloc, &mut self.readers, reads, number)?;
+        Ok(())
+    }
+
+    // Takes a number out from under cells.
+    fn take_from(&mut self, number: u32, reads: &[Cell], writes: &[Cell])
+        ensures written { TakenFrom number writes.now self.old.writers self.new.writers }
+        ensures read { TakenFrom number reads.now self.old.readers self.new.readers }
+        ensures whole { self.new.whole ≡ self.old.whole }
+    {
+        take_all(&mut self.writers, writes, number);
+        take_all(&mut self.readers, reads, number);
+    }
+}

@@ -1,0 +1,12 @@
+//! For each cell the numbers of the events that write it and that read it, and the nearest conflict found by them.
+#![tactic(auto)]
+
+mod accesses;
+mod index;
+mod numbers;
+mod rising;
+#[cfg(test)]
+mod tests;
+
+pub use accesses::Accesses;
+pub use numbers::{first_above, place_of, put_in, take_out};

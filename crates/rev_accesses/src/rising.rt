@@ -1,0 +1,66 @@
+//! The numbers under one cell.
+ghost use Rattle.std.specs.Prelude.{◌≡◌, [], OnOk, OnErr};
+ghost use Rattle.rev_causal.specs.AccessLists.{first_above as first_above_in};
+ghost use Rattle.rev_causal.specs.Chosen.{IsRising, without};
+ghost use Rattle.rev_accesses.specs.Value.{with_number};
+
+use crate::numbers::{first_above, place_of, put_in, take_out};
+use std::alloc::{AllocError, Global};
+use std::marker::Model;
+
+/// Numbers that rise.
+#[derive(Drop)]
+pub(crate) struct Rising {
+    numbers: Vec<u32>,
+}
+
+impl Model for Rising {
+    ghost use Rattle.std.specs.Prelude.{List, ℕ};
+    ghost use Rattle.rev_causal.specs.Chosen.{IsRising};
+
+    ghost Value = { List ℕ };
+
+    ghost view = { λ a. a.numbers.items };
+
+    ghost invariant = { λ a. IsRising a.numbers.items };
+}
+
+impl Rising {
+    // None.
+    pub(crate) fn new(alloc: Global) -> Rising
+        ensures { result ≡ [] }
+    {
+        Rising {
+            numbers: Vec::new(alloc),
+        }
+    }
+
+    // Puts a number at its place, unless it is there.
+    pub(crate) fn put(&mut self, number: u32) -> Result<(), AllocError>
+        ensures ok { OnOk result (self.new ≡ with_number number self.old) }
+        ensures err { OnErr result (self.new ≡ self.old) }
+        ensures but_for { without number self.new ≡ without number self.old }
+    {
+        if place_of(&self.numbers, number).is_some() {
+            return Ok(());
+        }
+        put_in(&mut self.numbers, number)?;
+        Ok(())
+    }
+
+    // Takes a number out, if it is there.
+    pub(crate) fn take(&mut self, number: u32)
+        ensures { self.new ≡ without number self.old }
+    {
+        if place_of(&self.numbers, number).is_some() {
+            take_out(&mut self.numbers, number);
+        }
+    }
+
+    // The first number above another.
+    pub(crate) fn first_above(&self, number: u32) -> Option<u32>
+        ensures { result ≡ first_above_in number self.now }
+    {
+        first_above(&self.numbers, number)
+    }
+}

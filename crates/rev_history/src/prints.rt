@@ -1,0 +1,104 @@
+//! The kept numbers in the access lists of their footprints.
+ghost use Rattle.std.specs.Prelude.{◌≡◌, ℕ, List, None, Some, true, Contains, IfOk, OnOk, OnErr};
+ghost use Rattle.std.specs.List.{AllByRecursion, IsDistinct};
+ghost use Rattle.std.specs.Ordering.{eq_by_cmp};
+ghost use Rattle.rev_accesses.specs.Value.{Prints, Shows};
+ghost use Rattle.rev_causal.specs.AccessLists.{numbers_by};
+ghost use Rattle.rev_causal.specs.Chosen.{IsRising as IsRisingNumbers};
+ghost use Rattle.rev_causal.specs.History.{IsRising, event_at, put, without};
+ghost use Rattle.rev_causal.specs.KeptHistory.{nearest_in};
+ghost use Rattle.rev_cells.specs.declared.cell.Cell.{Cell};
+ghost use Rattle.rev_cells.specs.declared.value.Value.{Value};
+ghost use Rattle.rev_cells.specs.Effects.{cells_of, former_values, set_all, stored_in, stored_values};
+ghost use Rattle.rev_cells.specs.Keys.{cell_cmp};
+ghost use Rattle.rev_cells.specs.Values.{Fits};
+ghost use Rattle.rev_footprint.specs.Value.{print_of};
+
+use rev_accesses::{Accesses, first_above};
+use rev_cells::{Cell, Cells, Value};
+use rev_footprint::Footprint;
+use std::alloc::AllocError;
+
+// Puts a number into the lists of a footprint.
+fn put_print(accesses: &mut Accesses, number: u32, footprint: &Footprint) -> Result<(), AllocError>
+    ensures ok { OnOk result ((prints : Prints) → IsRising prints → event_at number prints ≡ None
+        → Shows accesses.old prints
+        → Shows accesses.new (put number (print_of footprint.now) prints)) }
+    ensures err { OnErr result ((prints : Prints) → event_at number prints ≡ None → Shows accesses.old prints
+        → Shows accesses.new prints) }
+{
+    if footprint.whole() {
+        accesses.put_whole(number)?;
+        return Ok(());
+    }
+    accesses.put(number, footprint.reads(), footprint.writes())?;
+    Ok(())
+}
+
+/// Takes a number out of the lists of its footprint. It takes no memory.
+pub(crate) fn take_print(accesses: &mut Accesses, number: u32, footprint: &Footprint)
+    ensures { (prints : Prints) → IsRising prints → event_at number prints ≡ Some (print_of footprint.now)
+        → Shows accesses.old prints → Shows accesses.new (without number prints) }
+{
+    if footprint.whole() {
+        accesses.take_whole(number);
+        return;
+    }
+    accesses.take(number, footprint.reads(), footprint.writes());
+}
+
+/// The least of the kept numbers above another whose footprint conflicts with one. It takes no memory.
+pub(crate) fn nearest(
+    number: u32,
+    footprint: &Footprint,
+    kept: &[u32],
+    accesses: &Accesses,
+) -> Option<u32>
+    requires { IsRisingNumbers kept.now }
+    ensures { (prints : Prints) → IsRising prints → numbers_by (λ f. true) prints ≡ kept.now
+        → Shows accesses.now prints
+        → result ≡ nearest_in cell_cmp number (print_of footprint.now) prints }
+{
+    if footprint.whole() {
+        return first_above(kept, number);
+    }
+    accesses.nearest(number, footprint.reads(), footprint.writes())
+}
+
+/// Puts a number into the lists of its footprint and writes the cells of its event, or does neither. It gives what the
+/// cells held.
+pub(crate) fn write_noted(
+    accesses: &mut Accesses,
+    cells: &mut Cells,
+    number: u32,
+    footprint: &Footprint,
+    writes: Vec<(Cell, Value)>,
+) -> Result<Vec<(Cell, Value)>, AllocError>
+    requires { AllByRecursion (λ (w : Cell × Value). Fits w.0 w.1) writes.items }
+    ensures state { OnOk result (cells.new.state ≡ set_all cells.old.state writes.items) }
+    ensures jobs { cells.new.jobs ≡ cells.old.jobs }
+    ensures more { (c : Cell) → Contains cells.old.places c → Contains cells.new.places c }
+    ensures has { OnOk result (AllByRecursion (λ (w : Cell × Value). Contains cells.new.places w.0)
+        writes.items) }
+    ensures former { IfOk result (λ former. former.items ≡ former_values cells.old.state writes.items) }
+    ensures former_fits { IfOk result (λ former. AllByRecursion (λ (w : Cell × Value). Fits w.0 w.1) former.items) }
+    ensures stored { IsDistinct (eq_by_cmp cell_cmp) (cells_of writes.items)
+        → IfOk result (λ former. stored_values former.items
+        ≡ stored_in cells.old.state writes.items) }
+    ensures unchanged { OnErr result (cells.new.state ≡ cells.old.state) }
+    ensures not_counted { OnErr result (cells.new.writes ≡ cells.old.writes) }
+    ensures noted { OnOk result ((prints : Prints) → IsRising prints → event_at number prints ≡ None
+        → Shows accesses.old prints
+        → Shows accesses.new (put number (print_of footprint.now) prints)) }
+    ensures not_noted { OnErr result ((prints : Prints) → IsRising prints → event_at number prints ≡ None
+        → Shows accesses.old prints → Shows accesses.new prints) }
+{
+    put_print(accesses, number, footprint)?;
+    match cells.write_all(writes) {
+        Ok(former) => Ok(former),
+        Err(AllocError) => {
+            take_print(accesses, number, footprint);
+            Err(AllocError)
+        }
+    }
+}
