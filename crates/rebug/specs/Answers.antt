@@ -28,17 +28,21 @@ abbrev pub number_text : Option ℕ → List ℕ
 number_text None = []
 number_text (Some n) = codes " " ++ decimal n
 
--- a reply: `ok`, `ok break` with the number of the break, `cone` with the count, or `refused` with the refusal's numbers
+-- a reply: `ok`, `ok break` with the number of the break, `cone` with the count, or `refused` with the refusal's
+-- numbers
 abbrev pub reply_text : Reply → List ℕ
 reply_text (Accepted number None) = codes "ok"
 reply_text (Accepted number (Some break_number)) = codes "ok break " ++ decimal break_number
 reply_text (Coned number count) = codes "cone " ++ decimal count
-reply_text (Refused r) = codes "refused " ++ decimal (code_of r) ++ number_text (first_number r) ++ number_text (second_number r)
+reply_text (Refused r) =
+    codes "refused " ++ decimal (code_of r) ++ number_text (first_number r) ++ number_text (second_number r)
 
--- the line of an answer to a command of a lane: the number that its entry has, the lane, and the reply; where there is no entry, a dash and 94
+-- the line of an answer to a command of a lane: the number that its entry has, the lane, and the reply; where there is
+-- no entry, a dash and 94
 abbrev pub answer_line : ℕ → ℕ → Option Reply → List ℕ
 answer_line number lane None = codes "- " ++ decimal lane ++ codes " refused 94\n"
-answer_line number lane (Some r) = decimal number ++ codes " " ++ decimal lane ++ codes " " ++ reply_text r ++ codes "\n"
+answer_line number lane (Some r) =
+    decimal number ++ codes " " ++ decimal lane ++ codes " " ++ reply_text r ++ codes "\n"
 
 -- the line that a command of a lane writes
 unfoldable pub said_line : DeskValue → ℕ → Command → List ℕ

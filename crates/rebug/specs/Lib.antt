@@ -1,7 +1,9 @@
 pub mod Answers
+pub mod Closing
 pub mod Dependents
 pub mod Input
 pub mod Output
+pub mod LeftTurns
 pub mod Report
 pub mod Runs
 pub mod Scripts

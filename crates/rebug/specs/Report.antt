@@ -79,7 +79,8 @@ abbrev pub named_text : Option ℕ → Timeline → List ℕ
 named_text None t = refused_line (refusals.code_of NoSuchEvent)
 named_text (Some n) t = dependents_text t n
 
--- The words of a script, where some turns of the trace's lanes are left; the script's own commands are of the given lane.
+-- The words of a script, where some turns of the trace's lanes are left; the script's own commands are of the given
+-- lane.
 
 -- what a word writes
 abbrev pub word_text : ℕ → DeskValue → List (ℕ × Command) → Word → List ℕ
@@ -106,17 +107,20 @@ left_after d left _ = left
 -- what a script writes: its words in turn
 abbrev pub script_text : ℕ → DeskValue → List (ℕ × Command) → List Word → List ℕ
 script_text lane d left [] = []
-script_text lane d left (w ∷ words) = word_text lane d left w ++ script_text lane (after_word lane d left w) (left_after d left w) words
+script_text lane d left (w ∷ words) =
+    word_text lane d left w ++ script_text lane (after_word lane d left w) (left_after d left w) words
 
--- What the words of a script write, for a trace with this opening and these lanes. The desk has one lane more than the trace, the last,
--- which is the script's.
+-- What the words of a script write, for a trace with this opening and these lanes. The desk has one lane more than the
+-- trace, the last, which is the script's.
 abbrev pub session_text : ManifestValue → Records → List (List Command) → List Word → List ℕ
-session_text manifest opening lanes words = script_text (length lanes) (opened_desk manifest opening.jobs opening.state (length lanes + 1)) (turns lanes) words
+session_text manifest opening lanes words =
+    script_text (length lanes) (opened_desk manifest opening.jobs opening.state (length lanes + 1)) (turns lanes) words
 
 -- Faults: one line, with the line and the number of the fault.
 
 abbrev pub fault_line : List ℕ → ℕ → ℕ → List ℕ
-fault_line what line code = codes "fault " ++ what ++ codes " " ++ decimal line ++ codes " " ++ decimal code ++ codes "\n"
+fault_line what line code =
+    codes "fault " ++ what ++ codes " " ++ decimal line ++ codes " " ++ decimal code ++ codes "\n"
 
 -- the name of a file as it was given, or a dash where there is none
 abbrev pub name_text : Option (List ℕ × List ℕ) → List ℕ
@@ -124,7 +128,8 @@ name_text None = codes "-"
 name_text (Some file) = field_text file.0
 
 abbrev pub manifest_fault_line : List (List ℕ × List ℕ) → ManifestFault → List ℕ
-manifest_fault_line files f = fault_line (codes "manifest " ++ name_text (slice_get files f.file)) f.line (manifest_faults.code_of f.kind)
+manifest_fault_line files f =
+    fault_line (codes "manifest " ++ name_text (slice_get files f.file)) f.line (manifest_faults.code_of f.kind)
 
 abbrev pub text_fault_line : List ℕ → TextFault → List ℕ
 text_fault_line what f = fault_line what f.line (code_of f.kind)
@@ -137,7 +142,7 @@ path_text (Some path) = codes " " ++ field_text path
 abbrev pub graph_fault_line : ℕ → Option (List ℕ) → List ℕ
 graph_fault_line code path = codes "fault graph " ++ decimal code ++ path_text path ++ codes "\n"
 
--- the line of a fault about edges; want of memory is none
+-- the line of a fault about edges; `Memory` is none
 abbrev pub numbered_line : Option (List ℕ) → Option ℕ → List ℕ
 numbered_line path None = []
 numbered_line path (Some code) = graph_fault_line code path
@@ -158,15 +163,19 @@ unless_fault (Some f) line report = record { text = line f; status = Fault }
 -- the report of a script, where the trace has been read
 abbrev pub script_report : ManifestValue → Records → List (List Command) → List ℕ → Report
 script_report manifest opening lanes script =
-    unless_fault (script_fault script) (text_fault_line (codes "script")) (record { text = session_text manifest opening lanes (script_of script); status = Success })
+    unless_fault (script_fault script) (text_fault_line (codes "script"))
+    (record { text = session_text manifest opening lanes (script_of script); status = Success })
 
 -- the report of a trace and a script, where the manifest has been read
 abbrev pub trace_report : ManifestValue → List ℕ → List ℕ → Report
-trace_report manifest trace script = unless_fault (trace_fault trace) (text_fault_line (codes "trace")) (script_report manifest (trace_of trace).opening (trace_of trace).lanes script)
+trace_report manifest trace script =
+    unless_fault (trace_fault trace) (text_fault_line (codes "trace"))
+    (script_report manifest (trace_of trace).opening (trace_of trace).lanes script)
 
 -- the report of a trace and a script, for the edges of a manifest that has been read
 abbrev pub edges_report : ManifestValue → List ℕ → List ℕ → Report
-edges_report manifest trace script = unless_fault (graph_fault manifest.builds) edges_fault_line (trace_report manifest trace script)
+edges_report manifest trace script =
+    unless_fault (graph_fault manifest.builds) edges_fault_line (trace_report manifest trace script)
 
 -- the report for a manifest that has been read
 abbrev pub manifest_report : Result ManifestValue ManifestFault → List ℕ → List ℕ → Report
@@ -175,4 +184,6 @@ manifest_report (Err fault) trace script = record { text = []; status = Fault }
 
 -- the report of files, their edges, a trace and a script, which are looked at in that order
 abbrev pub report : List (List ℕ × List ℕ) → List ℕ → List ℕ → Report
-report files trace script = unless_fault (manifest.first_fault files) (manifest_fault_line files) (manifest_report (manifest.manifest_of files) trace script)
+report files trace script =
+    unless_fault (manifest.first_fault files) (manifest_fault_line files)
+    (manifest_report (manifest.manifest_of files) trace script)

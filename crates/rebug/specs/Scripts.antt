@@ -43,8 +43,10 @@ abbrev pub word_of : List (List ℕ) → Result Word FaultKind
 word_of [] = Err Syntax
 word_of (first ∷ rest) =
     if bytes_eq first (codes "run") then run_of rest else (if bytes_eq first (codes "kept") then bare_of word.Kept rest
-    else (if bytes_eq first (codes "marks") then bare_of word.Marks rest else (if bytes_eq first (codes "stamps") then bare_of word.Stamps rest
-    else (if bytes_eq first (codes "logs") then bare_of word.Logs rest else (if bytes_eq first (codes "why") then why_of rest
+    else (if bytes_eq first (codes "marks") then bare_of word.Marks rest
+    else (if bytes_eq first (codes "stamps") then bare_of word.Stamps rest
+    else (if bytes_eq first (codes "logs") then bare_of word.Logs rest
+    else (if bytes_eq first (codes "why") then why_of rest
     else (if bytes_eq first (codes "dependents") then dependents_of rest else command_word (first ∷ rest)))))))
 
 abbrev pub script_line : List ℕ → Result Word FaultKind

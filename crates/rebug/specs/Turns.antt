@@ -1,5 +1,5 @@
--- The order in which `run` takes the commands of a trace's lanes: the first command of each lane in rising number of the lanes, then the
--- second command of each lane that has one, and so on.
+-- The order in which `run` takes the commands of a trace's lanes: the first command of each lane in rising number of
+-- the lanes, then the second command of each lane that has one, and so on.
 use Rattle.std.specs.Prelude.{ℕ, ◌<◌, max, List, [], ◌∷◌, length, Option, Some, None, slice_get}
 use Rattle.std.specs.List.{AllByRecursion, enumerate_from, flat_map, range_with_len}
 

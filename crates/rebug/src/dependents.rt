@@ -16,7 +16,8 @@ use std::alloc::{AllocError, Global};
 
 // Whether two events are kept and conflict.
 fn conflict_between(history: &History, first: u32, second: u32) -> bool
-    ensures { result ≡ conflicts (kept_footprint history.now.timeline first) (kept_footprint history.now.timeline second) }
+    ensures { result ≡ conflicts (kept_footprint history.now.timeline first)
+        (kept_footprint history.now.timeline second) }
 {
     let Some(first) = history.footprint_of(first) else {
         return false;
@@ -41,7 +42,8 @@ fn push_dependent(
     earlier: u32,
     later: u32,
 ) -> Result<(), AllocError>
-    ensures { OnOk result (text.new.items ≡ text.old.items ++ dependent_text history.now.timeline earlier later) }
+    ensures { OnOk result (text.new.items
+        ≡ text.old.items ++ dependent_text history.now.timeline earlier later) }
 {
     if !depends(history, earlier, later) {
         return Ok(());
@@ -52,7 +54,9 @@ fn push_dependent(
 
 // Adds the kept numbers whose events depend on another.
 fn push_each(text: &mut Vec<u8>, history: &History, number: u32) -> Result<(), AllocError>
-    ensures { OnOk result (text.new.items ≡ text.old.items ++ flat_map (dependent_text history.now.timeline number) history.now.timeline.kept) }
+    ensures { OnOk result (text.new.items
+        ≡ text.old.items ++ flat_map (dependent_text history.now.timeline number)
+        history.now.timeline.kept) }
 {
     for later in history.kept() {
         push_dependent(text, history, number, *later)?;
@@ -62,7 +66,9 @@ fn push_each(text: &mut Vec<u8>, history: &History, number: u32) -> Result<(), A
 
 // Adds the numbers of the kept events that depend on a kept one, each with a space before it.
 fn push_dependents(text: &mut Vec<u8>, history: &History, number: u32) -> Result<(), AllocError>
-    ensures { OnOk result (text.new.items ≡ text.old.items ++ flat_map (λ m. codes " " ++ decimal m) (dependents history.now.timeline number)) }
+    ensures { OnOk result (text.new.items
+        ≡ text.old.items ++ flat_map (λ m. codes " " ++ decimal m)
+        (dependents history.now.timeline number)) }
 {
     push_each(text, history, number)
 }
@@ -83,7 +89,8 @@ fn is_accepted(history: &History, number: u32) -> bool
 
 // `dependents N M...`
 fn answered(alloc: Global, history: &History, number: u32) -> Result<Vec<u8>, AllocError>
-    ensures { IfOk result (λ text. text.items ≡ dependents_line number (dependents history.now.timeline number)) }
+    ensures { IfOk result (λ text. text.items
+        ≡ dependents_line number (dependents history.now.timeline number)) }
 {
     let mut text = Vec::from_slice(alloc, b"dependents ")?;
     push_number(&mut text, u64::from(number))?;
@@ -92,8 +99,8 @@ fn answered(alloc: Global, history: &History, number: u32) -> Result<Vec<u8>, Al
     Ok(text)
 }
 
-// The line `dependents N M...` with the kept events that depend on a kept one, or `refused` with the number of the refusal where no event
-// was accepted under the number or it is not kept.
+// The line `dependents N M...` with the kept events that depend on a kept one, or `refused` with the number of the
+// refusal where no event was accepted under the number or it is not kept.
 fn dependents_text(alloc: Global, history: &History, number: u32) -> Result<Vec<u8>, AllocError>
     ensures { IfOk result (λ text. text.items ≡ dependents_text history.now.timeline number) }
 {
@@ -106,10 +113,11 @@ fn dependents_text(alloc: Global, history: &History, number: u32) -> Result<Vec<
     answered(alloc, history, number)
 }
 
-/// The line `dependents N M...` with the number of a kept event and those of the kept events that depend on it; `refused 80` where no
-/// accepted event has the name, `refused 81` where it is not kept.
+/// The line `dependents N M...` with the number of a kept event and those of the kept events that depend on it;
+/// `refused 80` where no accepted event has the name, `refused 81` where it is not kept.
 pub(crate) fn named_text(alloc: Global, desk: &Desk, which: Which) -> Result<Vec<u8>, AllocError>
-    ensures { IfOk result (λ text. text.items ≡ named_text (named desk.now.journal which) desk.now.history) }
+    ensures { IfOk result (λ text. text.items
+        ≡ named_text (named desk.now.journal which) desk.now.history) }
 {
     match desk.named(which) {
         None => refused_line(alloc, Refusal::NoSuchEvent.code()),

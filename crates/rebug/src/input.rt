@@ -46,7 +46,8 @@ fn read_some<R: Read>(
 ) -> Result<bool, InputFault>
     requires { 0 < length room.old }
     ensures room { length room.new ≡ length room.old }
-    ensures bytes { OnOk result (ReadOn (R.remaining reader.old) (R.remaining reader.new) bytes.old.items bytes.new.items) }
+    ensures bytes { OnOk result (ReadOn (R.remaining reader.old) (R.remaining reader.new) bytes.old.items
+        bytes.new.items) }
     ensures end { IfOk result (λ ended. IsTrue ended → IsAtEnd (R.remaining reader.new)) }
 {
     match reader.read(room) {

@@ -5,8 +5,8 @@ mod answers;
 mod dependents;
 mod fault;
 mod input;
-mod options;
 mod output;
+mod parallel;
 mod report;
 mod runs;
 mod script;
@@ -18,13 +18,16 @@ mod turns;
 use clap::error::ErrorKind;
 use fault::{ProgramFault, RunFault};
 use input::{InputFault, read_whole};
-use options::{Options, files_of, matches_of, options_of};
+use parallel::run_parallel;
 use report::{Status, run_serial};
+use rev_options::{Options, options};
 use rev_sentences::{Inputs, sentence};
 use std::alloc::Global;
 use std::io::{BufWriter, Write};
 use std::process::ExitCode;
 use std::rt::{Env, Files};
+use std::sync::Wait;
+use std::thread::Threads;
 use std::{fs, io};
 
 // The status of a command line that asks for help or is wrong.
@@ -57,23 +60,26 @@ fn named_file<'a, R: Files + AllocGlobal>(
 }
 
 // Reads the files and writes the report to the standard output.
-fn run<'a, R: Files + Print + Eprint + AllocGlobal>(
+fn run<'a, R: Files + Print + Eprint + AllocGlobal + Threads + Wait + Sync>(
     rt: &R,
     options: &Options<'a>,
-    others: &[&'a str],
 ) -> Result<Status, ProgramFault<'a>> {
     let alloc = rt.alloc();
     let mut files = Vec::new(alloc);
     files.push(named_file(rt, options.manifest)?)?;
-    for name in others {
-        files.push(named_file(rt, name)?)?;
+    for name in &options.files {
+        files.push(named_file(rt, *name)?)?;
     }
     let trace = read_file(rt, options.trace)?;
     let script = read_file(rt, options.script)?;
     let Ok(mut writer) = BufWriter::new(alloc, io::writer(rt)) else {
         return Err(ProgramFault::Run(RunFault::Memory));
     };
-    let status = run_serial(alloc, &files, &trace, &script, &mut writer)?;
+    let status = if options.workers {
+        run_parallel(rt, alloc, &files, &trace, &script, &mut writer)?
+    } else {
+        run_serial(alloc, &files, &trace, &script, &mut writer)?
+    };
     let inputs = Inputs {
         files: &files,
         trace: (options.trace.as_bytes(), &trace),
@@ -130,17 +136,11 @@ fn main(rt: HostRuntime) -> ExitCode {
         }
         Err(_) => return fail(&rt, ProgramFault::Run(RunFault::Memory)),
     };
-    let matches = match matches_of(rt.alloc(), &words) {
-        Ok(matches) => matches,
+    let options = match options(rt.alloc(), &words) {
+        Ok(options) => options,
         Err(error) => return explain(&rt, &error),
     };
-    let Some(options) = options_of(&matches) else {
-        return ExitCode::from(USAGE);
-    };
-    let Ok(others) = files_of(rt.alloc(), &matches) else {
-        return fail(&rt, ProgramFault::Run(RunFault::Memory));
-    };
-    match run(&rt, &options, &others) {
+    match run(&rt, &options) {
         Ok(Status::Success) => ExitCode::SUCCESS,
         Ok(Status::Fault) => ExitCode::FAILURE,
         Err(fault) => fail(&rt, fault),

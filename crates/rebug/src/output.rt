@@ -4,7 +4,7 @@ ghost use Rattle.rebug.specs.Output.{Writes};
 use crate::fault::RunFault;
 use std::io::Write;
 
-/// Writes all of the bytes. After a fault a front of them was written.
+/// Writes all of the bytes. After a fault a prefix of them was written.
 pub(crate) fn send<W: Write>(writer: &mut W, bytes: &[u8]) -> Result<(), RunFault>
     ensures { Writes result (W.contents writer.old) (W.contents writer.new) bytes.now }
 {

@@ -46,7 +46,8 @@ pub enum Status {
 
 // Writes the lines of the kept events.
 fn write_kept<W: Write>(alloc: Global, history: &History, writer: &mut W) -> Result<(), RunFault>
-    ensures { Writes result (W.contents writer.old) (W.contents writer.new) (kept_text history.now.timeline) }
+    ensures { Writes result (W.contents writer.old) (W.contents writer.new)
+        (kept_text history.now.timeline) }
 {
     for number in history.kept() {
         let Some(event) = history.event(*number) else {
@@ -60,7 +61,8 @@ fn write_kept<W: Write>(alloc: Global, history: &History, writer: &mut W) -> Res
 
 // Writes the marks, what is held, and whether the build was interrupted.
 fn write_marks<W: Write>(alloc: Global, history: &History, writer: &mut W) -> Result<(), RunFault>
-    ensures { Writes result (W.contents writer.old) (W.contents writer.new) (marks.marks_text history.now.timeline.manifest.builds (state_at history.now.timeline)) }
+    ensures { Writes result (W.contents writer.old) (W.contents writer.new)
+        (marks.marks_text history.now.timeline.manifest.builds (state_at history.now.timeline)) }
 {
     let text = marks_text(alloc, history.graph(), history.cells())?;
     send(writer, &text)
@@ -68,7 +70,8 @@ fn write_marks<W: Write>(alloc: Global, history: &History, writer: &mut W) -> Re
 
 // Writes the lines of the files that are not missing.
 fn write_stamps<W: Write>(alloc: Global, history: &History, writer: &mut W) -> Result<(), RunFault>
-    ensures { Writes result (W.contents writer.old) (W.contents writer.new) (stamps.stamps_text (state_at history.now.timeline)) }
+    ensures { Writes result (W.contents writer.old) (W.contents writer.new)
+        (stamps.stamps_text (state_at history.now.timeline)) }
 {
     let text = stamps_text(alloc, history.cells())?;
     send(writer, &text)
@@ -76,7 +79,8 @@ fn write_stamps<W: Write>(alloc: Global, history: &History, writer: &mut W) -> R
 
 // Writes the records of the logs.
 fn write_logs<W: Write>(alloc: Global, history: &History, writer: &mut W) -> Result<(), RunFault>
-    ensures { Writes result (W.contents writer.old) (W.contents writer.new) (logs.logs_text (state_at history.now.timeline)) }
+    ensures { Writes result (W.contents writer.old) (W.contents writer.new)
+        (logs.logs_text (state_at history.now.timeline)) }
 {
     let text = logs_text(alloc, history.cells())?;
     send(writer, &text)
@@ -89,7 +93,9 @@ fn write_why<W: Write>(
     out: &Name,
     writer: &mut W,
 ) -> Result<(), RunFault>
-    ensures { Writes result (W.contents writer.old) (W.contents writer.new) (why_edge history.now.timeline.manifest.builds (state_at history.now.timeline) (producer_of history.now.timeline.manifest.builds out.now)) }
+    ensures { Writes result (W.contents writer.old) (W.contents writer.new)
+        (why_edge history.now.timeline.manifest.builds (state_at history.now.timeline)
+        (producer_of history.now.timeline.manifest.builds out.now)) }
 {
     match history.graph().producer(out) {
         None => {
@@ -110,7 +116,8 @@ fn write_dependents<W: Write>(
     which: Which,
     writer: &mut W,
 ) -> Result<(), RunFault>
-    ensures { Writes result (W.contents writer.old) (W.contents writer.new) (named_text (named desk.now.journal which) desk.now.history) }
+    ensures { Writes result (W.contents writer.old) (W.contents writer.new)
+        (named_text (named desk.now.journal which) desk.now.history) }
 {
     let text = named_text(alloc, desk, which)?;
     send(writer, &text)
@@ -129,11 +136,14 @@ fn run_word<W: Write>(
     requires lane { lane < desk.old.lanes }
     requires lanes { AreOf desk.old.lanes (seen_turns turns.now) }
     requires within { before ≤ length turns.now }
-    ensures text { Writes result (W.contents writer.old) (W.contents writer.new) (word_text lane desk.old (drop before (seen_turns turns.now)) word.now) }
-    ensures after { OnOk result (desk.new ≡ after_word lane desk.old (drop before (seen_turns turns.now)) word.now) }
+    ensures text { Writes result (W.contents writer.old) (W.contents writer.new)
+        (word_text lane desk.old (drop before (seen_turns turns.now)) word.now) }
+    ensures after { OnOk result (desk.new
+        ≡ after_word lane desk.old (drop before (seen_turns turns.now)) word.now) }
     ensures lanes { OnOk result (desk.new.lanes ≡ desk.old.lanes) }
     ensures within { IfOk result (λ count. count ≤ length turns.now) }
-    ensures left { IfOk result (λ count. drop count (seen_turns turns.now) ≡ left_after desk.old (drop before (seen_turns turns.now)) word.now) }
+    ensures left { IfOk result (λ count. drop count (seen_turns turns.now)
+        ≡ left_after desk.old (drop before (seen_turns turns.now)) word.now) }
 {
     match word {
         Word::Command(command) => {
@@ -170,7 +180,7 @@ fn run_word<W: Write>(
 }
 
 // Does the words of the script in turn.
-fn run_words<W: Write>(
+pub(crate) fn run_words<W: Write>(
     alloc: Global,
     desk: &mut Desk,
     lane: u32,
@@ -180,7 +190,9 @@ fn run_words<W: Write>(
 ) -> Result<(), RunFault>
     requires lane { lane < desk.old.lanes }
     requires lanes { AreOf desk.old.lanes (seen_turns turns.now) }
-    ensures { Writes result (W.contents writer.old) (W.contents writer.new) (script_text lane desk.old (seen_turns turns.now) words.now) }
+    ensures text { Writes result (W.contents writer.old) (W.contents writer.new)
+        (script_text lane desk.old (seen_turns turns.now) words.now) }
+    ensures lanes { OnOk result (desk.new.lanes ≡ desk.old.lanes) }
 {
     let mut taken = 0;
     for word in words {
@@ -190,14 +202,15 @@ fn run_words<W: Write>(
 }
 
 // A desk to which nothing was said yet, with one lane more than these.
-fn open_desk(
+pub(crate) fn open_desk(
     alloc: Global,
     graph: Graph,
     opening: &Opening,
     lanes: &[Vec<Command>],
 ) -> Result<Desk, RunFault>
     requires { length lanes.now ≤ 63 }
-    ensures { IfOk result (λ desk. desk ≡ opened_desk graph.manifest opening.now.jobs opening.now.state (length lanes.now + 1)) }
+    ensures { IfOk result (λ desk. desk
+        ≡ opened_desk graph.manifest opening.now.jobs opening.now.state (length lanes.now + 1)) }
 {
     let count = lanes.len() as u32 + 1;
     match Desk::new(alloc, graph, opening, count) {
@@ -217,7 +230,8 @@ fn run_opened<W: Write>(
 ) -> Result<(), RunFault>
     requires few { length lanes.now ≤ 63 }
     requires lanes { desk.old.lanes ≡ length lanes.now + 1 }
-    ensures { Writes result (W.contents writer.old) (W.contents writer.new) (script_text (length lanes.now) desk.old (turns (lanes_of lanes.now)) words.now) }
+    ensures { Writes result (W.contents writer.old) (W.contents writer.new)
+        (script_text (length lanes.now) desk.old (turns (lanes_of lanes.now)) words.now) }
 {
     let lane = lanes.len() as u32;
     let turns = turns_of(alloc, lanes)?;
@@ -234,20 +248,22 @@ fn run_script<W: Write>(
     writer: &mut W,
 ) -> Result<(), RunFault>
     requires { length lanes.now ≤ 63 }
-    ensures { Writes result (W.contents writer.old) (W.contents writer.new) (session_text graph.manifest opening.now (lanes_of lanes.now) words.now) }
+    ensures { Writes result (W.contents writer.old) (W.contents writer.new)
+        (session_text graph.manifest opening.now (lanes_of lanes.now) words.now) }
 {
     let mut desk = open_desk(alloc, graph, opening, lanes)?;
     run_opened(alloc, &mut desk, lanes, words, writer)
 }
 
 // Writes the line of the first fault of a text.
-fn report_fault<W: Write>(
+pub(crate) fn report_fault<W: Write>(
     alloc: Global,
     what: &[u8],
     fault: TextFault,
     writer: &mut W,
 ) -> Result<Status, RunFault>
-    ensures text { Writes result (W.contents writer.old) (W.contents writer.new) (text_fault_line what.now fault) }
+    ensures text { Writes result (W.contents writer.old) (W.contents writer.new)
+        (text_fault_line what.now fault) }
     ensures status { IfOk result (λ status. status ≡ Status.Fault) }
 {
     let line = fault_line(alloc, what, fault.line, fault.kind.code())?;
@@ -264,8 +280,12 @@ fn report_script<W: Write>(
     writer: &mut W,
 ) -> Result<Status, RunFault>
     requires { length trace.now.lanes.items ≤ 63 }
-    ensures text { Writes result (W.contents writer.old) (W.contents writer.new) (script_report graph.manifest trace.now.opening (lanes_of trace.now.lanes.items) script.now).text }
-    ensures status { IfOk result (λ status. status ≡ (script_report graph.manifest trace.now.opening (lanes_of trace.now.lanes.items) script.now).status) }
+    ensures text { Writes result (W.contents writer.old) (W.contents writer.new)
+        (script_report graph.manifest trace.now.opening (lanes_of trace.now.lanes.items)
+        script.now).text }
+    ensures status { IfOk result (λ status. status
+        ≡ (script_report graph.manifest trace.now.opening (lanes_of trace.now.lanes.items)
+        script.now).status) }
 {
     match read_script(alloc, script) {
         Ok(words) => {
@@ -285,7 +305,8 @@ fn report_trace<W: Write>(
     script: &[u8],
     writer: &mut W,
 ) -> Result<Status, RunFault>
-    ensures text { Writes result (W.contents writer.old) (W.contents writer.new) (trace_report graph.manifest trace.now script.now).text }
+    ensures text { Writes result (W.contents writer.old) (W.contents writer.new)
+        (trace_report graph.manifest trace.now script.now).text }
     ensures status { IfOk result (λ status. status ≡ (trace_report graph.manifest trace.now script.now).status) }
 {
     match rev_trace::read(alloc, trace) {
@@ -295,14 +316,16 @@ fn report_trace<W: Write>(
     }
 }
 
-// Writes the line of a fault of a manifest's edges. Want of memory is no fault of theirs.
-fn report_graph_fault<W: Write>(
+// Writes the line of a fault of a manifest's edges. `Memory` is no fault of theirs.
+pub(crate) fn report_graph_fault<W: Write>(
     alloc: Global,
     fault: &GraphFault,
     writer: &mut W,
 ) -> Result<Status, RunFault>
-    ensures text { (text : List ℕ) → (fault.now ≢ GraphFault.Memory → text ≡ edges_fault_line fault.now) → Writes result (W.contents writer.old) (W.contents writer.new) text }
-    ensures status { (wanted : Status) → (fault.now ≢ GraphFault.Memory → wanted ≡ Status.Fault) → IfOk result (λ status. status ≡ wanted) }
+    ensures text { (text : List ℕ) → (fault.now ≢ GraphFault.Memory → text ≡ edges_fault_line fault.now)
+        → Writes result (W.contents writer.old) (W.contents writer.new) text }
+    ensures status { (wanted : Status) → (fault.now ≢ GraphFault.Memory → wanted ≡ Status.Fault)
+        → IfOk result (λ status. status ≡ wanted) }
 {
     let Some(code) = fault.code() else {
         return Err(RunFault::Memory);
@@ -320,7 +343,8 @@ fn report_edges<W: Write>(
     script: &[u8],
     writer: &mut W,
 ) -> Result<Status, RunFault>
-    ensures text { Writes result (W.contents writer.old) (W.contents writer.new) (edges_report manifest.now trace.now script.now).text }
+    ensures text { Writes result (W.contents writer.old) (W.contents writer.new)
+        (edges_report manifest.now trace.now script.now).text }
     ensures status { IfOk result (λ status. status ≡ (edges_report manifest.now trace.now script.now).status) }
 {
     match Graph::build(alloc, manifest) {
@@ -331,7 +355,8 @@ fn report_edges<W: Write>(
 
 // Adds the name of the file at a place, or a dash where there is none.
 fn push_name(line: &mut Vec<u8>, files: &[(Vec<u8>, Vec<u8>)], place: u64) -> Result<(), AllocError>
-    ensures { OnOk result (line.new.items ≡ line.old.items ++ name_text (slice_get (seen_files files.now) place)) }
+    ensures { OnOk result (line.new.items
+        ≡ line.old.items ++ name_text (slice_get (seen_files files.now) place)) }
 {
     match files.get(place as usize) {
         None => line.extend_from_slice(b"-"),
@@ -353,13 +378,14 @@ fn manifest_fault_line(
 }
 
 // Writes the line of the first fault of a manifest.
-fn report_manifest_fault<W: Write>(
+pub(crate) fn report_manifest_fault<W: Write>(
     alloc: Global,
     files: &[(Vec<u8>, Vec<u8>)],
     fault: ManifestFault,
     writer: &mut W,
 ) -> Result<Status, RunFault>
-    ensures text { Writes result (W.contents writer.old) (W.contents writer.new) (manifest_fault_line (seen_files files.now) fault) }
+    ensures text { Writes result (W.contents writer.old) (W.contents writer.new)
+        (manifest_fault_line (seen_files files.now) fault) }
     ensures status { IfOk result (λ status. status ≡ Status.Fault) }
 {
     let line = manifest_fault_line(alloc, files, fault)?;
@@ -367,11 +393,11 @@ fn report_manifest_fault<W: Write>(
     Ok(Status::Fault)
 }
 
-/// Reads a manifest, builds its graph, reads a trace and a script, runs the script, and writes the report, which ends at
-/// the first fault of the four. `files` are pairs of a name and a content, and the first is the manifest itself.
+/// Reads a manifest, builds its graph, reads a trace and a script, runs the script, and writes the report, which ends
+/// at the first fault of the four. `files` are pairs of a name and a content, and the first is the manifest itself.
 ///
 /// Answers `Write` where the writer fails in any way or takes no byte, and `Memory` where the system refused memory.
-/// After either a front of the report was written.
+/// After either a prefix of the report was written.
 pub fn run_serial<W: Write>(
     alloc: Global,
     files: &[(Vec<u8>, Vec<u8>)],
@@ -379,7 +405,8 @@ pub fn run_serial<W: Write>(
     script: &[u8],
     writer: &mut W,
 ) -> Result<Status, RunFault>
-    ensures text { Writes result (W.contents writer.old) (W.contents writer.new) (report (seen_files files.now) trace.now script.now).text }
+    ensures text { Writes result (W.contents writer.old) (W.contents writer.new)
+        (report (seen_files files.now) trace.now script.now).text }
     ensures status { IfOk result (λ status. status ≡ (report (seen_files files.now) trace.now script.now).status) }
 {
     let manifest = match read(alloc, files) {

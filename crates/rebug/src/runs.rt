@@ -26,7 +26,8 @@ pub(crate) fn run_command<W: Write>(
     writer: &mut W,
 ) -> Result<bool, RunFault>
     requires { lane < desk.old.lanes }
-    ensures text { Writes result (W.contents writer.old) (W.contents writer.new) (said_line desk.old lane command) }
+    ensures text { Writes result (W.contents writer.old) (W.contents writer.new)
+        (said_line desk.old lane command) }
     ensures after { OnOk result (desk.new ≡ after_answer desk.old lane command) }
     ensures lanes { OnOk result (desk.new.lanes ≡ desk.old.lanes) }
     ensures ends { IfOk result (λ ends. ends ≡ names_break (answer_to desk.old command)) }
@@ -38,7 +39,8 @@ pub(crate) fn run_command<W: Write>(
     Ok(names_break(answer))
 }
 
-// Says commands of the lanes in turn, up to the first whose answer names a break, writes the line of each, and counts them.
+// Says commands of the lanes in turn, up to the first whose answer names a break, writes the line of each, and counts
+// them.
 fn run_turns<W: Write>(
     alloc: Global,
     desk: &mut Desk,
@@ -46,7 +48,8 @@ fn run_turns<W: Write>(
     writer: &mut W,
 ) -> Result<usize, RunFault>
     requires { AreOf desk.old.lanes (seen_turns turns.now) }
-    ensures text { Writes result (W.contents writer.old) (W.contents writer.new) (answers_text desk.old (until_break desk.old (seen_turns turns.now))) }
+    ensures text { Writes result (W.contents writer.old) (W.contents writer.new)
+        (answers_text desk.old (until_break desk.old (seen_turns turns.now))) }
     ensures after { OnOk result (desk.new ≡ after_turns desk.old (until_break desk.old (seen_turns turns.now))) }
     ensures lanes { OnOk result (desk.new.lanes ≡ desk.old.lanes) }
     ensures count { IfOk result (λ count. count ≡ length (until_break desk.old (seen_turns turns.now))) }
@@ -73,7 +76,8 @@ fn most_of(left: usize, most: Option<u32>) -> usize
     }
 }
 
-/// Takes turns as `run` does, where so many were taken before, writes the line of each, and says how many are taken then.
+/// Takes turns as `run` does, where so many were taken before, writes the line of each, and says how many are taken
+/// then.
 pub(crate) fn run_taken<W: Write>(
     alloc: Global,
     desk: &mut Desk,
@@ -84,11 +88,14 @@ pub(crate) fn run_taken<W: Write>(
 ) -> Result<usize, RunFault>
     requires lanes { AreOf desk.old.lanes (seen_turns turns.now) }
     requires within { before ≤ length turns.now }
-    ensures text { Writes result (W.contents writer.old) (W.contents writer.new) (answers_text desk.old (taken most desk.old (drop before (seen_turns turns.now)))) }
-    ensures after { OnOk result (desk.new ≡ after_turns desk.old (taken most desk.old (drop before (seen_turns turns.now)))) }
+    ensures text { Writes result (W.contents writer.old) (W.contents writer.new)
+        (answers_text desk.old (taken most desk.old (drop before (seen_turns turns.now)))) }
+    ensures after { OnOk result (desk.new
+        ≡ after_turns desk.old (taken most desk.old (drop before (seen_turns turns.now)))) }
     ensures lanes { OnOk result (desk.new.lanes ≡ desk.old.lanes) }
     ensures within { IfOk result (λ count. count ≤ length turns.now) }
-    ensures count { IfOk result (λ count. count ≡ before + length (taken most desk.old (drop before (seen_turns turns.now)))) }
+    ensures count { IfOk result (λ count. count
+        ≡ before + length (taken most desk.old (drop before (seen_turns turns.now)))) }
 {
     let end = before + most_of(turns.len() - before, most);
     let count = run_turns(alloc, desk, &turns[before..end], writer)?;

@@ -17,8 +17,8 @@ use std::alloc::Global;
 pub enum Word {
     /// A command of the script's own lane.
     Command(Command),
-    /// `run` takes the commands that are left in the trace, the lanes in turn, up to one whose answer names a break; `run K` takes at most so
-    /// many.
+    /// `run` takes the commands that are left in the trace, the lanes in turn, up to one whose answer names a break;
+    /// `run K` takes at most so many.
     Run(Option<u32>),
     /// `kept` lists the kept events.
     Kept,

@@ -1,10 +1,14 @@
 //! Whole runs, from bytes to bytes.
 
 use crate::fault::RunFault;
+use crate::parallel::run_parallel;
 use crate::report::{Status, run_serial};
+use std::alloc::Global;
 use std::io;
 use std::io::Write;
+use std::sync::Wait;
 use std::test::Fail;
+use std::thread::Threads;
 
 // A run, with what it has to write.
 #[derive(Clone, Copy)]
@@ -490,4 +494,69 @@ fn failing_writers(rt: HostRuntime) -> Result<(), Fail> {
         }
     }
     Ok(())
+}
+
+const LATER_RUNS: Row = Row {
+    manifest: "",
+    trace: "rebug-trace 1\nlane 0\ntouch b 1\ntouch a\\sb 2\ntouch b 0\n",
+    script: "touch c 4\nrun 1\nkept\nrun\nundo 0:2\nrun 7\nstamps\n",
+    report: "1 1 ok\n2 0 ok\n3 0 ok\n4 0 ok\nkept 1 touch c 4\nkept 2 touch b 1\nkept 3 touch a\\sb 2\n\
+kept 4 touch b 0\n5 1 ok\nstamp c 4\n",
+    status: Status::Success,
+};
+
+// What a row is on threads.
+fn run_on_threads<R: Threads + Wait + Sync, W: Write>(
+    rt: &R,
+    alloc: Global,
+    row: &Row,
+    writer: &mut W,
+) -> Result<Status, RunFault> {
+    let name = Vec::from_slice(alloc, b"build.ninja")?;
+    let manifest = Vec::from_slice(alloc, row.manifest.as_bytes())?;
+    let files = [(name, manifest)];
+    let (trace, script) = (row.trace.as_bytes(), row.script.as_bytes());
+    run_parallel(rt, alloc, &files, trace, script, writer)
+}
+
+#[test]
+fn rows_on_threads(rt: HostRuntime) -> Result<(), Fail> {
+    let rows = [
+        EMPTY,
+        OVERTAKEN,
+        TOUCHES,
+        LATER_RUNS,
+        BAD_MANIFEST,
+        CYCLE,
+        BAD_SCRIPT,
+        LANE_OUT_OF_TURN,
+        PLAN_REFUSED,
+        MARKS_STAMPS_LOGS,
+        WHY_CHAIN,
+        UNDO_OUT_OF_ORDER,
+        NEAREST_DEPENDENT,
+        CONE,
+        INTERRUPT_ABORT,
+    ];
+    for row in &rows {
+        let mut report = Vec::new(rt.alloc());
+        let status = run_on_threads(&rt, rt.alloc(), row, &mut report)?;
+        assert_eq!(rt; report.as_slice(), row.report.as_bytes());
+        assert!(rt; status == row.status);
+    }
+    Ok(())
+}
+
+#[test]
+fn failing_writers_on_threads(rt: HostRuntime) {
+    for writes in 0..9 {
+        let mut writer = Failing {
+            left: writes,
+            takes_none: false,
+            written: Vec::new(rt.alloc()),
+        };
+        let result = run_on_threads(&rt, rt.alloc(), &TOUCHES, &mut writer);
+        assert!(rt; result == Err(RunFault::Write));
+        assert!(rt; TOUCHES.report.as_bytes().starts_with(&writer.written));
+    }
 }

@@ -2,6 +2,7 @@
 ghost use Rattle.std.specs.Prelude.{◌≡◌, ◌++◌, IfOk, OnOk, None, Some};
 ghost use Rattle.std.specs.Option.{option_copied};
 ghost use Rattle.rebug.specs.Report.{fault_line, graph_fault_line, kept_line, path_text, refused_line};
+ghost use Rattle.rebug.specs.Closing.{close_line};
 ghost use Rattle.rebug.specs.Answers.{answer_line, number_text, reply_text};
 
 use rev_desk::Reply;
@@ -153,6 +154,18 @@ pub(crate) fn graph_fault_line(
     let mut text = Vec::from_slice(alloc, b"fault graph ")?;
     push_number(&mut text, u64::from(code))?;
     push_path(&mut text, path)?;
+    text.extend_from_slice(b"\n")?;
+    Ok(text)
+}
+
+/// The line of a fault of lanes on threads.
+pub(crate) fn close_line(alloc: Global, code: u16, lane: u32) -> Result<Vec<u8>, AllocError>
+    ensures { IfOk result (λ text. text.items ≡ close_line code lane) }
+{
+    let mut text = Vec::from_slice(alloc, b"fault close ")?;
+    push_number(&mut text, u64::from(code))?;
+    text.extend_from_slice(b" ")?;
+    push_number(&mut text, u64::from(lane))?;
     text.extend_from_slice(b"\n")?;
     Ok(text)
 }

@@ -204,8 +204,8 @@ fn sentence_of(
     }
 }
 
-/// One sentence about the last line of a report: where the fault is, and what it means. None where that line is no fault line, or
-/// is not whole.
+/// One sentence about the last line of a report: where the fault is, and what it means. None where that line is no
+/// fault line, or is not whole.
 pub fn sentence(
     alloc: Global,
     report: &[u8],

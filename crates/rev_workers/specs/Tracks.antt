@@ -4,7 +4,8 @@ use Rattle.rev_commands.specs.declared.command.Command.{Command}
 use Rattle.rev_desk.specs.declared.reply.Reply.{Reply}
 use Rattle.rev_desk.specs.declared.reply.Reply.TheVariants as reply
 
--- a lane: its number, the journal's length when lane 0 was made, the journal's length at the last answer, and what was said
+-- a lane: its number, the journal's length when lane 0 was made, the journal's length at the last answer, and what was
+-- said
 pub record Track : Type 0 where
   pub number : ℕ
   pub base : ℕ

@@ -47,7 +47,8 @@ fn is_part(list: &[(Command, Reply)], number: u32, entries: &[Entry]) -> bool
 
 // Whether the list of the lane of a number is its part of these entries.
 fn is_stated<L: Ledger>(lanes: &[Lane<L>], number: u32, entries: &[Entry]) -> bool
-    ensures { IsTrue result ↔ AllByRecursion (λ t. t.number ≡ number → t.list ≡ part number entries.now) lanes.now }
+    ensures { IsTrue result ↔ AllByRecursion (λ t. t.number ≡ number → t.list ≡ part number entries.now)
+        lanes.now }
 {
     for lane in lanes {
         if lane.number() == number && !is_part(lane.list(), number, entries) {
@@ -59,7 +60,8 @@ fn is_stated<L: Ledger>(lanes: &[Lane<L>], number: u32, entries: &[Entry]) -> bo
 
 // The least number below a bound that not just one lane has.
 pub(crate) fn missing<L: Ledger>(lanes: &[Lane<L>], count: u32) -> Option<u32>
-    ensures some { IfSome result (λ n. (n < count) × (numbered n lanes.now ≢ 1) × ((m : ℕ) → m < n → numbered m lanes.now ≡ 1)) }
+    ensures some { IfSome result (λ n. (n < count) × (numbered n lanes.now ≢ 1) × ((m : ℕ) → m < n
+        → numbered m lanes.now ≡ 1)) }
     ensures none { IfNone result ((n : ℕ) → n < count → numbered n lanes.now ≡ 1) }
 {
     for number in 0..count {

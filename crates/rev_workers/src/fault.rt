@@ -1,4 +1,7 @@
 //! Why a desk does not come back as it should.
+ghost use Rattle.std.specs.Prelude.{◌≡◌};
+ghost use Rattle.rev_workers.specs.Codes.{number_of};
+
 use rev_desk::Desk;
 
 /// Why a desk does not come back as it should.
@@ -10,6 +13,19 @@ pub enum CloseCode {
     LaneMismatch,
     /// A lane could not say all that it was to say.
     LaneStopped,
+}
+
+impl CloseCode {
+    /// The fault's number: 110 for `LaneMissing`, 111 for `LaneMismatch`, 112 for `LaneStopped`.
+    pub fn number(self) -> u16
+        ensures { result ≡ number_of self }
+    {
+        match self {
+            CloseCode::LaneMissing => 110,
+            CloseCode::LaneMismatch => 111,
+            CloseCode::LaneStopped => 112,
+        }
+    }
 }
 
 /// Why a desk does not come back as it should, with the least lane of which that is so, and the desk.

@@ -22,7 +22,8 @@ use std::thread::{Promise, Threads};
 struct AllSay<L: Ledger>(Snapshot<Vec<Job<L>>>);
 
 impl<L: Ledger> Promise<Result<Vec<Lane<L>>, u32>> for AllSay<L> {
-    ghost kept_by = { λ p r. IfOk r (λ after. AllRan p.0.value.items after.items) × IfErr r (λ n. Contains (numbers_in p.0.value.items) n) };
+    ghost kept_by = { λ p r. IfOk r (λ after. AllRan p.0.value.items after.items)
+        × IfErr r (λ n. Contains (numbers_in p.0.value.items) n) };
 }
 
 // The later half of some jobs, with room for the lanes that come back.
@@ -100,7 +101,8 @@ fn together<L: Ledger>(
     requires some { 0 < length numbers.now }
     requires earlier { IfErr earlier (λ n. Contains numbers.now n) }
     requires later { IfErr later (λ n. Contains numbers.now n) }
-    ensures ok { IfOk result (λ after. IsOkAnd earlier (λ us. IsOkAnd later (λ vs. after.items ≡ us.items ++ vs.items))) }
+    ensures ok { IfOk result (λ after. IsOkAnd earlier (λ us. IsOkAnd later (λ vs. after.items
+        ≡ us.items ++ vs.items))) }
     ensures stopped { IfErr result (λ n. Contains numbers.now n) }
     ensures least { IfErr result (λ n. IfErr earlier (λ m. n ≤ m) × IfErr later (λ m. n ≤ m)) }
 {
@@ -188,9 +190,12 @@ fn run_both<L: Ledger + Send + Sync, R: Threads + Wait + Sync, G: Gate>(
         thread::scope_env(),
         rt,
         move |scope| -> Result<Vec<Lane<L>>, u32>
-            requires { IsSync R.row × AreBelow shared.now jobs.items × (numbers.now ≡ numbers_in jobs.items) × (room.items ≡ [])
-                × AreBelow shared.now later.items × (later_numbers.now ≡ numbers_in later.items) × (later_room.items ≡ [])
-                × (all.now ≡ numbers_in jobs.items ++ numbers_in later.items) × (0 < vec_len jobs) × (0 < vec_len later) × (0 < length all.now) }
+            requires { IsSync R.row × AreBelow shared.now jobs.items × (numbers.now ≡ numbers_in jobs.items)
+                × (room.items ≡ [])
+                × AreBelow shared.now later.items × (later_numbers.now ≡ numbers_in later.items)
+                × (later_room.items ≡ [])
+                × (all.now ≡ numbers_in jobs.items ++ numbers_in later.items) × (0 < vec_len jobs)
+                × (0 < vec_len later) × (0 < length all.now) }
             ensures { IfOk result (λ after. AllRan (jobs.items ++ later.items) after.items)
                 × IfErr result (λ n. Contains (numbers_in jobs.items ++ numbers_in later.items) n) }
         {
@@ -198,7 +203,8 @@ fn run_both<L: Ledger + Send + Sync, R: Threads + Wait + Sync, G: Gate>(
             let worker = scope.spawn_with(
                 promise,
                 move || -> Result<Vec<Lane<L>>, u32>
-                    requires { IsSync R.row × AreBelow shared.now later.items × (later_numbers.now ≡ numbers_in later.items)
+                    requires { IsSync R.row × AreBelow shared.now later.items
+                        × (later_numbers.now ≡ numbers_in later.items)
                         × (later_room.items ≡ []) }
                     ensures { IfOk result (λ after. AllRan later.items after.items)
                         × IfErr result (λ n. Contains (numbers_in later.items) n) }

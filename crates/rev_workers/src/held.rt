@@ -42,7 +42,8 @@ impl<L: Ledger> Model for Held<L> {
 
     ghost view = { λ h. h.desk };
 
-    ghost invariant = { λ h. (h.book.total ≡ length h.desk.journal) × (h.desk.lanes ≡ L.parts) × (length h.standings.items ≡ L.parts) × (0 < L.parts) };
+    ghost invariant = { λ h. (h.book.total ≡ length h.desk.journal) × (h.desk.lanes ≡ L.parts)
+        × (length h.standings.items ≡ L.parts) × (0 < L.parts) };
 }
 
 impl<L: Ledger> Held<L> {
@@ -57,7 +58,8 @@ impl<L: Ledger> Held<L> {
         requires lanes { blank.parts ≡ desk.lanes }
         ensures desk { IfOk result (λ made. made.0 ≡ desk) }
         ensures count { IfOk result (λ made. length made.1.items ≡ desk.lanes) }
-        ensures lanes { IfOk result (λ made. (k : ℕ) → k < desk.lanes → slice_get made.1.items k ≡ Some (fresh (length desk.journal) k)) }
+        ensures lanes { IfOk result (λ made. (k : ℕ) → k < desk.lanes
+            → slice_get made.1.items k ≡ Some (fresh (length desk.journal) k)) }
         ensures numbers { IfOk result (λ made. AllByRecursion (λ (t : Track). t.number < desk.lanes) made.1.items) }
     {
         let (mut book, mut rest) = blank.open::<L>();
@@ -87,7 +89,8 @@ impl<L: Ledger> Held<L> {
         ensures desk { OnOk result (self.new ≡ after self.old lane.old.number command) }
         ensures lane { IfOk result (λ reply. lane.new ≡ said lane.old command reply (length self.new.journal)) }
         ensures carried { IfOk result (λ reply. Carries reply lane.new.seen) }
-        ensures full { IfErr result (λ unsaid. (unsaid.why ≡ why.JournalFull) → (length self.old.journal ≡ 2 ^ 20)) }
+        ensures full { IfErr result (λ unsaid. (unsaid.why ≡ why.JournalFull)
+            → (length self.old.journal ≡ 2 ^ 20)) }
         ensures back { IfErr result (λ unsaid. unsaid.command ≡ command) }
         ensures same { OnErr result (self.new ≡ self.old) }
         ensures same_lane { OnErr result (lane.new ≡ lane.old) }
@@ -114,10 +117,15 @@ impl<L: Ledger> Held<L> {
     /// Takes the lanes back, and hands the desk out.
     pub(crate) fn close(self, lanes: Vec<Lane<L>>) -> Result<Desk, CloseFault>
         ensures desk { left_by result ≡ self }
-        ensures counted { IsOneOfEach (left_by result).lanes lanes.items → length (left_by result).journal ≡ entries_of lanes.items }
-        ensures ok { IfOk result (λ desk. IsOneOfEach desk.lanes lanes.items × AreStated desk.lanes desk.journal lanes.items) }
-        ensures missing { IfErr result (λ fault. fault.code ≡ code.LaneMissing → IsMissing fault.desk.lanes lanes.items fault.lane) }
-        ensures mismatch { IfErr result (λ fault. fault.code ≡ code.LaneMismatch → IsOneOfEach fault.desk.lanes lanes.items × IsMisstated fault.desk.lanes fault.desk.journal lanes.items fault.lane) }
+        ensures counted { IsOneOfEach (left_by result).lanes lanes.items
+            → length (left_by result).journal ≡ entries_of lanes.items }
+        ensures ok { IfOk result (λ desk. IsOneOfEach desk.lanes lanes.items
+            × AreStated desk.lanes desk.journal lanes.items) }
+        ensures missing { IfErr result (λ fault. fault.code ≡ code.LaneMissing
+            → IsMissing fault.desk.lanes lanes.items fault.lane) }
+        ensures mismatch { IfErr result (λ fault. fault.code ≡ code.LaneMismatch
+            → IsOneOfEach fault.desk.lanes lanes.items
+            × IsMisstated fault.desk.lanes fault.desk.journal lanes.items fault.lane) }
         ensures not_stopped { IfErr result (λ fault. fault.code ≢ code.LaneStopped) }
     {
         let count = self.desk.lanes();

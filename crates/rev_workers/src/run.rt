@@ -52,8 +52,10 @@ pub fn run_workers<L: Ledger + Send + Sync, R: Threads + Wait + Sync, G: Gate>(
     requires numbers { AllByRecursion (λ (t : Track). t.number < shared) lanes.items }
     ensures lanes { (left_by result).lanes ≡ shared }
     ensures stopped { IfErr result (λ fault. fault.code ≡ code.LaneStopped → HasNumber lanes.items fault.lane) }
-    ensures missing { IfErr result (λ fault. fault.code ≡ code.LaneMissing → IsMissing fault.desk.lanes lanes.items fault.lane) }
-    ensures said { IfOk result (λ desk. AreSaid lanes.items (map (λ v. v.items) trace.lanes.items) desk.journal) }
+    ensures missing { IfErr result (λ fault. fault.code ≡ code.LaneMissing
+        → IsMissing fault.desk.lanes lanes.items fault.lane) }
+    ensures said { IfOk result (λ desk.
+        AreSaid lanes.items (map (λ v. v.items) trace.lanes.items) desk.journal) }
 {
     let Trace { lanes: lists, .. } = trace;
     run_lists(rt, alloc, shared, lanes, lists, gate)
@@ -72,7 +74,8 @@ fn run_lists<L: Ledger + Send + Sync, R: Threads + Wait + Sync, G: Gate>(
     requires numbers { AllByRecursion (λ (t : Track). t.number < shared) lanes.items }
     ensures lanes { (left_by result).lanes ≡ shared }
     ensures stopped { IfErr result (λ fault. fault.code ≡ code.LaneStopped → HasNumber lanes.items fault.lane) }
-    ensures missing { IfErr result (λ fault. fault.code ≡ code.LaneMissing → IsMissing fault.desk.lanes lanes.items fault.lane) }
+    ensures missing { IfErr result (λ fault. fault.code ≡ code.LaneMissing
+        → IsMissing fault.desk.lanes lanes.items fault.lane) }
     ensures said { IfOk result (λ desk. AreSaid lanes.items (map (λ v. v.items) lists.items) desk.journal) }
 {
     let Some(least) = least_number(&lanes) else {

@@ -45,7 +45,8 @@ impl<L: Ledger> Shared<L> {
         requires lanes { blank.parts ≡ desk.lanes }
         ensures shared { IfOk result (λ made. made.0 ≡ desk.lanes) }
         ensures count { IfOk result (λ made. length made.1.items ≡ desk.lanes) }
-        ensures lanes { IfOk result (λ made. (k : ℕ) → k < desk.lanes → slice_get made.1.items k ≡ Some (fresh (length desk.journal) k)) }
+        ensures lanes { IfOk result (λ made. (k : ℕ) → k < desk.lanes
+            → slice_get made.1.items k ≡ Some (fresh (length desk.journal) k)) }
         ensures numbers { IfOk result (λ made. AllByRecursion (λ (t : Track). t.number < desk.lanes) made.1.items) }
     {
         let lanes = desk.lanes();
@@ -173,11 +174,16 @@ impl<L: Ledger> Lane<L> {
 
 /// Takes the lanes back, and hands the desk out. It speaks of the lanes given and of the desk in its answer.
 pub fn close<L: Ledger>(shared: Shared<L>, lanes: Vec<Lane<L>>) -> Result<Desk, CloseFault>
-    ensures counted { IsOneOfEach (left_by result).lanes lanes.items → length (left_by result).journal ≡ entries_of lanes.items }
+    ensures counted { IsOneOfEach (left_by result).lanes lanes.items
+        → length (left_by result).journal ≡ entries_of lanes.items }
     ensures lanes { (left_by result).lanes ≡ shared }
-    ensures ok { IfOk result (λ desk. IsOneOfEach desk.lanes lanes.items × AreStated desk.lanes desk.journal lanes.items) }
-    ensures missing { IfErr result (λ fault. fault.code ≡ code.LaneMissing → IsMissing fault.desk.lanes lanes.items fault.lane) }
-    ensures mismatch { IfErr result (λ fault. fault.code ≡ code.LaneMismatch → IsOneOfEach fault.desk.lanes lanes.items × IsMisstated fault.desk.lanes fault.desk.journal lanes.items fault.lane) }
+    ensures ok { IfOk result (λ desk. IsOneOfEach desk.lanes lanes.items
+        × AreStated desk.lanes desk.journal lanes.items) }
+    ensures missing { IfErr result (λ fault. fault.code ≡ code.LaneMissing
+        → IsMissing fault.desk.lanes lanes.items fault.lane) }
+    ensures mismatch { IfErr result (λ fault. fault.code ≡ code.LaneMismatch
+        → IsOneOfEach fault.desk.lanes lanes.items
+        × IsMisstated fault.desk.lanes fault.desk.journal lanes.items fault.lane) }
     ensures not_stopped { IfErr result (λ fault. fault.code ≢ code.LaneStopped) }
 {
     let Shared {

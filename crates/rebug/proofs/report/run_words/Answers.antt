@@ -5,8 +5,8 @@ use Rattle.rebug.proofs.OutputLemmas.{leads-to, goes-on, stops-in, writes-err}
 use Rattle.rebug.proofs.ReportLemmas.{script_next}
 use Rattle.rebug.proofs.report.run_words.Goals as goal
 
-pub returns-in_err-taken : goal.returns-in_err-taken
-returns-in_err-taken g c =
+pub returns-in_err-taken-clause-text : goal.returns-in_err-taken-clause-text
+returns-in_err-taken-clause-text g c =
     writes-err _ _ _ _ _ c.from_residual.ensures.1
     (stops-in _ _ _ _ _ _ _ _ c.loop-word.invariant.text (script_next _ _ _ _ _ c.word-item.result c.loop-word-test.true c.word-item.is) refl c.in_err-taken.ensures.text)
 

@@ -1,0 +1,11 @@
+//! The words of the command line.
+#![tactic(auto)]
+
+mod command;
+mod fields;
+#[cfg(test)]
+mod tests;
+mod words;
+
+pub use fields::Options;
+pub use words::options;
