@@ -7,6 +7,7 @@ use Rattle.rev_cells.specs.declared.mark.Mark.TheVariants as mark
 use Rattle.rev_cells.specs.declared.opening.Opening.TheInside.{Inside}
 use Rattle.rev_cells.specs.State.{State, mark_of, job_of, slot_of}
 use Rattle.rev_cells.specs.Table.{Records}
+use Rattle.rev_cells.specs.declared.opening.TheConstants.Opening.{MAX_JOBS}
 
 -- the records that the cells of an opening hold
 abbrev pub records_of : Inside → Records
@@ -26,7 +27,7 @@ HasRecordsAlone s = (c : Cell) → is_of_record c ≡ false → map.get s c ≡ 
 -- an opening has from 1 to 1,024 jobs, and records alone
 pub record IsOpening (r : Records) : Type 0 where
   pub some_jobs : 0 < r.jobs
-  pub few_jobs : r.jobs ≤ 1024
+  pub few_jobs : r.jobs ≤ MAX_JOBS
   pub records : HasRecordsAlone r.state
 
 -- nothing is marked, and no job and no slot is held

@@ -43,7 +43,7 @@ impl Opening {
     /// An opening with no records. The number of jobs is from 1 to 1,024. It takes no memory.
     pub fn new(alloc: Global, jobs: u32) -> Result<Opening, OpeningFault>
         ensures ok { IfOk result (λ opening. opening ≡ no_records jobs) }
-        ensures bad_jobs { IsErrOf result OpeningFault.BadJobs ↔ ((jobs ≡ 0) ⊎ (1024 < jobs)) }
+        ensures bad_jobs { IsErrOf result OpeningFault.BadJobs ↔ ((jobs ≡ 0) ⊎ (Self.MAX_JOBS < jobs)) }
         ensures only { OnErr result (IsErrOf result OpeningFault.BadJobs) }
     {
         if jobs == 0 || jobs > Self::MAX_JOBS {
@@ -66,7 +66,7 @@ impl Opening {
     /// Gives the opening another number of jobs, from 1 to 1,024. It takes no memory.
     pub fn set_jobs(&mut self, jobs: u32) -> Result<(), OpeningFault>
         ensures ok { OnOk result (self.new ≡ record self.old { jobs = jobs }) }
-        ensures bad_jobs { IsErrOf result OpeningFault.BadJobs ↔ ((jobs ≡ 0) ⊎ (1024 < jobs)) }
+        ensures bad_jobs { IsErrOf result OpeningFault.BadJobs ↔ ((jobs ≡ 0) ⊎ (Self.MAX_JOBS < jobs)) }
         ensures only { OnErr result (IsErrOf result OpeningFault.BadJobs) }
         ensures err { OnErr result (self.new ≡ self.old) }
     {

@@ -6,10 +6,11 @@ use Rattle.rev_paths.specs.Mentions.{first_mentions}
 use Rattle.rev_depfile.specs.declared.fault.DepfileFault.{DepfileFault}
 use Rattle.rev_depfile.specs.declared.fault.DepfileFault.TheVariants.{NoColon, OtherTarget, LongPath}
 use Rattle.rev_depfile.specs.Grammar.{WordValue, LineValue, IsDepfile}
+use Rattle.rev_paths.specs.declared.name.TheConstants.Name.{MAX_BYTES}
 
 -- a path has at most 4,096 bytes as it is written
 abbrev pub IsShort : WordValue → Type 0
-IsShort word = length word.text ≤ 4096
+IsShort word = length word.text ≤ MAX_BYTES
 
 abbrev pub path_named : WordValue → List ℕ
 path_named word = canonical word.text
@@ -69,7 +70,7 @@ pub data LineRefuses (outputs : List (List ℕ)) : LineValue → DepfileFault �
       (OtherTarget (beginning targets at))
   -- a prerequisite that is too long, and none before it in the line
   TooLong : {targets : List WordValue} {at : ℕ} (before : List WordValue) (word : WordValue) (after : List WordValue)
-      → NamesOutput outputs targets → AllByRecursion IsShort before → 4096 < length word.text
+      → NamesOutput outputs targets → AllByRecursion IsShort before → MAX_BYTES < length word.text
       → LineRefuses outputs (record
       { targets = targets; rule = Some (record { at = at; prerequisites = before ++ word ∷ after }) })
       (LongPath word.at)

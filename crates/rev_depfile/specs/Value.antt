@@ -8,10 +8,11 @@ use Rattle.rev_depfile.specs.declared.fault.DepfileFault.{DepfileFault}
 use Rattle.rev_depfile.specs.declared.fault.DepfileFault.TheVariants.{NoColon, OtherTarget, LongPath}
 use Rattle.rev_depfile.specs.declared.sign.Sign.{Sign}
 use Rattle.rev_depfile.specs.Lines.{lines, words, before_colon, from_colon, word_text, word_at}
+use Rattle.rev_paths.specs.declared.name.TheConstants.Name.{MAX_BYTES}
 
 -- a path with more than 4,096 bytes as it is written
 abbrev pub is_long : List Sign → Bool
-is_long word = nat_lt 4096 (length (word_text word))
+is_long word = nat_lt MAX_BYTES (length (word_text word))
 
 -- the canonical path of a word
 abbrev pub path_of : List Sign → List ℕ

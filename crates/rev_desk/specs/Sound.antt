@@ -1,7 +1,8 @@
 -- What holds of every desk.
-use Rattle.std.specs.Prelude.{◌≡◌, ℕ, ◌<◌, ◌≤◌, ◌^◌, List, [], ◌∷◌, length}
+use Rattle.std.specs.Prelude.{◌≡◌, ℕ, ◌<◌, ◌≤◌, List, [], ◌∷◌, length}
 use Rattle.std.specs.List.{AllByRecursion}
 use Rattle.rev_history.specs.Timeline.{IsHistory}
+use Rattle.rev_desk.specs.declared.desk.TheConstants.Desk.{MAX_ENTRIES, MAX_LANES}
 use Rattle.rev_desk.specs.declared.reply.Entry.{Entry}
 use Rattle.rev_desk.specs.Machine.{DeskValue, opened_desk, reply_to, after}
 
@@ -26,6 +27,6 @@ pub record IsDesk (d : DeskValue) : Type 0 where
   pub legal : IsLegalFrom (opening_of d) d.journal
   pub led : run_of (opening_of d) d.journal ≡ d
   pub history : IsHistory d.history
-  pub few : length d.journal ≤ 2 ^ 20
+  pub few : length d.journal ≤ MAX_ENTRIES
   pub some : 1 ≤ d.lanes
-  pub most : d.lanes ≤ 64
+  pub most : d.lanes ≤ MAX_LANES

@@ -62,7 +62,7 @@ impl Desk {
     ) -> Result<Desk, DeskFault>
         ensures ok { IfOk result
             (λ desk. desk ≡ opened_desk graph.manifest opening.now.jobs opening.now.state lanes) }
-        ensures bad_lanes { IsErrOf result DeskFault.BadLanes ↔ ((lanes ≡ 0) ⊎ (64 < lanes)) }
+        ensures bad_lanes { IsErrOf result DeskFault.BadLanes ↔ ((lanes ≡ 0) ⊎ (Self.MAX_LANES < lanes)) }
     {
         if lanes == 0 || lanes > Self::MAX_LANES {
             return Err(DeskFault::BadLanes);
@@ -85,7 +85,7 @@ impl Desk {
     pub fn lanes(&self) -> u32
         ensures lanes { result ≡ self.now.lanes }
         ensures some { 1 ≤ self.now.lanes }
-        ensures most { self.now.lanes ≤ 64 }
+        ensures most { self.now.lanes ≤ Self.MAX_LANES }
     {
         self.journal.lanes()
     }
@@ -93,7 +93,7 @@ impl Desk {
     /// All that was said and answered, in its order: at most 1,048,576 entries, whose numbers are their places from 1.
     pub fn journal(&self) -> &[Entry]
         ensures journal { result.now ≡ self.now.journal }
-        ensures few { length self.now.journal ≤ 2 ^ 20 }
+        ensures few { length self.now.journal ≤ Self.MAX_ENTRIES }
         ensures legal { IsDesk self.now }
     {
         self.journal.entries()
@@ -139,7 +139,7 @@ impl Desk {
         ensures reply { IfOk result (λ reply. reply ≡ reply_to self.old command) }
         ensures ok { OnOk result (self.new ≡ after self.old lane command) }
         ensures full { IsErrAnd result (λ unsaid. unsaid.why ≡ why.JournalFull)
-            ↔ (length self.old.journal ≡ 2 ^ 20) }
+            ↔ (length self.old.journal ≡ Self.MAX_ENTRIES) }
         ensures back { IfErr result (λ unsaid. unsaid.command ≡ command) }
         ensures err { OnErr result (self.new ≡ self.old) }
     {
@@ -181,7 +181,7 @@ fn answered(
 ) -> Result<Reply, AllocError>
     requires ready { IsReady bench.old (length journal.old.entries.items + 1) }
     requires indexed { IsIndexed journal.old }
-    requires few { length journal.old.entries.items < 2 ^ 20 }
+    requires few { length journal.old.entries.items < Desk.MAX_ENTRIES }
     requires lane { lane < length journal.old.numbers.items }
     ensures does { let n = length journal.old.entries.items + 1 in
         let m = target journal.old.entries.items command.now in

@@ -24,7 +24,7 @@ fn number_at(numbers: &[u32], place: u32) -> Option<u32>
 
 impl Journal {
     /// The most entries.
-    pub(crate) const MAX_ENTRIES: usize = 1 << 20;
+    pub(crate) const MAX_ENTRIES: usize = 1_048_576;
 
     /// No entries, of so many lanes.
     pub(crate) fn new(alloc: Global, lanes: u32) -> Result<Journal, AllocError>
@@ -59,14 +59,14 @@ impl Journal {
 
     /// Whether there are as many entries as there may be.
     pub(crate) fn is_full(&self) -> bool
-        ensures { IsTrue result ↔ (2 ^ 20 ≤ length self.now.entries.items) }
+        ensures { IsTrue result ↔ (Self.MAX_ENTRIES ≤ length self.now.entries.items) }
     {
         self.entries.len() >= Self::MAX_ENTRIES
     }
 
     /// The number of the next entry.
     pub(crate) fn next_number(&self) -> u32
-        requires { length self.now.entries.items ≤ 2 ^ 20 }
+        requires { length self.now.entries.items ≤ Self.MAX_ENTRIES }
         ensures { result ≡ length self.now.entries.items + 1 }
     {
         self.entries.len() as u32 + 1
@@ -138,7 +138,7 @@ impl Journal {
     /// Adds an entry, for which room was made.
     pub(crate) fn push(&mut self, lane: u32, command: Command, reply: Reply)
         requires indexed { IsIndexed self.old }
-        requires few { length self.old.entries.items < 2 ^ 20 }
+        requires few { length self.old.entries.items < Self.MAX_ENTRIES }
         requires lane { lane < length self.old.numbers.items }
         requires room { HasRoom self.old lane }
         ensures entries { self.new.entries.items ≡

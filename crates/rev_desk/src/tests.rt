@@ -12,53 +12,41 @@ use std::test::Fail;
 const BUILD: &[u8; 104] =
     b"rule cc\n  command = cc\nrule ld\n  command = ld\nbuild a.o: cc a.c\nbuild b.o: cc b.c\nbuild app: ld a.o b.o\n";
 
-fn manifest_of(alloc: Global) -> Result<Manifest, AllocError> {
+fn manifest_of(alloc: Global) -> Result<Manifest, Fail> {
     let name = Vec::from_slice(alloc, b"build.ninja")?;
     let content = Vec::from_slice(alloc, BUILD)?;
     let files = vec![in alloc; (name, content)]?;
-    match read(alloc, &files) {
-        Ok(manifest) => Ok(manifest),
-        Err(_) => Err(AllocError),
-    }
+    let manifest = read(alloc, &files)?;
+    Ok(manifest)
 }
 
-fn graph_of(alloc: Global) -> Result<Graph, AllocError> {
+fn graph_of(alloc: Global) -> Result<Graph, Fail> {
     let manifest = manifest_of(alloc)?;
-    match Graph::build(alloc, &manifest) {
-        Ok(graph) => Ok(graph),
-        Err(_) => Err(AllocError),
-    }
+    let graph = Graph::build(alloc, &manifest)?;
+    Ok(graph)
 }
 
-fn path_of(alloc: Global, path: &[u8]) -> Result<Name, AllocError> {
-    match Name::new(alloc, path) {
-        Ok(name) => Ok(name),
-        Err(_) => Err(AllocError),
-    }
+fn path_of(alloc: Global, path: &[u8]) -> Result<Name, Fail> {
+    let name = Name::new(alloc, path)?;
+    Ok(name)
 }
 
 // Two jobs, and the stamps of both sources.
-fn opening_of(alloc: Global) -> Result<Opening, AllocError> {
-    let Ok(mut opening) = Opening::new(alloc, 2) else {
-        return Err(AllocError);
-    };
+fn opening_of(alloc: Global) -> Result<Opening, Fail> {
+    let mut opening = Opening::new(alloc, 2)?;
     let sources: [(&[u8], u64); 2] = [(b"a.c", 10), (b"b.c", 20)];
     for (path, stamp) in sources {
-        if opening.add_stamp(path_of(alloc, path)?, stamp).is_err() {
-            return Err(AllocError);
-        }
+        opening.add_stamp(path_of(alloc, path)?, stamp)?;
     }
     Ok(opening)
 }
 
 // A desk of three lanes.
-fn desk_of(alloc: Global) -> Result<Desk, AllocError> {
+fn desk_of(alloc: Global) -> Result<Desk, Fail> {
     let graph = graph_of(alloc)?;
     let opening = opening_of(alloc)?;
-    match Desk::new(alloc, graph, &opening, 3) {
-        Ok(desk) => Ok(desk),
-        Err(_) => Err(AllocError),
-    }
+    let desk = Desk::new(alloc, graph, &opening, 3)?;
+    Ok(desk)
 }
 
 // What stands before and behind the first byte of this value.
@@ -90,13 +78,13 @@ fn which(text: &[u8]) -> Which {
     }
 }
 
-fn plan_of(alloc: Global, target: &[u8]) -> Result<Event, AllocError> {
+fn plan_of(alloc: Global, target: &[u8]) -> Result<Event, Fail> {
     let mut names = Vec::new(alloc);
     names.push(path_of(alloc, target)?)?;
     Ok(Event::Plan(Names::new(names)))
 }
 
-fn finish_of(alloc: Global, out: &[u8], stamp: u32) -> Result<Event, AllocError> {
+fn finish_of(alloc: Global, out: &[u8], stamp: u32) -> Result<Event, Fail> {
     let mut stamps = Vec::new(alloc);
     stamps.push(u64::from(stamp))?;
     Ok(Event::Finish {
@@ -106,7 +94,7 @@ fn finish_of(alloc: Global, out: &[u8], stamp: u32) -> Result<Event, AllocError>
     })
 }
 
-fn event_of(alloc: Global, word: &[u8], said: &[u8]) -> Result<Event, AllocError> {
+fn event_of(alloc: Global, word: &[u8], said: &[u8]) -> Result<Event, Fail> {
     let (out, rest) = cut(said, b' ');
     match word {
         b"plan" => plan_of(alloc, out),
@@ -121,7 +109,7 @@ fn event_of(alloc: Global, word: &[u8], said: &[u8]) -> Result<Event, AllocError
 }
 
 // The command that a line says; of breaks, those of finishes.
-fn command_of(alloc: Global, line: &[u8]) -> Result<Command, AllocError> {
+fn command_of(alloc: Global, line: &[u8]) -> Result<Command, Fail> {
     let (word, said) = cut(line, b' ');
     match word {
         b"undo" => Ok(Command::Undo(which(said))),
@@ -139,11 +127,12 @@ fn command_of(alloc: Global, line: &[u8]) -> Result<Command, AllocError> {
 }
 
 // A lane says a line.
-fn say(alloc: Global, desk: &mut Desk, lane: u32, line: &[u8]) -> Result<(), AllocError> {
+fn say(alloc: Global, desk: &mut Desk, lane: u32, line: &[u8]) -> Result<(), Fail> {
     let command = command_of(alloc, line)?;
-    if lane >= desk.lanes() || desk.apply(lane, command).is_err() {
-        return Err(AllocError);
+    if lane >= desk.lanes() {
+        return Err(Fail::from("no lane of that number"));
     }
+    desk.apply(lane, command)?;
     Ok(())
 }
 
@@ -229,9 +218,10 @@ fn push_state(text: &mut Vec<u8>, desk: &Desk) -> Result<(), AllocError> {
 }
 
 // The reply that a line would have.
-fn verdict(alloc: Global, desk: &Desk, line: &[u8]) -> Result<Reply, AllocError> {
+fn verdict(alloc: Global, desk: &Desk, line: &[u8]) -> Result<Reply, Fail> {
     let command = command_of(alloc, line)?;
-    desk.verdict(&command)
+    let verdict = desk.verdict(&command)?;
+    Ok(verdict)
 }
 
 // A line asks for a name, for a verdict or for the state, or it is a command that a lane says.
@@ -241,18 +231,19 @@ fn tell(
     text: &mut Vec<u8>,
     lane: u32,
     line: &[u8],
-) -> Result<(), AllocError> {
+) -> Result<(), Fail> {
     let (word, said) = cut(line, b' ');
     match word {
-        b"named" => push_named(text, desk.named(which(said))),
-        b"verdict" => push_reply(text, verdict(alloc, desk, said)?),
-        b"state" => push_state(text, desk),
-        _ => say(alloc, desk, lane, line),
+        b"named" => push_named(text, desk.named(which(said)))?,
+        b"verdict" => push_reply(text, verdict(alloc, desk, said)?)?,
+        b"state" => push_state(text, desk)?,
+        _ => say(alloc, desk, lane, line)?,
     }
+    Ok(())
 }
 
 // The answers to these lines, and behind them the journal's report.
-fn answers(alloc: Global, desk: &mut Desk, lines: &[(u32, &[u8])]) -> Result<Vec<u8>, AllocError> {
+fn answers(alloc: Global, desk: &mut Desk, lines: &[(u32, &[u8])]) -> Result<Vec<u8>, Fail> {
     let mut text = Vec::new(alloc);
     for (lane, line) in lines {
         tell(alloc, desk, &mut text, *lane, line)?;
@@ -262,13 +253,13 @@ fn answers(alloc: Global, desk: &mut Desk, lines: &[(u32, &[u8])]) -> Result<Vec
 }
 
 // What a new desk answers to these lines.
-fn answered(alloc: Global, lines: &[(u32, &[u8])]) -> Result<Vec<u8>, AllocError> {
+fn answered(alloc: Global, lines: &[(u32, &[u8])]) -> Result<Vec<u8>, Fail> {
     let mut desk = desk_of(alloc)?;
     answers(alloc, &mut desk, lines)
 }
 
 // Whether a new desk answers this.
-fn reports(alloc: Global, lines: &[(u32, &[u8])], text: &[u8]) -> Result<bool, AllocError> {
+fn reports(alloc: Global, lines: &[(u32, &[u8])], text: &[u8]) -> Result<bool, Fail> {
     let answers = answered(alloc, lines)?;
     Ok(answers.as_slice() == text)
 }

@@ -6,6 +6,7 @@ use Rattle.rev_paths.specs.Canonical.{canonical}
 use Rattle.rev_fields.specs.declared.faults.FaultKind.{FaultKind}
 use Rattle.rev_fields.specs.declared.faults.FaultKind.TheVariants.{Syntax}
 use Rattle.rev_fields.specs.Faults.{each_of}
+use Rattle.rev_paths.specs.declared.name.TheConstants.Name.{MAX_BYTES}
 
 -- the lines of a text, each ended by LF or by the text's end
 abbrev pub lines_of : List ℕ → List (List ℕ)
@@ -17,7 +18,7 @@ is_blank (b ∷ bs) = false
 
 -- a path, in canonical form: it has 1 to 4,096 bytes as it is given
 abbrev pub path_of : List ℕ → Result (List ℕ) FaultKind
-path_of text = if is_blank text || nat_lt 4096 (length text) then Err Syntax else Ok (canonical text)
+path_of text = if is_blank text || nat_lt MAX_BYTES (length text) then Err Syntax else Ok (canonical text)
 
 -- paths, each in canonical form
 abbrev pub paths_of : List (List ℕ) → Result (List (List ℕ)) FaultKind

@@ -7,6 +7,7 @@ use Rattle.rev_ranks.specs.Leads.{leads_to}
 use Rattle.rev_graph.specs.declared.fault.GraphFault.{GraphFault}
 use Rattle.rev_graph.specs.declared.fault.GraphFault.TheVariants.{TooManyEdges, MultipleProducers, Cycle}
 use Rattle.rev_graph.specs.Graph.{build_at, outputs_of, first_double, successor_lists}
+use Rattle.rev_graph.specs.declared.graph.TheConstants.Graph.{MAX_EDGES}
 
 -- whether a node reaches itself
 abbrev pub reaches_itself : List (List ℕ) → ℕ → Bool
@@ -28,5 +29,5 @@ double_or (Some path) fault = Some (MultipleProducers path)
 -- the first fault of edges
 unfoldable pub graph_fault : List BuildValue → Option GraphFault
 graph_fault builds =
-    if nat_lt 262144 (length builds) then Some TooManyEdges
+    if nat_lt MAX_EDGES (length builds) then Some TooManyEdges
     else double_or (first_double builds) (cycle_at builds (least_on_cycle (successor_lists builds)))

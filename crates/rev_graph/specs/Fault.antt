@@ -4,6 +4,7 @@ use Rattle.rev_manifest.specs.Manifest.{BuildValue}
 use Rattle.rev_graph.specs.declared.fault.GraphFault.{GraphFault}
 use Rattle.rev_graph.specs.declared.fault.GraphFault.TheVariants.{Memory, TooManyEdges, MultipleProducers, Cycle}
 use Rattle.rev_graph.specs.Graph.{first_double, NamesCycle, EdgeReaches}
+use Rattle.rev_graph.specs.declared.graph.TheConstants.Graph.{MAX_EDGES}
 
 -- the numbers of the faults
 abbrev pub code_of : GraphFault → Option ℕ
@@ -22,12 +23,12 @@ path_of (Cycle path) = Some path
 -- what each fault says of the edges; they are asked for in this order
 abbrev pub Explains : GraphFault → List BuildValue → Type 0
 Explains Memory builds = Unit {0}
-Explains TooManyEdges builds = 262144 < length builds
-Explains (MultipleProducers path) builds = (length builds ≤ 262144) × (first_double builds ≡ Some path)
-Explains (Cycle path) builds = (length builds ≤ 262144) × (first_double builds ≡ None) × NamesCycle builds path
+Explains TooManyEdges builds = MAX_EDGES < length builds
+Explains (MultipleProducers path) builds = (length builds ≤ MAX_EDGES) × (first_double builds ≡ Some path)
+Explains (Cycle path) builds = (length builds ≤ MAX_EDGES) × (first_double builds ≡ None) × NamesCycle builds path
 
 -- Edges that have none of the faults.
 pub record IsFaultless (builds : List BuildValue) : Type 0 where
-  pub few : length builds ≤ 262144
+  pub few : length builds ≤ MAX_EDGES
   pub single : first_double builds ≡ None
   pub acyclic : (edge : ℕ) → EdgeReaches builds edge edge → ⊥

@@ -5,6 +5,7 @@ use Rattle.std.specs.List.{Contains, list_any, filter_map}
 use Rattle.rev_manifest.specs.Builds.{BuildValue, ManifestValue, IsManifest}
 pub use Rattle.rev_manifest.specs.Builds.{outputs_of, inputs_of}
 pub use Rattle.rev_manifest.specs.Names.{has_path}
+use Rattle.rev_graph.specs.declared.graph.TheConstants.Graph.{MAX_EDGES}
 
 -- a graph: a manifest without faults, and a rank for each edge
 pub record GraphValue : Type 0 where
@@ -106,7 +107,7 @@ pub record IsRanked (builds : List BuildValue) (ranks : List ℕ) : Type 0 where
 -- each step.
 pub record IsGraph (graph : GraphValue) : Type 0 where
   pub kept : IsManifest graph.manifest
-  pub few : length graph.manifest.builds ≤ 262144
+  pub few : length graph.manifest.builds ≤ MAX_EDGES
   pub single : first_double graph.manifest.builds ≡ None
   pub ranked : IsRanked graph.manifest.builds graph.ranks
 

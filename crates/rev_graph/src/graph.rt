@@ -73,7 +73,7 @@ impl Graph {
 
         // A fault is the first that they have.
         ensures fault { IfErr result (λ fault. Explains fault manifest.now.builds) }
-        ensures many { IsErrOf result GraphFault.TooManyEdges ↔ (262144 < length manifest.now.builds) }
+        ensures many { IsErrOf result GraphFault.TooManyEdges ↔ (Self.MAX_EDGES < length manifest.now.builds) }
     {
         let edges = manifest.builds();
         if edges.len() > Self::MAX_EDGES as usize {

@@ -7,6 +7,7 @@ ghost use Rattle.rev_graph.specs.Entries.{entry, given, produced_by};
 ghost use Rattle.rev_graph.specs.Fault.{Explains};
 ghost use Rattle.rev_graph.specs.Graph.{outputs_of, inputs_of, has_path, needs, input_producers, successor_lists, EdgeReaches, IsLeastOnCycle, IsRanked, build_at, first_double};
 ghost use Rattle.rev_graph.specs.Lists.{lists_of};
+ghost use Rattle.rev_graph.specs.declared.graph.TheConstants.Graph.{MAX_EDGES};
 
 use crate::fault::GraphFault;
 use crate::table::{Table, add, value_or_add};
@@ -120,7 +121,7 @@ fn first_output(edge: &Build) -> Result<Name, AllocError>
 
 // The fault that names the least edge on a cycle.
 fn cycle_at(edges: &[Build], edge: u32) -> Result<GraphFault, AllocError>
-    requires few { length edges.now ≤ 262144 }
+    requires few { length edges.now ≤ MAX_EDGES }
     requires single { first_double edges.now ≡ None }
     requires cycle { IsLeastOnCycle edges.now edge }
     ensures { IfOk result (λ fault. Explains fault edges.now) }
@@ -131,7 +132,7 @@ fn cycle_at(edges: &[Build], edge: u32) -> Result<GraphFault, AllocError>
 
 // Ranks of the nodes, by the producers of each edge's inputs.
 fn ranks_by(alloc: Global, edges: &[Build], successors: &[Vec<u32>]) -> Result<Vec<u32>, GraphFault>
-    requires few { length edges.now ≤ 262144 }
+    requires few { length edges.now ≤ MAX_EDGES }
     requires single { first_double edges.now ≡ None }
     requires successors { graph_of successors.now ≡ successor_lists edges.now }
     ensures ranked { IfOk result (λ ranks. IsRanked edges.now ranks.items) }
@@ -154,7 +155,7 @@ pub(crate) fn ranks_of(
     edges: &[Build],
     producers: &[Vec<Option<u32>>],
 ) -> Result<Vec<u32>, GraphFault>
-    requires few { length edges.now ≤ 262144 }
+    requires few { length edges.now ≤ MAX_EDGES }
     requires single { first_double edges.now ≡ None }
     requires producers { lists_of producers.now ≡ map (input_producers edges.now) edges.now }
     ensures ranked { IfOk result (λ ranks. IsRanked edges.now ranks.items) }

@@ -5,6 +5,7 @@ ghost use Rattle.std.specs.List.{list_any};
 ghost use Rattle.rev_graph.specs.Entries.{entry, has_entry, produced_by, given};
 ghost use Rattle.rev_graph.specs.Fault.{Explains};
 ghost use Rattle.rev_graph.specs.Graph.{outputs_of, inputs_of, has_path, needs, producer_of, is_known, first_double};
+ghost use Rattle.rev_graph.specs.declared.graph.TheConstants.Graph.{MAX_EDGES};
 
 use crate::fault::GraphFault;
 use indexmap::IndexMap;
@@ -81,7 +82,7 @@ fn add_outputs(table: &mut Table, edge: &Build, number: u32) -> Result<(), Alloc
 /// # Errors
 /// [`GraphFault::MultipleProducers`] with the first output that an earlier edge has, and [`GraphFault::Memory`].
 pub(crate) fn outputs_table(alloc: Global, edges: &[Build]) -> Result<Table, GraphFault>
-    requires { length edges.now ≤ 262144 }
+    requires { length edges.now ≤ MAX_EDGES }
     ensures entries { IfOk result (λ table. (path : List ℕ)
         → entry table.entries path ≡ option_map Some (producer_of edges.now path)) }
     ensures single { OnOk result (first_double edges.now ≡ None) }

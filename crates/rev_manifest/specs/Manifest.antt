@@ -14,6 +14,7 @@ use Rattle.rev_manifest.specs.Declarations.{DeclaredEdgeValue, DeclarationsValue
 use Rattle.rev_manifest.specs.Ends.{EndValues, at_end, fault_at_end, values_at_end}
 use Rattle.rev_manifest.specs.Reading.{reading}
 pub use Rattle.rev_manifest.specs.Builds.{BuildValue, ManifestValue, outputs_of, inputs_of}
+use Rattle.rev_manifest.specs.declared.manifest.TheConstants.{MOST_DEEP}
 
 -- an edge without a rule's variables: a phony edge has no command, flags or pool, and its own outputs are none of its
 -- inputs
@@ -107,7 +108,7 @@ nowhere = record { file = 0; line = 0 }
 -- what all files declare: the first is the manifest itself, and others are read where statements name them, at most 16
 -- files deep below it
 abbrev pub declared_by : List FileValue → Result DeclarationsValue ManifestFault
-declared_by files = reading files 17 nothing (record { file = 0; scope = 0; place = nowhere })
+declared_by files = reading files MOST_DEEP nothing (record { file = 0; scope = 0; place = nowhere })
 
 -- The value of files, each a name and its content, or their first fault.
 unfoldable pub manifest_of : List (List ℕ × List ℕ) → Result ManifestValue ManifestFault

@@ -10,6 +10,7 @@ use Rattle.rev_manifest.specs.declared.fault.FaultKind.TheVariants.{EmptyPath, L
 use Rattle.rev_manifest.specs.declared.fault.ManifestFault.{ManifestFault}
 use Rattle.rev_manifest.specs.declared.fault.Place.{Place}
 use Rattle.rev_manifest.specs.Answers.{and_then, unless}
+use Rattle.rev_paths.specs.declared.name.TheConstants.Name.{MAX_BYTES}
 
 -- whether a path stands among others
 abbrev pub has_path : List (List ℕ) → List ℕ → Bool
@@ -21,7 +22,7 @@ without others paths = filter (λ path. not (has_path others path)) paths
 
 -- the fault of a path: it is empty, or has more than 4,096 bytes
 abbrev pub path_fault : List ℕ → Option FaultKind
-path_fault path = if is_empty path then Some EmptyPath else (if nat_lt 4096 (length path) then Some LongPath else None)
+path_fault path = if is_empty path then Some EmptyPath else (if nat_lt MAX_BYTES (length path) then Some LongPath else None)
 
 -- the canonical name of a path
 abbrev pub name_of : Place → List ℕ → Result (List ℕ) ManifestFault

@@ -3,6 +3,7 @@ use Rattle.std.specs.Prelude.{ℕ, ◌+◌, ◌-◌, ◌*◌, not, ◌||◌, Lis
 use Rattle.std.specs.List.{list_all}
 use Rattle.std.specs.Char.{is_ascii_digit}
 use Rattle.rev_manifest.specs.Names.{is_empty}
+use Rattle.rev_manifest.specs.declared.depth.TheConstants.{MAX_DEPTH}
 
 abbrev pub PoolValue : Type 0
 PoolValue = List ℕ × ℕ
@@ -23,5 +24,5 @@ decimal_from number (b ∷ bs) = decimal_from (number * 10 + (b - 48)) bs
 -- a depth: decimal digits, leading zeros among them, that say at most 1,000,000
 abbrev pub depth_of : List ℕ → Option ℕ
 depth_of text =
-    if is_empty text || not (list_all is_ascii_digit text) || nat_lt 1000000 (decimal_from 0 text) then None
+    if is_empty text || not (list_all is_ascii_digit text) || nat_lt MAX_DEPTH (decimal_from 0 text) then None
     else Some (decimal_from 0 text)

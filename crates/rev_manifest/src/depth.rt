@@ -14,9 +14,9 @@ const MAX_DEPTH: u32 = 1_000_000;
 
 // The number that digits say after those that said a number.
 fn depth_from(number: u32, digits: &[u8]) -> Option<u32>
-    requires { number ≤ 1000000 }
+    requires { number ≤ MAX_DEPTH }
     ensures value { result ≡ depth_from number digits.now }
-    ensures small { IfSome result (λ depth. depth ≤ 1000000) }
+    ensures small { IfSome result (λ depth. depth ≤ MAX_DEPTH) }
 {
     let mut so_far = number;
     for byte in digits {

@@ -1,6 +1,6 @@
 -- A path whose parts are names that do not begin with a dot is its own canonical form.
-use Rattle.std.proofs.Common.{◌≡◌, ℕ, ◌==◌, Bool, true, false, not, ◌&&◌, ◌||◌, cond, List, [], ◌∷◌, ◌++◌, filter, bytes_eq, refl, sym, ap, ◌∙◌, eqb-true, if◌then◌else◌}
-use Rattle.rev_paths.specs.Canonical.{parts, prefixed, is_named, is_up, before, resolved, joined, or_dot, is_rooted, components, canonical, below_root}
+use Rattle.std.proofs.Common.{◌≡◌, ℕ, ◌==◌, Bool, true, false, not, ◌&&◌, ◌||◌, cond, List, [], ◌∷◌, filter, bytes_eq, refl, sym, ap, ◌∙◌, eqb-true, if◌then◌else◌}
+use Rattle.rev_paths.specs.Canonical.{parts, prefixed, is_named, is_up, before, resolved, joined, or_dot, components, canonical, below_root}
 use Rattle.rev_paths.specs.Kept.{plain_from, is_plain}
 
 -- whether a part has a first byte, and that is no dot

@@ -34,6 +34,13 @@ fn push_escaped(text: &mut Vec<u8>, bytes: &[u8]) -> Result<(), AllocError>
     Ok(())
 }
 
+/// Whether a path stands in a command as it is, so that [`quoted`] gives its own bytes.
+pub fn is_unquoted(path: &Name) -> bool
+    ensures { result ≡ list_all is_safe path.now }
+{
+    is_safe_text(path.as_bytes())
+}
+
 /// The path as it stands in a command that a shell reads: as it is where it
 /// has only ASCII letters, digits and `_ + - . /`, and otherwise between single
 /// quotes, with each single quote of it written `'\''`.
@@ -68,6 +75,7 @@ mod tests {
             quoted(alloc, &path)?.as_slice(),
             b"../Src_1/a+b-c.o".as_slice()
         );
+        assert!(rt; is_unquoted(&path));
         Ok(())
     }
 
@@ -79,6 +87,7 @@ mod tests {
             quoted(alloc, &path)?.as_slice(),
             b"'it'\\''s a $x.o'".as_slice()
         );
+        assert!(rt; !is_unquoted(&path));
         Ok(())
     }
 }

@@ -10,6 +10,7 @@ use Rattle.rev_scopes.specs.declared.edge.EdgeVariables.{EdgeVariables}
 use Rattle.rev_scopes.specs.Bindings.{value_of}
 use Rattle.rev_scopes.specs.RuleNames.{name_of, is_needed}
 use Rattle.rev_scopes.specs.Scopes.{ScopeValue, RuleValue, variable_in}
+use Rattle.rev_scopes.specs.declared.growth.TheConstants.{MAX_VALUE_BYTES}
 
 -- what a look-up at an edge goes by: its explicit inputs and outputs, its block with values that are expanded already,
 -- its rule, and the scope of its build statement
@@ -80,7 +81,7 @@ SomeNeedsItself edge =
 abbrev pub SomeIsTooLarge : EdgeEnvValue → Type 0
 SomeIsTooLarge edge =
     (variable : RuleVariable) × (value : List ℕ) × IsTrue (is_needed variable) × HasValue edge (name_of variable) value
-    × (1048576 < length value)
+    × (MAX_VALUE_BYTES < length value)
 
 -- what an edge is seen as
 abbrev pub seen_edge : EdgeEnv → EdgeEnvValue

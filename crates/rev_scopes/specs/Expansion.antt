@@ -3,6 +3,7 @@ use Rattle.std.specs.Prelude.{ℕ, Bool, List, [], ◌∷◌, ◌++◌, length, 
 use Rattle.std.specs.List.{flat_map}
 use Rattle.rev_syntax.specs.Texts.{PieceValue, Byte, Variable}
 use Rattle.rev_scopes.specs.Bindings.{value_of}
+use Rattle.rev_scopes.specs.declared.growth.TheConstants.{MAX_VALUE_BYTES}
 
 -- what a piece of a text stands for, where a look-up gives the value of each name
 abbrev pub piece_value : (List ℕ → List ℕ) → PieceValue → List ℕ
@@ -23,7 +24,7 @@ in_block block look_up name = value_or (look_up name) (value_of name block)
 
 -- a value has at most 1,048,576 bytes
 abbrev pub is_too_large : List ℕ → Bool
-is_too_large value = nat_lt 1048576 (length value)
+is_too_large value = nat_lt MAX_VALUE_BYTES (length value)
 
 -- the value, unless it is too large
 abbrev pub limited : List ℕ → Option (List ℕ)

@@ -7,13 +7,14 @@ ghost use Rattle.rev_scopes.specs.declared.rule_variable.RuleVariable.{RuleVaria
 ghost use Rattle.rev_scopes.specs.RuleNames.{name_of, is_needed};
 ghost use Rattle.rev_scopes.specs.Edges.{joined, paths_named, seen_edge, HasValue, AllHaveValues, SomeNeedsItself, SomeIsTooLarge, given_for, compared};
 ghost use Rattle.rev_scopes.specs.Slots.{seen_slots, AreOf, IsFound, IsAdded, IsTried, IsRight, IsWaiting, Waits, IsKnowable, AreStuck, NoneWaits, SomeWaits};
+ghost use Rattle.rev_scopes.specs.declared.growth.TheConstants.{MAX_VALUE_BYTES};
 
 use crate::edge::{EdgeEnv, EdgeVariables};
 use crate::fault::ValueFault;
 use crate::growth::Growth;
 use crate::rule_variable::RuleVariable;
 use crate::slots::{Slot, slot_named, slots_of};
-use rev_paths::{Name, quoted};
+use rev_paths::{Name, is_unquoted, quoted};
 use rev_syntax::{Piece, Text};
 use std::alloc::{AllocError, Global};
 
@@ -22,6 +23,10 @@ fn push_path(alloc: Global, value: &mut Growth, path: &Name) -> Result<(), Alloc
     ensures appended { OnOk result (value.new ≡ appended value.old (quote path.now)) }
     ensures within { OnOk result (appended value.new [] ≡ value.new) }
 {
+    if is_unquoted(path) {
+        value.push(path.as_bytes())?;
+        return Ok(());
+    }
     let word = quoted(alloc, path)?;
     value.push(&word)?;
     Ok(())
@@ -290,7 +295,7 @@ fn known_value(
     requires known { NoneWaits (seen_edge edge.now) (seen_slots slots.now) }
     requires needed { IsTrue (is_needed variable) }
     ensures value { IfOk result (λ value. HasValue (seen_edge edge.now) (name_of variable) value.items) }
-    ensures within { IfOk result (λ value. length value.items ≤ 1048576) }
+    ensures within { IfOk result (λ value. length value.items ≤ MAX_VALUE_BYTES) }
     ensures too_large { IsErrOf result ValueFault.TooLarge → SomeIsTooLarge (seen_edge edge.now) }
     ensures all { IsErrOf result ValueFault.TooLarge → AllHaveValues (seen_edge edge.now) }
     ensures finite { result ≢ Err ValueFault.NeedsItself }
@@ -323,7 +328,7 @@ pub fn edge_variables(alloc: Global, edge: &EdgeEnv<'_>) -> Result<EdgeVariables
     ensures values { IfOk result (λ values. (variable : RuleVariable) → IsTrue (is_needed variable)
         → HasValue (seen_edge edge.now) (name_of variable) (given_for variable values)) }
     ensures within { IfOk result (λ values. (variable : RuleVariable)
-        → length (given_for variable values) ≤ 1048576) }
+        → length (given_for variable values) ≤ MAX_VALUE_BYTES) }
     // That a variable has no value comes before that one is too large.
     ensures needs_itself { IsErrOf result ValueFault.NeedsItself → SomeNeedsItself (seen_edge edge.now) }
     ensures all { IsErrOf result ValueFault.TooLarge → AllHaveValues (seen_edge edge.now) }

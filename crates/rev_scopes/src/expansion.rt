@@ -3,6 +3,7 @@ ghost use Rattle.std.specs.Prelude.{◌≡◌, ◌≢◌, ◌<◌, ◌≤◌, le
 ghost use Rattle.rev_syntax.specs.Pieces.{seen_piece};
 ghost use Rattle.rev_scopes.specs.Scopes.{variable_in};
 ghost use Rattle.rev_scopes.specs.Expansion.{expanded, in_block, appended};
+ghost use Rattle.rev_scopes.specs.declared.growth.TheConstants.{MAX_VALUE_BYTES};
 
 use crate::bindings::Bindings;
 use crate::fault::ValueFault;
@@ -55,9 +56,9 @@ pub fn expand_in_block(
 ) -> Result<Vec<u8>, ValueFault>
     ensures value { IfOk result (λ value. value.items
         ≡ expanded (in_block block.now (variable_in scopes.now scope)) text.entry) }
-    ensures within { IfOk result (λ value. length value.items ≤ 1048576) }
+    ensures within { IfOk result (λ value. length value.items ≤ MAX_VALUE_BYTES) }
     ensures too_large { IsErrOf result ValueFault.TooLarge
-        → 1048576 < length
+        → MAX_VALUE_BYTES < length
         (expanded (in_block block.now (variable_in scopes.now scope)) text.entry) }
     ensures finite { result ≢ Err ValueFault.NeedsItself }
 {
@@ -82,9 +83,9 @@ pub fn expand(
     scope: usize,
 ) -> Result<Vec<u8>, ValueFault>
     ensures value { IfOk result (λ value. value.items ≡ expanded (variable_in scopes.now scope) text.entry) }
-    ensures within { IfOk result (λ value. length value.items ≤ 1048576) }
+    ensures within { IfOk result (λ value. length value.items ≤ MAX_VALUE_BYTES) }
     ensures too_large { IsErrOf result ValueFault.TooLarge
-        → 1048576 < length (expanded (variable_in scopes.now scope) text.entry) }
+        → MAX_VALUE_BYTES < length (expanded (variable_in scopes.now scope) text.entry) }
     ensures finite { result ≢ Err ValueFault.NeedsItself }
 {
     expand_in_block(alloc, text, &Bindings::new(alloc), scopes, scope)

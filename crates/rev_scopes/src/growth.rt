@@ -16,13 +16,14 @@ pub(crate) struct Growth {
 }
 
 impl Model for Growth {
+    ghost use Rattle.rev_scopes.specs.declared.growth.TheConstants.{MAX_VALUE_BYTES};
     ghost use Rattle.std.specs.Prelude.{◌≡◌, ◌≤◌, Option, None, Some, List, ℕ, Bool, false, length, if◌then◌else◌};
 
     ghost Value = { Option (List ℕ) };
 
     ghost view = { λ g. if g.is_over then None else Some g.bytes.items };
 
-    ghost invariant = { λ g. length g.bytes.items ≤ 1048576 };
+    ghost invariant = { λ g. length g.bytes.items ≤ MAX_VALUE_BYTES };
 }
 
 impl Growth {

@@ -1,5 +1,6 @@
 -- Which lines say which commands and records: the tables of the lines of a trace, one row for each form.
 use Rattle.std.specs.Prelude.{◌≡◌, ℕ, ◌^◌, ◌<◌, ◌≤◌, ◌⊎◌, codes, length, List, [], ◌∷◌, None, Some, Ok}
+use Rattle.rev_cells.specs.declared.opening.TheConstants.Opening.{MAX_JOBS}
 use Rattle.rev_commands.specs.declared.command.Command.{Command}
 use Rattle.rev_commands.specs.declared.command.Command.TheVariants as command
 use Rattle.rev_commands.specs.declared.point.Point.{Point}
@@ -40,7 +41,7 @@ SaysStamps Shape text stamps = Unit {0}
 
 -- the number of jobs: 1 to 1,024
 abbrev pub SaysJobs : Look → List ℕ → ℕ → Type 0
-SaysJobs Exact text n = IsNumber (2 ^ 32) text n × (0 < n) × (n ≤ 1024)
+SaysJobs Exact text n = IsNumber (2 ^ 32) text n × (0 < n) × (n ≤ MAX_JOBS)
 SaysJobs Shape text n = Unit {0}
 
 -- the name of an event: `N`, or `LANE:PLACE`

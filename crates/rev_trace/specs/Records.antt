@@ -4,6 +4,7 @@ use Rattle.std.specs.List.{list_any}
 use Rattle.rev_cells.specs.declared.cell.Cell.{Cell}
 use Rattle.rev_cells.specs.declared.cell.Cell.TheVariants as cell
 use Rattle.rev_cells.specs.declared.value.Value.TheVariants as value
+use Rattle.rev_cells.specs.declared.opening.TheConstants.Opening.{MAX_JOBS}
 use Rattle.rev_cells.specs.Keys.{cell_key}
 use Rattle.rev_cells.specs.Table.{Records, no_records, with_record}
 use Rattle.rev_fields.specs.declared.faults.FaultKind.{FaultKind}
@@ -101,7 +102,7 @@ double b = if b then Some DoubleRecord else None
 
 -- what is wrong with what an opening line says, after those that made the head
 abbrev pub record_wrong : HeadValue → Record → Option FaultKind
-record_wrong h (Jobs n) = if nat_lt 0 n && nat_le n 1024 then None else Some Number
+record_wrong h (Jobs n) = if nat_lt 0 n && nat_le n MAX_JOBS then None else Some Number
 record_wrong h (Stamp path n) = double (has_record h.opening (cell.Stamp path))
 record_wrong h (Built path n command) = double (has_record h.opening (cell.Built path))
 record_wrong h (Deps path n paths) = double (has_record h.opening (cell.Deps path))

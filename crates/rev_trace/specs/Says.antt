@@ -8,6 +8,7 @@ use Rattle.rev_fields.specs.declared.faults.TextFault.{TextFault}
 use Rattle.rev_fields.specs.Grammar.{AreLines, IsLine}
 use Rattle.rev_trace.specs.declared.record.Record.{Record}
 use Rattle.rev_trace.specs.declared.record.Record.TheVariants.{Jobs, Stamp, Built, Deps}
+use Rattle.rev_trace.specs.declared.traces.TheConstants.Trace.{MAX_LANES}
 use Rattle.rev_trace.specs.Grammar.{Look, Exact, Shape, LineSays, SaysRecord, SaysShort}
 use Rattle.rev_trace.specs.Records.{head_of}
 use Rattle.rev_trace.specs.Traces.{TraceValue, trace_fault, trace_of}
@@ -69,7 +70,7 @@ pub data AreLanes : List (List ℕ) → ℕ → List (List ℕ) → List (List C
   NoLane : {targets : List (List ℕ)} {n : ℕ} → AreLanes targets n [] []
   OneLane : {targets : List (List ℕ)} {n : ℕ} {line : List ℕ} {lines rest : List (List ℕ)} {commands : List Command}
       {lanes : List (List Command)}
-      → n < 63 → IsLaneLine line n → AreCommands targets lines commands → AreLanes targets (suc n) rest lanes
+      → n < MAX_LANES → IsLaneLine line n → AreCommands targets lines commands → AreLanes targets (suc n) rest lanes
       → AreLanes targets n (line ∷ (lines ++ rest)) (commands ∷ lanes)
 
 -- the lines after the first say these records, and then these lanes
@@ -113,7 +114,7 @@ pub data IsWrong : List Record → List (List Command) → List ℕ → FaultKin
   NoNumber : {records : List Record} {lanes : List (List Command)} {line : List ℕ}
       → Stands Shape records lanes line → (Stands Exact records lanes line → ⊥) → IsWrong records lanes line Number
   NoTurn : {records : List Record} {lanes : List (List Command)} {line : List ℕ} (n : ℕ)
-      → IsLaneLine line n → n < 2 ^ 32 → (n ≡ length lanes → n < 63 → ⊥) → IsWrong records lanes line Lane
+      → IsLaneLine line n → n < 2 ^ 32 → (n ≡ length lanes → n < MAX_LANES → ⊥) → IsWrong records lanes line Lane
   Twice : {records : List Record} {line : List ℕ} (texts : List (List ℕ)) (r : Record)
       → IsLine line texts → SaysRecord Exact texts r → is_double records r ≡ true → IsWrong records [] line DoubleRecord
 

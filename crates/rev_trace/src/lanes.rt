@@ -5,13 +5,11 @@ ghost use Rattle.rev_fields.specs.Parts.{vectors_of};
 ghost use Rattle.rev_trace.specs.Lanes.{lane_in_turn, lane_line, lane_of, opens_lane};
 
 use crate::events::BAD_LINE;
+use crate::traces::Trace;
 use rev_fields::{FaultKind, LineFault, number, read_fields};
 use std::alloc::Global;
 
 const BAD_LANE: LineFault = LineFault::Kind(FaultKind::Lane);
-
-// The most lanes that a trace has.
-const MAX_LANES: u32 = 63;
 
 /// Whether a line is to open a lane: it begins with `lane` and a space.
 pub(crate) fn opens_lane(line: &[u8]) -> bool
@@ -23,9 +21,9 @@ pub(crate) fn opens_lane(line: &[u8]) -> bool
 // The lane of this number, where it is the next one after so many.
 fn in_turn(count: usize, number: u32) -> Result<u32, LineFault>
     ensures said { Answers result (λ n. n) (lane_in_turn count number) }
-    ensures few { OnOk result (count < 63) }
+    ensures few { OnOk result (count < Trace.MAX_LANES) }
 {
-    if number as usize == count && number < MAX_LANES {
+    if number as usize == count && number < Trace::MAX_LANES {
         return Ok(number);
     }
     Err(BAD_LANE)
@@ -34,7 +32,7 @@ fn in_turn(count: usize, number: u32) -> Result<u32, LineFault>
 // The number of the lane, from the texts of the line's fields.
 fn lane(count: usize, texts: &[Vec<u8>]) -> Result<u32, LineFault>
     ensures said { Answers result (λ n. n) (lane_of count (vectors_of texts.now)) }
-    ensures few { OnOk result (count < 63) }
+    ensures few { OnOk result (count < Trace.MAX_LANES) }
 {
     match texts {
         [_word, text] => in_turn(count, number(text)?),
@@ -45,7 +43,7 @@ fn lane(count: usize, texts: &[Vec<u8>]) -> Result<u32, LineFault>
 /// The number of the lane that a line `lane N` opens, which is the next one after so many.
 pub(crate) fn lane_line(alloc: Global, count: usize, line: &[u8]) -> Result<u32, LineFault>
     ensures said { Answers result (λ n. n) (lane_line count line.now) }
-    ensures few { OnOk result (count < 63) }
+    ensures few { OnOk result (count < Trace.MAX_LANES) }
 {
     let texts = read_fields(alloc, line)?;
     lane(count, &texts)

@@ -28,6 +28,11 @@ pub struct Trace {
     pub lanes: Vec<Vec<Command>>,
 }
 
+impl Trace {
+    /// The most lanes that a trace has: a desk has one more, which is the script's.
+    pub const MAX_LANES: u32 = 63;
+}
+
 // The first line does not name the format.
 const NO_HEADER: ReadFault = ReadFault::Numbered(TextFault {
     kind: FaultKind::Header,
@@ -72,7 +77,7 @@ fn read_lanes(
     requires { before + length lines.now < 2 ^ 64 }
     ensures lanes { IfOk result (λ lanes. lanes_of lanes.items
         ≡ map (commands_in targets.now) (parts_of (slices_of lines.now))) }
-    ensures few { IfOk result (λ lanes. length lanes.items ≤ 63) }
+    ensures few { IfOk result (λ lanes. length lanes.items ≤ Trace.MAX_LANES) }
     ensures sound { OnOk result ((k : ℕ) → k < length lines.now
         → lane_wrong targets.now (slices_of lines.now) k ≡ None) }
     ensures fault { (f : TextFault) → IsErrOf result (ReadFault.Numbered f)
@@ -108,7 +113,7 @@ fn read_lines(alloc: Global, lines: &[&[u8]]) -> Result<Trace, ReadFault>
     ensures opening { IfOk result (λ trace. trace.opening ≡ (value_of (slices_of lines.now)).opening) }
     ensures targets { IfOk result (λ trace. trace.targets ≡ (value_of (slices_of lines.now)).targets) }
     ensures lanes { IfOk result (λ trace. lanes_of trace.lanes.items ≡ (value_of (slices_of lines.now)).lanes) }
-    ensures few { IfOk result (λ trace. length trace.lanes.items ≤ 63) }
+    ensures few { IfOk result (λ trace. length trace.lanes.items ≤ Trace.MAX_LANES) }
     ensures sound { OnOk result ((k : ℕ) → k < length lines.now → wrong_at (slices_of lines.now) k ≡ None) }
     ensures fault { (f : TextFault) → IsErrOf result (ReadFault.Numbered f)
         → IsFirstWrong (wrong_at (slices_of lines.now)) (length lines.now) 1 f }
@@ -138,7 +143,7 @@ pub fn read(alloc: Global, text: &[u8]) -> Result<Trace, TraceFault>
     ensures opening { IfOk result (λ trace. trace.opening ≡ (trace_of text.now).opening) }
     ensures targets { IfOk result (λ trace. trace.targets ≡ (trace_of text.now).targets) }
     ensures lanes { IfOk result (λ trace. lanes_of trace.lanes.items ≡ (trace_of text.now).lanes) }
-    ensures few { IfOk result (λ trace. length trace.lanes.items ≤ 63) }
+    ensures few { IfOk result (λ trace. length trace.lanes.items ≤ Trace.MAX_LANES) }
     ensures sound { OnOk result (trace_fault text.now ≡ None) }
     ensures fault { (f : TextFault) → IsErrOf result (ReadFault.Numbered f) → trace_fault text.now ≡ Some f }
 {

@@ -38,15 +38,10 @@ fn answer_to(alloc: Global, contents: &[(&[u8], &[u8])]) -> Result<Answer, Alloc
     })
 }
 
-// The command of the first edge; none where the manifest has a fault or no edge.
-fn first_command(
-    alloc: Global,
-    contents: &[(&[u8], &[u8])],
-) -> Result<Option<Vec<u8>>, AllocError> {
+// The command of the first edge, none where there is no edge.
+fn first_command(alloc: Global, contents: &[(&[u8], &[u8])]) -> Result<Option<Vec<u8>>, Fail> {
     let files = given(alloc, contents)?;
-    let Ok(manifest) = read(alloc, &files) else {
-        return Ok(None);
-    };
+    let manifest = read(alloc, &files)?;
     match manifest.builds().first() {
         Some(build) => Ok(Some(Vec::from_slice(alloc, build.command())?)),
         None => Ok(None),
@@ -201,21 +196,18 @@ fn an_edge(rt: HostRuntime) -> Result<(), Fail> {
     let main: &[u8] =
         b"pool p\n  depth = 0\nrule r\n  command = c\n  deps = gcc\n  restat = $x\n  pool = $which\nbuild d/../o ./o | o q: r i | j || k |@ v\n  generator = 1\n  which = p\n";
     let files = given(rt.alloc(), &[(b"build.ninja", main)])?;
-    match read(rt.alloc(), &files) {
-        Ok(manifest) => {
-            for build in manifest.builds() {
-                assert_eq!(rt;
-                    (build.explicit_outs.len(), build.implicit_outs.len()),
-                    (1, 1)
-                );
-                assert_eq!(rt;
-                    (build.keeps_deps, build.restat, build.generator),
-                    (true, false, true)
-                );
-                assert_eq!(rt; (build.pool, build.line), (Some(1), 8));
-            }
-        }
-        Err(_) => assert!(rt; false),
+    let manifest = read(rt.alloc(), &files)?;
+    assert_eq!(rt; manifest.builds().len(), 1);
+    for build in manifest.builds() {
+        assert_eq!(rt;
+            (build.explicit_outs.len(), build.implicit_outs.len()),
+            (1, 1)
+        );
+        assert_eq!(rt;
+            (build.keeps_deps, build.restat, build.generator),
+            (true, false, true)
+        );
+        assert_eq!(rt; (build.pool, build.line), (Some(1), 8));
     }
     Ok(())
 }
