@@ -55,7 +55,7 @@ tail-same : (x y : ℕ) (xs ys : List ℕ) → x ∷ xs ≡ y ∷ ys → xs ≡ 
 tail-same x y xs ys e = ap tail_or e
 
 -- which form an escape has
-data Form (bs : List ℕ) (e : EscapeValue) : Type 0 where
+pub data Form (bs : List ℕ) (e : EscapeValue) : Type 0 where
   AByte : (c : ℕ) (text : List ℕ) → is_escaped c ≡ true → c ∷ text ≡ bs → drop e.taken bs ≡ text → Byte c ≡ e.piece → Form bs e
   AName : (name text : List ℕ) → is_name is_in_bare_name name ≡ true → ends_name text ≡ true → name ++ text ≡ bs → drop e.taken bs ≡ text → Variable name ≡ e.piece → Form bs e
   InBraces : (name text : List ℕ) → is_name is_in_name name ≡ true → 123 ∷ name ++ 125 ∷ text ≡ bs → drop e.taken bs ≡ text → Variable name ≡ e.piece → Form bs e
@@ -81,7 +81,7 @@ braced-form bs e h =
     ∙ ap (λ k. drop k (123 ∷ bs)) (ap (λ k. k + 2) (length-prefix_len is_in_name bs) ∙ plus-two n) ∙ drop-more n 125 bs is.0 is.1 in
     InBraces name is.0 (λ j. not (is.2 j) && run-of is_in_name bs j) (ap (λ t. 123 ∷ t) (ap (λ t. name ++ t) (sym is.1) ∙ take_drop n bs)) left (ap (λ (f : EscapeValue). f.piece) is.3)
 
-form-of : (bs : List ℕ) (e : EscapeValue) → escape_of bs ≡ Some e → Form bs e
+pub form-of : (bs : List ℕ) (e : EscapeValue) → escape_of bs ≡ Some e → Form bs e
 form-of [] e h = cc
 form-of (c ∷ cs) e h = by (is_escaped c) refl (c == 123) refl h
   where

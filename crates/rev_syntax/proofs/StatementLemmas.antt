@@ -6,6 +6,7 @@ use Rattle.std.proofs.lemmas.Slice.Eq.{bytes_eq-Decides}
 use Rattle.rev_syntax.specs.declared.bytes.End.TheVariants.{PathEnd}
 use Rattle.rev_syntax.specs.declared.fault.SyntaxKind.TheVariants.{Syntax, Tab}
 use Rattle.rev_syntax.specs.declared.fault.SyntaxFault.{SyntaxFault}
+use Rattle.rev_syntax.specs.declared.paths.Mark.{Mark}
 use Rattle.rev_syntax.specs.declared.paths.Mark.TheVariants.{Bar, TwoBars, BarAt}
 use Rattle.rev_syntax.specs.Bytes.{is_in_name, is_empty, begins_with, after, is_space, without_spaces}
 use Rattle.rev_syntax.specs.Cutting.{spaces}
@@ -17,8 +18,8 @@ use Rattle.rev_syntax.specs.Lists.{IsPath, ListReads, ends_list}
 use Rattle.rev_syntax.specs.Lists.{Nothing as NoPaths, Space as SpaceBefore, Path as PathBefore}
 use Rattle.rev_syntax.specs.Paths.{Part, text_of, path_of, list_of, list_after}
 use Rattle.rev_syntax.specs.Texts.{PieceValue}
-use Rattle.rev_syntax.specs.Statements.{BindingValue, BuildLineValue, FormValue, RuleForm, BuildForm, PoolForm, DefaultForm, IncludeForm, SubninjaForm, VariableForm, StatementValue, OutputsValue, InputsValue, HeaderValue, RuleHeader, BuildHeader, PoolHeader, DefaultHeader, IncludeHeader, SubninjaHeader, VariableHeader, name_of, after_name, binding_of, last_name, last_path, last_paths, colon, outputs_of, inputs_of, rule_and_inputs, build_line_of, header_of, is_indented, has_tab, misplaced, indented_binding, bindings_of, alone, with_block, Group, form_of, statement_of}
-use Rattle.rev_syntax.specs.Forms.{stops_name, IsBinding, Binding, Behind, AreInputs, Inputs, IsBuildLine, BuildLine, is_keyword, IsHeader, RuleLine, BuildHead, PoolLine, DefaultLine, IncludeLine, SubninjaLine, VariableLine, IsBlock, NoBindings, OneMore, IsForm, RuleBlock, BuildBlock, PoolBlock, DefaultAlone, IncludeAlone, SubninjaAlone, VariableAlone, IsStatement, Statement, AreIndented, StatementsAreRead}
+use Rattle.rev_syntax.specs.Statements.{BindingValue, BuildLineValue, FormValue, RuleForm, BuildForm, PoolForm, DefaultForm, IncludeForm, SubninjaForm, VariableForm, StatementValue, OutputsValue, InputsValue, HeaderValue, RuleHeader, BuildHeader, PoolHeader, DefaultHeader, IncludeHeader, SubninjaHeader, VariableHeader, name_of, after_name, binding_of, last_name, last_path, last_paths, colon, outputs_of, whole_mark, inputs_of, rule_and_inputs, build_line_of, header_of, is_indented, has_tab, misplaced, indented_binding, bindings_of, alone, with_block, Group, form_of, statement_of}
+use Rattle.rev_syntax.specs.Forms.{stops_name, IsBinding, Binding, Behind, Absent, Present, AreInputs, Inputs, IsBuildLine, BuildLine, is_keyword, IsHeader, RuleLine, BuildHead, PoolLine, DefaultLine, IncludeLine, SubninjaLine, VariableLine, IsBlock, NoBindings, OneMore, IsForm, RuleBlock, BuildBlock, PoolBlock, DefaultAlone, IncludeAlone, SubninjaAlone, VariableAlone, IsStatement, Statement, AreIndented, StatementsAreRead}
 use Rattle.rev_syntax.proofs.CutLemmas.{spaces-front, spaces-cut, without-cut, append_nil, neither}
 use Rattle.rev_syntax.proofs.GrammarLemmas.{not_true, take_drop}
 use Rattle.rev_syntax.proofs.ListLemmas.{lists-read, walk, flag-text}
@@ -88,24 +89,38 @@ list-end-first (b ∷ bs) h = by (b == 32) refl
     by true e = let no : false ≡ true = sym (ap (λ (c : ℕ). c == 58 || c == 124) (eqb-true b 32 e)) ∙ h in absurd (cc)
 
 -- inputs
-abbrev inputs_by : LineValue → List (List PieceValue) → List (List PieceValue) → List (List PieceValue) → Part (List (List PieceValue)) → Result InputsValue SyntaxFault
+abbrev pub inputs_by : LineValue → List (List PieceValue) → List (List PieceValue) → List (List PieceValue) → Part (List (List PieceValue)) → Result InputsValue SyntaxFault
 inputs_by line ins implicit order_only validations =
     and_then (closed line validations.1) (λ _. Ok (record { ins = ins; implicit = implicit; order_only = order_only; validations = validations.0 }))
 
-abbrev after_order : LineValue → List (List PieceValue) → List (List PieceValue) → Part (List (List PieceValue)) → Result InputsValue SyntaxFault
-after_order line ins implicit order_only = and_then (list_after line BarAt order_only.1) (inputs_by line ins implicit order_only.0)
+abbrev pub after_order : LineValue → List (List PieceValue) → List (List PieceValue) → Part (List (List PieceValue)) → Result InputsValue SyntaxFault
+after_order line ins implicit order_only =
+    and_then (whole_mark line order_only.1) (λ _. and_then (list_after line BarAt order_only.1) (inputs_by line ins implicit order_only.0))
 
-abbrev after_implicit : LineValue → List (List PieceValue) → Part (List (List PieceValue)) → Result InputsValue SyntaxFault
+abbrev pub after_implicit : LineValue → List (List PieceValue) → Part (List (List PieceValue)) → Result InputsValue SyntaxFault
 after_implicit line ins implicit = and_then (list_after line TwoBars implicit.1) (after_order line ins implicit.0)
 
-abbrev after_ins : LineValue → Part (List (List PieceValue)) → Result InputsValue SyntaxFault
+abbrev pub after_ins : LineValue → Part (List (List PieceValue)) → Result InputsValue SyntaxFault
 after_ins line ins = and_then (list_after line Bar ins.1) (after_implicit line ins.0)
+
+-- a bar alone is not the last mark's
+abbrev is_bar_at : Mark → Bool
+is_bar_at Bar = false
+is_bar_at TwoBars = false
+is_bar_at BarAt = true
+
+not-cut : {mark : Mark} {text : List ℕ} {paths : List (List PieceValue)} {rest : List ℕ} → Behind mark text paths rest → is_bar_at mark ≡ true → rest ≡ [] → bytes_eq text (codes "|") ≡ false
+not-cut (Absent h) last none = ap (λ t. bytes_eq t (codes "|")) none
+not-cut (Present Bar h r ends) last none = cc
+not-cut (Present TwoBars h r ends) last none = refl
+not-cut (Present BarAt h r ends) last none = refl
 
 inputs-given : (line : LineValue) {text : List ℕ} {inputs : InputsValue} → line.ended ≡ true → AreInputs text inputs → inputs_of line text ≡ Ok inputs
 inputs-given line ended (Inputs {front} {bar} {two_bars} {bar_at} {ins} {implicit} {order_only} {validations} r ends b t a) =
     goes (after_ins line) ((lists-read line (front ++ bar) bar ins).1 (front, refl, r, ends))
     ∙ goes (after_implicit line ins) (behind-given line b)
     ∙ goes (after_order line ins implicit) (behind-given line t)
+    ∙ ap (λ t. and_then (if t then stuck {A = Unit {0}} line [] else Ok tt) (λ _. and_then (list_after line BarAt bar_at) (inputs_by line ins implicit order_only))) (not-cut a refl refl)
     ∙ goes (inputs_by line ins implicit order_only) (behind-given line a)
     ∙ closes line [] (record { ins = ins; implicit = implicit; order_only = order_only; validations = validations }) ended refl
 
@@ -121,7 +136,8 @@ inputs-found line text inputs h =
     let implicit = b.value in
     let c = went (list_after line TwoBars implicit.1) (after_order line ins.0 implicit.0) inputs b.next_is in
     let order = c.value in
-    let d = went (list_after line BarAt order.1) (inputs_by line ins.0 implicit.0 order.0) inputs c.next_is in
+    let marked = went (whole_mark line order.1) (λ _. and_then (list_after line BarAt order.1) (inputs_by line ins.0 implicit.0 order.0)) inputs c.next_is in
+    let d = went (list_after line BarAt order.1) (inputs_by line ins.0 implicit.0 order.0) inputs marked.next_is in
     let last = d.value in
     let e = went (closed line last.1) (λ _. Ok (record { ins = ins.0; implicit = implicit.0; order_only = order.0; validations = last.0 })) inputs d.next_is in
     let done = closed-ok line last.1 e.value e.first_is in
@@ -135,10 +151,10 @@ inputs-found line text inputs h =
     }
 
 -- build lines
-abbrev outs_colon : LineValue → Part (List (List PieceValue)) → Part (List (List PieceValue)) → Result OutputsValue SyntaxFault
+abbrev pub outs_colon : LineValue → Part (List (List PieceValue)) → Part (List (List PieceValue)) → Result OutputsValue SyntaxFault
 outs_colon line outs implicit_outs = colon line outs.0 implicit_outs.0 implicit_outs.1
 
-abbrev after_outs : LineValue → Part (List (List PieceValue)) → Result OutputsValue SyntaxFault
+abbrev pub after_outs : LineValue → Part (List (List PieceValue)) → Result OutputsValue SyntaxFault
 after_outs line outs = and_then (list_after line Bar outs.1) (outs_colon line outs)
 
 abbrev build_by : OutputsValue → InputsValue → Result BuildLineValue SyntaxFault
@@ -394,10 +410,10 @@ keyed line word text rest run stops e same =
     let cut = name-front word text run stops in
     (λ j. header_by line (name_of (e j)) (after_name (e j))) ∙ (λ j. header_by line (cut.0 j) (without_spaces (cut.1 j))) ∙ ap (header_by line word) same
 
-abbrev line_at : ℕ → List ℕ → LineValue
+abbrev pub line_at : ℕ → List ℕ → LineValue
 line_at number text = record { number = number; text = text; ended = true }
 
-header-given : {number : ℕ} {text : List ℕ} {header : HeaderValue} → IsHeader number text header → header_of (line_at number text) ≡ Ok header
+pub header-given : {number : ℕ} {text : List ℕ} {header : HeaderValue} → IsHeader number text header → header_of (line_at number text) ≡ Ok header
 header-given {number} {text} (RuleLine k name l is) =
     let line = line_at number text in
     keyed line (codes "rule") (spaces (suc k) ++ (name ++ spaces l)) (name ++ spaces l) refl refl refl (spaced-name (suc k) name (spaces l) is)
@@ -443,9 +459,9 @@ header-given {number} (VariableLine {text} {binding} free is) =
     binding-name : {number : ℕ} {text : List ℕ} {binding : BindingValue} → IsBinding number text binding → name_of text ≡ binding.name
     binding-name (Binding name k l {raw} {value} is free r) = (name-front name (spaces k ++ 61 ∷ (spaces l ++ raw)) (a-name name is).1 (spaces-stop k (61 ∷ (spaces l ++ raw)) refl)).0
 
-record HeaderFound (line : LineValue) (header : HeaderValue) : Type 0 where
-  ended : line.ended ≡ true
-  is : IsHeader line.number line.text header
+pub record HeaderFound (line : LineValue) (header : HeaderValue) : Type 0 where
+  pub ended : line.ended ≡ true
+  pub is : IsHeader line.number line.text header
 
 -- one of two answers
 choose : {A : Type 0} (P : A → Type 0) (t : Bool) (x y : A) → (t ≡ true → P x) → (t ≡ false → P y) → P (if t then x else y)
@@ -572,7 +588,7 @@ variable-found line header free h =
     found-header line line.text (VariableHeader a.value) header found.ended refl (same-ok (VariableHeader a.value) header a.next_is)
     (VariableLine (ap is_keyword (sym (binding-name-is found.is)) ∙ free) found.is)
 
-header-found : (line : LineValue) (header : HeaderValue) → header_of line ≡ Ok header → HeaderFound line header
+pub header-found : (line : LineValue) (header : HeaderValue) → header_of line ≡ Ok header → HeaderFound line header
 header-found line header =
     let keyword = name_of line.text in
     let rest = after_name line.text in
@@ -598,17 +614,17 @@ header-found line header =
     (λ e6 h. variable-found line header (λ j. e1 j || (e2 j || (e3 j || (e4 j || (e5 j || e6 j))))) h))))))
 
 -- the lines under a first line
-binding-first : (c : ℕ) {number : ℕ} {text : List ℕ} {binding : BindingValue} → is_in_name c ≡ false → IsBinding number text binding → begins_with c text ≡ false
+pub binding-first : (c : ℕ) {number : ℕ} {text : List ℕ} {binding : BindingValue} → is_in_name c ≡ false → IsBinding number text binding → begins_with c text ≡ false
 binding-first c none (Binding name k l {raw} {value} is free r) = name-first c name (spaces k ++ 61 ∷ (spaces l ++ raw)) none is
 
-indented-given : {number : ℕ} (k : ℕ) {text : List ℕ} {binding : BindingValue} → IsBinding number text binding → indented_binding (line_at number (spaces (suc k) ++ text)) ≡ Ok binding
+pub indented-given : {number : ℕ} (k : ℕ) {text : List ℕ} {binding : BindingValue} → IsBinding number text binding → indented_binding (line_at number (spaces (suc k) ++ text)) ≡ Ok binding
 indented-given {number} k {text} is =
     let line = line_at number (spaces (suc k) ++ text) in
     let rest : without_spaces (spaces (suc k) ++ text) ≡ text = spaces-front (suc k) text (binding-first 32 refl is) in
     (λ j. if begins_with 9 (rest j) then refused line Tab else binding_of line (rest j))
     ∙ ap (λ t. if t then refused line Tab else binding_of line text) (binding-first 9 refl is) ∙ binding-given line refl is
 
-block-given : {block : List LineValue} {bindings : List BindingValue} → IsBlock block bindings → bindings_of block ≡ Ok bindings
+pub block-given : {block : List LineValue} {bindings : List BindingValue} → IsBlock block bindings → bindings_of block ≡ Ok bindings
 block-given NoBindings = refl
 block-given (OneMore {number} k {text} {lines} {binding} {bindings} is r) =
     goes {B = List BindingValue} (λ binding. and_then (bindings_of lines) (λ bindings. Ok (binding ∷ bindings))) (indented-given k is)
@@ -626,7 +642,7 @@ or-right : (a b : Bool) → (a || b) ≡ true → a ≡ false → b ≡ true
 or-right true b h e = cc
 or-right false b h e = h
 
-indent-some : (line : LineValue) (c : ℕ) (next : List ℕ) → spaces c ++ next ≡ line.text → begins_with 32 next ≡ false → without_spaces line.text ≡ next → is_indented line ≡ true → has_tab line ≡ false → (k : ℕ) × (c ≡ suc k)
+pub indent-some : (line : LineValue) (c : ℕ) (next : List ℕ) → spaces c ++ next ≡ line.text → begins_with 32 next ≡ false → without_spaces line.text ≡ next → is_indented line ≡ true → has_tab line ≡ false → (k : ℕ) × (c ≡ suc k)
 indent-some line (suc k) next e stops same indented no_tab = (k, refl)
 indent-some line zero next e stops same indented no_tab =
     let no_space : begins_with 32 line.text ≡ false = ap (begins_with 32) (sym e) ∙ stops in
@@ -634,7 +650,7 @@ indent-some line zero next e stops same indented no_tab =
     let no : true ≡ false = sym tab ∙ ap (begins_with 9) (sym e ∙ sym same) ∙ no_tab in
     cc
 
-block-found : (block : List LineValue) (bindings : List BindingValue) → AreIndented block → bindings_of block ≡ Ok bindings → IsBlock block bindings
+pub block-found : (block : List LineValue) (bindings : List BindingValue) → AreIndented block → bindings_of block ≡ Ok bindings → IsBlock block bindings
 block-found [] bindings all h = subst (λ (bs : List BindingValue). IsBlock [] bs) (same-ok [] bindings h) NoBindings
 block-found (line ∷ lines) bindings all h =
     let a = went (indented_binding line) (λ binding. and_then (bindings_of lines) (λ bindings. Ok (binding ∷ bindings))) bindings h in
@@ -681,7 +697,7 @@ form-found block (SubninjaHeader path) form all h = let a = alone-found block (S
 form-found block (VariableHeader binding) form all h = let a = alone-found block (VariableForm binding) form h in form-cast (VariableForm binding) form (sym a.0) a.1 VariableAlone
 
 -- no first line is indented
-header-first : {number : ℕ} {text : List ℕ} {header : HeaderValue} → IsHeader number text header → (begins_with 32 text || begins_with 9 text) ≡ false
+pub header-first : {number : ℕ} {text : List ℕ} {header : HeaderValue} → IsHeader number text header → (begins_with 32 text || begins_with 9 text) ≡ false
 header-first (RuleLine k name l is) = refl
 header-first (BuildHead stops is) = refl
 header-first (PoolLine k name l is) = refl

@@ -10,6 +10,7 @@ pub mod Laws
 pub mod Lines
 pub mod Lists
 pub mod Paths
+pub mod Places
 pub mod Pieces
 pub mod Refusals
 pub mod Seen

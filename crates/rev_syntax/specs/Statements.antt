@@ -104,12 +104,17 @@ pub record InputsValue : Type 0 where
   pub order_only : List (List PieceValue)
   pub validations : List (List PieceValue)
 
+-- where a bar alone is left behind inputs the line ends within `||` or `|@`, and more is needed
+abbrev pub whole_mark : LineValue → List ℕ → Result (Unit {0}) SyntaxFault
+whole_mark line text = if bytes_eq text (codes "|") then stuck line [] else Ok tt
+
 -- `PATHS [| PATHS] [|| PATHS] [|@ PATHS]`, to the line's end
 abbrev pub inputs_of : LineValue → List ℕ → Result InputsValue SyntaxFault
 inputs_of line text =
     and_then (list_of line text)
     (λ ins. and_then (list_after line Bar ins.1)
     (λ implicit. and_then (list_after line TwoBars implicit.1) (λ order_only.
+    and_then (whole_mark line order_only.1) (λ _.
     and_then (list_after line BarAt order_only.1) (λ validations.
     and_then (closed line validations.1)
     (λ _. Ok (record {
@@ -117,7 +122,7 @@ inputs_of line text =
       implicit = implicit.0;
       order_only = order_only.0;
       validations = validations.0;
-    }))))))
+    })))))))
 
 -- `NAME` and the inputs
 abbrev pub rule_and_inputs : LineValue → OutputsValue → Result BuildLineValue SyntaxFault

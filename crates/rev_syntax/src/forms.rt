@@ -1,7 +1,7 @@
 //! The forms of single lines.
 ghost use Rattle.std.specs.Prelude.{◌≡◌, Ok, MatchResult};
 ghost use Rattle.rev_syntax.specs.Faults.{IsFault, closed};
-ghost use Rattle.rev_syntax.specs.Statements.{name_of, after_name, value_of, bound, binding_of, last_name, last_path, last_paths, colon, outputs_of, inputs_of, rule_and_inputs, build_line_of, header_of, is_indented, has_tab, indented_binding};
+ghost use Rattle.rev_syntax.specs.Statements.{name_of, after_name, value_of, bound, binding_of, last_name, last_path, last_paths, colon, outputs_of, whole_mark, inputs_of, rule_and_inputs, build_line_of, header_of, is_indented, has_tab, indented_binding};
 ghost use Rattle.rev_syntax.specs.Seen.{seen_binding, seen_outputs, seen_inputs, seen_build_line, seen_header};
 
 use crate::bytes::{Class, begins_with, split_run, without_spaces};
@@ -185,6 +185,18 @@ fn outputs_of<'a>(alloc: Global, line: &Line, text: &'a [u8]) -> Result<Outputs<
     colon(line, outs, implicit_outs, rest)
 }
 
+// Refuses a line that ends within `||` or `|@`: nothing but a bar is left behind inputs.
+fn whole_mark(line: &Line, text: &[u8]) -> Result<(), ReadFault>
+    ensures { MatchResult result
+        (λ _. whole_mark line.now text.now ≡ Ok tt)
+        (λ fault. IsFault fault (whole_mark line.now text.now)) }
+{
+    if text == b"|".as_slice() {
+        return Err(line.end_fault());
+    }
+    Ok(())
+}
+
 // `PATHS [| PATHS] [|| PATHS] [|@ PATHS]`, to the line's end.
 fn inputs_of<'a>(alloc: Global, line: &Line, text: &'a [u8]) -> Result<Inputs<'a>, ReadFault>
     ensures { MatchResult result
@@ -194,6 +206,7 @@ fn inputs_of<'a>(alloc: Global, line: &Line, text: &'a [u8]) -> Result<Inputs<'a
     let (ins, rest) = list(alloc, line, text)?;
     let (implicit, rest) = list_after(alloc, line, Mark::Bar, rest)?;
     let (order_only, rest) = list_after(alloc, line, Mark::TwoBars, rest)?;
+    whole_mark(line, rest)?;
     let (validations, rest) = list_after(alloc, line, Mark::BarAt, rest)?;
     close(line, rest)?;
     Ok(Inputs {

@@ -4,6 +4,7 @@ ghost use Rattle.rev_syntax.specs.Forms.{StatementsAreRead};
 ghost use Rattle.rev_syntax.specs.Grammar.{TextsAreRead};
 ghost use Rattle.rev_syntax.specs.Laws.{StatementsStandApart};
 ghost use Rattle.rev_syntax.specs.Lists.{ListsAreRead};
+ghost use Rattle.rev_syntax.specs.Places.{PlacesAreOne, StatementsStopThere};
 ghost use Rattle.rev_syntax.specs.Refusals.{OnlyFormsAreRead, TextsStopThere};
 
 /// Bytes are a text of certain pieces exactly where they read as these by the grammar.
@@ -41,4 +42,15 @@ pub fn texts_stop_there()
 /// A line with those under it has a fault exactly where they are none of the forms.
 pub fn only_forms_are_read()
     ensures { OnlyFormsAreRead }
+{}
+
+/// A line with those under it has the fault of the first of them that goes wrong, and that of its leftmost place: what
+/// stands before that can be continued to a line that reads, and with what stands there it cannot.
+pub fn statements_stop_there()
+    ensures { StatementsStopThere }
+{}
+
+/// A line has one leftmost byte with which it cannot go on, and none where all of it can.
+pub fn places_are_one()
+    ensures { PlacesAreOne }
 {}

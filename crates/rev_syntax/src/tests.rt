@@ -199,10 +199,12 @@ fn tabs_and_escapes(rt: HostRuntime) -> Result<(), Fail> {
 
 #[test]
 fn ends_of_files(rt: HostRuntime) -> Result<(), Fail> {
-    let cases: [(&[u8], &[u8]); 8] = [
+    let cases: [(&[u8], &[u8]); 10] = [
         (b"rule $", b"fault 1 12"),
         (b"build x$", b"fault 1 12"),
         (b"foo bar$", b"fault 1 10"),
+        (b"build a: r | b |$", b"fault 1 12"),
+        (b"build a: r || b |\n", b"fault 1 10"),
         (b"a = $\n", b"fault 1 12"),
         (b"a = $\n\n", b"1: a=;"),
         (b"a = b\r", b"fault 1 10"),
@@ -233,15 +235,12 @@ fn places_of_faults(rt: HostRuntime) -> Result<(), Fail> {
 #[test]
 fn stored_texts(rt: HostRuntime) -> Result<(), Fail> {
     let alloc = rt.alloc();
-    let text = Text::new(b"a$ b$c.d".as_slice());
-    assert!(rt; text.is_ok());
-    if let Ok(text) = text {
-        assert!(rt; !text.is_empty());
-        let stored = text.to_stored(alloc)?;
-        let mut shown = Vec::new(alloc);
-        write_text(&mut shown, &stored.text())?;
-        assert_eq!(rt; shown.as_slice(), b"a b<c>.d".as_slice());
-    }
+    let text = Text::new(b"a$ b$c.d".as_slice())?;
+    assert!(rt; !text.is_empty());
+    let stored = text.to_stored(alloc)?;
+    let mut shown = Vec::new(alloc);
+    write_text(&mut shown, &stored.text())?;
+    assert_eq!(rt; shown.as_slice(), b"a b<c>.d".as_slice());
     assert!(rt; matches!(Text::new(b"a$".as_slice()), Err(SyntaxKind::BadEscape)));
     Ok(())
 }
