@@ -4,5 +4,6 @@ pub mod EffectLemmas
 pub mod HeldEvents
 pub mod HeldLemmas
 pub mod HeldSteps
+pub mod PlannedState
 pub mod WriteLemmas
 pub mod WrittenLemmas

@@ -149,6 +149,12 @@ range-once : (n a : ℕ) → Distinct (range_with_len a n)
 range-once zero a = tt
 range-once (suc n) a = (λ h. omega (arith, range-above n (a + 1) a h), range-once n (a + 1))
 
+-- the cells that a plan writes
+pub plan-once : (n : ℕ) → Distinct (map cell.Mark (range_with_len 0 n) ++ cell.Halted ∷ [])
+plan-once n =
+    apart-append 1 1 6 (map cell.Mark (range_with_len 0 n)) (cell.Halted ∷ []) (map-within cell.Mark 1 (λ x. refl) (range_with_len 0 n))
+    (one-within 2 6 cell.Halted (omega arith) (omega arith)) (marks-once (range_with_len 0 n) (range-once n 0)) (λ h. h, tt)
+
 wider : (low high low' high' : ℕ) (cs : List Cell) → low' ≤ low → high ≤ high' → Within low high cs → Within low' high' cs
 wider low high low' high' cs l u w c h = (omega (arith, l, (w c h).0), omega (arith, u, (w c h).1))
 
@@ -224,9 +230,7 @@ module _ (manifest : ManifestValue) where
 
   pub written-once : (s : State) (e : Event) → OutputsOnce manifest → Distinct (written manifest s e)
   unfolding written start_writes mark_writes finish_writes end_writes
-  written-once s (Plan targets) outs =
-      apart-append 1 1 6 (map cell.Mark (edge_numbers manifest.builds)) (cell.Halted ∷ []) (map-within cell.Mark 1 (λ x. refl) (edge_numbers manifest.builds))
-      (one-within 2 6 cell.Halted (omega arith) (omega arith)) (marks-once (edge_numbers manifest.builds) (range-once (length manifest.builds) 0)) (one-once cell.Halted)
+  written-once s (Plan targets) outs = plan-once (length manifest.builds)
   written-once s (Start out job slot) outs = at-once (producer_of manifest.builds out) _ (λ edge.
       let j = job-slot-once job (pool_of manifest edge) slot in
       apart-append 1 1 3 (cell.Mark edge ∷ []) (cell.Job job ∷ slot_cells (pool_of manifest edge) slot) (one-within 1 1 (cell.Mark edge) (omega arith) (omega arith)) j.1 (one-once (cell.Mark edge)) j.0)

@@ -1,5 +1,5 @@
 //! Laws of every step of a build.
-ghost use Rattle.rev_events.specs.Laws.{HeldIsRunning, WritesOnce};
+ghost use Rattle.rev_events.specs.Laws.{HeldIsRunning, PlansAreExplained, WritesOnce};
 
 /// An effect names each cell once, where no edge has an output twice.
 pub fn writes_once()
@@ -10,4 +10,10 @@ pub fn writes_once()
 /// accepted event keeps that.
 pub fn held_is_running()
     ensures { HeldIsRunning }
+{}
+
+/// In the state that an accepted plan leaves, the chain of an edge whose mark is Wanted ends at an edge with reasons,
+/// and all its edges are Wanted.
+pub fn plans_are_explained()
+    ensures { PlansAreExplained }
 {}

@@ -33,55 +33,49 @@ impl Build {
     }
 
     // The refusal of the event that a line says, or none where it happens.
-    fn step(&mut self, alloc: Global, line: &[u8]) -> Result<Option<Refusal>, AllocError> {
+    fn step(&mut self, alloc: Global, line: &[u8]) -> Result<Option<Refusal>, Fail> {
         let event = event_of(alloc, line)?;
-        self.happen(alloc, &event)
+        Ok(self.happen(alloc, &event)?)
     }
 
-    // What an event would write, a line for each cell, nothing where it is refused.
-    fn written(&self, alloc: Global, event: &Event) -> Result<Vec<u8>, AllocError> {
+    // What an event that is not refused would write, a line for each cell.
+    fn written(&self, alloc: Global, event: &Event) -> Result<Vec<u8>, Fail> {
+        check(alloc, &self.graph, &self.cells, event)?;
+        let writes = effect(alloc, &self.graph, &self.cells, event)?;
         let mut text = Vec::new(alloc);
-        if check(alloc, &self.graph, &self.cells, event).is_ok() {
-            for (cell, value) in effect(alloc, &self.graph, &self.cells, event)? {
-                push_cell(&mut text, &cell)?;
-                push_value(&mut text, &value)?;
-                text.push(b'\n')?;
-            }
+        for (cell, value) in writes {
+            push_cell(&mut text, &cell)?;
+            push_value(&mut text, &value)?;
+            text.push(b'\n')?;
         }
         Ok(text)
     }
 
     // Whether the event that a line says would write these lines.
-    fn writes(&self, alloc: Global, line: &[u8], lines: &[u8]) -> Result<bool, AllocError> {
+    fn writes(&self, alloc: Global, line: &[u8], lines: &[u8]) -> Result<bool, Fail> {
         let event = event_of(alloc, line)?;
         let written = self.written(alloc, &event)?;
         Ok(written.as_slice() == lines)
     }
 }
 
-fn manifest_of(alloc: Global, content: &[u8]) -> Result<Manifest, AllocError> {
+fn manifest_of(alloc: Global, content: &[u8]) -> Result<Manifest, Fail> {
     let name = Vec::from_slice(alloc, b"build.ninja")?;
     let content = Vec::from_slice(alloc, content)?;
     let files = vec![in alloc; (name, content)]?;
-    match read(alloc, &files) {
-        Ok(manifest) => Ok(manifest),
-        Err(_) => Err(AllocError),
-    }
+    let manifest = read(alloc, &files)?;
+    Ok(manifest)
 }
 
-fn graph_of(alloc: Global, content: &[u8]) -> Result<Graph, AllocError> {
+fn graph_of(alloc: Global, content: &[u8]) -> Result<Graph, Fail> {
     let manifest = manifest_of(alloc, content)?;
-    match Graph::build(alloc, &manifest) {
-        Ok(graph) => Ok(graph),
-        Err(_) => Err(AllocError),
-    }
+    let graph = Graph::build(alloc, &manifest)?;
+    Ok(graph)
 }
 
-fn named(alloc: Global, path: &[u8]) -> Result<Name, AllocError> {
-    match Name::new(alloc, path) {
-        Ok(name) => Ok(name),
-        Err(_) => Err(AllocError),
-    }
+fn named(alloc: Global, path: &[u8]) -> Result<Name, Fail> {
+    let name = Name::new(alloc, path)?;
+    Ok(name)
 }
 
 fn text(alloc: Global, bytes: &[u8]) -> Result<Text, AllocError> {
@@ -130,7 +124,7 @@ fn stamps(alloc: Global, text: &[u8]) -> Result<Stamps, AllocError> {
 }
 
 // Up to three paths.
-fn paths(alloc: Global, text: &[u8]) -> Result<Names, AllocError> {
+fn paths(alloc: Global, text: &[u8]) -> Result<Names, Fail> {
     let (first, rest) = cut(text, b' ');
     let (second, third) = cut(rest, b' ');
     let mut names = Vec::new(alloc);
@@ -143,7 +137,7 @@ fn paths(alloc: Global, text: &[u8]) -> Result<Names, AllocError> {
 }
 
 // Nothing, the paths behind `list`, or the text behind `depfile`.
-fn listing(alloc: Global, said: &[u8]) -> Result<Listing, AllocError> {
+fn listing(alloc: Global, said: &[u8]) -> Result<Listing, Fail> {
     let (word, rest) = cut(said, b' ');
     match word {
         b"list" => Ok(Listing::Paths(paths(alloc, rest)?)),
@@ -153,7 +147,7 @@ fn listing(alloc: Global, said: &[u8]) -> Result<Listing, AllocError> {
 }
 
 // The event of an output that ends, or of one without stamps.
-fn event_of_output(alloc: Global, word: &[u8], said: &[u8]) -> Result<Event, AllocError> {
+fn event_of_output(alloc: Global, word: &[u8], said: &[u8]) -> Result<Event, Fail> {
     let (out, rest) = cut(said, b' ');
     let (numbers, more) = cut(rest, b' ');
     let out = named(alloc, out)?;
@@ -189,7 +183,7 @@ fn event_of_output(alloc: Global, word: &[u8], said: &[u8]) -> Result<Event, All
 }
 
 // The event that a line says, as in a trace.
-fn event_of(alloc: Global, line: &[u8]) -> Result<Event, AllocError> {
+fn event_of(alloc: Global, line: &[u8]) -> Result<Event, Fail> {
     let (word, said) = cut(line, b' ');
     match word {
         b"interrupt" => Ok(Event::Interrupt),
@@ -199,41 +193,31 @@ fn event_of(alloc: Global, line: &[u8]) -> Result<Event, AllocError> {
 }
 
 // The build with two jobs, where these files are there.
-fn opened(alloc: Global, stamps: &[(&[u8], u64)]) -> Result<Build, AllocError> {
+fn opened(alloc: Global, stamps: &[(&[u8], u64)]) -> Result<Build, Fail> {
     let graph = graph_of(alloc, BUILD)?;
-    let Ok(mut opening) = Opening::new(alloc, 2) else {
-        return Err(AllocError);
-    };
+    let mut opening = Opening::new(alloc, 2)?;
     for (path, stamp) in stamps {
-        if opening.add_stamp(named(alloc, path)?, *stamp).is_err() {
-            return Err(AllocError);
-        }
+        opening.add_stamp(named(alloc, path)?, *stamp)?;
     }
     let cells = Cells::new(alloc, &opening)?;
     Ok(Build { graph, cells })
 }
 
 // The build where only the sources are there.
-fn sources(alloc: Global) -> Result<Build, AllocError> {
+fn sources(alloc: Global) -> Result<Build, Fail> {
     opened(alloc, &[(b"a.c", 10), (b"b.c", 20), (b"v.in", 30)])
 }
 
 // The build where v.h is older than its source, and n was built after it.
-fn generated(alloc: Global) -> Result<Build, AllocError> {
+fn generated(alloc: Global) -> Result<Build, Fail> {
     let graph = graph_of(alloc, BUILD)?;
-    let Ok(mut opening) = Opening::new(alloc, 1) else {
-        return Err(AllocError);
-    };
+    let mut opening = Opening::new(alloc, 1)?;
     let files: [(&[u8], u64); 3] = [(b"v.in", 30), (b"v.h", 20), (b"n", 25)];
     for (path, stamp) in files {
-        if opening.add_stamp(named(alloc, path)?, stamp).is_err() {
-            return Err(AllocError);
-        }
+        opening.add_stamp(named(alloc, path)?, stamp)?;
     }
     let command = Vec::from_slice(alloc, b"gen")?;
-    if opening.add_built(named(alloc, b"n")?, 25, command).is_err() {
-        return Err(AllocError);
-    }
+    opening.add_built(named(alloc, b"n")?, 25, command)?;
     let cells = Cells::new(alloc, &opening)?;
     Ok(Build { graph, cells })
 }

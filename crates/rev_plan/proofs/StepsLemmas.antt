@@ -1,5 +1,5 @@
 -- The steps of an edge as the code lists them.
-use Rattle.std.proofs.Common.{◌≡◌, ℕ, ◌<◌, Bool, true, false, List, [], ◌∷◌, ◌++◌, map, length, get_or, Contains, Option, refl, sym, ap, subst, ◌∙◌, arith, if◌then◌else◌}
+use Rattle.std.proofs.Common.{◌≡◌, ℕ, ◌+◌, zero, suc, add-one, ◌<◌, Bool, true, false, List, [], ◌∷◌, ◌++◌, map, length, get_or, Contains, Option, refl, sym, ap, subst, ◌∙◌, arith, if◌then◌else◌}
 use Rattle.std.specs.List.{filter_map, cons_option, range_with_len, All}
 use Rattle.std.proofs.lemmas.List.{append-nil, append_assoc, length-map}
 use Rattle.std.proofs.lemmas.List.Elements.{filter_map-append, Contains-get_or}
@@ -8,7 +8,8 @@ use Rattle.rev_manifest.specs.Manifest.{BuildValue}
 use Rattle.rev_graph.specs.Graph.{build_at, no_build, producer_of}
 use Rattle.rev_graph.proofs.GraphLemmas.{producer_of-within}
 use Rattle.rev_graph.proofs.StepLemmas.{source}
-use Rattle.rev_ranks.specs.Graph.{successors_of, Steps}
+use Rattle.std.specs.Global.{Vec}
+use Rattle.rev_ranks.specs.Graph.{graph_of, successors_of, Steps}
 use Rattle.rev_ranks.specs.Sets.{IsMarked, is_marked}
 use Rattle.rev_ranks.proofs.Marks.{marked_within}
 use Rattle.rev_ranks.proofs.Ways.{steps_from_node}
@@ -20,7 +21,7 @@ use Rattle.rev_dirty.specs.Reasons.{counted}
 use Rattle.rev_plan.specs.declared.steps.Along.{Along}
 use Rattle.rev_plan.specs.declared.steps.Along.TheVariants as along
 use Rattle.rev_plan.specs.Plan.{input_paths, counted_paths, edges_by}
-use Rattle.rev_plan.specs.Steps.{paths_along, order_only_of, validations_of, IsSubgraph}
+use Rattle.rev_plan.specs.Steps.{paths_along, order_only_of, validations_of, listed_paths, steps_with, AreListed, IsSubgraph}
 use Rattle.rev_plan.proofs.LeastLemmas.{list-at}
 
 -- the paths of inputs of one kind
@@ -85,6 +86,32 @@ steps-are builds state build along.Needs =
     ap (λ (front : List ℕ). front ++ producers_in builds build.validations) (steps-input builds state build)
     ∙ sym (filter_map-append (producer_of builds) (input_paths state build) build.validations)
 
+-- WHAT IS LISTED
+shift : {X : Type 0} (g : ℕ → X) (a n : ℕ) → map g (range_with_len (a + 1) n) ≡ map (λ k. g (suc k)) (range_with_len a n)
+shift g a zero = refl
+shift g a (suc n) = λ i. g (add-one a i) ∷ shift g (a + 1) n i
+
+-- what is found of each edge by its number is found of each edge
+all-at : {X : Type 0} (f : BuildValue → X) (builds : List BuildValue) → map (λ edge. f (build_at builds edge)) (range_with_len 0 (length builds)) ≡ map f builds
+all-at f [] = refl
+all-at f (b ∷ bs) = ap (λ rest. f b ∷ rest) (shift (λ edge. f (build_at (b ∷ bs) edge)) 0 (length bs) ∙ all-at f bs)
+
+abbrev pub listed_at : List BuildValue → State → ℕ → List ℕ
+listed_at builds state edge = producers_in builds (listed_paths state (build_at builds edge))
+
+pub are-listed : (builds : List BuildValue) (state : State) (n : ℕ) (lists : List (List ℕ)) → n ≡ length builds → lists ≡ map (listed_at builds state) (range_with_len 0 n) → AreListed builds state lists
+are-listed builds state n lists many is = record {
+  are = is ∙ ap (λ k. map (listed_at builds state) (range_with_len 0 k)) many ∙ all-at (λ build. producers_in builds (listed_paths state build)) builds;
+}
+
+pub listed-here : (builds : List BuildValue) (state : State) (lists slice : List (Vec ℕ)) → slice ≡ lists → AreListed builds state (graph_of lists) → AreListed builds state (graph_of slice)
+listed-here builds state lists slice same listed = subst (λ (all : List (Vec ℕ)). AreListed builds state (graph_of all)) (sym same) listed
+
+-- the list of an edge that has a mark, and none of others, by what is listed
+abbrev pub listed_step : Along → List BuildValue → List (List ℕ) → List Bool → ℕ → List ℕ
+listed_step kind builds lists marks edge =
+    if is_marked marks edge then steps_with kind builds (successors_of lists edge) (build_at builds edge) else []
+
 -- WHOLE GRAPHS
 -- the list of an edge that has a mark, and none of others
 abbrev pub step_list : (BuildValue → List (List ℕ)) → List BuildValue → List Bool → ℕ → List ℕ
@@ -94,6 +121,17 @@ pub no-paths : (kind : Along) (state : State) → paths_along kind state no_buil
 no-paths along.Inputs state = refl
 no-paths along.Counted state = refl
 no-paths along.Needs state = refl
+
+-- in each state in which this is listed, it is the list of that state
+pub as-listed : (kind : Along) (builds : List BuildValue) (state : State) (lists : List (List ℕ)) (marks : List Bool) (n : ℕ) (sub : List (List ℕ)) → AreListed builds state lists → n ≡ length builds
+    → sub ≡ map (listed_step kind builds lists marks) (range_with_len 0 n) → sub ≡ map (step_list (paths_along kind state) builds marks) (range_with_len 0 (length builds))
+as-listed kind builds state lists marks n sub listed many are =
+    are ∙ (λ i. map (λ edge. each edge i) (range_with_len 0 (many i)))
+  where
+    each : (edge : ℕ) → listed_step kind builds lists marks edge ≡ step_list (paths_along kind state) builds marks edge
+    each edge =
+        ap (λ (list : List ℕ). if is_marked marks edge then steps_with kind builds list (build_at builds edge) else []) (ap (λ (all : List (List ℕ)). successors_of all edge) listed.are ∙ list-at (listed_paths state) refl builds edge)
+        ∙ ap (λ (list : List ℕ). if is_marked marks edge then list else []) (steps-are builds state (build_at builds edge) kind)
 
 module _ (paths : BuildValue → List (List ℕ)) (empty : paths no_build ≡ []) (builds : List BuildValue) (marks : List Bool) (each : length marks ≡ length builds) (sub : List (List ℕ))
     (are : sub ≡ map (step_list paths builds marks) (range_with_len 0 (length builds))) where

@@ -1,6 +1,7 @@
 -- The steps of edges as the code holds them.
-use Rattle.std.specs.Prelude.{◌≡◌, ℕ, Bool, ◌&&◌, List, [], length, if◌then◌else◌}
+use Rattle.std.specs.Prelude.{◌≡◌, ℕ, Bool, ◌&&◌, List, [], ◌++◌, length, if◌then◌else◌}
 use Rattle.rev_manifest.specs.Manifest.{BuildValue}
+use Rattle.rev_dirty.specs.Inputs.{paths_in, deps_record, producers_in}
 use Rattle.rev_cells.specs.State.{State}
 use Rattle.rev_cells.specs.declared.mark.Mark.{Mark}
 use Rattle.rev_cells.specs.declared.mark.Mark.TheVariants as mark
@@ -8,7 +9,7 @@ use Rattle.rev_ranks.specs.Graph.{successors_of, Steps}
 use Rattle.rev_ranks.specs.Sets.{IsMarked, is_marked}
 use Rattle.rev_plan.specs.declared.steps.Along.{Along}
 use Rattle.rev_plan.specs.declared.steps.Along.TheVariants.{Inputs, Counted, Needs}
-use Rattle.rev_plan.specs.Plan.{input_paths, counted_paths, needed_paths, is_dirty, is_reached}
+use Rattle.rev_plan.specs.Plan.{input_paths, counted_paths, needed_paths, edges_by, is_dirty, is_reached}
 
 -- the paths by which edges step
 abbrev pub paths_along : Along → State → BuildValue → List (List ℕ)
@@ -26,6 +27,20 @@ abbrev pub validations_of : Along → BuildValue → List (List ℕ)
 validations_of Needs build = build.validations
 validations_of Inputs build = []
 validations_of Counted build = []
+
+-- the paths that an edge's deps record lists
+abbrev pub listed_paths : State → BuildValue → List (List ℕ)
+listed_paths state build = paths_in (deps_record state build)
+
+-- The lists have for each edge the edges that produce what its deps record lists in a state.
+pub record AreListed (builds : List BuildValue) (state : State) (lists : List (List ℕ)) : Type 0 where
+  pub are : lists ≡ edges_by (listed_paths state) builds
+
+-- the edges that an edge steps to, where `listed` produce what its deps record lists
+abbrev pub steps_with : Along → List BuildValue → List ℕ → BuildValue → List ℕ
+steps_with along builds listed build =
+    producers_in builds (build.explicit ++ build.implicit) ++ producers_in builds (order_only_of along build.order_only)
+    ++ listed ++ producers_in builds (validations_of along build)
 
 -- A graph without the steps of the nodes that have no mark.
 pub record IsSubgraph (graph : List (List ℕ)) (marks : List Bool) (sub : List (List ℕ)) : Type 0 where

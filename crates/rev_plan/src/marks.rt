@@ -2,15 +2,16 @@
 ghost use Rattle.std.specs.Prelude.{◌≡◌, ◌<◌, ◌≤◌, ◌^◌, ℕ, None, not, ◌&&◌, find, map, length, IfOk, IfErr, OnOk, if◌then◌else◌};
 ghost use Rattle.std.specs.List.{All, list_any, position, range_with_len};
 ghost use Rattle.rev_graph.specs.Graph.{is_known};
+ghost use Rattle.rev_cells.specs.State.{State};
 ghost use Rattle.rev_cells.specs.declared.mark.Mark.TheVariants as mark;
 ghost use Rattle.rev_ranks.specs.Graph.{graph_of, Reaches};
 ghost use Rattle.rev_plan.specs.Fault.{Explains, NamesCycle};
 ghost use Rattle.rev_plan.specs.Plan.{edge_numbers, is_dirty, is_own_reason, is_running as is_running_in, mark_for, marks_of, needs_refusal, plan_refusal, targets_or};
-ghost use Rattle.rev_plan.specs.Steps.{AreDirty, AreReached, mark_by};
+ghost use Rattle.rev_plan.specs.Steps.{AreDirty, AreListed, AreReached, mark_by};
 
 use crate::fault::PlanFault;
 use crate::lacking::missing_input_among;
-use crate::steps::{Along, producers_of, steps_among};
+use crate::steps::{Along, listed_among, producers_of, steps_among};
 use rev_cells::{Cell, Cells, Mark, Value};
 use rev_dirty::{DependencyScan, Reason};
 use rev_graph::Graph;
@@ -87,7 +88,7 @@ fn dirty_among(
     marks: &[bool],
 ) -> Result<Vec<bool>, AllocError>
     requires each { length marks.now ≡ length graph.now.manifest.builds }
-    requires few { length graph.now.manifest.builds ≤ 262144 }
+    requires few { length graph.now.manifest.builds ≤ Graph.MAX_EDGES }
     ensures { IfOk result (λ dirty.
         AreDirty graph.now.manifest.builds cells.now.state marks.now dirty.items) }
 {
@@ -123,20 +124,23 @@ fn marks_by(alloc: Global, wanted: &[bool], waiting: &[bool]) -> Result<Vec<Mark
     Ok(marks)
 }
 
-// The edges that are one of the roots or that these need.
+// The edges that are one of the roots or that these need, where `listed` produce what deps records list.
 fn reached_from(
     alloc: Global,
     graph: &Graph,
-    cells: &Cells,
+    listed: &[Vec<u32>],
     roots: &[u32],
 ) -> Result<Vec<bool>, AllocError>
     requires nodes { All (λ edge. edge < length graph.now.manifest.builds) roots.now }
-    requires few { length graph.now.manifest.builds ≤ 262144 }
-    ensures { IfOk result (λ reached.
-        AreReached graph.now.manifest.builds cells.now.state roots.now reached.items) }
+    requires listed { length listed.now ≡ length graph.now.manifest.builds }
+    requires known { (state : State) × AreListed graph.now.manifest.builds state (graph_of listed.now) }
+    requires few { length graph.now.manifest.builds ≤ Graph.MAX_EDGES }
+    ensures { IfOk result (λ reached. (state : State)
+        → AreListed graph.now.manifest.builds state (graph_of listed.now)
+        → AreReached graph.now.manifest.builds state roots.now reached.items) }
 {
     let all = vec![in alloc; true; graph.edges() as usize]?;
-    let needs = steps_among(alloc, graph, cells, &all, Along::Needs)?;
+    let needs = steps_among(alloc, graph, listed, &all, Along::Needs)?;
     let reached = reachable_from(alloc, &needs, roots)?;
     Ok(reached)
 }
@@ -163,7 +167,7 @@ fn plan_for(
     roots: &[u32],
 ) -> Result<Vec<Mark>, PlanFault>
     requires nodes { All (λ edge. edge < length graph.now.manifest.builds) roots.now }
-    requires few { length graph.now.manifest.builds ≤ 262144 }
+    requires few { length graph.now.manifest.builds ≤ Graph.MAX_EDGES }
     ensures marks { IfOk result (λ marks. marks.items
         ≡ map (mark_for graph.now.manifest.builds cells.now.state roots.now)
         (edge_numbers graph.now.manifest.builds)) }
@@ -171,14 +175,16 @@ fn plan_for(
     ensures refused { IfErr result (λ fault.
         Explains fault (needs_refusal graph.now.manifest.builds cells.now.state roots.now)) }
 {
-    let reached = reached_from(alloc, graph, cells, roots)?;
+    let lists = listed_among(alloc, graph, cells)?;
+    let listed = lists.as_slice();
+    let reached = reached_from(alloc, graph, listed, roots)?;
     if let Some((position, edge)) = missing_input_among(graph, cells, &reached)? {
         return Err(PlanFault::MissingInput(position, edge));
     }
-    let inputs = steps_among(alloc, graph, cells, &reached, Along::Inputs)?;
+    let inputs = steps_among(alloc, graph, listed, &reached, Along::Inputs)?;
     refuse_cycle(alloc, &inputs)?;
     let dirty = dirty_among(alloc, graph, cells, &reached)?;
-    let counted = steps_among(alloc, graph, cells, &reached, Along::Counted)?;
+    let counted = steps_among(alloc, graph, listed, &reached, Along::Counted)?;
     let wanted = leading_to(alloc, &counted, &dirty)?;
     let waiting = leading_to(alloc, &inputs, &wanted)?;
     let marks = marks_by(alloc, &wanted, &waiting)?;

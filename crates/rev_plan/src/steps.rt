@@ -1,11 +1,12 @@
 //! Which edges each edge steps to.
-ghost use Rattle.std.specs.Prelude.{◌≡◌, ◌<◌, ◌≤◌, ◌++◌, ℕ, [], map, length, vec_len, IfOk, if◌then◌else◌};
+ghost use Rattle.std.specs.Prelude.{◌≡◌, ◌<◌, ◌≤◌, ◌++◌, [], map, length, vec_len, IfOk, if◌then◌else◌};
 ghost use Rattle.std.specs.List.{All, filter_map};
 ghost use Rattle.rev_graph.specs.Graph.{build_at, producer_of};
 ghost use Rattle.rev_ranks.specs.Graph.{graph_of};
+ghost use Rattle.rev_cells.specs.State.{State};
 ghost use Rattle.rev_dirty.specs.Inputs.{producers_in};
 ghost use Rattle.rev_plan.specs.Plan.{edges_by};
-ghost use Rattle.rev_plan.specs.Steps.{paths_along, order_only_of, validations_of, IsSubgraph};
+ghost use Rattle.rev_plan.specs.Steps.{paths_along, order_only_of, validations_of, steps_with, AreListed, IsSubgraph};
 
 use rev_cells::Cells;
 use rev_dirty::listed_inputs;
@@ -83,25 +84,41 @@ fn validations_along(graph: &Graph, edge: u32, along: Along) -> &[Name]
     }
 }
 
-// The edges that an edge steps to.
-fn steps_of(
+/// For each edge the edges that produce what its deps record lists. Each listed path is looked up once.
+pub(crate) fn listed_among(
     alloc: Global,
     graph: &Graph,
     cells: &Cells,
+) -> Result<Vec<Vec<u32>>, AllocError>
+    ensures listed { IfOk result (λ listed.
+        AreListed graph.now.manifest.builds cells.now.state (graph_of listed.items)) }
+    ensures each { IfOk result (λ listed. vec_len listed ≡ length graph.now.manifest.builds) }
+{
+    let mut all = Vec::with_capacity(alloc, graph.edges() as usize)?;
+    for edge in 0..graph.edges() {
+        all.push(producers_of(alloc, graph, listed_inputs(graph, cells, edge)?)?)?;
+    }
+    Ok(all)
+}
+
+// The edges that an edge steps to, where `listed` produce what its deps record lists.
+fn steps_of(
+    alloc: Global,
+    graph: &Graph,
     edge: u32,
+    listed: &[u32],
     along: Along,
 ) -> Result<Vec<u32>, AllocError>
     requires { edge < length graph.now.manifest.builds }
     ensures { IfOk result (λ steps. steps.items
-        ≡ producers_in graph.now.manifest.builds
-        (paths_along along cells.now.state (build_at graph.now.manifest.builds edge))) }
+        ≡ steps_with along graph.now.manifest.builds listed.now
+        (build_at graph.now.manifest.builds edge)) }
 {
     let (counted, order_only) = line_producers(graph, edge);
     let mut steps = edges_among(alloc, counted)?;
     let order_only = edges_among(alloc, order_only_along(along, order_only))?;
     steps.extend_from_slice(&order_only)?;
-    let listed = producers_of(alloc, graph, listed_inputs(graph, cells, edge)?)?;
-    steps.extend_from_slice(&listed)?;
+    steps.extend_from_slice(listed)?;
     let validations = producers_of(alloc, graph, validations_along(graph, edge, along))?;
     steps.extend_from_slice(&validations)?;
     Ok(steps)
@@ -111,35 +128,40 @@ fn steps_of(
 fn steps_where(
     alloc: Global,
     graph: &Graph,
-    cells: &Cells,
     edge: u32,
+    listed: &[u32],
     along: Along,
     is_marked: bool,
 ) -> Result<Vec<u32>, AllocError>
     requires { edge < length graph.now.manifest.builds }
     ensures { IfOk result (λ steps. steps.items
-        ≡ (if is_marked then producers_in graph.now.manifest.builds
-        (paths_along along cells.now.state (build_at graph.now.manifest.builds edge)) else [])) }
+        ≡ (if is_marked then steps_with along graph.now.manifest.builds listed.now
+        (build_at graph.now.manifest.builds edge) else [])) }
 {
     if !is_marked {
         return Ok(Vec::new(alloc));
     }
-    let steps = steps_of(alloc, graph, cells, edge, along)?;
+    let steps = steps_of(alloc, graph, edge, listed, along)?;
     Ok(steps)
 }
 
-/// For each edge that has a mark the edges that it steps to; the others step nowhere.
+/// For each edge that has a mark the edges that it steps to; the others step nowhere. For each edge `listed` has the
+/// edges that produce what its deps record lists.
 pub(crate) fn steps_among(
     alloc: Global,
     graph: &Graph,
-    cells: &Cells,
+    listed: &[Vec<u32>],
     marks: &[bool],
     along: Along,
 ) -> Result<Vec<Vec<u32>>, AllocError>
     requires each { length marks.now ≡ length graph.now.manifest.builds }
-    requires few { length graph.now.manifest.builds ≤ 262144 }
-    ensures steps { IfOk result (λ steps.
-        IsSubgraph (edges_by (paths_along along cells.now.state) graph.now.manifest.builds)
+    requires listed { length listed.now ≡ length graph.now.manifest.builds }
+    requires known { (state : State) × AreListed graph.now.manifest.builds state (graph_of listed.now) }
+    requires few { length graph.now.manifest.builds ≤ Graph.MAX_EDGES }
+    // The steps are those in each state in which this is listed.
+    ensures steps { IfOk result (λ steps. (state : State)
+        → AreListed graph.now.manifest.builds state (graph_of listed.now)
+        → IsSubgraph (edges_by (paths_along along state) graph.now.manifest.builds)
         marks.now (graph_of steps.items)) }
     ensures inside { IfOk result (λ steps.
         All (λ v. All (λ s. s < length graph.now.manifest.builds) v.items) steps.items) }
@@ -147,7 +169,7 @@ pub(crate) fn steps_among(
 {
     let mut all = Vec::with_capacity(alloc, marks.len())?;
     for edge in 0..marks.len() {
-        all.push(steps_where(alloc, graph, cells, edge as u32, along, marks[edge])?)?;
+        all.push(steps_where(alloc, graph, edge as u32, &listed[edge], along, marks[edge])?)?;
     }
     Ok(all)
 }

@@ -34,26 +34,26 @@ struct Build {
 
 impl Build {
     // The marks that a plan gives the edges, a letter for each, or its fault by number.
-    fn said(&self, alloc: Global, targets: &[&[u8]]) -> Result<String, AllocError> {
+    fn said(&self, alloc: Global, targets: &[&[u8]]) -> Result<String, Fail> {
         let targets = names(alloc, targets)?;
         match plan(alloc, &self.graph, &self.cells, &targets) {
-            Ok(marks) => letters(alloc, &marks),
-            Err(fault) => numbers(alloc, fault),
+            Ok(marks) => Ok(letters(alloc, &marks)?),
+            Err(fault) => Ok(numbers(alloc, fault)?),
         }
     }
 
     // Marks the edges as a plan does, and gives the chain from an edge: its steps, its end, and the reasons there.
-    fn chain(&mut self, alloc: Global, target: &[u8], edge: u32) -> Result<String, AllocError> {
+    fn chain(&mut self, alloc: Global, target: &[u8], edge: u32) -> Result<String, Fail> {
         let targets = names(alloc, &[target])?;
         match plan(alloc, &self.graph, &self.cells, &targets) {
             Ok(marks) => self.mark(marks)?,
-            Err(fault) => return numbers(alloc, fault),
+            Err(fault) => return Ok(numbers(alloc, fault)?),
         }
         if edge >= self.graph.edges() {
-            return format!(in alloc; "no edge {edge}");
+            return Err(Fail::from("no edge of that number"));
         }
         let chain = why(alloc, &self.graph, &self.cells, edge)?;
-        chain_text(alloc, &chain)
+        Ok(chain_text(alloc, &chain)?)
     }
 
     // Gives the edges these marks.
@@ -107,24 +107,20 @@ fn chain_text(alloc: Global, chain: &Chain) -> Result<String, AllocError> {
     Ok(text)
 }
 
-fn manifest_of(alloc: Global, content: &[u8]) -> Result<Manifest, AllocError> {
+fn manifest_of(alloc: Global, content: &[u8]) -> Result<Manifest, Fail> {
     let name = Vec::from_slice(alloc, b"build.ninja")?;
     let content = Vec::from_slice(alloc, content)?;
     let files = vec![in alloc; (name, content)]?;
-    match read(alloc, &files) {
-        Ok(manifest) => Ok(manifest),
-        Err(_) => Err(AllocError),
-    }
+    let manifest = read(alloc, &files)?;
+    Ok(manifest)
 }
 
-fn named(alloc: Global, path: &[u8]) -> Result<Name, AllocError> {
-    match Name::new(alloc, path) {
-        Ok(name) => Ok(name),
-        Err(_) => Err(AllocError),
-    }
+fn named(alloc: Global, path: &[u8]) -> Result<Name, Fail> {
+    let name = Name::new(alloc, path)?;
+    Ok(name)
 }
 
-fn names(alloc: Global, paths: &[&[u8]]) -> Result<Vec<Name>, AllocError> {
+fn names(alloc: Global, paths: &[&[u8]]) -> Result<Vec<Name>, Fail> {
     let mut names = Vec::new(alloc);
     for path in paths {
         names.push(named(alloc, path)?)?;
@@ -133,14 +129,10 @@ fn names(alloc: Global, paths: &[&[u8]]) -> Result<Vec<Name>, AllocError> {
 }
 
 // An opening with the stamps of files.
-fn opening_of(alloc: Global, stamps: &[(&[u8], u64)]) -> Result<Opening, AllocError> {
-    let Ok(mut opening) = Opening::new(alloc, 1) else {
-        return Err(AllocError);
-    };
+fn opening_of(alloc: Global, stamps: &[(&[u8], u64)]) -> Result<Opening, Fail> {
+    let mut opening = Opening::new(alloc, 1)?;
     for (path, stamp) in stamps {
-        if opening.add_stamp(named(alloc, path)?, *stamp).is_err() {
-            return Err(AllocError);
-        }
+        opening.add_stamp(named(alloc, path)?, *stamp)?;
     }
     Ok(opening)
 }
@@ -152,12 +144,10 @@ fn add_built(
     path: &[u8],
     stamp: u64,
     command: &[u8],
-) -> Result<(), AllocError> {
+) -> Result<(), Fail> {
     let command = Vec::from_slice(alloc, command)?;
-    match opening.add_built(named(alloc, path)?, stamp, command) {
-        Ok(()) => Ok(()),
-        Err(_) => Err(AllocError),
-    }
+    opening.add_built(named(alloc, path)?, stamp, command)?;
+    Ok(())
 }
 
 // Records what the deps of a path list.
@@ -166,21 +156,17 @@ fn add_deps(
     opening: &mut Opening,
     path: &[u8],
     listed: &[&[u8]],
-) -> Result<(), AllocError> {
-    match opening.add_deps(named(alloc, path)?, 1, names(alloc, listed)?) {
-        Ok(()) => Ok(()),
-        Err(_) => Err(AllocError),
-    }
+) -> Result<(), Fail> {
+    opening.add_deps(named(alloc, path)?, 1, names(alloc, listed)?)?;
+    Ok(())
 }
 
 // The build of a manifest in the state of an opening.
-fn build_of(alloc: Global, content: &[u8], opening: &Opening) -> Result<Build, AllocError> {
+fn build_of(alloc: Global, content: &[u8], opening: &Opening) -> Result<Build, Fail> {
     let manifest = manifest_of(alloc, content)?;
     let cells = Cells::new(alloc, opening)?;
-    match Graph::build(alloc, &manifest) {
-        Ok(graph) => Ok(Build { graph, cells }),
-        Err(_) => Err(AllocError),
-    }
+    let graph = Graph::build(alloc, &manifest)?;
+    Ok(Build { graph, cells })
 }
 
 // What a plan says of a manifest in the state of an opening.
@@ -189,7 +175,7 @@ fn said(
     content: &[u8],
     opening: &Opening,
     targets: &[&[u8]],
-) -> Result<String, AllocError> {
+) -> Result<String, Fail> {
     let build = build_of(alloc, content, opening)?;
     build.said(alloc, targets)
 }
@@ -200,13 +186,13 @@ fn said_of(
     content: &[u8],
     stamps: &[(&[u8], u64)],
     targets: &[&[u8]],
-) -> Result<String, AllocError> {
+) -> Result<String, Fail> {
     let opening = opening_of(alloc, stamps)?;
     said(alloc, content, &opening, targets)
 }
 
 // The program's records after its object a.o was deleted.
-fn without_an_object(alloc: Global) -> Result<Opening, AllocError> {
+fn without_an_object(alloc: Global) -> Result<Opening, Fail> {
     let mut opening = opening_of(
         alloc,
         &[(b"a.c", 10), (b"b.c", 20), (b"b.o", 110), (b"app", 120)],
@@ -217,13 +203,13 @@ fn without_an_object(alloc: Global) -> Result<Opening, AllocError> {
 }
 
 // What a plan says of the program then.
-fn program_said(alloc: Global, targets: &[&[u8]]) -> Result<String, AllocError> {
+fn program_said(alloc: Global, targets: &[&[u8]]) -> Result<String, Fail> {
     let opening = without_an_object(alloc)?;
     said(alloc, PROGRAM, &opening, targets)
 }
 
 // The chain from an edge of the program then, once it is planned.
-fn program_chain(alloc: Global, edge: u32) -> Result<String, AllocError> {
+fn program_chain(alloc: Global, edge: u32) -> Result<String, Fail> {
     let opening = without_an_object(alloc)?;
     let mut build = build_of(alloc, PROGRAM, &opening)?;
     build.chain(alloc, b"app", edge)
@@ -235,14 +221,14 @@ fn listed_said(
     stamps: &[(&[u8], u64)],
     header: &[u8],
     target: &[u8],
-) -> Result<String, AllocError> {
+) -> Result<String, Fail> {
     let mut opening = opening_of(alloc, stamps)?;
     add_deps(alloc, &mut opening, b"a.o", &[header])?;
     said(alloc, LISTED, &opening, &[target])
 }
 
 // What a plan says while the program's second command runs.
-fn running_said(alloc: Global, targets: &[&[u8]]) -> Result<String, AllocError> {
+fn running_said(alloc: Global, targets: &[&[u8]]) -> Result<String, Fail> {
     let opening = opening_of(alloc, &[])?;
     let mut build = build_of(alloc, PROGRAM, &opening)?;
     let running = Mark::Running {
