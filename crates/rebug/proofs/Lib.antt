@@ -1,6 +1,7 @@
 pub mod AnswerLemmas
 pub mod DependentLemmas
 pub mod InputLemmas
+pub mod NearestLemmas
 pub mod OutputLemmas
 pub mod ReportLemmas
 pub mod RunLemmas

@@ -2,13 +2,14 @@
 use Rattle.std.specs.Prelude.{ℕ, ◌==◌, Bool, true, false, if◌then◌else◌, List, [], ◌++◌, length, Option, Some, None, codes, decimal}
 use Rattle.rev_commands.specs.declared.command.Command.{Command}
 use Rattle.rev_events.specs.Refusal.{code_of, first_number, second_number}
+use Rattle.rev_desk.specs.declared.desk.TheConstants.Desk.{MAX_ENTRIES}
 use Rattle.rev_desk.specs.Machine.{DeskValue, after, next_number, reply_to}
 use Rattle.rev_desk.specs.declared.reply.Reply.{Reply}
 use Rattle.rev_desk.specs.declared.reply.Reply.TheVariants.{Accepted, Coned, Refused}
 
 -- whether the journal has no room for another entry
 abbrev pub is_full : DeskValue → Bool
-is_full d = length d.journal == 1048576
+is_full d = length d.journal == MAX_ENTRIES
 
 -- what a command is answered: nothing where there is no room for its entry
 unfoldable pub answer_to : DeskValue → Command → Option Reply

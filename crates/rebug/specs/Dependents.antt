@@ -1,5 +1,5 @@
 -- What depends on a kept event.
-use Rattle.std.specs.Prelude.{ℕ, Bool, false, ◌&&◌, nat_lt, List, [], ◌++◌, filter, codes, decimal, Option, Some, None, if◌then◌else◌}
+use Rattle.std.specs.Prelude.{ℕ, Bool, false, ◌&&◌, nat_lt, List, filter, Option, Some, None}
 use Rattle.rev_causal.specs.Store.{conflict}
 use Rattle.rev_cells.specs.Keys.{cell_cmp}
 use Rattle.rev_footprint.specs.Value.{FootprintValue, print_of}
@@ -19,6 +19,6 @@ depends t n m = nat_lt n m && conflicts (kept_footprint t n) (kept_footprint t m
 abbrev pub dependents : Timeline → ℕ → List ℕ
 dependents t n = filter (depends t n) t.kept
 
--- one of the kept numbers as it is listed, where its event depends on n
-abbrev pub dependent_text : Timeline → ℕ → ℕ → List ℕ
-dependent_text t n m = if depends t n m then codes " " ++ decimal m else []
+-- the kept events above n that conflict with a footprint, in rising number
+abbrev pub conflicting_above : Timeline → FootprintValue → ℕ → List ℕ
+conflicting_above t f n = filter (λ m. nat_lt n m && conflicts (Some f) (kept_footprint t m)) t.kept

@@ -1,65 +1,37 @@
 //! What depends on a kept event.
 ghost use Rattle.std.specs.Prelude.{◌≡◌, ◌++◌, codes, decimal, is_some, IfOk, OnOk};
 ghost use Rattle.std.specs.List.{flat_map};
-ghost use Rattle.rebug.specs.Dependents.{conflicts, dependent_text, dependents, depends};
+ghost use Rattle.rebug.specs.Dependents.{conflicting_above, dependents};
 ghost use Rattle.rebug.specs.Report.{dependents_line, dependents_text, named_text};
 ghost use Rattle.rev_desk.specs.Machine.{named};
-ghost use Rattle.rev_history.specs.Timeline.{event_at, is_among, kept_footprint};
+ghost use Rattle.rev_history.specs.Timeline.{event_at, is_among};
 
 use crate::text::refused_line;
 use rev_desk::{Desk, Which};
 use rev_events::Refusal;
 use rev_fields::push_number;
-use rev_footprint::conflict;
+use rev_footprint::Footprint;
 use rev_history::History;
 use std::alloc::{AllocError, Global};
 
-// Whether two events are kept and conflict.
-fn conflict_between(history: &History, first: u32, second: u32) -> bool
-    ensures { result ≡ conflicts (kept_footprint history.now.timeline first)
-        (kept_footprint history.now.timeline second) }
-{
-    let Some(first) = history.footprint_of(first) else {
-        return false;
-    };
-    let Some(second) = history.footprint_of(second) else {
-        return false;
-    };
-    conflict(first, second)
-}
-
-// Whether a kept event depends on another.
-fn depends(history: &History, earlier: u32, later: u32) -> bool
-    ensures { result ≡ depends history.now.timeline earlier later }
-{
-    earlier < later && conflict_between(history, earlier, later)
-}
-
-// Adds a kept number with a space before it, where its event depends on another.
-fn push_dependent(
+// Adds the numbers of the kept events above one that conflict with a footprint, each with a space before it. The search
+// for each goes on from the one before it.
+fn push_above(
     text: &mut Vec<u8>,
     history: &History,
-    earlier: u32,
-    later: u32,
+    number: u32,
+    footprint: &Footprint,
 ) -> Result<(), AllocError>
     ensures { OnOk result (text.new.items
-        ≡ text.old.items ++ dependent_text history.now.timeline earlier later) }
+        ≡ text.old.items ++ flat_map (λ m. codes " " ++ decimal m)
+        (conflicting_above history.now.timeline footprint.now number)) }
 {
-    if !depends(history, earlier, later) {
-        return Ok(());
-    }
-    text.extend_from_slice(b" ")?;
-    push_number(text, u64::from(later))
-}
-
-// Adds the kept numbers whose events depend on another.
-fn push_each(text: &mut Vec<u8>, history: &History, number: u32) -> Result<(), AllocError>
-    ensures { OnOk result (text.new.items
-        ≡ text.old.items ++ flat_map (dependent_text history.now.timeline number)
-        history.now.timeline.kept) }
-{
-    for later in history.kept() {
-        push_dependent(text, history, number, *later)?;
+    let _kept = history.kept();
+    let mut last = number;
+    while let Some(next) = history.nearest(last, footprint) {
+        text.extend_from_slice(b" ")?;
+        push_number(text, u64::from(next))?;
+        last = next;
     }
     Ok(())
 }
@@ -70,7 +42,10 @@ fn push_dependents(text: &mut Vec<u8>, history: &History, number: u32) -> Result
         ≡ text.old.items ++ flat_map (λ m. codes " " ++ decimal m)
         (dependents history.now.timeline number)) }
 {
-    push_each(text, history, number)
+    match history.footprint_of(number) {
+        Some(footprint) => push_above(text, history, number, footprint),
+        None => Ok(()),
+    }
 }
 
 // Whether a number is that of a kept event.

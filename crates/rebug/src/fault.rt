@@ -36,7 +36,7 @@ impl<T: Drop> From<AllocFailed<T>> for RunFault {
 #[derive(Clone, Copy, Debug, Error)]
 pub enum ProgramFault<'a> {
     /// A file could not be read.
-    #[error("cannot read {0}")]
+    #[error("cannot read {0}: it is not there, is a folder, or may not be read")]
     Read(&'a str),
     /// The report was not written whole.
     #[error("{0}")]

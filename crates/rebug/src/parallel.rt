@@ -140,7 +140,7 @@ fn run_on_threads<R: Threads + Wait + Sync, W: Write>(
     words: &[Word],
     writer: &mut W,
 ) -> Result<Status, RunFault>
-    requires { length trace.lanes.items ≤ 63 }
+    requires { length trace.lanes.items ≤ Trace.MAX_LANES }
 {
     let (before, after) = split_at_run(words);
     let lane = trace.lanes.len() as u32;
@@ -161,7 +161,7 @@ fn report_script<R: Threads + Wait + Sync, W: Write>(
     script: &[u8],
     writer: &mut W,
 ) -> Result<Status, RunFault>
-    requires { length trace.lanes.items ≤ 63 }
+    requires { length trace.lanes.items ≤ Trace.MAX_LANES }
 {
     match read_script(alloc, script) {
         Ok(words) => run_on_threads(rt, alloc, graph, trace, &words, writer),

@@ -208,7 +208,7 @@ pub(crate) fn open_desk(
     opening: &Opening,
     lanes: &[Vec<Command>],
 ) -> Result<Desk, RunFault>
-    requires { length lanes.now ≤ 63 }
+    requires { length lanes.now ≤ Trace.MAX_LANES }
     ensures { IfOk result (λ desk. desk
         ≡ opened_desk graph.manifest opening.now.jobs opening.now.state (length lanes.now + 1)) }
 {
@@ -228,7 +228,7 @@ fn run_opened<W: Write>(
     words: &[Word],
     writer: &mut W,
 ) -> Result<(), RunFault>
-    requires few { length lanes.now ≤ 63 }
+    requires few { length lanes.now ≤ Trace.MAX_LANES }
     requires lanes { desk.old.lanes ≡ length lanes.now + 1 }
     ensures { Writes result (W.contents writer.old) (W.contents writer.new)
         (script_text (length lanes.now) desk.old (turns (lanes_of lanes.now)) words.now) }
@@ -247,7 +247,7 @@ fn run_script<W: Write>(
     words: &[Word],
     writer: &mut W,
 ) -> Result<(), RunFault>
-    requires { length lanes.now ≤ 63 }
+    requires { length lanes.now ≤ Trace.MAX_LANES }
     ensures { Writes result (W.contents writer.old) (W.contents writer.new)
         (session_text graph.manifest opening.now (lanes_of lanes.now) words.now) }
 {
@@ -279,7 +279,7 @@ fn report_script<W: Write>(
     script: &[u8],
     writer: &mut W,
 ) -> Result<Status, RunFault>
-    requires { length trace.now.lanes.items ≤ 63 }
+    requires { length trace.now.lanes.items ≤ Trace.MAX_LANES }
     ensures text { Writes result (W.contents writer.old) (W.contents writer.new)
         (script_report graph.manifest trace.now.opening (lanes_of trace.now.lanes.items)
         script.now).text }

@@ -7,7 +7,7 @@ ghost use Rattle.rebug.specs.SeenTurns.{seen_turns};
 ghost use Rattle.rebug.specs.Turns.{longest, turn_of, turns};
 ghost use Rattle.rev_trace.specs.Traces.{lanes_of};
 
-use rev_desk::Command;
+use rev_desk::{Command, Desk};
 use std::alloc::{AllocError, Global};
 
 /// A command and the number of its lane.
@@ -64,7 +64,7 @@ struct LeftLane<'a> {
 
 // The lanes with their numbers, in their order.
 fn numbered<'a>(alloc: Global, lanes: &'a [Vec<Command>]) -> Result<Vec<LeftLane<'a>>, AllocError>
-    requires { length lanes.now ≤ 64 }
+    requires { length lanes.now ≤ Desk.MAX_LANES }
     ensures { IfOk result (λ left. seen_left left.items ≡ enumerate_from 0 (lanes_of lanes.now)) }
 {
     let mut left = Vec::new(alloc);
@@ -113,7 +113,7 @@ pub(crate) fn turns_of<'a>(
     alloc: Global,
     lanes: &'a [Vec<Command>],
 ) -> Result<Vec<Turn<'a>>, AllocError>
-    requires { length lanes.now ≤ 64 }
+    requires { length lanes.now ≤ Desk.MAX_LANES }
     ensures { IfOk result (λ list. seen_turns list.items ≡ turns (lanes_of lanes.now)) }
 {
     let mut turns = Vec::new(alloc);

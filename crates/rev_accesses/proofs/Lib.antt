@@ -1,3 +1,5 @@
+pub mod Closing
+pub mod FollowLemmas
 pub mod IndexLemmas
 pub mod Places
 pub mod RisingLemmas

@@ -1,5 +1,5 @@
 -- Numbers that rise, with one more and with one less.
-use Rattle.std.proofs.Common.{◌≡◌, ℕ, ◌+◌, ◌<◌, ◌≤◌, Bool, true, false, not, cond, List, [], ◌∷◌, ◌++◌, ◌||◌, filter, slice_get, length, get_or, Option, Some, None, is_some, Ok, Err, refl, sym, ap, ◌∙◌, inl, inr, true≢false, eq-eqb, ltb-true, ltb-false, lt-ltb, le-ltb, arith, zero, suc}
+use Rattle.std.proofs.Common.{◌≡◌, ℕ, ◌+◌, ◌<◌, ◌≤◌, Bool, true, false, not, ◌&&◌, cond, List, [], ◌∷◌, ◌++◌, ◌||◌, filter, slice_get, length, get_or, drop, Option, Some, None, is_some, Ok, Err, refl, sym, ap, ap₂, ◌∙◌, inl, inr, true≢false, eq-eqb, eqb-true, ltb-true, ltb-false, lt-ltb, le-ltb, arith, zero, suc}
 use Rattle.std.specs.Prelude.{nat_eq, nat_lt}
 use Rattle.std.specs.List.{AllByRecursion}
 use Rattle.std.specs.List.Sorted.{IsBinarySearchResult}
@@ -10,6 +10,7 @@ use Rattle.rev_causal.specs.AccessLists.{first_above}
 use Rattle.rev_causal.specs.Chosen.{IsRising, is_among, without, placed}
 use Rattle.rev_causal.proofs.Chosen.{IsRising-filter, nat_eq_comm, rest_apart, without-not_among, placed-first, placed-next, rising_at}
 use Rattle.rev_causal.proofs.Runs.{either}
+use Rattle.rev_accesses.specs.Following.{is_below}
 use Rattle.rev_accesses.specs.Value.{with_number}
 
 pub rising_without : (n : ℕ) (ks : List ℕ) → IsRising ks → IsRising (without n ks)
@@ -77,7 +78,7 @@ rising_lt (k ∷ ks) h i zero lt within = absurd (omega arith)
 rising_lt (k ∷ ks) h zero (suc j) lt within = above_at k ks j h.0 (omega arith)
 rising_lt (k ∷ ks) h (suc i) (suc j) lt within = rising_lt ks h.1 i j (omega arith) (omega arith)
 
-first_at : (ks : List ℕ) (place n : ℕ) → place ≤ length ks → ((j : ℕ) → j < place → get_or ks j 0 ≤ n) → ((j : ℕ) → place ≤ j → j < length ks → n < get_or ks j 0) → slice_get ks place ≡ first_above n ks
+pub first_at : (ks : List ℕ) (place n : ℕ) → place ≤ length ks → ((j : ℕ) → j < place → get_or ks j 0 ≤ n) → ((j : ℕ) → place ≤ j → j < length ks → n < get_or ks j 0) → slice_get ks place ≡ first_above n ks
 first_at [] place n le below above = refl
 first_at (k ∷ ks) zero n le below above =
     let lt : n < k = above zero (omega arith) (omega arith) in
@@ -87,20 +88,30 @@ first_at (k ∷ ks) (suc place) n le below above =
     first_at ks place n (omega arith) (λ j lt. below (suc j) (omega arith)) (λ j from within. above (suc j) (omega arith) (omega arith))
     ∙ sym (ap (λ b. cond b (Some k) (first_above n ks)) (le-ltb n k not_above))
 
--- the place after the number, or its own
-pub first_after : (ks : List ℕ) (place n : ℕ) → IsRising ks → IsBinarySearchResult (λ y. nat_cmp y n) ks (Ok place) → slice_get ks (place + 1) ≡ first_above n ks
-first_after ks place n rising h =
+-- from the place after the number, or its own, all are above it
+pub record IsPlaceAbove (ks : List ℕ) (place n : ℕ) : Type 0 where
+  pub within : place ≤ length ks
+  pub below : (j : ℕ) → j < place → get_or ks j 0 ≤ n
+  pub above : (j : ℕ) → place ≤ j → j < length ks → n < get_or ks j 0
+
+pub place_after : (ks : List ℕ) (place n : ℕ) → IsRising ks → IsBinarySearchResult (λ y. nat_cmp y n) ks (Ok place) → IsPlaceAbove ks (place + 1) n
+place_after ks place n rising h =
     let at : (place < length ks) × (get_or ks place 0 ≡ n) = searched ks n (Ok place) h (rising_at ks rising) in
     let within : place < length ks = at.0 in
-    let next : (place + 1) ≤ length ks = omega arith in
-    first_at ks (place + 1) n next
-    (λ j lt. let le : get_or ks j 0 ≤ get_or ks place 0 = rising_at ks rising j place (omega arith) within in let same : get_or ks place 0 ≡ n = at.1 in omega arith)
-    (λ j from lt. let less : get_or ks place 0 < get_or ks j 0 = rising_lt ks rising place j (omega arith) lt in let same : get_or ks place 0 ≡ n = at.1 in omega arith)
+    record {
+      within = omega arith;
+      below = λ j lt. let le : get_or ks j 0 ≤ get_or ks place 0 = rising_at ks rising j place (omega arith) within in let same : get_or ks place 0 ≡ n = at.1 in omega arith;
+      above = λ j from lt. let less : get_or ks place 0 < get_or ks j 0 = rising_lt ks rising place j (omega arith) lt in let same : get_or ks place 0 ≡ n = at.1 in omega arith;
+    }
 
-pub first_from : (ks : List ℕ) (place n : ℕ) → IsRising ks → IsBinarySearchResult (λ y. nat_cmp y n) ks (Err place) → slice_get ks place ≡ first_above n ks
-first_from ks place n rising h =
+pub place_from : (ks : List ℕ) (place n : ℕ) → IsRising ks → IsBinarySearchResult (λ y. nat_cmp y n) ks (Err place) → IsPlaceAbove ks place n
+place_from ks place n rising h =
     let at : (place ≤ length ks) × ((k : ℕ) → k < place → get_or ks k 0 < n) × ((k : ℕ) → place ≤ k → k < length ks → n < get_or ks k 0) = searched ks n (Err place) h (rising_at ks rising) in
-    first_at ks place n at.0 (λ j lt. let less : get_or ks j 0 < n = at.1 j lt in omega arith) at.2
+    record {
+      within = at.0;
+      below = λ j lt. let less : get_or ks j 0 < n = at.1 j lt in omega arith;
+      above = at.2;
+    }
 
 -- where a search finds no place, what it says of that holds
 pub none_there : {A P : Type 0} (o : Option A) → is_some o ≡ false → IfNone o P → P
@@ -110,3 +121,62 @@ none_there (Some a) h p = cc
 -- a number that was taken out is not there
 pub without-twice : (n : ℕ) (ks : List ℕ) → without n (without n ks) ≡ without n ks
 without-twice n ks = without-absent n (without n ks) (without-not_among n ks)
+
+-- numbers above a place, and below a bound
+
+pub rising_drop : (i : ℕ) (ks : List ℕ) → IsRising ks → IsRising (drop i ks)
+rising_drop zero ks h = h
+rising_drop (suc i) [] h = h
+rising_drop (suc i) (k ∷ ks) h = rising_drop i ks h.1
+
+-- those from a place on are those above a number
+pub among_drop : (ks : List ℕ) (place n : ℕ) → place ≤ length ks → ((j : ℕ) → j < place → get_or ks j 0 ≤ n) → ((j : ℕ) → place ≤ j → j < length ks → n < get_or ks j 0) → (k : ℕ) → is_among (drop place ks) k ≡ (is_among ks k && nat_lt n k)
+among_drop [] zero n le below above k = refl
+among_drop [] (suc place) n le below above k = refl
+among_drop (x ∷ xs) zero n le below above k = elim (either (nat_eq k x)) [
+  | inl t ↦
+      let same : k ≡ x = eqb-true k x t in
+      let lt : n < x = above zero (omega arith) (omega arith) in
+      let up : nat_lt n k ≡ true = lt-ltb n k (omega arith) in
+      ap (λ b. b || is_among xs k) t ∙ sym (ap₂ (λ a b. (a || is_among xs k) && b) t up)
+  | inr f ↦
+      ap (λ b. b || is_among xs k) f
+      ∙ among_drop xs zero n (omega arith) (λ j lt. absurd (omega arith)) (λ j from lt. above (suc j) (omega arith) (omega arith)) k
+      ∙ sym (ap (λ b. (b || is_among xs k) && nat_lt n k) f)
+]
+among_drop (x ∷ xs) (suc place) n le below above k = elim (either (nat_eq k x)) [
+  | inl t ↦
+      let same : k ≡ x = eqb-true k x t in
+      let not_above : x ≤ n = below zero (omega arith) in
+      let down : nat_lt n k ≡ false = le-ltb n k (omega arith) in
+      among_drop xs place n (omega arith) (λ j lt. below (suc j) (omega arith)) (λ j from lt. above (suc j) (omega arith) (omega arith)) k
+      ∙ ap (λ b. is_among xs k && b) down ∙ and_none (is_among xs k) ∙ sym (and_none (nat_eq k x || is_among xs k)) ∙ sym (ap (λ b. (nat_eq k x || is_among xs k) && b) down)
+  | inr f ↦
+      among_drop xs place n (omega arith) (λ j lt. below (suc j) (omega arith)) (λ j from lt. above (suc j) (omega arith) (omega arith)) k
+      ∙ sym (ap (λ b. (b || is_among xs k) && nat_lt n k) f)
+]
+  where
+    and_none : (b : Bool) → (b && false) ≡ false
+    and_none true = refl
+    and_none false = refl
+
+above_other : (x k : ℕ) (ks : List ℕ) → AllByRecursion (λ y. x < y) ks → is_among ks k ≡ true → x < k
+above_other x k [] h e = cc
+above_other x k (y ∷ ys) h e = elim (either (nat_eq k y)) [
+  | inl t ↦ let same : k ≡ y = eqb-true k y t in let lt : x < y = h.0 in omega arith
+  | inr f ↦ above_other x k ys h.1 (sym (ap (λ b. b || is_among ys k) f) ∙ e)
+]
+
+-- from the first number on that is not below a bound none is
+pub none_below : (bound : Option ℕ) (x k : ℕ) (ks : List ℕ) → IsRising (x ∷ ks) → is_below bound x ≡ false → (is_among (x ∷ ks) k && is_below bound k) ≡ false
+none_below None x k ks rising h = absurd (true≢false h)
+none_below (Some b) x k ks rising h = elim (either (is_among (x ∷ ks) k)) [
+  | inl t ↦
+      let le : b ≤ x = ltb-false x b h in
+      let up : x ≤ k = elim (either (nat_eq k x)) [
+        | inl e ↦ let same : k ≡ x = eqb-true k x e in omega arith
+        | inr f ↦ let lt : x < k = above_other x k ks rising.0 (sym (ap (λ c. c || is_among ks k) f) ∙ t) in omega arith
+      ] in
+      ap₂ (λ c d. c && d) t (le-ltb k b (omega arith))
+  | inr f ↦ ap (λ c. c && nat_lt k b) f
+]

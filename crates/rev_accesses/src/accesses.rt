@@ -1,13 +1,18 @@
 //! The access lists.
-ghost use Rattle.std.specs.Prelude.{◌≡◌, [], None, Some, OnOk, OnErr};
+ghost use Rattle.std.specs.Prelude.{◌≡◌, true, [], None, Some, OnOk, OnErr};
+ghost use Rattle.rev_causal.specs.AccessLists.{numbers_by};
+ghost use Rattle.rev_causal.specs.Chosen.{IsRising as IsRisingNumbers};
 ghost use Rattle.rev_causal.specs.History.{IsRising, event_at, put, without};
 ghost use Rattle.rev_causal.specs.KeptHistory.{nearest_in};
 ghost use Rattle.rev_causal.specs.Store.{Footprint, Footprint.Whole};
 ghost use Rattle.rev_cells.specs.declared.cell.Cell.{Cell};
 ghost use Rattle.rev_cells.specs.Keys.{cell_cmp};
+ghost use Rattle.rev_accesses.specs.Following.{IsFollowed};
 ghost use Rattle.rev_accesses.specs.Value.{Names, PartlyPut, Prints, PutUnder, Shows, TakenFrom};
 
-use crate::index::{lesser, nearest, put_all, take_all};
+use crate::index::{add_firsts, add_users, lesser, nearest, put_all, take_all};
+use crate::numbers::add_between;
+use crate::pending::Pending;
 use crate::rising::Rising;
 use indexmap::IndexMap;
 use rev_cells::Cell;
@@ -103,6 +108,44 @@ impl Accesses {
         let used = nearest(&self.readers, writes, number);
         let source = nearest(&self.writers, reads, number);
         lesser(whole, lesser(lesser(written, used), source))
+    }
+
+    /// Adds to the pending numbers as many of those above one whose events conflict with one that reads and writes
+    /// these cells as lead to all of them: under a written cell the next writer and the readers before it, under a read
+    /// one the next writer, and the next whole event. At an error some may have been added.
+    pub fn follow(
+        &self,
+        pending: &mut Pending,
+        number: u32,
+        reads: &[Cell],
+        writes: &[Cell],
+    ) -> Result<(), AllocError>
+        ensures { OnOk result ((prints : Prints) (f : Footprint Cell) → Names f reads.now writes.now
+            → IsRising prints → Shows self.now prints
+            → IsFollowed prints number f pending.old pending.new) }
+    {
+        pending.add_some(self.whole.first_above(number))?;
+        add_users(pending, &self.writers, &self.readers, writes, number)?;
+        add_firsts(pending, &self.writers, reads, number)?;
+        Ok(())
+    }
+
+    /// The same for a whole event, with which all events conflict: the next whole event, and all numbers before it.
+    pub fn follow_whole(
+        &self,
+        pending: &mut Pending,
+        number: u32,
+        numbers: &[u32],
+    ) -> Result<(), AllocError>
+        requires { IsRisingNumbers numbers.now }
+        ensures { OnOk result ((prints : Prints) → IsRising prints
+            → numbers_by (λ f. true) prints ≡ numbers.now → Shows self.now prints
+            → IsFollowed prints number Whole pending.old pending.new) }
+    {
+        let next = self.whole.first_above(number);
+        pending.add_some(next)?;
+        add_between(pending, numbers, number, next)?;
+        Ok(())
     }
 
     // Puts a number under cells. At an error it may stand under some of them.

@@ -1,13 +1,15 @@
 //! Numbers under cells.
-ghost use Rattle.std.specs.Prelude.{◌≡◌, false, cond, IsSome, OnOk};
+ghost use Rattle.std.specs.Prelude.{◌≡◌, ℕ, ◌||◌, false, cond, IsSome, OnOk};
 ghost use Rattle.std.specs.Ordering.{eq_by_cmp};
 ghost use Rattle.std.specs.Map.{lookup};
 ghost use Rattle.rev_causal.specs.AccessLists.{first_above as first_above_in, lesser as lesser_of};
-ghost use Rattle.rev_causal.specs.Chosen.{without};
+ghost use Rattle.rev_causal.specs.Chosen.{is_among, without};
 ghost use Rattle.rev_cells.specs.declared.cell.Cell.{Cell};
 ghost use Rattle.rev_cells.specs.Keys.{cell_cmp};
+ghost use Rattle.rev_accesses.specs.Following.{is_between, is_first_under, is_user_under};
 ghost use Rattle.rev_accesses.specs.Value.{PartlyPut, PutUnder, TakenFrom, nearest_at, numbers_at, with_number};
 
+use crate::pending::Pending;
 use crate::rising::Rising;
 use indexmap::IndexMap;
 use rev_cells::Cell;
@@ -117,4 +119,58 @@ pub(crate) fn nearest(index: &IndexMap<Cell, Rising>, cells: &[Cell], number: u3
         least = lesser(least, first_at(index, cell, number));
     }
     least
+}
+
+// Adds to the pending numbers those under a cell that stand above one and below a bound, where there is one.
+fn add_between_at(
+    pending: &mut Pending,
+    index: &IndexMap<Cell, Rising>,
+    cell: &Cell,
+    number: u32,
+    bound: Option<u32>,
+) -> Result<(), AllocError>
+    ensures { OnOk result ((k : ℕ) → is_among pending.new k
+        ≡ (is_between number bound (numbers_at index.now.entries cell.now) k
+        || is_among pending.old k)) }
+{
+    match index.get(cell) {
+        Some(numbers) => numbers.add_between(pending, number, bound),
+        None => Ok(()),
+    }
+}
+
+/// Adds to the pending numbers the first above one under each of the cells.
+pub(crate) fn add_firsts(
+    pending: &mut Pending,
+    index: &IndexMap<Cell, Rising>,
+    cells: &[Cell],
+    number: u32,
+) -> Result<(), AllocError>
+    ensures { OnOk result ((k : ℕ) → is_among pending.new k
+        ≡ (is_first_under number index.now.entries cells.now k || is_among pending.old k)) }
+{
+    for cell in cells {
+        pending.add_some(first_at(index, cell, number))?;
+    }
+    Ok(())
+}
+
+/// Adds to the pending numbers, under each of the cells, the first writer above one and the readers before that writer.
+pub(crate) fn add_users(
+    pending: &mut Pending,
+    writers: &IndexMap<Cell, Rising>,
+    readers: &IndexMap<Cell, Rising>,
+    cells: &[Cell],
+    number: u32,
+) -> Result<(), AllocError>
+    ensures { OnOk result ((k : ℕ) → is_among pending.new k
+        ≡ (is_user_under number writers.now.entries readers.now.entries cells.now k
+        || is_among pending.old k)) }
+{
+    for cell in cells {
+        let next = first_at(writers, cell, number);
+        pending.add_some(next)?;
+        add_between_at(pending, readers, cell, number, next)?;
+    }
+    Ok(())
 }

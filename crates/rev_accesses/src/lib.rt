@@ -4,9 +4,11 @@
 mod accesses;
 mod index;
 mod numbers;
+mod pending;
 mod rising;
 #[cfg(test)]
 mod tests;
 
 pub use accesses::Accesses;
-pub use numbers::{first_above, place_of, put_in, take_out};
+pub use numbers::{add_between, first_above, place_of, put_in, take_out};
+pub use pending::Pending;

@@ -1,8 +1,10 @@
 //! Numbers that rise.
-ghost use Rattle.std.specs.Prelude.{◌≡◌, ◌<◌, true, false, IfSome, IfNone, OnOk, OnErr, length, slice_get, slice_index, vec_len, vec_capacity, IsOk};
+ghost use Rattle.std.specs.Prelude.{◌≡◌, ◌<◌, ◌≤◌, ◌&&◌, ◌||◌, ℕ, get_or, true, false, IfSome, IfNone, OnOk, OnErr, length, slice_get, slice_index, vec_len, vec_capacity, IsOk};
 ghost use Rattle.rev_causal.specs.AccessLists.{first_above as first_above_in};
 ghost use Rattle.rev_causal.specs.Chosen.{IsRising, is_among, placed, without};
+ghost use Rattle.rev_accesses.specs.Following.{is_below as is_below_in, is_between};
 
+use crate::pending::Pending;
 use std::alloc::AllocError;
 
 /// The place of a number, found by halving.
@@ -21,11 +23,61 @@ pub fn first_above(numbers: &[u32], number: u32) -> Option<u32>
     requires { IsRising numbers.now }
     ensures { result ≡ first_above_in number numbers.now }
 {
-    let place = match numbers.binary_search(&number) {
+    number_at(numbers, place_above(numbers, number))
+}
+
+// The place from which the numbers are above another, found by halving.
+fn place_above(numbers: &[u32], number: u32) -> usize
+    requires { IsRising numbers.now }
+    ensures within { result ≤ length numbers.now }
+    ensures below { (j : ℕ) → j < result → get_or numbers.now j 0 ≤ number }
+    ensures above { (j : ℕ) → result ≤ j → j < length numbers.now → number < get_or numbers.now j 0 }
+{
+    match numbers.binary_search(&number) {
         Ok(place) => place + 1,
         Err(place) => place,
-    };
-    number_at(numbers, place)
+    }
+}
+
+/// Adds to the pending numbers those that stand above one and below a bound, where there is one. It takes time linear
+/// in these, up to the halving that finds the first.
+pub fn add_between(
+    pending: &mut Pending,
+    numbers: &[u32],
+    number: u32,
+    bound: Option<u32>,
+) -> Result<(), AllocError>
+    requires { IsRising numbers.now }
+    ensures { OnOk result ((k : ℕ) → is_among pending.new k
+        ≡ (is_between number bound numbers.now k || is_among pending.old k)) }
+{
+    let place = place_above(numbers, number);
+    add_below(pending, &numbers[place..], bound)
+}
+
+// Adds to the pending numbers those below a bound, where there is one.
+fn add_below(pending: &mut Pending, numbers: &[u32], bound: Option<u32>) -> Result<(), AllocError>
+    requires { IsRising numbers.now }
+    ensures { OnOk result ((k : ℕ) → is_among pending.new k
+        ≡ ((is_among numbers.now k && is_below_in bound k) || is_among pending.old k)) }
+{
+    for number in numbers {
+        if !is_below(bound, *number) {
+            return Ok(());
+        }
+        pending.add(*number)?;
+    }
+    Ok(())
+}
+
+// Whether a number is below a bound, where there is one.
+fn is_below(bound: Option<u32>, number: u32) -> bool
+    ensures { result ≡ is_below_in bound number }
+{
+    match bound {
+        None => true,
+        Some(bound) => number < bound,
+    }
 }
 
 // The number at a place.

@@ -1,10 +1,12 @@
 //! The numbers under one cell.
-ghost use Rattle.std.specs.Prelude.{◌≡◌, [], OnOk, OnErr};
+ghost use Rattle.std.specs.Prelude.{◌≡◌, ℕ, ◌||◌, [], OnOk, OnErr};
 ghost use Rattle.rev_causal.specs.AccessLists.{first_above as first_above_in};
-ghost use Rattle.rev_causal.specs.Chosen.{IsRising, without};
+ghost use Rattle.rev_causal.specs.Chosen.{IsRising, is_among, without};
+ghost use Rattle.rev_accesses.specs.Following.{is_between};
 ghost use Rattle.rev_accesses.specs.Value.{with_number};
 
-use crate::numbers::{first_above, place_of, put_in, take_out};
+use crate::numbers::{add_between, first_above, place_of, put_in, take_out};
+use crate::pending::Pending;
 use std::alloc::{AllocError, Global};
 use std::marker::Model;
 
@@ -62,5 +64,17 @@ impl Rising {
         ensures { result ≡ first_above_in number self.now }
     {
         first_above(&self.numbers, number)
+    }
+    // Adds to the pending numbers those that stand above one and below a bound, where there is one.
+    pub(crate) fn add_between(
+        &self,
+        pending: &mut Pending,
+        number: u32,
+        bound: Option<u32>,
+    ) -> Result<(), AllocError>
+        ensures { OnOk result ((k : ℕ) → is_among pending.new k
+            ≡ (is_between number bound self.now k || is_among pending.old k)) }
+    {
+        add_between(pending, &self.numbers, number, bound)
     }
 }

@@ -2,22 +2,20 @@
 use crate::{Accesses, first_above, place_of, put_in, take_out};
 use rev_cells::Cell;
 use rev_paths::Name;
-use std::alloc::{AllocError, Global};
+use std::alloc::Global;
 use std::test::Fail;
 
-fn cells(alloc: Global, paths: &[&[u8]]) -> Result<Vec<Cell>, AllocError> {
+fn cells(alloc: Global, paths: &[&[u8]]) -> Result<Vec<Cell>, Fail> {
     let mut cells = Vec::new(alloc);
     for path in paths {
-        let Ok(name) = Name::new(alloc, path) else {
-            return Err(AllocError);
-        };
+        let name = Name::new(alloc, path)?;
         cells.push(Cell::Stamp(name))?;
     }
     Ok(cells)
 }
 
 // 1 writes a, 2 reads a and b, 3 is whole, 4 writes b.
-fn listed(alloc: Global) -> Result<Accesses, AllocError> {
+fn listed(alloc: Global) -> Result<Accesses, Fail> {
     let mut accesses = Accesses::new(alloc);
     let a = cells(alloc, &[b"a"])?;
     let b = cells(alloc, &[b"b"])?;
@@ -35,31 +33,43 @@ fn nearest(
     number: u32,
     reads: &[&[u8]],
     writes: &[&[u8]],
-) -> Result<Option<u32>, AllocError> {
+) -> Result<Option<u32>, Fail> {
     let reads = cells(alloc, reads)?;
     let writes = cells(alloc, writes)?;
     Ok(accesses.nearest(number, &reads, &writes))
 }
 
+// The nearest to what reads and writes a, to what reads it, and to what reads b.
+fn nearest_of_three(alloc: Global, accesses: &Accesses) -> Result<[Option<u32>; 3], Fail> {
+    let of_both = nearest(alloc, accesses, 1, &[b"a"], &[b"a"])?;
+    let of_a_reader = nearest(alloc, accesses, 1, &[b"a"], &[])?;
+    let of_another = nearest(alloc, accesses, 3, &[b"b"], &[])?;
+    Ok([of_both, of_a_reader, of_another])
+}
+
 #[test]
 fn the_nearest_reads_or_writes(rt: HostRuntime) -> Result<(), Fail> {
-    let alloc = rt.alloc();
-    let accesses = listed(alloc)?;
-    assert_eq!(rt; nearest(alloc, &accesses, 1, &[b"a"], &[b"a"])?, Some(2));
-    assert_eq!(rt; nearest(alloc, &accesses, 1, &[b"a"], &[])?, Some(3));
-    assert_eq!(rt; nearest(alloc, &accesses, 3, &[b"b"], &[])?, Some(4));
+    let accesses = listed(rt.alloc())?;
+    let found = nearest_of_three(rt.alloc(), &accesses)?;
+    assert_eq!(rt; found, [Some(2), Some(3), Some(4)]);
     Ok(())
+}
+
+// Takes out 2, which reads a and b, and 3, which is whole; then the nearest to what writes a, and to what writes b.
+fn nearest_without_two(alloc: Global, accesses: &mut Accesses) -> Result<[Option<u32>; 2], Fail> {
+    let both = cells(alloc, &[b"a", b"b"])?;
+    accesses.take(2, &both, &[]);
+    accesses.take_whole(3);
+    let of_a = nearest(alloc, accesses, 1, &[b"a"], &[b"a"])?;
+    let of_b = nearest(alloc, accesses, 0, &[b"c"], &[b"b"])?;
+    Ok([of_a, of_b])
 }
 
 #[test]
 fn what_was_taken_out_is_not_found(rt: HostRuntime) -> Result<(), Fail> {
-    let alloc = rt.alloc();
-    let mut accesses = listed(alloc)?;
-    let both = cells(alloc, &[b"a", b"b"])?;
-    accesses.take(2, &both, &[]);
-    accesses.take_whole(3);
-    assert_eq!(rt; nearest(alloc, &accesses, 1, &[b"a"], &[b"a"])?, None);
-    assert_eq!(rt; nearest(alloc, &accesses, 0, &[b"c"], &[b"b"])?, Some(4));
+    let mut accesses = listed(rt.alloc())?;
+    let found = nearest_without_two(rt.alloc(), &mut accesses)?;
+    assert_eq!(rt; found, [None, Some(4)]);
     Ok(())
 }
 

@@ -3,7 +3,7 @@ use Rattle.std.proofs.Common.{◌≡◌, ℕ, ◌<◌, true, false, cond, if◌t
 use Rattle.std.specs.Prelude.{nat_lt}
 use Rattle.std.specs.List.{AllByRecursion}
 use Rattle.std.specs.FinSet as cells
-use Rattle.std.proofs.lemmas.List.{map-set}
+use Rattle.std.proofs.lemmas.List.{map-set, length-map}
 use Rattle.std.proofs.Math.Seq.{map-set_same}
 use Rattle.std.proofs.lemmas.Option.{slice_get-map, slice_get-get_or}
 use Rattle.rev_accesses.specs.Value.{AccessesValue, Prints, Names, Shows}
@@ -78,7 +78,7 @@ module _ {A : Type 0} where
       ]
 
   -- the numbers of what stands under numbers
-  numbers_chosen : (es : List (ℕ × A)) (ks : List ℕ) → AllAccepted es ks → numbers_by (λ f. true) (chosen es ks) ≡ ks
+  pub numbers_chosen : (es : List (ℕ × A)) (ks : List ℕ) → AllAccepted es ks → numbers_by (λ f. true) (chosen es ks) ≡ ks
   numbers_chosen es [] all = refl
   numbers_chosen es (k ∷ ks) all =
       let e = some_is (causal.event_at k es) all.0 in
@@ -90,7 +90,11 @@ pub shows_again : (a m b : AccessesValue) (n : ℕ) (f : Footprint Cell) (ps : P
 shows_again a m b n f ps rising none put taken =
     subst (Shows b) (without-put n f ps none) (taken (causal.put n f ps) (put_rises n f ps rising none) (event_at-put n f ps none) put)
 
-all_prints : (a : Inside) → IsSound a → AllAccepted (prints_of a.accepted.entries a.steps.items) a.kept.items
+-- numbers that were accepted have footprints
+pub prints_accepted : (es : List (ℕ × Event)) (steps : List Step) (ks : List ℕ) → length steps ≡ length es → AllAccepted es ks → AllAccepted (prints_of es steps) ks
+prints_accepted es steps ks many all = all_beside es (map print_of steps) ks (length-map steps print_of ∙ many) all
+
+pub all_prints : (a : Inside) → IsSound a → AllAccepted (prints_of a.accepted.entries a.steps.items) a.kept.items
 all_prints a s = all_beside a.accepted.entries (map print_of a.steps.items) a.kept.items s.stepped.as_many_prints s.stepped.each
 
 pub prints_rise : (a : Inside) → IsSound a → causal.IsRising (kept_prints a)

@@ -8,9 +8,10 @@ ghost use Rattle.rev_history.specs.Checked.{HasNow, IsChecked};
 ghost use Rattle.rev_history.specs.Timeline.{IsHistory, Timeline, accept_refusal, accepted_as, back_refusal, cone_numbers, cone_refusal, coned, event_at, greatest_kept, kept_footprint, last_of, nearest_conflict, opened, redo_refusal, redone, state_at, undo_refusal, undone};
 ghost use Rattle.rev_history.specs.Value.{cells_written};
 
+use crate::closing::cone;
 use crate::prints::{nearest, take_print, write_noted};
 use crate::step::{Checked, effect, refusal};
-use crate::steps::{Step, cone, footprint_at};
+use crate::steps::{Step, footprint_at};
 use indexmap::IndexMap;
 use rev_accesses::{Accesses, place_of, put_in, take_out};
 use rev_cells::{Cells, Opening};
@@ -277,7 +278,14 @@ impl History {
         ensures members { IfOk result (λ members. members.items ≡ cone_numbers number self.now.timeline) }
         ensures legal { IsHistory self.now.timeline }
     {
-        cone(self.alloc, number, &self.kept, &self.accepted, &self.steps)
+        cone(
+            self.alloc,
+            number,
+            &self.kept,
+            &self.accepted,
+            &self.steps,
+            &self.accesses,
+        )
     }
 
     // Takes the members of a cone out, from the last down: on the last none depends, and without it the others are the

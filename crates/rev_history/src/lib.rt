@@ -2,6 +2,9 @@
 //! events, run from the opening.
 #![tactic(auto)]
 
+#[cfg(test)]
+mod builds;
+mod closing;
 mod history;
 pub mod laws;
 mod prints;

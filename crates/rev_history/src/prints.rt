@@ -2,6 +2,7 @@
 ghost use Rattle.std.specs.Prelude.{◌≡◌, ℕ, List, None, Some, true, Contains, IfOk, OnOk, OnErr};
 ghost use Rattle.std.specs.List.{AllByRecursion, IsDistinct};
 ghost use Rattle.std.specs.Ordering.{eq_by_cmp};
+ghost use Rattle.rev_accesses.specs.Following.{IsFollowed};
 ghost use Rattle.rev_accesses.specs.Value.{Prints, Shows};
 ghost use Rattle.rev_causal.specs.AccessLists.{numbers_by};
 ghost use Rattle.rev_causal.specs.Chosen.{IsRising as IsRisingNumbers};
@@ -14,7 +15,7 @@ ghost use Rattle.rev_cells.specs.Keys.{cell_cmp};
 ghost use Rattle.rev_cells.specs.Values.{Fits};
 ghost use Rattle.rev_footprint.specs.Value.{print_of};
 
-use rev_accesses::{Accesses, first_above};
+use rev_accesses::{Accesses, Pending, first_above};
 use rev_cells::{Cell, Cells, Value};
 use rev_footprint::Footprint;
 use std::alloc::AllocError;
@@ -63,6 +64,27 @@ pub(crate) fn nearest(
         return first_above(kept, number);
     }
     accesses.nearest(number, footprint.reads(), footprint.writes())
+}
+
+/// Adds to the pending numbers those that lead to all kept ones above another whose footprints conflict with one.
+pub(crate) fn follow(
+    pending: &mut Pending,
+    number: u32,
+    footprint: &Footprint,
+    kept: &[u32],
+    accesses: &Accesses,
+) -> Result<(), AllocError>
+    requires { IsRisingNumbers kept.now }
+    ensures { OnOk result ((prints : Prints) → IsRising prints → numbers_by (λ f. true) prints ≡ kept.now
+        → Shows accesses.now prints
+        → IsFollowed prints number (print_of footprint.now) pending.old pending.new) }
+{
+    if footprint.whole() {
+        accesses.follow_whole(pending, number, kept)?;
+        return Ok(());
+    }
+    accesses.follow(pending, number, footprint.reads(), footprint.writes())?;
+    Ok(())
 }
 
 /// Puts a number into the lists of its footprint and writes the cells of its event, or does neither. It gives what the

@@ -1,114 +1,337 @@
-// How often cells are written, over a manifest without edges.
+// How often cells are written, and that the lists find what a look at each kept event finds.
 use crate::History;
-use rev_cells::Opening;
-use rev_events::Event;
-use rev_graph::Graph;
-use rev_manifest::{Manifest, read};
-use rev_paths::Name;
+use crate::builds::{OBJECTS, opened, says};
+use rev_footprint::{Footprint, conflict};
 use std::alloc::{AllocError, Global};
 use std::test::Fail;
 
-fn manifest_of(alloc: Global) -> Result<Manifest, AllocError> {
-    let name = Vec::from_slice(alloc, b"build.ninja")?;
-    let files = vec![in alloc; (name, Vec::new(alloc))]?;
-    match read(alloc, &files) {
-        Ok(manifest) => Ok(manifest),
-        Err(_) => Err(AllocError),
+// How many of these lines are accepted.
+fn accepted(alloc: Global, history: &mut History, lines: &[&str]) -> Result<u32, AllocError> {
+    let mut place = 0_u32;
+    let mut count = 0_u32;
+    for line in lines {
+        place = place.saturating_add(1);
+        if says(alloc, history, place, line)? {
+            count = count.saturating_add(1);
+        }
     }
+    Ok(count)
 }
 
-fn graph_of(alloc: Global) -> Result<Graph, AllocError> {
-    let manifest = manifest_of(alloc)?;
-    match Graph::build(alloc, &manifest) {
-        Ok(graph) => Ok(graph),
-        Err(_) => Err(AllocError),
+// By how many writes an undo raises their count.
+fn raised_by_undo(history: &mut History, number: u32) -> Option<u64> {
+    let before = history.cells().writes();
+    if history.undo(number).is_err() {
+        return None;
     }
+    history.cells().writes().checked_sub(before)
 }
 
-fn opened(alloc: Global) -> Result<History, AllocError> {
-    let graph = graph_of(alloc)?;
-    match Opening::new(alloc, 1) {
-        Ok(opening) => History::new(alloc, graph, &opening),
-        Err(_) => Err(AllocError),
+// By how many writes a step back raises their count.
+fn raised_by_back(history: &mut History) -> Option<u64> {
+    let before = history.cells().writes();
+    if history.back().is_err() {
+        return None;
     }
+    history.cells().writes().checked_sub(before)
 }
 
-// Whether a touch is accepted under the next number.
-fn touch(
+// The count of writes after two touches, after an undo, and after a step back.
+fn writes_of_touches(
     alloc: Global,
     history: &mut History,
-    path: &[u8],
-    stamp: u64,
+) -> Result<(u64, Option<u64>, Option<u64>), AllocError> {
+    accepted(alloc, history, &["touch a 5", "touch b 6"])?;
+    let writes = history.cells().writes();
+    Ok((writes, raised_by_undo(history, 1), raised_by_back(history)))
+}
+
+// The count of writes after two touches of a path, an undo and a redo that are refused.
+fn writes_of_refusals(alloc: Global, history: &mut History) -> Result<(u32, u64), AllocError> {
+    let count = accepted(
+        alloc,
+        history,
+        &["touch a 5", "touch a 6", "undo 1", "redo 2"],
+    )?;
+    Ok((count, history.cells().writes()))
+}
+
+// Whether these are the kept numbers after these lines.
+fn keeps(
+    alloc: Global,
+    history: &mut History,
+    lines: &[&str],
+    numbers: &[u32],
 ) -> Result<bool, AllocError> {
-    let Ok(path) = Name::new(alloc, path) else {
-        return Err(AllocError);
-    };
-    let number = history.last();
-    if number == u32::MAX {
-        return Ok(false);
-    }
-    Ok(
-        history
-            .accept(number + 1, &Event::Touch { path, stamp })
-            .is_ok(),
-    )
+    accepted(alloc, history, lines)?;
+    Ok(history.kept() == numbers)
 }
 
-fn undo(history: &mut History, number: u32) -> bool {
-    history.undo(number).is_ok()
-}
+// Two objects were started and finished.
+const FINISHED: [&str; 5] = [
+    "plan app",
+    "start a.o 0",
+    "start b.o 1",
+    "finish a.o 100",
+    "finish b.o 110",
+];
 
-fn redo(history: &mut History, number: u32) -> bool {
-    history.redo(number).is_ok()
-}
-
-fn back(history: &mut History) -> Option<u32> {
-    history.back().ok()
-}
-
-fn writes(history: &History) -> u64 {
-    history.cells().writes()
-}
-
-fn keeps(history: &History, numbers: &[u32]) -> bool {
-    history.kept() == numbers
+// By how many writes the undo of a finish, and a step back from the plan alone, raise their count.
+fn writes_of_a_build(
+    alloc: Global,
+    history: &mut History,
+) -> Result<(Option<u64>, Option<u64>), AllocError> {
+    accepted(alloc, history, &FINISHED)?;
+    let undone = raised_by_undo(history, 4);
+    accepted(alloc, history, &["undo 5", "undo 3", "undo 2"])?;
+    Ok((undone, raised_by_back(history)))
 }
 
 #[test]
 fn undo_and_back_write_what_the_event_wrote(rt: HostRuntime) -> Result<(), Fail> {
-    let alloc = rt.alloc();
-    let mut history = opened(alloc)?;
-    assert!(rt; touch(alloc, &mut history, b"a", 5)?);
-    assert!(rt; touch(alloc, &mut history, b"b", 6)?);
-    assert_eq!(rt; writes(&history), 2);
-    assert!(rt; undo(&mut history, 1));
-    assert_eq!(rt; writes(&history), 3);
-    assert_eq!(rt; back(&mut history), Some(2));
-    assert_eq!(rt; writes(&history), 4);
+    let mut history = opened(rt.alloc(), "", &[])?;
+    let seen = writes_of_touches(rt.alloc(), &mut history)?;
+    assert!(rt; seen == (2, Some(1), Some(1)));
     Ok(())
 }
 
 #[test]
 fn what_is_refused_writes_nothing(rt: HostRuntime) -> Result<(), Fail> {
-    let alloc = rt.alloc();
-    let mut history = opened(alloc)?;
-    assert!(rt; touch(alloc, &mut history, b"a", 5)?);
-    assert!(rt; touch(alloc, &mut history, b"a", 6)?);
-    assert!(rt; !undo(&mut history, 1));
-    assert!(rt; !redo(&mut history, 2));
-    assert_eq!(rt; writes(&history), 2);
+    let mut history = opened(rt.alloc(), "", &[])?;
+    let seen = writes_of_refusals(rt.alloc(), &mut history)?;
+    assert!(rt; seen == (2, 2));
+    Ok(())
+}
+
+#[test]
+fn a_finish_and_a_plan_write_four_cells(rt: HostRuntime) -> Result<(), Fail> {
+    let mut history = opened(rt.alloc(), OBJECTS, &["stamp a.c 10", "stamp b.c 20"])?;
+    let seen = writes_of_a_build(rt.alloc(), &mut history)?;
+    assert!(rt; seen == (Some(4), Some(4)));
     Ok(())
 }
 
 #[test]
 fn a_redo_stands_at_its_place(rt: HostRuntime) -> Result<(), Fail> {
-    let alloc = rt.alloc();
-    let mut history = opened(alloc)?;
-    assert!(rt; touch(alloc, &mut history, b"a", 5)?);
-    assert!(rt; touch(alloc, &mut history, b"b", 6)?);
-    assert!(rt; undo(&mut history, 1));
-    assert!(rt; keeps(&history, &[2]));
-    assert!(rt; redo(&mut history, 1));
-    assert!(rt; keeps(&history, &[1, 2]));
+    let mut history = opened(rt.alloc(), "", &[])?;
+    let seen = keeps(
+        rt.alloc(),
+        &mut history,
+        &["touch a 5", "touch b 6", "undo 1", "redo 1"],
+        &[1, 2],
+    )?;
+    assert!(rt; seen);
+    Ok(())
+}
+
+// A build, what is said in it, and how many lines are accepted.
+#[derive(Clone, Copy)]
+struct Row {
+    manifest: &'static str,
+    records: &'static [&'static str],
+    lines: &'static [&'static str],
+    accepted: u32,
+}
+
+// Whether the event of a kept number conflicts with a footprint.
+fn conflicts(history: &History, number: u32, footprint: &Footprint) -> bool {
+    match history.footprint_of(number) {
+        Some(other) => conflict(footprint, other),
+        None => false,
+    }
+}
+
+// The least kept number above another whose event conflicts with a footprint, by a look at each.
+fn scanned(history: &History, number: u32, footprint: &Footprint) -> Option<u32> {
+    for kept in history.kept() {
+        if number < *kept && conflicts(history, *kept, footprint) {
+            return Some(*kept);
+        }
+    }
+    None
+}
+
+// Whether the lists find what the look at each finds, from each number on.
+fn agrees(history: &History, footprint: &Footprint) -> bool {
+    for number in 0..history.last() {
+        if history.nearest(number, footprint) != scanned(history, number, footprint) {
+            return false;
+        }
+    }
+    true
+}
+
+// Whether they do for the footprint of each kept event.
+fn all_agree(history: &History) -> bool {
+    for kept in history.kept() {
+        match history.footprint_of(*kept) {
+            Some(footprint) => {
+                if !agrees(history, footprint) {
+                    return false;
+                }
+            }
+            None => return false,
+        }
+    }
+    true
+}
+
+// How many of these lines are accepted, where lists and looks agree after each.
+fn agreed(alloc: Global, history: &mut History, lines: &[&str]) -> Result<Option<u32>, AllocError> {
+    let mut place = 0_u32;
+    let mut count = 0_u32;
+    for line in lines {
+        place = place.saturating_add(1);
+        if says(alloc, history, place, line)? {
+            count = count.saturating_add(1);
+        }
+        if !all_agree(history) {
+            return Ok(None);
+        }
+    }
+    Ok(Some(count))
+}
+
+// How many lines of a row are accepted, where lists and looks agree after each.
+fn agreed_on(alloc: Global, row: &Row) -> Result<Option<u32>, AllocError> {
+    let mut history = opened(alloc, row.manifest, row.records)?;
+    agreed(alloc, &mut history, row.lines)
+}
+
+// Sources of two objects.
+const SOURCES: &[&str] = &["stamp a.c 10", "stamp b.c 20"];
+
+const STARTED: Row = Row {
+    manifest: OBJECTS,
+    records: SOURCES,
+    lines: &[
+        "plan app",
+        "start a.o 0",
+        "start b.o 1",
+        "finish a.o 100",
+        "finish b.o 110",
+        "start app 0",
+        "undo 4",
+        "undo 1",
+        "cone 3",
+    ],
+    accepted: 7,
+};
+
+const PLANNED: Row = Row {
+    manifest: OBJECTS,
+    records: &[
+        "stamp a.c 10",
+        "stamp b.c 20",
+        "stamp b.o 110",
+        "stamp app 120",
+        "built b.o 110 cc -c b.c -o b.o",
+        "built app 120 ld a.o b.o -o app",
+    ],
+    lines: &["plan app"],
+    accepted: 1,
+};
+
+const TOUCHED: Row = Row {
+    manifest: OBJECTS,
+    records: SOURCES,
+    lines: &["plan app", "touch a.c 10", "start a.o 0", "undo 2"],
+    accepted: 3,
+};
+
+const OUT_OF_ORDER: Row = Row {
+    manifest: OBJECTS,
+    records: SOURCES,
+    lines: &[
+        "plan app",
+        "start a.o 0",
+        "start b.o 1",
+        "finish a.o 100",
+        "finish b.o 110",
+        "undo 4",
+        "redo 4",
+        "undo 5",
+        "undo 3",
+        "redo 5",
+        "redo 3",
+        "redo 5",
+        "redo 5",
+    ],
+    accepted: 11,
+};
+
+const INTERRUPTED: Row = Row {
+    manifest: OBJECTS,
+    records: SOURCES,
+    lines: &["plan app", "start a.o 0", "interrupt", "undo 2"],
+    accepted: 3,
+};
+
+const OVERTAKEN: Row = Row {
+    manifest: OBJECTS,
+    records: &[],
+    lines: &["touch a.c 11", "undo 1", "touch a.c 12", "redo 1", "redo 2"],
+    accepted: 3,
+};
+
+const RESTATED: Row = Row {
+    manifest: "rule gen\n  command = gen\n  restat = 1\nrule cp\n  command = cp $in $out\n\
+build p q: gen s\nbuild u: cp p\nbuild v: cp q\n",
+    records: &[
+        "stamp s 50",
+        "stamp p 10",
+        "stamp q 10",
+        "stamp u 20",
+        "stamp v 20",
+        "built p 10 gen",
+        "built q 10 gen",
+        "built u 20 cp p u",
+        "built v 20 cp q v",
+    ],
+    lines: &[
+        "plan",
+        "start p 0",
+        "finish q 60,10",
+        "start v 0",
+        "clean u",
+        "clean v",
+        "start u 0",
+    ],
+    accepted: 5,
+};
+
+const THROUGH_PHONY: Row = Row {
+    manifest: "rule gen\n  command = gen $out\nrule cc\n  command = cc $in $out\n\
+build g.h: gen\nbuild grp: phony || g.h\nbuild x.o: cc x.c || grp\n",
+    records: &["stamp x.c 5"],
+    lines: &[
+        "plan x.o",
+        "start x.o 1",
+        "start g.h 0",
+        "start x.o 1",
+        "finish g.h 7",
+        "start x.o 1",
+        "pass grp",
+        "start x.o 1",
+    ],
+    accepted: 5,
+};
+
+#[test]
+fn the_lists_find_what_a_look_at_each_finds(rt: HostRuntime) -> Result<(), Fail> {
+    let rows = [
+        STARTED,
+        PLANNED,
+        TOUCHED,
+        OUT_OF_ORDER,
+        INTERRUPTED,
+        OVERTAKEN,
+        RESTATED,
+        THROUGH_PHONY,
+    ];
+    for row in &rows {
+        let agreed = agreed_on(rt.alloc(), row)?;
+        assert!(rt; agreed == Some(row.accepted));
+    }
     Ok(())
 }

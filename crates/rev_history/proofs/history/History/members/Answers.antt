@@ -1,9 +1,36 @@
-use Rattle.std.proofs.Common.{◌≡◌, ap, subst, IfOk, List, ℕ}
-use Rattle.rev_history.specs.Timeline.{IsHistory}
+use Rattle.std.proofs.Common.{◌≡◌, true, ap, sym, ◌∙◌, subst, IfOk, IsSome, List, ℕ, length}
+use Rattle.std.specs.List.{AllByRecursion}
+use Rattle.rev_accesses.specs.Value.{Shows}
+use Rattle.rev_causal.specs.Chosen.{IsRising, chosen, is_among}
+use Rattle.rev_causal.specs.History as causal
+use Rattle.rev_history.specs.declared.steps.Step.{Step}
+use Rattle.rev_history.specs.Steps.{prints_of}
+use Rattle.rev_history.specs.Timeline.{IsHistory, Timeline, cone_refusal}
 use Rattle.rev_history.specs.Value.{HistoryValue}
-use Rattle.rev_history.proofs.Fields.{history_of}
+use Rattle.rev_history.proofs.Cones.{IsKept, some_kept}
+use Rattle.rev_history.proofs.Fields.{as_many, history_of}
 use Rattle.rev_history.proofs.Members.{cone_is_found}
 use Rattle.rev_history.proofs.history.History.members.Goals as goal
+
+pub cone-requires-clause-many : goal.cone-requires-clause-many
+cone-requires-clause-many c = ap (λ (xs : List Step). length xs) c.deref-2.ensures.value ∙ as_many c.self.inside c.self.invariant.sound
+
+pub cone-requires-clause-rising : goal.cone-requires-clause-rising
+cone-requires-clause-rising c = subst IsRising (sym c.deref.ensures.value) c.self.invariant.sound.stepped.rising
+
+pub cone-requires-clause-accepted : goal.cone-requires-clause-accepted
+cone-requires-clause-accepted c =
+    subst (λ (ks : List ℕ). AllByRecursion (λ n. IsSome (causal.event_at n c.self.inside.accepted.entries)) ks) (sym c.deref.ensures.value) c.self.invariant.sound.stepped.each
+
+pub cone-requires-clause-shown : goal.cone-requires-clause-shown
+cone-requires-clause-shown c =
+    subst (λ (ks : List ℕ). Shows c.self.inside.accesses (chosen (prints_of c.self.inside.accepted.entries c.deref-2.result.now) ks)) (sym c.deref.ensures.value)
+    (subst (λ (xs : List Step). Shows c.self.inside.accesses (chosen (prints_of c.self.inside.accepted.entries xs) c.self.inside.kept.items)) (sym c.deref-2.ensures.value) c.self.invariant.shown)
+
+pub cone-requires-clause-among : goal.cone-requires-clause-among
+cone-requires-clause-among c =
+    let k : IsKept c.args.self.now.timeline c.args.number = some_kept c.args.self.now.timeline c.args.number c.requires in
+    ap (λ (ks : List ℕ). is_among ks c.args.number) (c.deref.ensures.value ∙ ap (λ (h : HistoryValue). h.timeline.kept) c.self.view_is) ∙ k.among
 
 pub returns-clause-members : goal.returns-clause-members
 returns-clause-members c =

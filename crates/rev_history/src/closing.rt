@@ -1,0 +1,72 @@
+//! The members of a cone.
+ghost use Rattle.std.specs.Prelude.{◌≡◌, true, [], ◌∷◌, length, IfOk, IsSome, OnOk, Some};
+ghost use Rattle.std.specs.List.{AllByRecursion};
+ghost use Rattle.rev_accesses.specs.Closing.{cone_behind};
+ghost use Rattle.rev_accesses.specs.Following.{IsFollowed};
+ghost use Rattle.rev_accesses.specs.Value.{Shows};
+ghost use Rattle.rev_causal.specs.Chosen.{IsRising, chosen, is_among};
+ghost use Rattle.rev_causal.specs.History.{event_at};
+ghost use Rattle.rev_causal.specs.Store.{Footprint as Print};
+ghost use Rattle.rev_cells.specs.declared.cell.Cell.{Cell};
+ghost use Rattle.rev_history.specs.Steps.{prints_of};
+
+use crate::prints::follow;
+use crate::steps::{Step, footprint_at};
+use indexmap::IndexMap;
+use rev_accesses::{Accesses, Pending};
+use rev_events::Event;
+use std::alloc::{AllocError, Global};
+
+// Adds to the pending numbers those that lead to all kept ones above a member whose events conflict with its own.
+fn follow_member(
+    pending: &mut Pending,
+    member: u32,
+    kept: &[u32],
+    accepted: &IndexMap<u32, Event>,
+    steps: &[Step],
+    accesses: &Accesses,
+) -> Result<(), AllocError>
+    requires many { length steps.now ≡ length accepted.now.entries }
+    requires rising { IsRising kept.now }
+    requires accepted { AllByRecursion (λ n. IsSome (event_at n accepted.now.entries)) kept.now }
+    requires shown { Shows accesses.now (chosen (prints_of accepted.now.entries steps.now) kept.now) }
+    ensures { OnOk result ((f : Print Cell)
+        → event_at member (prints_of accepted.now.entries steps.now) ≡ Some f
+        → IsFollowed (chosen (prints_of accepted.now.entries steps.now) kept.now) member f pending.old
+        pending.new) }
+{
+    match footprint_at(accepted, steps, member) {
+        Some(footprint) => follow(pending, member, footprint, kept, accesses),
+        None => Ok(()),
+    }
+}
+
+/// A kept number, and each above it whose event conflicts with that of a member, in their order. The numbers that are
+/// found along the lists of a member wait until it is their turn.
+pub(crate) fn cone(
+    alloc: Global,
+    number: u32,
+    kept: &[u32],
+    accepted: &IndexMap<u32, Event>,
+    steps: &[Step],
+    accesses: &Accesses,
+) -> Result<Vec<u32>, AllocError>
+    requires many { length steps.now ≡ length accepted.now.entries }
+    requires rising { IsRising kept.now }
+    requires accepted { AllByRecursion (λ n. IsSome (event_at n accepted.now.entries)) kept.now }
+    requires shown { Shows accesses.now (chosen (prints_of accepted.now.entries steps.now) kept.now) }
+    requires among { is_among kept.now number ≡ true }
+    ensures { IfOk result (λ members. members.items
+        ≡ number
+        ∷ cone_behind number (prints_of accepted.now.entries steps.now) (number ∷ []) kept.now) }
+{
+    let mut members = Vec::new(alloc);
+    let mut pending = Pending::new(alloc);
+    members.push(number)?;
+    follow_member(&mut pending, number, kept, accepted, steps, accesses)?;
+    while let Some(member) = pending.next() {
+        members.push(member)?;
+        follow_member(&mut pending, member, kept, accepted, steps, accesses)?;
+    }
+    Ok(members)
+}
