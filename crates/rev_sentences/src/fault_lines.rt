@@ -1,4 +1,8 @@
 //! A sentence for the fault line of a report.
+ghost use Rattle.std.specs.Prelude.{◌≡◌, ◌==◌, None};
+ghost use Rattle.std.specs.List.{last_or, slice_get, slice_split};
+ghost use Rattle.std.specs.Option.{option_copied};
+ghost use Rattle.rev_sentences.specs.Sentences.{line_at, lines_of};
 
 use crate::meanings::meaning;
 use rev_fields::{push_number, read_fields, wide_number};
@@ -23,19 +27,25 @@ struct Place<'a> {
     line: u64,
 }
 
+// The line behind so many lines of a text, without its end.
+fn line_behind(text: &[u8], before: usize) -> Option<&[u8]>
+    ensures { option_copied result ≡ slice_get (slice_split (λ b. b == 10) text.now) before }
+{
+    text.split(|byte| *byte == b'\n').nth(before)
+}
+
+// The last line of a text, without its end.
+fn last_line(text: &[u8]) -> Option<&[u8]>
+    ensures { option_copied result ≡ last_or None (slice_split (λ b. b == 10) text.now) }
+{
+    text.split(|byte| *byte == b'\n').last()
+}
+
 // The line of this number, without its end; nothing where there is none.
-fn line_at(bytes: &[u8], line: u64) -> &[u8] {
-    let mut left = bytes;
-    for _ in 1..line {
-        match left.iter().position(|byte| *byte == b'\n') {
-            Some(end) => left = &left[end + 1..],
-            None => return &[],
-        }
-    }
-    match left.iter().position(|byte| *byte == b'\n') {
-        Some(end) => &left[..end],
-        None => left,
-    }
+fn line_at(text: &[u8], line: u64) -> &[u8]
+    ensures { result.now ≡ line_at text.now line }
+{
+    line_behind(text, line.saturating_sub(1) as usize).unwrap_or(&[])
 }
 
 // The file that was given under a name, or the name alone.
@@ -214,9 +224,8 @@ pub fn sentence(
     let Some(lines) = report.strip_suffix(b"\n") else {
         return Ok(None);
     };
-    let line = match lines.iter().rposition(|byte| *byte == b'\n') {
-        Some(end) => &lines[end + 1..],
-        None => lines,
+    let Some(line) = last_line(lines) else {
+        return Ok(None);
     };
     if !line.starts_with(b"fault ") {
         return Ok(None);

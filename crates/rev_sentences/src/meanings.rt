@@ -1,7 +1,12 @@
 //! What the numbers of faults and refusals mean.
+ghost use Rattle.std.specs.Prelude.{◌≡◌};
+ghost use Rattle.std.specs.Option.{option_copied};
+ghost use Rattle.rev_sentences.specs.Meanings.{meaning_of, of_desks, of_events, of_manifests, words_in};
 
 // What the number of a fault of a manifest, a depfile or a graph means.
-fn of_a_manifest(number: u64) -> Option<&'static str> {
+fn of_a_manifest(number: u64) -> Option<&'static str>
+    ensures { option_copied result ≡ words_in of_manifests number }
+{
     let words = match number {
         1 => "a path of no bytes",
         2 => "a path of more than 4,096 bytes",
@@ -32,7 +37,9 @@ fn of_a_manifest(number: u64) -> Option<&'static str> {
 }
 
 // What the number of a refusal of an event means.
-fn of_a_command(number: u64) -> Option<&'static str> {
+fn of_a_command(number: u64) -> Option<&'static str>
+    ensures { option_copied result ≡ words_in of_events number }
+{
     let words = match number {
         50 => "an edge's command runs",
         51 => "a target that stands on no build line",
@@ -62,7 +69,9 @@ fn of_a_command(number: u64) -> Option<&'static str> {
 }
 
 // What the number of a refusal of another command means, or of a fault of a trace, a script or lanes.
-fn of_a_desk(number: u64) -> Option<&'static str> {
+fn of_a_desk(number: u64) -> Option<&'static str>
+    ensures { option_copied result ≡ words_in of_desks number }
+{
     let words = match number {
         80 => "no such event was accepted",
         81 => "the event is not kept",
@@ -89,10 +98,8 @@ fn of_a_desk(number: u64) -> Option<&'static str> {
 
 /// What a number of a report means, in a few words; none where no report has the number. These are the words of
 /// docs/CODES.md.
-pub fn meaning(number: u64) -> Option<&'static str> {
-    match number {
-        0..=49 => of_a_manifest(number),
-        50..=79 => of_a_command(number),
-        _ => of_a_desk(number),
-    }
+pub fn meaning(number: u64) -> Option<&'static str>
+    ensures { option_copied result ≡ meaning_of number }
+{
+    of_a_manifest(number).or(of_a_command(number).or(of_a_desk(number)))
 }
