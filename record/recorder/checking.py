@@ -32,7 +32,7 @@ MEANINGS = {
     74: "this slot was still held by another edge: the order of starts and ends could not be recorded right",
     75: "the number of stamps is not that of the edge's outputs",
     76: "a list of headers came for an edge that keeps none",
-    77: "the depfile cannot be read by rebug's grammar",
+    77: "the depfile has a fault: the second number is its number in docs/CODES.md, the third the byte",
 }
 REASONS = {1: "an output is missing", 2: "there is no deps record", 3: "the deps record is older than the output",
            4: "an input was rebuilt",

@@ -33,6 +33,11 @@ def _write(folder, name, content):
 
 def _write_replay(folder, words, program):
     text = ["#!/bin/sh", "# Replays this recorded build. REBUG names another rebug than the one beside the recorder.",
+            'if [ $# -gt 0 ]; then',
+            '    echo "replay takes no words: put your questions into a file, and name it by --script as the last line '
+            'here does" >&2',
+            '    exit 2',
+            'fi',
             'cd "$(dirname "$0")" || exit 3',
             f"program=${{REBUG:-{shlex.quote(program)}}}",
             f'exec "$program" {" ".join(map(shlex.quote, words))}']

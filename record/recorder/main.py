@@ -89,6 +89,8 @@ def _record(build, out, for_ninja, with_lanes):
         raise Failure("there is no ninja on the PATH (NINJA may name one)")
     if not os.path.isdir(build):
         raise Failure(f"{build} is no folder")
+    if os.path.exists(out) and not os.path.isdir(out):
+        raise Failure(f"{out} is a file, and the recording goes into a folder: name another. Ninja was not run")
     if os.path.isdir(out) and os.listdir(out) and not os.path.exists(os.path.join(out, "replay")):
         raise Failure(f"{out} has files that are no recording: name another folder, or empty it")
     folder = os.fsencode(build)

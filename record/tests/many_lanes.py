@@ -10,7 +10,7 @@ command has to get the same reply, and `kept`, `marks`, `stamps` and `logs` have
 Covered: 2 to 63 lanes; builds whose edges are spread over the lanes, so that starts wait for inputs and jobs of other
 lanes; touches, undo, redo, cone, back, breaks, interrupts and failures in between; events named by number and by label.
 Since the second run has one lane, a label becomes the number of the entry that it names (one that is not there where it
-names none yet), and `plan` names its targets. Not covered: journals that are full, want of memory or threads.
+names none yet), and `plan` names its targets. Not covered: journals that are full, memory or threads that run out.
 """
 
 import os

@@ -8,6 +8,7 @@ import tempfile
 import unittest
 
 import many_lanes
+import one_lane
 from test_replays import program, why_no_lanes, why_not
 
 EXAMPLES = pathlib.Path(__file__).resolve().parents[2] / "examples"
@@ -34,6 +35,13 @@ class ReplaysOfLanes(unittest.TestCase):
         program = os.environ.get("REBUG_PROGRAM") or self.program
         for seed in range(60):
             self.assertEqual(many_lanes.differences(program, many_lanes.Case(seed)), [], f"seed {seed}")
+
+    def test_one_lane_of_generated_builds(self):
+        program = os.environ.get("REBUG_PROGRAM") or self.program
+        for seed in range(40):
+            alone, on_threads = one_lane.reports(program, one_lane.case_of(many_lanes.Case(seed)))
+            self.assertEqual(on_threads, alone, f"seed {seed}")
+            self.assertEqual(alone[1], 0)
 
 
 def _one_lane_test(folder):

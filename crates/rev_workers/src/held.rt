@@ -90,7 +90,7 @@ impl<L: Ledger> Held<L> {
         ensures lane { IfOk result (λ reply. lane.new ≡ said lane.old command reply (length self.new.journal)) }
         ensures carried { IfOk result (λ reply. Carries reply lane.new.seen) }
         ensures full { IfErr result (λ unsaid. (unsaid.why ≡ why.JournalFull)
-            → (length self.old.journal ≡ 2 ^ 20)) }
+            → (length self.old.journal ≡ Desk.MAX_ENTRIES)) }
         ensures back { IfErr result (λ unsaid. unsaid.command ≡ command) }
         ensures same { OnErr result (self.new ≡ self.old) }
         ensures same_lane { OnErr result (lane.new ≡ lane.old) }

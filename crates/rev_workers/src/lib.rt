@@ -12,6 +12,8 @@ mod run;
 mod shared;
 #[cfg(test)]
 mod tests;
+#[cfg(test)]
+mod turns_tests;
 
 pub use fault::{CloseCode, CloseFault};
 pub use gate::Gate;

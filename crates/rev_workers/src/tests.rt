@@ -70,6 +70,28 @@ impl Gate for Holding {
     }
 }
 
+// Holds one call until another is answered, whose lane goes on only so many turns after that.
+#[derive(Drop)]
+struct Lingering {
+    holding: Holding,
+    turns: u64,
+}
+
+impl Gate for Lingering {
+    fn before(&self, lane: u32, place: u32) {
+        self.holding.before(lane, place);
+    }
+
+    fn after(&self, lane: u32, place: u32) {
+        self.holding.after(lane, place);
+        if (lane, place) == self.holding.until {
+            for _ in 0..self.turns {
+                thread::yield_now();
+            }
+        }
+    }
+}
+
 // Two of them.
 #[derive(Drop)]
 struct Both {
@@ -89,46 +111,38 @@ impl Gate for Both {
     }
 }
 
-fn manifest_of(alloc: Global) -> Result<Manifest, AllocError> {
+fn manifest_of(alloc: Global) -> Result<Manifest, Fail> {
     let name = Vec::from_slice(alloc, b"build.ninja")?;
     let content = Vec::from_slice(alloc, MANIFEST.as_bytes())?;
     let files = vec![in alloc; (name, content)]?;
-    match rev_manifest::read(alloc, &files) {
-        Ok(manifest) => Ok(manifest),
-        Err(_) => Err(AllocError),
-    }
+    let manifest = rev_manifest::read(alloc, &files)?;
+    Ok(manifest)
 }
 
-fn graph_of(alloc: Global) -> Result<Graph, AllocError> {
+fn graph_of(alloc: Global) -> Result<Graph, Fail> {
     let manifest = manifest_of(alloc)?;
-    match Graph::build(alloc, &manifest) {
-        Ok(graph) => Ok(graph),
-        Err(_) => Err(AllocError),
-    }
+    let graph = Graph::build(alloc, &manifest)?;
+    Ok(graph)
 }
 
-fn trace_of(alloc: Global, text: &str) -> Result<Trace, AllocError> {
-    match rev_trace::read(alloc, text.as_bytes()) {
-        Ok(trace) => Ok(trace),
-        Err(_) => Err(AllocError),
-    }
+pub(crate) fn trace_of(alloc: Global, text: &str) -> Result<Trace, Fail> {
+    let trace = rev_trace::read(alloc, text.as_bytes())?;
+    Ok(trace)
 }
 
 // A new desk of a trace's lanes.
-fn desk_of(alloc: Global, trace: &Trace) -> Result<Desk, AllocError> {
-    let Ok(lanes) = u32::try_from(trace.lanes.len()) else {
-        return Err(AllocError);
-    };
-    match Desk::new(alloc, graph_of(alloc)?, &trace.opening, lanes) {
-        Ok(desk) => Ok(desk),
-        Err(_) => Err(AllocError),
-    }
+pub(crate) fn desk_of(alloc: Global, trace: &Trace) -> Result<Desk, Fail> {
+    let lanes = u32::try_from(trace.lanes.len())?;
+    let graph = graph_of(alloc)?;
+    let desk = Desk::new(alloc, graph, &trace.opening, lanes)?;
+    Ok(desk)
 }
 
-// What a run of lanes on a new desk came to.
+// What lanes on a desk came to.
 #[derive(Drop)]
-enum Outcome {
-    Nothing,
+pub(crate) enum Outcome {
+    Memory,
+    TooManyLanes,
     Closed(Desk),
     Fault(CloseFault),
 }
@@ -147,7 +161,7 @@ fn run_at<L: Ledger + Send + Sync, R: Threads + Wait + Sync, G: Gate>(
     requires few { length trace.lanes.items ≤ desk.lanes }
 {
     let Ok((shared, lanes)) = Shared::<L>::new(alloc, desk, blank) else {
-        return Outcome::Nothing;
+        return Outcome::Memory;
     };
     match run_workers(rt, alloc, shared, lanes, trace, gate) {
         Ok(desk) => Outcome::Closed(desk),
@@ -163,7 +177,7 @@ fn run_desk<R: Threads + Wait + Sync, G: Gate>(
     gate: &G,
 ) -> Outcome {
     if trace.lanes.len() > desk.lanes() as usize {
-        return Outcome::Nothing;
+        return Outcome::TooManyLanes;
     }
     let blank = Blank::new(u64::from(desk.lanes()));
     run_at::<Brand, R, G>(rt, alloc, blank, desk, trace, gate)
@@ -174,14 +188,14 @@ fn run<R: Threads + Wait + Sync, G: Gate>(
     alloc: Global,
     text: &str,
     gate: &G,
-) -> Result<Outcome, AllocError> {
+) -> Result<Outcome, Fail> {
     let trace = trace_of(alloc, text)?;
     let desk = desk_of(alloc, &trace)?;
     Ok(run_desk(rt, alloc, desk, trace, gate))
 }
 
 // The number of a reply's refusal, 0 where it is none.
-fn code_of(reply: Reply) -> u16 {
+pub(crate) fn code_of(reply: Reply) -> u16 {
     match reply {
         Reply::Refused(refusal) => refusal.code(),
         _ => 0,
@@ -203,10 +217,12 @@ fn told<R: Threads + Wait + Sync, G: Gate>(
     alloc: Global,
     text: &str,
     gate: &G,
-) -> Result<Vec<(u32, u16)>, AllocError> {
+) -> Result<Vec<(u32, u16)>, Fail> {
     match run(rt, alloc, text, gate)? {
-        Outcome::Closed(desk) => entries_of(alloc, &desk),
-        _ => Ok(Vec::new(alloc)),
+        Outcome::Closed(desk) => Ok(entries_of(alloc, &desk)?),
+        Outcome::Fault(fault) => Err(Fail::from(fault.code)),
+        Outcome::Memory => Err(Fail::from("memory")),
+        Outcome::TooManyLanes => Err(Fail::from("more lists than lanes")),
     }
 }
 
@@ -255,6 +271,19 @@ fn a_blocked_command_is_served(rt: HostRuntime) -> Result<(), Fail> {
 fn a_stall_ends(rt: HostRuntime) -> Result<(), Fail> {
     let alloc = rt.alloc();
     let gate = Holding::new((1, 1), (0, 2), 1_000_000);
+    let told = told(&rt, alloc, ONE_JOB, &gate)?;
+    assert_eq!(rt; told.as_slice(), [(0, 0), (0, 0), (1, 72)].as_slice());
+    Ok(())
+}
+
+#[test]
+fn the_end_of_a_lane_wakes_those_that_wait(rt: HostRuntime) -> Result<(), Fail> {
+    let alloc = rt.alloc();
+    // Lane 0 ends some time after lane 1 was let in, which waits for it by then.
+    let gate = Lingering {
+        holding: Holding::new((1, 1), (0, 2), 1_000_000),
+        turns: 100_000,
+    };
     let told = told(&rt, alloc, ONE_JOB, &gate)?;
     assert_eq!(rt; told.as_slice(), [(0, 0), (0, 0), (1, 72)].as_slice());
     Ok(())
