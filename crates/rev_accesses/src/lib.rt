@@ -6,8 +6,6 @@ mod index;
 mod numbers;
 mod pending;
 mod rising;
-#[cfg(test)]
-mod tests;
 
 pub use accesses::Accesses;
 pub use numbers::{add_between, first_above, place_of, put_in, take_out};

@@ -65,20 +65,3 @@ impl Clone for Cell {
         }
     }
 }
-
-#[cfg(test)]
-mod tests {
-    use super::*;
-    use std::test::Fail;
-
-    #[test]
-    fn cells_are_told_apart(rt: HostRuntime) -> Result<(), Fail> {
-        let name = Name::new(rt.alloc(), b"a.o")?;
-        let built = Cell::Built(name.copy()?);
-        assert_eq!(rt; built.copy()?, built);
-        assert!(rt; built != Cell::Deps(name));
-        assert!(rt; Cell::Slot(1, 2) != Cell::Slot(2, 1));
-        assert_eq!(rt; Cell::Halted.default_value(), Value::Halted(false));
-        Ok(())
-    }
-}

@@ -243,34 +243,3 @@ impl Cells {
         Ok(former)
     }
 }
-
-#[cfg(test)]
-mod tests {
-    use super::*;
-    use rev_paths::Name;
-    use std::test::Fail;
-
-    #[test]
-    fn a_place_is_made(rt: HostRuntime) -> Result<(), Fail> {
-        let alloc = rt.alloc();
-        let mut cells = Cells::new(alloc, &Opening::new(alloc, 1)?)?;
-        let cell = Cell::Stamp(Name::new(alloc, b"a.c")?);
-        assert!(rt; !cells.has(&cell));
-        cells.reserve(&cell)?;
-        assert_eq!(rt; cells.place(0), Some(&cell));
-        assert_eq!(rt; cells.place(1), None);
-        Ok(())
-    }
-
-    #[test]
-    fn a_place_is_written(rt: HostRuntime) -> Result<(), Fail> {
-        let alloc = rt.alloc();
-        let mut cells = Cells::new(alloc, &Opening::new(alloc, 1)?)?;
-        let cell = Cell::Stamp(Name::new(alloc, b"a.c")?);
-        cells.reserve(&cell)?;
-        assert_eq!(rt; cells.swap(&cell, Value::Stamp(7)), cell.default_value());
-        assert_eq!(rt; cells.get(&cell.copy()?), Some(&Value::Stamp(7)));
-        assert_eq!(rt; cells.writes(), 1);
-        Ok(())
-    }
-}

@@ -210,38 +210,3 @@ impl PartialEq for Names {
 impl Eq for Names {
     ghost laws = { lists_equiv nat_list_eq_equiv };
 }
-
-#[cfg(test)]
-mod tests {
-    use super::*;
-    use std::test::Fail;
-
-    #[test]
-    fn positions_are_given_back(rt: HostRuntime) -> Result<(), Fail> {
-        let positions = Positions::new(vec![in rt.alloc(); 0, 2]?);
-        assert_eq!(rt; positions.as_slice(), [0, 2].as_slice());
-        assert_eq!(rt; positions.copy()?, positions);
-        assert_eq!(rt; positions.into_vec().as_slice(), [0, 2].as_slice());
-        Ok(())
-    }
-
-    #[test]
-    fn a_text_is_given_back(rt: HostRuntime) -> Result<(), Fail> {
-        let text = Text::new(vec![in rt.alloc(); b'c', b'c']?);
-        assert_eq!(rt; text.as_slice(), b"cc".as_slice());
-        assert_eq!(rt; text.copy()?, text);
-        assert_eq!(rt; text.into_vec().as_slice(), b"cc".as_slice());
-        Ok(())
-    }
-
-    #[test]
-    fn repeated_names_are_given_back(rt: HostRuntime) -> Result<(), Fail> {
-        let alloc = rt.alloc();
-        let name = Name::new(alloc, b"a.h")?;
-        let names = Names::new(Vec::from_array(alloc, [name.copy()?, name.copy()?])?);
-        assert_eq!(rt; names.as_slice().len(), 2);
-        assert_eq!(rt; names.copy()?, names);
-        assert_eq!(rt; names.into_vec().pop(), Some(name));
-        Ok(())
-    }
-}

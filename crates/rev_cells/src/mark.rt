@@ -59,23 +59,3 @@ impl Clone for Mark {
         }
     }
 }
-
-#[cfg(test)]
-mod tests {
-    use super::*;
-    use std::test::Fail;
-
-    #[test]
-    fn marks_are_copied(rt: HostRuntime) -> Result<(), Fail> {
-        let running = Mark::Running {
-            job: 1,
-            slot: Some(2),
-            seen: 10,
-        };
-        assert_eq!(rt; running.copy()?, running);
-        let done = Mark::Done(Positions::new(vec![in rt.alloc(); 0, 2]?));
-        assert_eq!(rt; done.copy()?, done);
-        assert!(rt; Mark::Clean != Mark::Idle.copy()?);
-        Ok(())
-    }
-}

@@ -108,24 +108,3 @@ impl Clone for Value {
         }
     }
 }
-
-#[cfg(test)]
-mod tests {
-    use super::*;
-    use rev_paths::Name;
-    use std::test::Fail;
-
-    #[test]
-    fn records_are_copied(rt: HostRuntime) -> Result<(), Fail> {
-        let alloc = rt.alloc();
-        let command = Text::new(vec![in alloc; b'c', b'c']?);
-        let built = BuiltRecord { command, stamp: 10 };
-        assert_eq!(rt; built.copy()?, built);
-        let paths = Names::new(Vec::from_array(alloc, [Name::new(alloc, b"a.h")?])?);
-        let deps = DepsRecord { stamp: 10, paths };
-        assert_eq!(rt; deps.copy()?, deps);
-        let value = Value::Deps(Some(deps));
-        assert_eq!(rt; value.copy()?, value);
-        Ok(())
-    }
-}

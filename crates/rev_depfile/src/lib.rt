@@ -10,6 +10,3 @@ mod words;
 
 pub use fault::DepfileFault;
 pub use reader::read;
-
-#[cfg(test)]
-mod tests;

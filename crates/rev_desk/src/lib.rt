@@ -11,8 +11,6 @@ pub mod laws;
 mod numbers;
 mod reply;
 mod spot;
-#[cfg(test)]
-mod tests;
 
 pub use desk::Desk;
 pub use fault::{DeskFault, Unsaid, Why};

@@ -8,8 +8,6 @@ pub mod laws;
 mod output;
 mod reason;
 mod scan;
-#[cfg(test)]
-mod tests;
 mod walk;
 
 pub use dirtiness::{deps_record, listed_inputs};

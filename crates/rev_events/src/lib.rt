@@ -9,8 +9,6 @@ mod fault;
 pub mod laws;
 mod refusal;
 mod stamps;
-#[cfg(test)]
-mod tests;
 mod words;
 mod writes;
 

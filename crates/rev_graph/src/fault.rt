@@ -63,15 +63,3 @@ impl<T: Drop> From<AllocFailed<T>> for GraphFault {
         GraphFault::Memory
     }
 }
-
-#[cfg(test)]
-mod tests {
-    use super::*;
-
-    #[test]
-    fn codes(rt: HostRuntime) {
-        assert_eq!(rt; GraphFault::TooManyEdges.code(), Some(42));
-        assert_eq!(rt; GraphFault::Memory.code(), None);
-        assert_eq!(rt; GraphFault::TooManyEdges.path(), None);
-    }
-}

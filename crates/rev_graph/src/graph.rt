@@ -239,6 +239,3 @@ impl Graph {
         self.ranks[edge as usize]
     }
 }
-
-#[cfg(test)]
-mod tests;

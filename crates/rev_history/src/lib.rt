@@ -2,16 +2,12 @@
 //! events, run from the opening.
 #![tactic(auto)]
 
-#[cfg(test)]
-mod builds;
 mod closing;
 mod history;
 pub mod laws;
 mod prints;
 mod step;
 mod steps;
-#[cfg(test)]
-mod tests;
 
 pub use history::History;
 pub use rev_events::{Event, Fault, Refusal};

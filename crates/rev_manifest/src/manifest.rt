@@ -159,6 +159,3 @@ pub fn read(alloc: Global, files: &[(Vec<u8>, Vec<u8>)]) -> Result<Manifest, Rea
     let manifest = read_all(alloc, files)?;
     Ok(manifest)
 }
-
-#[cfg(test)]
-mod tests;

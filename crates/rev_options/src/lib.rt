@@ -3,8 +3,6 @@
 
 mod command;
 mod fields;
-#[cfg(test)]
-mod tests;
 mod words;
 
 pub use fields::Options;

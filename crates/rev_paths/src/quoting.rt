@@ -61,33 +61,3 @@ pub fn quoted(alloc: Global, path: &Name) -> Result<Vec<u8>, AllocError>
     text.push(b'\'')?;
     Ok(text)
 }
-
-#[cfg(test)]
-mod tests {
-    use super::*;
-    use std::test::Fail;
-
-    #[test]
-    fn safe_paths_stand_as_they_are(rt: HostRuntime) -> Result<(), Fail> {
-        let alloc = rt.alloc();
-        let path = Name::new(alloc, b"../Src_1/a+b-c.o")?;
-        assert_eq!(rt;
-            quoted(alloc, &path)?.as_slice(),
-            b"../Src_1/a+b-c.o".as_slice()
-        );
-        assert!(rt; is_unquoted(&path));
-        Ok(())
-    }
-
-    #[test]
-    fn other_paths_stand_between_quotes(rt: HostRuntime) -> Result<(), Fail> {
-        let alloc = rt.alloc();
-        let path = Name::new(alloc, b"it's a $x.o")?;
-        assert_eq!(rt;
-            quoted(alloc, &path)?.as_slice(),
-            b"'it'\\''s a $x.o'".as_slice()
-        );
-        assert!(rt; !is_unquoted(&path));
-        Ok(())
-    }
-}

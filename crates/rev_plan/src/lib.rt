@@ -10,8 +10,6 @@ mod lacking;
 pub mod laws;
 mod marks;
 mod steps;
-#[cfg(test)]
-mod tests;
 
 pub use chain::{Chain, why};
 pub use fault::PlanFault;

@@ -22,6 +22,3 @@ pub use growth::MAX_VALUE_BYTES;
 pub use rule::{Rule, RuleTexts};
 pub use rule_variable::RuleVariable;
 pub use scopes::Scopes;
-
-#[cfg(test)]
-mod tests;

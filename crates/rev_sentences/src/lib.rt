@@ -3,8 +3,6 @@
 
 mod fault_lines;
 mod meanings;
-#[cfg(test)]
-mod tests;
 
 pub use fault_lines::{Inputs, sentence};
 pub use meanings::meaning;

@@ -14,8 +14,6 @@ mod outputs;
 mod paths;
 mod reader;
 mod statement;
-#[cfg(test)]
-mod tests;
 mod text;
 
 pub use fault::{ReadFault, SyntaxFault, SyntaxKind};

@@ -12,8 +12,6 @@ mod run;
 mod shared;
 #[cfg(test)]
 mod tests;
-#[cfg(test)]
-mod turns_tests;
 
 pub use fault::{CloseCode, CloseFault};
 pub use gate::Gate;

@@ -1,4 +1,5 @@
-use crate::{Inputs, meaning, sentence};
+// What is said of a report's last line.
+use rev_sentences::{Inputs, meaning, sentence};
 use std::alloc::{AllocError, Global};
 use std::test::Fail;
 

@@ -1,8 +1,8 @@
 // Histories of small builds, told line by line.
-use crate::{Event, History};
 use rev_cells::{Names, Opening};
-use rev_events::{Listing, Stamps};
+use rev_events::{Event, Listing, Stamps};
 use rev_graph::Graph;
+use rev_history::History;
 use rev_manifest::{Manifest, read};
 use rev_paths::Name;
 use std::alloc::{AllocError, Global};

@@ -1,5 +1,6 @@
-use super::*;
-use std::alloc::AllocError;
+// What is read of a manifest's files, or their first fault with its place.
+use rev_manifest::{ReadFault, read};
+use std::alloc::{AllocError, Global};
 use std::test::Fail;
 
 // What is read of files: the numbers of edges, pools and defaults, or the fault with its file's place and line.
@@ -200,14 +201,14 @@ fn an_edge(rt: HostRuntime) -> Result<(), Fail> {
     assert_eq!(rt; manifest.builds().len(), 1);
     for build in manifest.builds() {
         assert_eq!(rt;
-            (build.explicit_outs.len(), build.implicit_outs.len()),
+            (build.explicit_outs().len(), build.implicit_outs().len()),
             (1, 1)
         );
         assert_eq!(rt;
-            (build.keeps_deps, build.restat, build.generator),
+            (build.keeps_deps(), build.restat(), build.generator()),
             (true, false, true)
         );
-        assert_eq!(rt; (build.pool, build.line), (Some(1), 8));
+        assert_eq!(rt; (build.pool(), build.line()), (Some(1), 8));
     }
     Ok(())
 }

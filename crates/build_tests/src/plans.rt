@@ -1,10 +1,10 @@
 // What plans mark, what they are refused for, and the chains behind the marks, on small builds that are written as
 // manifests.
-use crate::{Chain, PlanFault, plan, why};
 use rev_cells::{Cell, Cells, Mark, Opening, Value};
 use rev_graph::Graph;
 use rev_manifest::{Manifest, read};
 use rev_paths::Name;
+use rev_plan::{Chain, PlanFault, plan, why};
 use std::alloc::{AllocError, Global};
 use std::test::Fail;
 

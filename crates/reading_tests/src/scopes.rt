@@ -1,5 +1,9 @@
-use super::*;
+// Scopes, rules and the variables of edges, as generators write them.
 use rev_paths::Name;
+use rev_scopes::{
+    Bindings, EdgeEnv, EdgeVariables, Rule, RuleFault, RuleTexts, RuleVariable, Scopes, ValueFault,
+    compared_command, edge_variables, expand, expand_in_block,
+};
 use rev_syntax::Text;
 use std::alloc::Global;
 use std::test::Fail;

@@ -1,4 +1,5 @@
-use crate::{DepfileFault, read};
+// Depfiles as compilers write them.
+use rev_depfile::{DepfileFault, read};
 use rev_paths::Name;
 use std::alloc::Global;
 use std::process::Abort;

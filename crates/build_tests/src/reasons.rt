@@ -1,6 +1,6 @@
 // The reasons of edges of small builds that are written as manifests.
-use crate::{Reason, reasons};
 use rev_cells::{Cell, Cells, Mark, Opening, Positions, Value};
+use rev_dirty::{Reason, reasons};
 use rev_graph::Graph;
 use rev_manifest::{Manifest, read};
 use rev_paths::Name;

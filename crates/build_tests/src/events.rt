@@ -1,6 +1,6 @@
 // Each refusal once, and what each kind of event writes once, on one small build.
-use crate::{Event, Fault, Listing, Refusal, Stamps, check, effect};
 use rev_cells::{Cell, Cells, Mark, Names, Opening, Text, Value};
+use rev_events::{Event, Fault, Listing, Refusal, Stamps, check, effect};
 use rev_graph::Graph;
 use rev_manifest::{Manifest, read};
 use rev_paths::Name;

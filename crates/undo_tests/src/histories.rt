@@ -1,7 +1,7 @@
 // How often cells are written, and that the lists find what a look at each kept event finds.
-use crate::History;
 use crate::builds::{OBJECTS, opened, says};
 use rev_footprint::{Footprint, conflict};
+use rev_history::History;
 use std::alloc::{AllocError, Global};
 use std::test::Fail;
 

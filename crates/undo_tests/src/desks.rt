@@ -1,6 +1,6 @@
 // Small builds told line by line: what the journal says then, as reports have it.
-use crate::{Command, Desk, Entry, Point, Reply, Which};
 use rev_cells::{Names, Opening};
+use rev_desk::{Command, Desk, Entry, Point, Reply, Which};
 use rev_events::{Event, Listing, Stamps};
 use rev_graph::Graph;
 use rev_manifest::{Manifest, read};

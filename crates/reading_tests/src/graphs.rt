@@ -1,5 +1,8 @@
-use super::*;
-use rev_manifest::read;
+// Graphs of small manifests: producers, inputs, flags, and faults.
+use rev_graph::{Graph, GraphFault};
+use rev_manifest::{Manifest, read};
+use rev_paths::Name;
+use std::alloc::Global;
 use std::test::Fail;
 
 const CHAIN: &[u8; 69] =
@@ -167,4 +170,11 @@ fn a_pool_of_depth_0_has_no_slots(rt: HostRuntime) -> Result<(), Fail> {
     assert_eq!(rt; graph.pool(1), Some((2, 2)));
     assert_eq!(rt; graph.validations(0).first(), Some(&named(alloc, b"v")?));
     Ok(())
+}
+
+#[test]
+fn faults_without_a_path(rt: HostRuntime) {
+    assert_eq!(rt; GraphFault::TooManyEdges.code(), Some(42));
+    assert_eq!(rt; GraphFault::Memory.code(), None);
+    assert_eq!(rt; GraphFault::TooManyEdges.path(), None);
 }

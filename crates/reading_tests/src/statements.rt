@@ -1,4 +1,5 @@
-use crate::{
+// Statements as generators write them.
+use rev_syntax::{
     Binding, BuildLine, Form, Piece, ReadFault, Statement, SyntaxKind, Text, first_statement,
     lines_of,
 };

@@ -1,5 +1,5 @@
 // A few events over three files.
-use crate::{Accesses, first_above, place_of, put_in, take_out};
+use rev_accesses::{Accesses, first_above, place_of, put_in, take_out};
 use rev_cells::Cell;
 use rev_paths::Name;
 use std::alloc::Global;

@@ -1,7 +1,6 @@
-//! Command lines, read.
-
-use crate::{Options, options};
+// Command lines, read.
 use clap::error::ErrorKind;
+use rev_options::{Options, options};
 use std::alloc::{AllocError, Global};
 use std::test::Fail;
 

@@ -1,11 +1,10 @@
 //! Lanes that go on in turn from one thread, and desks that are closed at once.
 ghost use Rattle.std.specs.Prelude.{◌≡◌};
 
-use crate::tests::{Outcome, code_of, desk_of, trace_of};
-use crate::{CloseCode, Lane, Shared, close};
-use rev_desk::{Command, Desk, Reply, Unsaid, Why};
-use rev_events::Refusal;
+use crate::threads::{Outcome, code_of, desk_of, trace_of};
+use rev_desk::{Command, Desk, Unsaid, Why};
 use rev_trace::Trace;
+use rev_workers::{CloseCode, Lane, Shared, close};
 use std::alloc::{AllocError, AllocFailed, Global};
 use std::marker::Brand;
 use std::sync::Wait;
@@ -245,14 +244,6 @@ fn a_closed_desk_goes_back_to_its_opening(rt: HostRuntime) -> Result<(), Fail> {
 const IN_TURN: &str = "rebug-trace 1\njobs 2\nstamp a.c 10\nstamp b.c 20\n\
 lane 0\nplan app\nbreak finish a.o\nstart a.o 0\nstart b.o 1\nundo 9\nundo 4\nlane 1\n";
 
-// What is done to the lanes before they are closed.
-#[derive(Clone, Copy)]
-enum Change {
-    Nothing,
-    AReply,
-    ALane,
-}
-
 // A lane sends a command: what it has seen then.
 fn seen_after<L: Ledger, R: Wait>(
     rt: &R,
@@ -290,28 +281,6 @@ fn seen_in_turn<L: Ledger, R: Wait>(
     Ok(seen)
 }
 
-// Another reply to the first command of a lane.
-fn change_reply<L: Ledger>(lane: &mut Lane<L>) {
-    if !lane.list.is_empty() {
-        lane.list[0].1 = Reply::Refused(Refusal::Halted);
-    }
-}
-
-// Makes a change to the last lane.
-fn make_change<L: Ledger>(lanes: &mut Vec<Lane<L>>, change: Change) {
-    match change {
-        Change::Nothing => {}
-        Change::AReply => {
-            if let Some(lane) = lanes.last_mut() {
-                change_reply(lane);
-            }
-        }
-        Change::ALane => {
-            let _lane = lanes.pop();
-        }
-    }
-}
-
 // The number and the lane of the fault with which lanes are closed, zeros where there is none.
 fn close_code<L: Ledger>(shared: Shared<L>, lanes: Vec<Lane<L>>) -> (u16, u32) {
     match close(shared, lanes) {
@@ -327,7 +296,7 @@ fn turns<L: Ledger, R: Wait>(
     blank: Blank,
     desk: Desk,
     commands: Vec<Command>,
-    made: Change,
+    left_out: bool,
 ) -> (Result<Vec<u64>, Lost>, (u16, u32))
     requires name { blank.name ≡ L.name }
     requires parts { blank.parts ≡ L.parts }
@@ -338,7 +307,9 @@ fn turns<L: Ledger, R: Wait>(
     };
     let mut lanes = lanes;
     let seen = seen_in_turn(rt, alloc, &shared, &mut lanes, commands);
-    make_change(&mut lanes, made);
+    if left_out {
+        let _lane = lanes.pop();
+    }
     (seen, close_code(shared, lanes))
 }
 
@@ -347,42 +318,35 @@ fn turns_of<R: Wait>(
     alloc: Global,
     desk: Desk,
     commands: Vec<Command>,
-    made: Change,
+    left_out: bool,
 ) -> (Result<Vec<u64>, Lost>, (u16, u32)) {
     let blank = Blank::new(u64::from(desk.lanes()));
-    turns::<Brand, R>(rt, alloc, blank, desk, commands, made)
+    turns::<Brand, R>(rt, alloc, blank, desk, commands, left_out)
 }
 
 // What the two lanes have seen, and how they are closed.
 fn taken_in_turn<R: Wait>(
     rt: &R,
     alloc: Global,
-    made: Change,
+    left_out: bool,
 ) -> Result<(Vec<u64>, (u16, u32)), Fail> {
     let trace = trace_of(alloc, IN_TURN)?;
     let desk = desk_of(alloc, &trace)?;
-    let (seen, closed) = turns_of(rt, alloc, desk, commands_of(alloc, trace), made);
+    let (seen, closed) = turns_of(rt, alloc, desk, commands_of(alloc, trace), left_out);
     Ok((seen?, closed))
 }
 
 #[test]
 fn what_a_lane_has_seen_rises(rt: HostRuntime) -> Result<(), Fail> {
-    let (seen, closed) = taken_in_turn(&rt, rt.alloc(), Change::Nothing)?;
+    let (seen, closed) = taken_in_turn(&rt, rt.alloc(), false)?;
     assert_eq!(rt; seen.as_slice(), [1, 2, 3, 4, 5, 6].as_slice());
     assert_eq!(rt; closed, (0, 0));
     Ok(())
 }
 
 #[test]
-fn a_changed_reply_is_a_mismatch(rt: HostRuntime) -> Result<(), Fail> {
-    let (_seen, closed) = taken_in_turn(&rt, rt.alloc(), Change::AReply)?;
-    assert_eq!(rt; closed, (111, 1));
-    Ok(())
-}
-
-#[test]
 fn a_lane_that_is_left_out_is_missing(rt: HostRuntime) -> Result<(), Fail> {
-    let (_seen, closed) = taken_in_turn(&rt, rt.alloc(), Change::ALane)?;
+    let (_seen, closed) = taken_in_turn(&rt, rt.alloc(), true)?;
     assert_eq!(rt; closed, (110, 1));
     Ok(())
 }

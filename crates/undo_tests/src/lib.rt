@@ -1,0 +1,23 @@
+//! The tests of the crates that undo and of the program's parts: the theory's registers, histories, desks, lanes on
+//! threads, command lines and sentences, each through what is public.
+//!
+//! They stand in a crate of their own because a crate's tests are proved together with the crate: here, nothing but the
+//! tests is proved, over libraries that are.
+#![tactic(auto)]
+
+#[cfg(test)]
+mod builds;
+#[cfg(test)]
+mod command_lines;
+#[cfg(test)]
+mod desks;
+#[cfg(test)]
+mod histories;
+#[cfg(test)]
+mod registers;
+#[cfg(test)]
+mod sentences;
+#[cfg(test)]
+mod threads;
+#[cfg(test)]
+mod turns;
