@@ -74,13 +74,21 @@ pub marks-length : (manifest : ManifestValue) (state : State) (targets : List (L
 unfolding marks_of
 marks-length manifest state targets = length-map (edge_numbers manifest.builds) _ ∙ range-length-of (length manifest.builds)
 
-pub plan-adds : (manifest : ManifestValue) (state : State) (targets : List (List ℕ)) (o a b : List (Cell × Value)) (marks : List Mark) → o ≡ [] → marks ≡ marks_of manifest state targets
-    → Adds o a (write_marks (range_with_len 0 (length marks)) marks) → Adds a b (write cell.Halted (value.Halted false) ∷ []) → Adds [] b (effect manifest state (Plan targets))
+pub marks-few : (manifest : ManifestValue) (state : State) (targets : List (List ℕ)) (marks : List Mark) → marks ≡ marks_of manifest state targets → length marks ≡ length manifest.builds
+marks-few manifest state targets marks are = ap (λ (ms : List Mark). length ms) are ∙ marks-length manifest state targets
+
+pub marks-add : (o a b : List (Cell × Value)) (marks : List Mark) → o ≡ []
+    → Adds o a (write_marks (range_with_len 0 (length marks)) marks) → Adds a b (write cell.Halted (value.Halted false) ∷ [])
+    → Adds [] b (write_marks (range_with_len 0 (length marks)) marks ++ write cell.Halted (value.Halted false) ∷ [])
+marks-add o a b marks none one two =
+    from-none o b _ none (adds-more o a b (write_marks (range_with_len 0 (length marks)) marks) (write cell.Halted (value.Halted false) ∷ []) one two)
+
+pub plan-adds : (manifest : ManifestValue) (state : State) (targets : List (List ℕ)) (b : List (Cell × Value)) (marks : List Mark) → marks ≡ marks_of manifest state targets
+    → Adds [] b (write_marks (range_with_len 0 (length marks)) marks ++ write cell.Halted (value.Halted false) ∷ []) → Adds [] b (effect manifest state (Plan targets))
 unfolding effect
-plan-adds manifest state targets o a b marks none are one two =
-    let many : length marks ≡ length manifest.builds = ap (λ (ms : List Mark). length ms) are ∙ marks-length manifest state targets in
-    let all = adds-more o a b (write_marks (range_with_len 0 (length marks)) marks) (write cell.Halted (value.Halted false) ∷ []) one two in
-    from-none o b _ none (subst (λ (ws : Effect). Adds o b ws) (λ k. write_marks (range_with_len 0 (many k)) (are k) ++ (write cell.Halted (value.Halted false) ∷ [])) all)
+plan-adds manifest state targets b marks are all =
+    let many = marks-few manifest state targets marks are in
+    subst (λ (ws : Effect). Adds [] b ws) (λ k. write_marks (range_with_len 0 (many k)) (are k) ++ (write cell.Halted (value.Halted false) ∷ [])) all
 
 -- WHAT ACCEPTANCE SAYS
 pub plan-accepted : (manifest : ManifestValue) (jobs : ℕ) (state : State) (e : Event) (targets : List (List ℕ)) → e ≡ Plan targets → refusal manifest jobs state e ≡ None → plan_refusal manifest state targets ≡ None

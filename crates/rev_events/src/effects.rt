@@ -1,5 +1,5 @@
 //! What events do.
-ghost use Rattle.std.specs.Prelude.{◌≡◌, ◌<◌, ◌∷◌, [], None, length, map, IfOk};
+ghost use Rattle.std.specs.Prelude.{◌≡◌, ◌<◌, ◌^◌, ◌++◌, ◌∷◌, [], None, false, length, map, IfOk};
 ghost use Rattle.std.specs.List.{list_any, range_with_len};
 ghost use Rattle.rev_cells.specs.declared.cell.Cell.TheVariants as cell;
 ghost use Rattle.rev_cells.specs.declared.mark.Mark.TheVariants as mark;
@@ -10,9 +10,9 @@ ghost use Rattle.rev_dirty.specs.Reasons.{is_missing, is_rebuilt};
 ghost use Rattle.rev_graph.specs.Graph.{build_at, outputs_of};
 ghost use Rattle.rev_plan.specs.Plan.{marks_of, plan_refusal};
 ghost use Rattle.rev_events.specs.declared.event.Event.TheVariants.{Plan};
-ghost use Rattle.rev_events.specs.Edge.{Adds, AllFit, pass_changes, stored, where_true};
+ghost use Rattle.rev_events.specs.Edge.{Adds, AllFit, pass_changes, stored, where_true, write};
 ghost use Rattle.rev_events.specs.Kinds.{clean_effect as clean_effect_in, end_effect as end_effect_in, finish_effect as finish_effect_in, pass_effect as pass_effect_in, start_effect as start_effect_in};
-ghost use Rattle.rev_events.specs.Machine.{effect as effect_in, refusal};
+ghost use Rattle.rev_events.specs.Machine.{effect as effect_in, refusal, write_marks};
 ghost use Rattle.rev_events.specs.Refusal.{HasNoFault};
 
 use crate::edge::{all_outputs, has_rebuilt, lacks_inputs, named, stamp_seen};
@@ -200,7 +200,19 @@ fn planned(
     }
 }
 
-// What a plan writes: the mark of each edge, and that the build goes on.
+// The mark of each edge, and that the build goes on.
+pub(crate) fn marks_written(alloc: Global, marks: &[Mark]) -> Result<Writes, AllocError>
+    requires { length marks.now < 2 ^ 32 }
+    ensures { IfOk result (λ writes. Adds [] writes.items
+        (write_marks (range_with_len 0 (length marks.now)) marks.now ++ write cell.Halted (value.Halted false) ∷ [])) }
+{
+    let mut writes = Vec::new(alloc);
+    push_marks(&mut writes, marks)?;
+    push_write(&mut writes, Cell::Halted, Value::Halted(false))?;
+    Ok(writes)
+}
+
+// What a plan writes.
 fn plan_effect(
     alloc: Global,
     graph: &Graph,
@@ -214,10 +226,7 @@ fn plan_effect(
     // What it promises of every graph is that there are few edges.
     let _edges = graph.edges();
     let marks = planned(alloc, graph, cells, targets)?;
-    let all = marks.as_slice();
-    let mut writes = Vec::new(alloc);
-    push_marks(&mut writes, all)?;
-    push_write(&mut writes, Cell::Halted, Value::Halted(false))?;
+    let writes = marks_written(alloc, &marks)?;
     Ok(writes)
 }
 

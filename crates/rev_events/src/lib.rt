@@ -1,6 +1,7 @@
 //! Events of a build: when each is refused, and what each does to the state.
 #![tactic(auto)]
 
+mod answers;
 mod checks;
 mod edge;
 mod effects;
@@ -12,6 +13,7 @@ mod stamps;
 mod words;
 mod writes;
 
+pub use answers::effect_if_accepted;
 pub use checks::check;
 pub use effects::effect;
 pub use event::{Event, Listing};

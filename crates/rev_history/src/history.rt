@@ -10,7 +10,7 @@ ghost use Rattle.rev_history.specs.Value.{cells_written};
 
 use crate::closing::cone;
 use crate::prints::{nearest, take_print, write_noted};
-use crate::step::{Checked, effect, refusal};
+use crate::step::{Checked, effect, effect_if_accepted, refusal};
 use crate::steps::{Step, footprint_at};
 use indexmap::IndexMap;
 use rev_accesses::{Accesses, place_of, put_in, take_out};
@@ -141,12 +141,8 @@ impl History {
         ensures ok { OnOk result (self.new.timeline ≡ accepted_as number event.now self.old.timeline) }
         ensures err { OnErr result (self.new ≡ self.old) }
     {
-        let refused = refusal(self.alloc, &self.graph, &self.cells, event)?;
-        if let Some(refusal) = refused {
-            return Err(Fault::Refused(refusal));
-        }
+        let writes = effect_if_accepted(self.alloc, &self.graph, &self.cells, event)?;
         let footprint = footprint_now(self.alloc, &self.graph, &self.cells, event)?;
-        let writes = effect(self.alloc, &self.graph, &self.cells, event)?;
         let event = event.copy()?;
         self.accepted.reserve(1)?;
         self.steps.reserve(1)?;

@@ -43,7 +43,7 @@ invariant_of-self-2 c =
     record {
       shown = subst (Shows c.write_noted.new.accesses) (accepted_prints c.self.inside after c.args.number c.args.event.now step c.self.invariant.sound above accepted kept steps)
           (c.in_ok-replaced.ensures.noted (kept_prints c.self.inside) (prints_rise c.self.inside c.self.invariant.sound) (print_missing c.self.inside c.self.invariant.sound c.args.number above) c.self.invariant.shown);
-      sound = accepted_sound c.self.inside after c.args.number c.args.event.now step c.self.invariant.sound above (sym c.in_ok-refused.ensures ∙ c.in_default.is) refl refl
+      sound = accepted_sound c.self.inside after c.args.number c.args.event.now step c.self.invariant.sound above c.in_ok-writes.ensures.accepted refl refl
           accepted kept steps
           c.in_ok-footprint.ensures
           (values_found c.self.inside.graph.manifest c.self.inside.cells.state c.args.event.now c.in_ok-writes.writes.items c.in_ok-replaced.replaced.items c.in_ok-writes.ensures.once c.in_ok-replaced.ensures.stored c.in_ok-writes.ensures.writes)
@@ -68,4 +68,4 @@ returns-clause-ok c =
 
 pub returns-clause-free : goal.returns-clause-free
 returns-clause-free c =
-    sym (accept_refusal_found c.self.inside c.self.invariant.sound c.args.self.now.timeline (ap (λ (h : HistoryValue). h.timeline) c.self.view_is) c.args.event.now) ∙ sym c.in_ok-refused.ensures ∙ c.in_default.is
+    sym (accept_refusal_found c.self.inside c.self.invariant.sound c.args.self.now.timeline (ap (λ (h : HistoryValue). h.timeline) c.self.view_is) c.args.event.now) ∙ c.in_ok-writes.ensures.accepted
