@@ -1,8 +1,1 @@
-pub mod AnswerLemmas
-pub mod DependentLemmas
 pub mod InputLemmas
-pub mod NearestLemmas
-pub mod OutputLemmas
-pub mod ReportLemmas
-pub mod RunLemmas
-pub mod TurnLemmas

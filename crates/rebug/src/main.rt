@@ -1,26 +1,14 @@
 //! A reversible debugger for Ninja builds: it replays a recorded build, and undoes and redoes its events.
 #![tactic(auto)]
 
-mod answers;
-mod dependents;
 mod fault;
 mod input;
-mod output;
-mod parallel;
-mod report;
-mod runs;
-mod script;
-#[cfg(test)]
-mod tests;
-mod text;
-mod turns;
 
 use clap::error::ErrorKind;
-use fault::{ProgramFault, RunFault};
+use fault::ProgramFault;
 use input::{InputFault, read_whole};
-use parallel::run_parallel;
-use report::{Status, run_serial};
 use rev_options::{Options, options};
+use rev_report::{RunFault, Status, run_parallel, run_serial};
 use rev_sentences::{Inputs, sentence};
 use std::alloc::Global;
 use std::io::{BufWriter, Write};

@@ -1,0 +1,6 @@
+//! Tests of `rev_report`: whole runs, from bytes to bytes. They stand in a crate of their own, over the proved library, so
+//! that nothing but the tests is proved here.
+#![tactic(auto)]
+
+#[cfg(test)]
+mod reports;

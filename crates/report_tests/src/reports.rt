@@ -1,0 +1,560 @@
+// Whole runs, from bytes to bytes.
+
+use rev_report::{RunFault, Status, run_parallel, run_serial};
+use std::alloc::Global;
+use std::io;
+use std::io::Write;
+use std::sync::Wait;
+use std::test::Fail;
+use std::thread::Threads;
+
+// A run, with what it has to write.
+#[derive(Clone, Copy)]
+struct Row {
+    manifest: &'static str,
+    trace: &'static str,
+    script: &'static str,
+    report: &'static str,
+    status: Status,
+}
+
+const MANIFEST: &str =
+    "rule cc\n  command = cc -c $in -o $out\nrule ld\n  command = ld $in -o $out\n\
+build a.o: cc a.c\nbuild b.o: cc b.c\nbuild app: ld a.o b.o\n";
+
+const TOUCHES: Row = Row {
+    manifest: MANIFEST,
+    trace: "rebug-trace 1\nstamp a.c 10\nlane 0\ntouch a.c 11\ntouch b.c 21\ntouch a.c 12\n",
+    script: "run\nundo 1\nundo 2\nstamps\nredo 2\nback\nstamps\n",
+    report: "1 0 ok\n2 0 ok\n3 0 ok\n4 1 refused 82 3\n5 1 ok\nstamp a.c 12\n6 1 ok\n7 1 ok\n\
+stamp a.c 11\nstamp b.c 21\n",
+    status: Status::Success,
+};
+
+const EMPTY: Row = Row {
+    manifest: "",
+    trace: "rebug-trace 1",
+    script: "kept",
+    report: "",
+    status: Status::Success,
+};
+
+const OVERTAKEN: Row = Row {
+    manifest: MANIFEST,
+    trace: "rebug-trace 1\nlane 0\ntouch a.c 11\nundo 1\ntouch a.c 12\nredo 1\nredo 2\n",
+    script: "run\n",
+    report: "1 0 ok\n2 0 ok\n3 0 ok\n4 0 refused 85 3\n5 0 refused 80\n",
+    status: Status::Success,
+};
+
+const KEPT: Row = Row {
+    manifest: "",
+    trace: "rebug-trace 1\nlane 0\ntouch b 1\ntouch a\\sb 2\ntouch b 0\n",
+    script: "run 2\nkept\nback\nrun\nkept\nstamps\nrun\nundo 7\n",
+    report: "1 0 ok\n2 0 ok\nkept 1 touch b 1\nkept 2 touch a\\sb 2\n3 1 ok\n4 0 ok\nkept 1 touch b 1\n\
+kept 4 touch b 0\n5 1 refused 80\n",
+    status: Status::Success,
+};
+
+const BAD_MANIFEST: Row = Row {
+    manifest: "build x: nope\n",
+    trace: "",
+    script: "jump\n",
+    report: "fault manifest build.ninja 1 13\n",
+    status: Status::Fault,
+};
+
+const TWO_PRODUCERS: Row = Row {
+    manifest: "rule r\n  command = r\nbuild x: r\nbuild x: r\n",
+    trace: "",
+    script: "jump\n",
+    report: "fault graph 40 x\n",
+    status: Status::Fault,
+};
+
+const CYCLE: Row = Row {
+    manifest: "rule r\n  command = r\nbuild x: r y\nbuild y: r x\n",
+    trace: "rebug-trace 1\n",
+    script: "run\n",
+    report: "fault graph 41 x\n",
+    status: Status::Fault,
+};
+
+const BAD_SCRIPT: Row = Row {
+    manifest: "",
+    trace: "rebug-trace 1\n",
+    script: "jump\n",
+    report: "fault script 1 100\n",
+    status: Status::Fault,
+};
+
+// Worked rows, each named for what it shows.
+const PLAN_REFUSED: Row = Row {
+    manifest: "rule cc\n  command = cc -c $in -o $out\nrule ld\n  command = ld $in -o $out\nbuild a.o: cc a.c\nbuild b.o: cc b.c\nbuild app: ld a.o b.o\n",
+    trace: "rebug-trace 1\nstamp a.c 10\nlane 0\nplan nothing.x\nplan app\n",
+    script: "run\nkept\n",
+    report: "1 0 refused 51 0\n2 0 refused 52 0 1\n",
+    status: Status::Success,
+};
+
+const MARKS_STAMPS_LOGS: Row = Row {
+    manifest: "rule cc\n  command = cc -c $in -o $out\nrule ld\n  command = ld $in -o $out\nbuild a.o: cc a.c\nbuild b.o: cc b.c\nbuild app: ld a.o b.o\n",
+    trace: "rebug-trace 1\njobs 2\nstamp a.c 10\nstamp b.c 20\nlane 0\nplan app\nstart a.o 0\nstart b.o 1\nfinish a.o 100\nfinish b.o 110\nstart app 0\n",
+    script: "run\nmarks\nstamps\nlogs\n",
+    report: "1 0 ok\n2 0 ok\n3 0 ok\n4 0 ok\n5 0 ok\n6 0 ok\nmark 0 a.o done 0\nmark 1 b.o done 0\nmark 2 app running 0 - 110\njob 0 2\nstamp a.c 10\nstamp a.o 100\nstamp b.c 20\nstamp b.o 110\nbuilt a.o 100 cc\\s-c\\sa.c\\s-o\\sa.o\nbuilt b.o 110 cc\\s-c\\sb.c\\s-o\\sb.o\n",
+    status: Status::Success,
+};
+
+const WHY_CHAIN: Row = Row {
+    manifest: "rule cc\n  command = cc -c $in -o $out\nrule ld\n  command = ld $in -o $out\nbuild a.o: cc a.c\nbuild b.o: cc b.c\nbuild app: ld a.o b.o\n",
+    trace: "rebug-trace 1\nstamp a.c 10\nstamp b.c 20\nstamp b.o 110\nstamp app 120\nbuilt b.o 110 cc\\s-c\\sb.c\\s-o\\sb.o\nbuilt app 120 ld\\sa.o\\sb.o\\s-o\\sapp\nlane 0\nplan app\n",
+    script: "run\nwhy app\n",
+    report: "1 0 ok\nwhy app via a.o\nwhy a.o missing a.o\nwhy a.o older a.o a.c\nwhy a.o no-record a.o\n",
+    status: Status::Success,
+};
+
+const TOUCHES_CONFLICT: Row = Row {
+    manifest: "rule cc\n  command = cc -c $in -o $out\nrule ld\n  command = ld $in -o $out\nbuild a.o: cc a.c\nbuild b.o: cc b.c\nbuild app: ld a.o b.o\n",
+    trace: "rebug-trace 1\njobs 2\nstamp a.c 10\nstamp b.c 20\nlane 0\nplan app\ntouch a.c 10\nstart a.o 0\nundo 2\n",
+    script: "run\n",
+    report: "1 0 ok\n2 0 ok\n3 0 ok\n4 0 refused 82 3\n",
+    status: Status::Success,
+};
+
+const UNDO_OUT_OF_ORDER: Row = Row {
+    manifest: "rule cc\n  command = cc -c $in -o $out\nrule ld\n  command = ld $in -o $out\nbuild a.o: cc a.c\nbuild b.o: cc b.c\nbuild app: ld a.o b.o\n",
+    trace: "rebug-trace 1\njobs 2\nstamp a.c 10\nstamp b.c 20\nlane 0\nplan app\nstart a.o 0\nstart b.o 1\nfinish a.o 100\nfinish b.o 110\n",
+    script: "run\nundo 4\nmarks\nlogs\nredo 4\nmarks\n",
+    report: "1 0 ok\n2 0 ok\n3 0 ok\n4 0 ok\n5 0 ok\n6 1 ok\nmark 0 a.o running 0 - 10\nmark 1 b.o done 0\nmark 2 app wanted\njob 0 0\nbuilt b.o 110 cc\\s-c\\sb.c\\s-o\\sb.o\n7 1 ok\nmark 0 a.o done 0\nmark 1 b.o done 0\nmark 2 app wanted\n",
+    status: Status::Success,
+};
+
+const NEAREST_DEPENDENT: Row = Row {
+    manifest: "rule cc\n  command = cc -c $in -o $out\nrule ld\n  command = ld $in -o $out\nbuild a.o: cc a.c\nbuild b.o: cc b.c\nbuild app: ld a.o b.o\n",
+    trace: "rebug-trace 1\njobs 2\nstamp a.c 10\nstamp b.c 20\nlane 0\nplan app\nstart a.o 0\nstart b.o 1\nfinish a.o 100\nfinish b.o 110\nstart app 0\n",
+    script: "run\nundo 4\nundo 1\ndependents 2\n",
+    report: "1 0 ok\n2 0 ok\n3 0 ok\n4 0 ok\n5 0 ok\n6 0 ok\n7 1 refused 82 6\n8 1 refused 82 2\ndependents 2 4 6\n",
+    status: Status::Success,
+};
+
+const CONE: Row = Row {
+    manifest: "rule cc\n  command = cc -c $in -o $out\nrule ld\n  command = ld $in -o $out\nbuild a.o: cc a.c\nbuild b.o: cc b.c\nbuild app: ld a.o b.o\n",
+    trace: "rebug-trace 1\njobs 2\nstamp a.c 10\nstamp b.c 20\nlane 0\nplan app\nstart a.o 0\nstart b.o 1\nfinish a.o 100\nfinish b.o 110\nstart app 0\n",
+    script: "run\ncone 3\nkept\n",
+    report: "1 0 ok\n2 0 ok\n3 0 ok\n4 0 ok\n5 0 ok\n6 0 ok\n7 1 cone 3\nkept 1 plan app\nkept 2 start a.o 0\nkept 4 finish a.o 100\n",
+    status: Status::Success,
+};
+
+const INTERRUPT_READS: Row = Row {
+    manifest: "rule cc\n  command = cc -c $in -o $out\nrule ld\n  command = ld $in -o $out\nbuild a.o: cc a.c\nbuild b.o: cc b.c\nbuild app: ld a.o b.o\n",
+    trace: "rebug-trace 1\njobs 2\nstamp a.c 10\nstamp b.c 20\nlane 0\nplan app\nstart a.o 0\ninterrupt\nundo 2\n",
+    script: "run\n",
+    report: "1 0 ok\n2 0 ok\n3 0 ok\n4 0 refused 82 3\n",
+    status: Status::Success,
+};
+
+const REDO_IN_ORDER: Row = Row {
+    manifest: "rule cc\n  command = cc -c $in -o $out\nrule ld\n  command = ld $in -o $out\nbuild a.o: cc a.c\nbuild b.o: cc b.c\nbuild app: ld a.o b.o\n",
+    trace: "rebug-trace 1\njobs 2\nstamp a.c 10\nstamp b.c 20\nlane 0\nplan app\nstart a.o 0\nstart b.o 1\nfinish a.o 100\nfinish b.o 110\n",
+    script: "run\nundo 5\nundo 3\nredo 5\nredo 3\nredo 5\nredo 5\n",
+    report: "1 0 ok\n2 0 ok\n3 0 ok\n4 0 ok\n5 0 ok\n6 1 ok\n7 1 ok\n8 1 refused 84 67\n9 1 ok\n10 1 ok\n11 1 refused 83\n",
+    status: Status::Success,
+};
+
+const RESTAT_PER_OUTPUT: Row = Row {
+    manifest: "rule gen\n  command = gen\n  restat = 1\nrule cp\n  command = cp $in $out\nbuild p q: gen s\nbuild u: cp p\nbuild v: cp q\n",
+    trace: "rebug-trace 1\nstamp s 50\nstamp p 10\nstamp q 10\nstamp u 20\nstamp v 20\nbuilt p 10 gen\nbuilt q 10 gen\nbuilt u 20 cp\\sp\\su\nbuilt v 20 cp\\sq\\sv\nlane 0\nplan\nstart p 0\nfinish q 60,10\nstart v 0\nclean u\nclean v\nstart u 0\n",
+    script: "run\nlogs\n",
+    report: "1 0 ok\n2 0 ok\n3 0 ok\n4 0 refused 69\n5 0 refused 70 4\n6 0 ok\n7 0 ok\nbuilt p 60 gen\nbuilt q 50 gen\nbuilt u 20 cp\\sp\\su\nbuilt v 20 cp\\sq\\sv\n",
+    status: Status::Success,
+};
+
+const THROUGH_PHONY: Row = Row {
+    manifest: "rule gen\n  command = gen $out\nrule cc\n  command = cc $in $out\nbuild g.h: gen\nbuild grp: phony || g.h\nbuild x.o: cc x.c || grp\n",
+    trace: "rebug-trace 1\njobs 2\nstamp x.c 5\nlane 0\nplan x.o\nstart x.o 1\nstart g.h 0\nstart x.o 1\nfinish g.h 7\nstart x.o 1\npass grp\nstart x.o 1\n",
+    script: "run\nmarks\n",
+    report: "1 0 ok\n2 0 refused 68 1\n3 0 ok\n4 0 refused 68 1\n5 0 ok\n6 0 refused 68 1\n7 0 ok\n8 0 ok\nmark 0 g.h done 0\nmark 1 grp done -\nmark 2 x.o running 1 - 5\njob 1 2\n",
+    status: Status::Success,
+};
+
+const POOLS: Row = Row {
+    manifest: "pool one\n  depth = 1\npool any\n  depth = 0\nrule r\n  command = r $out\n  pool = one\nbuild x: r\nbuild y: r\nbuild z: r\n  pool = any\nbuild t: r\n  pool = console\n",
+    trace: "rebug-trace 1\njobs 2\nlane 0\nplan x y z t\nstart x 0 0\nstart y 1 0\nstart y 1 1\nstart y 1\nstart z 1 0\nstart z 2\nstart z 0\nstart z 1\nfinish x 5\nstart t 0 0\nstart y 0 0\n",
+    script: "run\n",
+    report: "1 0 ok\n2 0 ok\n3 0 refused 74 0\n4 0 refused 73\n5 0 refused 73\n6 0 refused 73\n7 0 refused 71\n8 0 refused 72 0\n9 0 ok\n10 0 ok\n11 0 ok\n12 0 refused 72 3\n",
+    status: Status::Success,
+};
+
+const RESPONSE_FILE: Row = Row {
+    manifest: "rule r\n  command = r @$out.rsp\n  rspfile = $out.rsp\n  rspfile_content = $in\nbuild o: r a$ b it's\n",
+    trace: "rebug-trace 1\nstamp a\\sb 1\nstamp it's 1\nstamp o 5\nbuilt o 5 r\\s@o.rsp;rspfile=x\nlane 0\nplan o\nstart o 0\nfinish o 6\n",
+    script: "run 1\nwhy o\nrun\nlogs\n",
+    report: "1 0 ok\nwhy o command o\n2 0 ok\n3 0 ok\nbuilt o 6 r\\s@o.rsp;rspfile='a\\sb'\\s'it'\\\\''s'\n",
+    status: Status::Success,
+};
+
+const RESPONSE_FILE_OF_A_GENERATOR: Row = Row {
+    manifest: "rule r\n  command = r @$out.rsp\n  rspfile = $out.rsp\n  rspfile_content = $in\n  generator = 1\nbuild o: r a$ b it's\n",
+    trace: "rebug-trace 1\nstamp a\\sb 1\nstamp it's 1\nstamp o 5\nbuilt o 5 r\\s@o.rsp;rspfile=x\nlane 0\nplan o\nstart o 0\nfinish o 6\n",
+    script: "run 1\nwhy o\n",
+    report: "1 0 ok\nwhy o nothing\n",
+    status: Status::Success,
+};
+
+const VALIDATION: Row = Row {
+    manifest: "rule r\n  command = r $in\nbuild x: r a |@ v\nbuild v: r b\ndefault x\n",
+    trace: "rebug-trace 1\nstamp a 1\nstamp b 1\nlane 0\nplan\nstart x 0\n",
+    script: "run\nmarks\n",
+    report: "1 0 ok\n2 0 ok\nmark 0 x running 0 - 1\nmark 1 v wanted\njob 0 0\n",
+    status: Status::Success,
+};
+
+const INTERRUPT_ABORT: Row = Row {
+    manifest: "rule cc\n  command = cc -c $in -o $out\nrule ld\n  command = ld $in -o $out\nbuild a.o: cc a.c\nbuild b.o: cc b.c\nbuild app: ld a.o b.o\n",
+    trace: "rebug-trace 1\njobs 2\nstamp a.c 10\nstamp b.c 20\nlane 0\nplan app\nstart a.o 0\nplan app\nabort a.o 0\nfail a.o 1,2\ninterrupt\nstart b.o 1\ninterrupt\nabort a.o 0\nfinish a.o 3\nplan app\n",
+    script: "run\n",
+    report: "1 0 ok\n2 0 ok\n3 0 refused 50 0\n4 0 refused 64\n5 0 refused 75 1\n6 0 ok\n7 0 refused 63\n8 0 refused 65\n9 0 ok\n10 0 refused 67\n11 0 ok\n",
+    status: Status::Success,
+};
+
+const DEPFILE: Row = Row {
+    manifest: "rule cc\n  command = cc $in\n  depfile = $out.d\n  deps = gcc\nbuild a.o: cc a.c\n",
+    trace: "rebug-trace 1\nstamp a.c 10\nstamp h.h 5\nlane 0\nplan a.o\nstart a.o 0\nfinish a.o 100 depfile b.o:\\sx\nfinish a.o 100 depfile a.o:\\sa.c\\sh.h\ntouch h.h 0\nplan a.o\n",
+    script: "run\nwhy a.o\nlogs\n",
+    report: "1 0 ok\n2 0 ok\n3 0 refused 77 31 0\n4 0 ok\n5 0 ok\n6 0 ok\nwhy a.o missing-dep h.h\nbuilt a.o 100 cc\\sa.c\ndeps a.o 100 a.c h.h\n",
+    status: Status::Success,
+};
+
+const OLD_DEPS: Row = Row {
+    manifest: "rule cc\n  command = cc $in\n  depfile = $out.d\n  deps = gcc\nbuild a.o: cc a.c\n",
+    trace: "rebug-trace 1\nstamp a.c 10\nstamp h.h 5\nstamp a.o 100\nbuilt a.o 100 cc\\sa.c\ndeps a.o 50 a.c h.h\nlane 0\nplan a.o\n",
+    script: "run\nwhy a.o\n",
+    report: "1 0 ok\nwhy a.o deps-old\n",
+    status: Status::Success,
+};
+
+const LIST_WITHOUT_DEPS: Row = Row {
+    manifest: "rule cc\n  command = cc -c $in -o $out\nrule ld\n  command = ld $in -o $out\nbuild a.o: cc a.c\nbuild b.o: cc b.c\nbuild app: ld a.o b.o\n",
+    trace: "rebug-trace 1\njobs 2\nstamp a.c 10\nstamp b.c 20\nlane 0\nplan app\nstart a.o 0\nfinish a.o 100 list h.h\n",
+    script: "run\n",
+    report: "1 0 ok\n2 0 ok\n3 0 refused 76\n",
+    status: Status::Success,
+};
+
+const REDO_READS_THE_PRESENT: Row = Row {
+    manifest: "rule cc\n  command = cc -c $in -o $out\nrule ld\n  command = ld $in -o $out\nbuild a.o: cc a.c\nbuild b.o: cc b.c\nbuild app: ld a.o b.o\n",
+    trace: "rebug-trace 1\njobs 2\nstamp a.c 10\nstamp b.c 20\nlane 0\nplan app\ntouch a.c 11\nstart a.o 0\n",
+    script: "run\nundo 3\nundo 2\nredo 3\nmarks\n",
+    report: "1 0 ok\n2 0 ok\n3 0 ok\n4 1 ok\n5 1 ok\n6 1 ok\nmark 0 a.o running 0 - 10\nmark 1 b.o wanted\nmark 2 app wanted\njob 0 0\n",
+    status: Status::Success,
+};
+
+const LANE_OUT_OF_TURN: Row = Row {
+    manifest: "",
+    trace: "rebug-trace 1\nlane 1\n",
+    script: "run\n",
+    report: "fault trace 2 102\n",
+    status: Status::Fault,
+};
+
+const BAD_NUMBER: Row = Row {
+    manifest: "",
+    trace: "rebug-trace 1\nstamp a 01\n",
+    script: "run\n",
+    report: "fault trace 2 101\n",
+    status: Status::Fault,
+};
+
+const DOUBLE_RECORD: Row = Row {
+    manifest: "",
+    trace: "rebug-trace 1\nstamp a 1\nstamp ./a 2\n",
+    script: "run\n",
+    report: "fault trace 3 103\n",
+    status: Status::Fault,
+};
+
+const OPENING_AND_THREE_LANES: &str =
+    "rebug-trace 1\njobs 2\nstamp a.c 10\nstamp b.c 20\nlane 0\nplan app\nstart a.o 0\nfinish a.o 100\nlane 1\nlane 2\ntouch c 1\nstart b.o 1\n";
+
+const BREAK_PAUSE_LABEL: Row = Row {
+    manifest: MANIFEST,
+    trace: "rebug-trace 1\njobs 2\nstamp a.c 10\nstamp b.c 20\nlane 0\nplan app\nstart a.o 0\nfinish a.o 100\nlane 1\nbreak finish a.o\nstart b.o 1\nfinish b.o 110\n",
+    script: "run\nrun 1\nundo 5\ncontinue\nfinish b.o 110\n",
+    report: "1 0 ok\n2 1 ok\n3 0 ok\n4 1 ok\n5 0 ok break 2\n6 1 refused 92\n7 2 ok\n8 2 ok\n9 2 ok\n",
+    status: Status::Success,
+};
+
+const TURNS_GO_ON: Row = Row {
+    manifest: MANIFEST,
+    trace: OPENING_AND_THREE_LANES,
+    script: "run 0\nrun 3\nundo 0:2\nrun 1\nrun\nrun\nundo 3:2\n",
+    report: "1 0 ok\n2 2 ok\n3 0 ok\n4 3 ok\n5 2 ok\n6 0 refused 67\n7 3 refused 80\n",
+    status: Status::Success,
+};
+
+const DEPENDENTS_BY_LABEL: Row = Row {
+    manifest: MANIFEST,
+    trace: OPENING_AND_THREE_LANES,
+    script: "run\ndependents 0:1\nundo 2:1\ndependents 2:1\ndependents 3:1\ndependents 1:1\ndependents 0:0\ndependents 9\ndependents 9:1\n",
+    report: "1 0 ok\n2 2 ok\n3 0 ok\n4 2 ok\n5 0 ok\ndependents 1 2 3 4 5\n6 3 ok\nrefused 81\nrefused 80\nrefused 80\nrefused 80\nrefused 80\nrefused 80\n",
+    status: Status::Success,
+};
+
+const STALL_IN_TURN: Row = Row {
+    manifest: MANIFEST,
+    trace: "rebug-trace 1\njobs 2\nstamp a.c 10\nstamp b.c 20\nlane 0\nplan app\nlane 1\nstart app 0\n",
+    script: "run\n",
+    report: "1 0 ok\n2 1 refused 68 0\n",
+    status: Status::Success,
+};
+
+const UNDO_OF_THE_OTHERS: Row = Row {
+    manifest: MANIFEST,
+    trace: "rebug-trace 1\njobs 2\nstamp a.c 10\nstamp b.c 20\nlane 0\ntouch a.c 11\nundo 1:1\nlane 1\ntouch b.c 21\nundo 0:1\n",
+    script: "run\nkept\nstamps\n",
+    report: "1 0 ok\n2 1 ok\n3 0 ok\n4 1 ok\nstamp a.c 10\nstamp b.c 20\n",
+    status: Status::Success,
+};
+
+const LEAST_BREAK: Row = Row {
+    manifest: MANIFEST,
+    trace: "rebug-trace 1\nstamp a.c 10\n",
+    script: "break touch a.c\nbreak touch ./a.c\ntouch b.c 1\ntouch a.c 2\nunbreak 1\nunbreak 1\ncontinue\ntouch a.c 3\nbreak start a.c\nstamps\n",
+    report: "1 0 ok\n2 0 ok\n3 0 ok\n4 0 ok break 1\n5 0 ok\n6 0 refused 93\n7 0 ok\n8 0 ok break 2\n9 0 refused 60\nstamp a.c 3\nstamp b.c 1\n",
+    status: Status::Success,
+};
+
+const PLACE_OF_A_LINE: Row = Row {
+    manifest: "",
+    trace: "rebug-trace 1\nstart x 0\n",
+    script: "run\n",
+    report: "fault trace 2 100\n",
+    status: Status::Fault,
+};
+
+const LANE_IN_A_SCRIPT: Row = Row {
+    manifest: "",
+    trace: "rebug-trace 1\n",
+    script: "run\nlane 0\n",
+    report: "fault script 2 100\n",
+    status: Status::Fault,
+};
+
+const NAME_OF_NO_EVENT: Row = Row {
+    manifest: "",
+    trace: "rebug-trace 1\n",
+    script: "dependents 1:\n",
+    report: "fault script 1 101\n",
+    status: Status::Fault,
+};
+
+// A writer that takes some writes, and then fails or takes no byte.
+#[derive(Drop)]
+struct Failing {
+    left: u32,
+    takes_none: bool,
+    written: Vec<u8>,
+}
+
+impl Write for Failing {
+    fn write(&mut self, buf: &[u8]) -> io::Result<usize> {
+        if self.left > 0 {
+            self.left -= 1;
+            return self.written.write(buf);
+        }
+        if self.takes_none {
+            return Ok(0);
+        }
+        Err(io::Error::from(io::ErrorKind::BrokenPipe))
+    }
+
+    fn flush(&mut self) -> io::Result<()> {
+        Ok(())
+    }
+}
+
+#[test]
+fn rows(rt: HostRuntime) -> Result<(), Fail> {
+    let alloc = rt.alloc();
+    let rows = [
+        EMPTY,
+        OVERTAKEN,
+        TOUCHES,
+        KEPT,
+        BAD_MANIFEST,
+        TWO_PRODUCERS,
+        CYCLE,
+        BAD_SCRIPT,
+        PLAN_REFUSED,
+        MARKS_STAMPS_LOGS,
+        WHY_CHAIN,
+        TOUCHES_CONFLICT,
+        UNDO_OUT_OF_ORDER,
+        NEAREST_DEPENDENT,
+        CONE,
+        INTERRUPT_READS,
+        REDO_IN_ORDER,
+        RESTAT_PER_OUTPUT,
+        THROUGH_PHONY,
+        POOLS,
+        RESPONSE_FILE,
+        RESPONSE_FILE_OF_A_GENERATOR,
+        VALIDATION,
+        INTERRUPT_ABORT,
+        DEPFILE,
+        OLD_DEPS,
+        LIST_WITHOUT_DEPS,
+        REDO_READS_THE_PRESENT,
+        LANE_OUT_OF_TURN,
+        BAD_NUMBER,
+        DOUBLE_RECORD,
+        BREAK_PAUSE_LABEL,
+        TURNS_GO_ON,
+        DEPENDENTS_BY_LABEL,
+        STALL_IN_TURN,
+        UNDO_OF_THE_OTHERS,
+        LEAST_BREAK,
+        PLACE_OF_A_LINE,
+        LANE_IN_A_SCRIPT,
+        NAME_OF_NO_EVENT,
+    ];
+    for row in &rows {
+        let name = Vec::from_slice(alloc, b"build.ninja")?;
+        let manifest = Vec::from_slice(alloc, row.manifest.as_bytes())?;
+        let files = [(name, manifest)];
+        let mut report = Vec::new(alloc);
+        let status = run_serial(
+            alloc,
+            &files,
+            row.trace.as_bytes(),
+            row.script.as_bytes(),
+            &mut report,
+        )?;
+        assert_eq!(rt; report.as_slice(), row.report.as_bytes());
+        assert!(rt; status == row.status);
+    }
+    Ok(())
+}
+
+#[test]
+fn cut_traces(rt: HostRuntime) -> Result<(), Fail> {
+    let alloc = rt.alloc();
+    let trace = b"rebug-trace 1\nstamp a 10\n";
+    for end in 0..26 {
+        let (report, status) = match end {
+            0..=12 => ("fault trace 1 104\n", Status::Fault),
+            13 | 14 => ("", Status::Success),
+            15..=22 => ("fault trace 2 100\n", Status::Fault),
+            23 => ("stamp a 1\n", Status::Success),
+            _ => ("stamp a 10\n", Status::Success),
+        };
+        let files = [(Vec::from_slice(alloc, b"build.ninja")?, Vec::new(alloc))];
+        let mut written = Vec::new(alloc);
+        let end_status = run_serial(alloc, &files, &trace[..end], b"run\nstamps\n", &mut written)?;
+        assert_eq!(rt; written.as_slice(), report.as_bytes());
+        assert!(rt; end_status == status);
+    }
+    Ok(())
+}
+
+#[test]
+fn no_file(rt: HostRuntime) -> Result<(), Fail> {
+    let mut report = Vec::new(rt.alloc());
+    let status = run_serial(rt.alloc(), &[], b"", b"", &mut report)?;
+    assert_eq!(rt; report.as_slice(), b"fault manifest - 0 20\n".as_slice());
+    assert!(rt; status == Status::Fault);
+    Ok(())
+}
+
+// The report of the touches goes out in nine writes.
+#[test]
+fn failing_writers(rt: HostRuntime) -> Result<(), Fail> {
+    let alloc = rt.alloc();
+    for writes in 0..9 {
+        for takes_none in [false, true] {
+            let manifest = Vec::from_slice(alloc, TOUCHES.manifest.as_bytes())?;
+            let files = [(Vec::from_slice(alloc, b"build.ninja")?, manifest)];
+            let mut writer = Failing {
+                left: writes,
+                takes_none,
+                written: Vec::new(alloc),
+            };
+            let result = run_serial(
+                alloc,
+                &files,
+                TOUCHES.trace.as_bytes(),
+                TOUCHES.script.as_bytes(),
+                &mut writer,
+            );
+            assert!(rt; result == Err(RunFault::Write));
+            assert!(rt; TOUCHES.report.as_bytes().starts_with(&writer.written));
+            assert!(rt; writer.written.len() < TOUCHES.report.len());
+        }
+    }
+    Ok(())
+}
+
+const LATER_RUNS: Row = Row {
+    manifest: "",
+    trace: "rebug-trace 1\nlane 0\ntouch b 1\ntouch a\\sb 2\ntouch b 0\n",
+    script: "touch c 4\nrun 1\nkept\nrun\nundo 0:2\nrun 7\nstamps\n",
+    report: "1 1 ok\n2 0 ok\n3 0 ok\n4 0 ok\nkept 1 touch c 4\nkept 2 touch b 1\nkept 3 touch a\\sb 2\n\
+kept 4 touch b 0\n5 1 ok\nstamp c 4\n",
+    status: Status::Success,
+};
+
+// What a row is on threads.
+fn run_on_threads<R: Threads + Wait + Sync, W: Write>(
+    rt: &R,
+    alloc: Global,
+    row: &Row,
+    writer: &mut W,
+) -> Result<Status, RunFault> {
+    let name = Vec::from_slice(alloc, b"build.ninja")?;
+    let manifest = Vec::from_slice(alloc, row.manifest.as_bytes())?;
+    let files = [(name, manifest)];
+    let (trace, script) = (row.trace.as_bytes(), row.script.as_bytes());
+    run_parallel(rt, alloc, &files, trace, script, writer)
+}
+
+#[test]
+fn rows_on_threads(rt: HostRuntime) -> Result<(), Fail> {
+    let rows = [
+        EMPTY,
+        OVERTAKEN,
+        TOUCHES,
+        LATER_RUNS,
+        BAD_MANIFEST,
+        CYCLE,
+        BAD_SCRIPT,
+        LANE_OUT_OF_TURN,
+        PLAN_REFUSED,
+        MARKS_STAMPS_LOGS,
+        WHY_CHAIN,
+        UNDO_OUT_OF_ORDER,
+        NEAREST_DEPENDENT,
+        CONE,
+        INTERRUPT_ABORT,
+    ];
+    for row in &rows {
+        let mut report = Vec::new(rt.alloc());
+        let status = run_on_threads(&rt, rt.alloc(), row, &mut report)?;
+        assert_eq!(rt; report.as_slice(), row.report.as_bytes());
+        assert!(rt; status == row.status);
+    }
+    Ok(())
+}
+
+#[test]
+fn failing_writers_on_threads(rt: HostRuntime) {
+    for writes in 0..9 {
+        let mut writer = Failing {
+            left: writes,
+            takes_none: false,
+            written: Vec::new(rt.alloc()),
+        };
+        let result = run_on_threads(&rt, rt.alloc(), &TOUCHES, &mut writer);
+        assert!(rt; result == Err(RunFault::Write));
+        assert!(rt; TOUCHES.report.as_bytes().starts_with(&writer.written));
+    }
+}

@@ -1,0 +1,14 @@
+use Rattle.std.proofs.Common.{◌≡◌, ◌++◌, codes, length}
+use Rattle.std.specs.Fmt.{decimal}
+use Rattle.std.specs.List.{flat_map}
+use Rattle.rev_report.specs.Dependents.{conflicting_above}
+use Rattle.rev_report.proofs.dependents.push_above.Given as goal
+
+-- those so far, and those that are still to come, are all
+abbrev pub invariant-loop-next : goal.invariant-loop-next
+invariant-loop-next l =
+    l.text.items ++ flat_map (λ m. codes " " ++ decimal m) (conflicting_above l.history.timeline l.footprint l.last)
+    ≡ l.fn.text.items ++ flat_map (λ m. codes " " ++ decimal m) (conflicting_above l.history.timeline l.footprint l.number)
+
+abbrev pub decreases-loop-next : goal.decreases-loop-next
+decreases-loop-next l = length (conflicting_above l.history.timeline l.footprint l.last)

@@ -1,0 +1,101 @@
+//! What depends on a kept event.
+ghost use Rattle.std.specs.Prelude.{◌≡◌, ◌++◌, codes, decimal, is_some, IfOk, OnOk};
+ghost use Rattle.std.specs.List.{flat_map};
+ghost use Rattle.rev_report.specs.Dependents.{conflicting_above, dependents};
+ghost use Rattle.rev_report.specs.Report.{dependents_line, dependents_text, named_text};
+ghost use Rattle.rev_desk.specs.Machine.{named};
+ghost use Rattle.rev_history.specs.Timeline.{event_at, is_among};
+
+use crate::text::refused_line;
+use rev_desk::{Desk, Which};
+use rev_events::Refusal;
+use rev_fields::push_number;
+use rev_footprint::Footprint;
+use rev_history::History;
+use std::alloc::{AllocError, Global};
+
+// Adds the numbers of the kept events above one that conflict with a footprint, each with a space before it. The search
+// for each goes on from the one before it.
+fn push_above(
+    text: &mut Vec<u8>,
+    history: &History,
+    number: u32,
+    footprint: &Footprint,
+) -> Result<(), AllocError>
+    ensures { OnOk result (text.new.items
+        ≡ text.old.items ++ flat_map (λ m. codes " " ++ decimal m)
+        (conflicting_above history.now.timeline footprint.now number)) }
+{
+    let _kept = history.kept();
+    let mut last = number;
+    while let Some(next) = history.nearest(last, footprint) {
+        text.extend_from_slice(b" ")?;
+        push_number(text, u64::from(next))?;
+        last = next;
+    }
+    Ok(())
+}
+
+// Adds the numbers of the kept events that depend on a kept one, each with a space before it.
+fn push_dependents(text: &mut Vec<u8>, history: &History, number: u32) -> Result<(), AllocError>
+    ensures { OnOk result (text.new.items
+        ≡ text.old.items ++ flat_map (λ m. codes " " ++ decimal m)
+        (dependents history.now.timeline number)) }
+{
+    match history.footprint_of(number) {
+        Some(footprint) => push_above(text, history, number, footprint),
+        None => Ok(()),
+    }
+}
+
+// Whether a number is that of a kept event.
+fn is_kept(history: &History, number: u32) -> bool
+    ensures { result ≡ is_among history.now.timeline.kept number }
+{
+    history.kept().iter().any(|kept| number == *kept)
+}
+
+// Whether an event was accepted under a number.
+fn is_accepted(history: &History, number: u32) -> bool
+    ensures { result ≡ is_some (event_at history.now.timeline number) }
+{
+    history.event(number).is_some()
+}
+
+// `dependents N M...`
+fn answered(alloc: Global, history: &History, number: u32) -> Result<Vec<u8>, AllocError>
+    ensures { IfOk result (λ text. text.items
+        ≡ dependents_line number (dependents history.now.timeline number)) }
+{
+    let mut text = Vec::from_slice(alloc, b"dependents ")?;
+    push_number(&mut text, u64::from(number))?;
+    push_dependents(&mut text, history, number)?;
+    text.extend_from_slice(b"\n")?;
+    Ok(text)
+}
+
+// The line `dependents N M...` with the kept events that depend on a kept one, or `refused` with the number of the
+// refusal where no event was accepted under the number or it is not kept.
+fn dependents_text(alloc: Global, history: &History, number: u32) -> Result<Vec<u8>, AllocError>
+    ensures { IfOk result (λ text. text.items ≡ dependents_text history.now.timeline number) }
+{
+    if !is_accepted(history, number) {
+        return refused_line(alloc, Refusal::NoSuchEvent.code());
+    }
+    if !is_kept(history, number) {
+        return refused_line(alloc, Refusal::NotKept.code());
+    }
+    answered(alloc, history, number)
+}
+
+/// The line `dependents N M...` with the number of a kept event and those of the kept events that depend on it;
+/// `refused 80` where no accepted event has the name, `refused 81` where it is not kept.
+pub(crate) fn named_text(alloc: Global, desk: &Desk, which: Which) -> Result<Vec<u8>, AllocError>
+    ensures { IfOk result (λ text. text.items
+        ≡ named_text (named desk.now.journal which) desk.now.history) }
+{
+    match desk.named(which) {
+        None => refused_line(alloc, Refusal::NoSuchEvent.code()),
+        Some(number) => dependents_text(alloc, desk.history(), number),
+    }
+}

@@ -1,0 +1,420 @@
+//! The report of a run: what is written for files, a trace and a script.
+ghost use Rattle.std.specs.Prelude.{◌≡◌, ◌≢◌, ◌<◌, ◌≤◌, ◌+◌, ◌++◌, ℕ, List, IfOk, OnOk, drop, length, slice_get};
+ghost use Rattle.rev_report.specs.Output.{Writes};
+ghost use Rattle.rev_report.specs.Report.{after_word, edges_fault_line, edges_report, kept_text, left_after, manifest_fault_line, name_text, named_text, report, script_report, script_text, session_text, text_fault_line, trace_report, why_edge, word_text};
+ghost use Rattle.rev_report.specs.SeenTurns.{seen_turns};
+ghost use Rattle.rev_report.specs.Turns.{AreOf, turns};
+ghost use Rattle.rev_desk.specs.Machine.{named, opened_desk};
+ghost use Rattle.rev_history.specs.Timeline.{state_at};
+ghost use Rattle.rev_trace.specs.Traces.{lanes_of};
+ghost use Rattle.rev_graph.specs.Graph.{producer_of};
+ghost use Rattle.rev_listing.specs.Logs as logs;
+ghost use Rattle.rev_listing.specs.Marks as marks;
+ghost use Rattle.rev_listing.specs.Stamps as stamps;
+ghost use Rattle.rev_manifest.specs.Seen.{seen_files};
+ghost use Rattle.rev_report.specs.declared.report.Status.{Status};
+
+use crate::dependents::named_text;
+use crate::fault::RunFault;
+use crate::output::send;
+use crate::runs::{run_command, run_taken};
+use crate::script::{Word, read_script};
+use crate::text::{fault_line, graph_fault_line, kept_line, refused_line};
+use crate::turns::{Turn, turns_of};
+use rev_cells::Opening;
+use rev_commands::Command;
+use rev_desk::{Desk, DeskFault, Which};
+use rev_events::Refusal;
+use rev_fields::{ReadFault, TextFault, push_field};
+use rev_graph::{Graph, GraphFault};
+use rev_history::History;
+use rev_listing::{logs_text, marks_text, stamps_text, why_text};
+use rev_manifest::{Manifest, ManifestFault, read};
+use rev_paths::Name;
+use rev_trace::Trace;
+use std::alloc::{AllocError, Global};
+use std::io::Write;
+
+/// How a run ended, which is the program's exit status.
+#[derive(Clone, Copy, Debug, PartialEq, Eq)]
+pub enum Status {
+    /// 0: the script was run.
+    Success,
+    /// 1: the manifest, its graph, the trace or the script has a fault, and its line is the report.
+    Fault,
+}
+
+// Writes the lines of the kept events.
+fn write_kept<W: Write>(alloc: Global, history: &History, writer: &mut W) -> Result<(), RunFault>
+    ensures { Writes result (W.contents writer.old) (W.contents writer.new)
+        (kept_text history.now.timeline) }
+{
+    for number in history.kept() {
+        let Some(event) = history.event(*number) else {
+            continue;
+        };
+        let line = kept_line(alloc, *number, event)?;
+        send(writer, &line)?;
+    }
+    Ok(())
+}
+
+// Writes the marks, what is held, and whether the build was interrupted.
+fn write_marks<W: Write>(alloc: Global, history: &History, writer: &mut W) -> Result<(), RunFault>
+    ensures { Writes result (W.contents writer.old) (W.contents writer.new)
+        (marks.marks_text history.now.timeline.manifest.builds (state_at history.now.timeline)) }
+{
+    let text = marks_text(alloc, history.graph(), history.cells())?;
+    send(writer, &text)
+}
+
+// Writes the lines of the files that are not missing.
+fn write_stamps<W: Write>(alloc: Global, history: &History, writer: &mut W) -> Result<(), RunFault>
+    ensures { Writes result (W.contents writer.old) (W.contents writer.new)
+        (stamps.stamps_text (state_at history.now.timeline)) }
+{
+    let text = stamps_text(alloc, history.cells())?;
+    send(writer, &text)
+}
+
+// Writes the records of the logs.
+fn write_logs<W: Write>(alloc: Global, history: &History, writer: &mut W) -> Result<(), RunFault>
+    ensures { Writes result (W.contents writer.old) (W.contents writer.new)
+        (logs.logs_text (state_at history.now.timeline)) }
+{
+    let text = logs_text(alloc, history.cells())?;
+    send(writer, &text)
+}
+
+// Writes the way from the edge of an output to one with reasons.
+fn write_why<W: Write>(
+    alloc: Global,
+    history: &History,
+    out: &Name,
+    writer: &mut W,
+) -> Result<(), RunFault>
+    ensures { Writes result (W.contents writer.old) (W.contents writer.new)
+        (why_edge history.now.timeline.manifest.builds (state_at history.now.timeline)
+        (producer_of history.now.timeline.manifest.builds out.now)) }
+{
+    match history.graph().producer(out) {
+        None => {
+            let line = refused_line(alloc, Refusal::NoSuchEdge.code())?;
+            send(writer, &line)
+        }
+        Some(edge) => {
+            let text = why_text(alloc, history.graph(), history.cells(), edge)?;
+            send(writer, &text)
+        }
+    }
+}
+
+// Writes the kept events that depend on a kept one.
+fn write_dependents<W: Write>(
+    alloc: Global,
+    desk: &Desk,
+    which: Which,
+    writer: &mut W,
+) -> Result<(), RunFault>
+    ensures { Writes result (W.contents writer.old) (W.contents writer.new)
+        (named_text (named desk.now.journal which) desk.now.history) }
+{
+    let text = named_text(alloc, desk, which)?;
+    send(writer, &text)
+}
+
+// Does a word of the script, where so many turns were taken before, and says how many are taken then.
+fn run_word<W: Write>(
+    alloc: Global,
+    desk: &mut Desk,
+    lane: u32,
+    turns: &[Turn<'_>],
+    before: usize,
+    word: &Word,
+    writer: &mut W,
+) -> Result<usize, RunFault>
+    requires lane { lane < desk.old.lanes }
+    requires lanes { AreOf desk.old.lanes (seen_turns turns.now) }
+    requires within { before ≤ length turns.now }
+    ensures text { Writes result (W.contents writer.old) (W.contents writer.new)
+        (word_text lane desk.old (drop before (seen_turns turns.now)) word.now) }
+    ensures after { OnOk result (desk.new
+        ≡ after_word lane desk.old (drop before (seen_turns turns.now)) word.now) }
+    ensures lanes { OnOk result (desk.new.lanes ≡ desk.old.lanes) }
+    ensures within { IfOk result (λ count. count ≤ length turns.now) }
+    ensures left { IfOk result (λ count. drop count (seen_turns turns.now)
+        ≡ left_after desk.old (drop before (seen_turns turns.now)) word.now) }
+{
+    match word {
+        Word::Command(command) => {
+            let command = command.copy()?;
+            let _ = run_command(alloc, desk, lane, command, writer)?;
+            Ok(before)
+        }
+        Word::Run(most) => run_taken(alloc, desk, turns, before, *most, writer),
+        Word::Kept => {
+            write_kept(alloc, desk.history(), writer)?;
+            Ok(before)
+        }
+        Word::Marks => {
+            write_marks(alloc, desk.history(), writer)?;
+            Ok(before)
+        }
+        Word::Stamps => {
+            write_stamps(alloc, desk.history(), writer)?;
+            Ok(before)
+        }
+        Word::Logs => {
+            write_logs(alloc, desk.history(), writer)?;
+            Ok(before)
+        }
+        Word::Why(out) => {
+            write_why(alloc, desk.history(), out, writer)?;
+            Ok(before)
+        }
+        Word::Dependents(which) => {
+            write_dependents(alloc, desk, *which, writer)?;
+            Ok(before)
+        }
+    }
+}
+
+// Does the words of the script in turn.
+pub(crate) fn run_words<W: Write>(
+    alloc: Global,
+    desk: &mut Desk,
+    lane: u32,
+    turns: &[Turn<'_>],
+    words: &[Word],
+    writer: &mut W,
+) -> Result<(), RunFault>
+    requires lane { lane < desk.old.lanes }
+    requires lanes { AreOf desk.old.lanes (seen_turns turns.now) }
+    ensures text { Writes result (W.contents writer.old) (W.contents writer.new)
+        (script_text lane desk.old (seen_turns turns.now) words.now) }
+    ensures lanes { OnOk result (desk.new.lanes ≡ desk.old.lanes) }
+{
+    let mut taken = 0;
+    for word in words {
+        taken = run_word(alloc, desk, lane, turns, taken, word, writer)?;
+    }
+    Ok(())
+}
+
+// A desk to which nothing was said yet, with one lane more than these.
+pub(crate) fn open_desk(
+    alloc: Global,
+    graph: Graph,
+    opening: &Opening,
+    lanes: &[Vec<Command>],
+) -> Result<Desk, RunFault>
+    requires { length lanes.now ≤ Trace.MAX_LANES }
+    ensures { IfOk result (λ desk. desk
+        ≡ opened_desk graph.manifest opening.now.jobs opening.now.state (length lanes.now + 1)) }
+{
+    let count = lanes.len() as u32 + 1;
+    match Desk::new(alloc, graph, opening, count) {
+        Ok(desk) => Ok(desk),
+        Err(DeskFault::Memory) => Err(RunFault::Memory),
+        Err(DeskFault::BadLanes) => unreachable!(),
+    }
+}
+
+// Runs words over a desk to which nothing was said yet, and which has one lane more than these.
+fn run_opened<W: Write>(
+    alloc: Global,
+    desk: &mut Desk,
+    lanes: &[Vec<Command>],
+    words: &[Word],
+    writer: &mut W,
+) -> Result<(), RunFault>
+    requires few { length lanes.now ≤ Trace.MAX_LANES }
+    requires lanes { desk.old.lanes ≡ length lanes.now + 1 }
+    ensures { Writes result (W.contents writer.old) (W.contents writer.new)
+        (script_text (length lanes.now) desk.old (turns (lanes_of lanes.now)) words.now) }
+{
+    let lane = lanes.len() as u32;
+    let turns = turns_of(alloc, lanes)?;
+    run_words(alloc, desk, lane, &turns, words, writer)
+}
+
+// Runs a script over an opening and the lanes of a trace. The script has a lane of its own, the one after these.
+fn run_script<W: Write>(
+    alloc: Global,
+    graph: Graph,
+    opening: &Opening,
+    lanes: &[Vec<Command>],
+    words: &[Word],
+    writer: &mut W,
+) -> Result<(), RunFault>
+    requires { length lanes.now ≤ Trace.MAX_LANES }
+    ensures { Writes result (W.contents writer.old) (W.contents writer.new)
+        (session_text graph.manifest opening.now (lanes_of lanes.now) words.now) }
+{
+    let mut desk = open_desk(alloc, graph, opening, lanes)?;
+    run_opened(alloc, &mut desk, lanes, words, writer)
+}
+
+// Writes the line of the first fault of a text.
+pub(crate) fn report_fault<W: Write>(
+    alloc: Global,
+    what: &[u8],
+    fault: TextFault,
+    writer: &mut W,
+) -> Result<Status, RunFault>
+    ensures text { Writes result (W.contents writer.old) (W.contents writer.new)
+        (text_fault_line what.now fault) }
+    ensures status { IfOk result (λ status. status ≡ Status.Fault) }
+{
+    let line = fault_line(alloc, what, fault.line, fault.kind.code())?;
+    send(writer, &line)?;
+    Ok(Status::Fault)
+}
+
+// Reports on a script, for a trace that has been read.
+fn report_script<W: Write>(
+    alloc: Global,
+    graph: Graph,
+    trace: &Trace,
+    script: &[u8],
+    writer: &mut W,
+) -> Result<Status, RunFault>
+    requires { length trace.now.lanes.items ≤ Trace.MAX_LANES }
+    ensures text { Writes result (W.contents writer.old) (W.contents writer.new)
+        (script_report graph.manifest trace.now.opening (lanes_of trace.now.lanes.items)
+        script.now).text }
+    ensures status { IfOk result (λ status. status
+        ≡ (script_report graph.manifest trace.now.opening (lanes_of trace.now.lanes.items)
+        script.now).status) }
+{
+    match read_script(alloc, script) {
+        Ok(words) => {
+            run_script(alloc, graph, &trace.opening, &trace.lanes, &words, writer)?;
+            Ok(Status::Success)
+        }
+        Err(ReadFault::Numbered(fault)) => report_fault(alloc, b"script", fault, writer),
+        Err(ReadFault::Memory) => Err(RunFault::Memory),
+    }
+}
+
+// Reports on a trace and a script, where nothing before them has a fault.
+fn report_trace<W: Write>(
+    alloc: Global,
+    graph: Graph,
+    trace: &[u8],
+    script: &[u8],
+    writer: &mut W,
+) -> Result<Status, RunFault>
+    ensures text { Writes result (W.contents writer.old) (W.contents writer.new)
+        (trace_report graph.manifest trace.now script.now).text }
+    ensures status { IfOk result (λ status. status ≡ (trace_report graph.manifest trace.now script.now).status) }
+{
+    match rev_trace::read(alloc, trace) {
+        Ok(trace) => report_script(alloc, graph, &trace, script, writer),
+        Err(ReadFault::Numbered(fault)) => report_fault(alloc, b"trace", fault, writer),
+        Err(ReadFault::Memory) => Err(RunFault::Memory),
+    }
+}
+
+// Writes the line of a fault of a manifest's edges. `Memory` is no fault of theirs.
+pub(crate) fn report_graph_fault<W: Write>(
+    alloc: Global,
+    fault: &GraphFault,
+    writer: &mut W,
+) -> Result<Status, RunFault>
+    ensures text { (text : List ℕ) → (fault.now ≢ GraphFault.Memory → text ≡ edges_fault_line fault.now)
+        → Writes result (W.contents writer.old) (W.contents writer.new) text }
+    ensures status { (wanted : Status) → (fault.now ≢ GraphFault.Memory → wanted ≡ Status.Fault)
+        → IfOk result (λ status. status ≡ wanted) }
+{
+    let Some(code) = fault.code() else {
+        return Err(RunFault::Memory);
+    };
+    let line = graph_fault_line(alloc, code, fault.path())?;
+    send(writer, &line)?;
+    Ok(Status::Fault)
+}
+
+// Reports on a trace and a script, for a manifest that has been read.
+fn report_edges<W: Write>(
+    alloc: Global,
+    manifest: &Manifest,
+    trace: &[u8],
+    script: &[u8],
+    writer: &mut W,
+) -> Result<Status, RunFault>
+    ensures text { Writes result (W.contents writer.old) (W.contents writer.new)
+        (edges_report manifest.now trace.now script.now).text }
+    ensures status { IfOk result (λ status. status ≡ (edges_report manifest.now trace.now script.now).status) }
+{
+    match Graph::build(alloc, manifest) {
+        Ok(graph) => report_trace(alloc, graph, trace, script, writer),
+        Err(fault) => report_graph_fault(alloc, &fault, writer),
+    }
+}
+
+// Adds the name of the file at a place, or a dash where there is none.
+fn push_name(line: &mut Vec<u8>, files: &[(Vec<u8>, Vec<u8>)], place: u64) -> Result<(), AllocError>
+    ensures { OnOk result (line.new.items
+        ≡ line.old.items ++ name_text (slice_get (seen_files files.now) place)) }
+{
+    match files.get(place as usize) {
+        None => line.extend_from_slice(b"-"),
+        Some((name, _)) => push_field(line, name),
+    }
+}
+
+// The line of the first fault of a manifest.
+fn manifest_fault_line(
+    alloc: Global,
+    files: &[(Vec<u8>, Vec<u8>)],
+    fault: ManifestFault,
+) -> Result<Vec<u8>, AllocError>
+    ensures { IfOk result (λ line. line.items ≡ manifest_fault_line (seen_files files.now) fault) }
+{
+    let mut what = Vec::from_slice(alloc, b"manifest ")?;
+    push_name(&mut what, files, fault.file)?;
+    fault_line(alloc, &what, fault.line, fault.kind.code())
+}
+
+// Writes the line of the first fault of a manifest.
+pub(crate) fn report_manifest_fault<W: Write>(
+    alloc: Global,
+    files: &[(Vec<u8>, Vec<u8>)],
+    fault: ManifestFault,
+    writer: &mut W,
+) -> Result<Status, RunFault>
+    ensures text { Writes result (W.contents writer.old) (W.contents writer.new)
+        (manifest_fault_line (seen_files files.now) fault) }
+    ensures status { IfOk result (λ status. status ≡ Status.Fault) }
+{
+    let line = manifest_fault_line(alloc, files, fault)?;
+    send(writer, &line)?;
+    Ok(Status::Fault)
+}
+
+/// Reads a manifest, builds its graph, reads a trace and a script, runs the script, and writes the report, which ends
+/// at the first fault of the four. `files` are pairs of a name and a content, and the first is the manifest itself.
+///
+/// Answers `Write` where the writer fails in any way or takes no byte, and `Memory` where the system refused memory.
+/// After either a prefix of the report was written.
+pub fn run_serial<W: Write>(
+    alloc: Global,
+    files: &[(Vec<u8>, Vec<u8>)],
+    trace: &[u8],
+    script: &[u8],
+    writer: &mut W,
+) -> Result<Status, RunFault>
+    ensures text { Writes result (W.contents writer.old) (W.contents writer.new)
+        (report (seen_files files.now) trace.now script.now).text }
+    ensures status { IfOk result (λ status. status ≡ (report (seen_files files.now) trace.now script.now).status) }
+{
+    let manifest = match read(alloc, files) {
+        Ok(manifest) => manifest,
+        Err(rev_manifest::ReadFault::Manifest(fault)) => {
+            return report_manifest_fault(alloc, files, fault, writer);
+        }
+        Err(rev_manifest::ReadFault::Memory) => return Err(RunFault::Memory),
+    };
+    report_edges(alloc, &manifest, trace, script, writer)
+}
