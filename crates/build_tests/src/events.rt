@@ -1,6 +1,6 @@
 // Each refusal once, and what each kind of event writes once, on one small build.
 use rev_cells::{Cell, Cells, Mark, Names, Opening, Text, Value};
-use rev_events::{Event, Fault, Listing, Refusal, Stamps, check, effect};
+use rev_events::{Event, Fault, Listing, Refusal, Stamps, check, effect, effect_if_accepted};
 use rev_graph::Graph;
 use rev_manifest::{Manifest, read};
 use rev_paths::Name;
@@ -22,14 +22,14 @@ struct Build {
 impl Build {
     // The refusal of an event, or none where it happens.
     fn happen(&mut self, alloc: Global, event: &Event) -> Result<Option<Refusal>, AllocError> {
-        match check(alloc, &self.graph, &self.cells, event) {
-            Ok(()) => {}
-            Err(Fault::Refused(refusal)) => return Ok(Some(refusal)),
-            Err(Fault::Memory) => return Err(AllocError),
+        match effect_if_accepted(alloc, &self.graph, &self.cells, event) {
+            Ok(writes) => {
+                let _replaced = self.cells.write_all(writes)?;
+                Ok(None)
+            }
+            Err(Fault::Refused(refusal)) => Ok(Some(refusal)),
+            Err(Fault::Memory) => Err(AllocError),
         }
-        let writes = effect(alloc, &self.graph, &self.cells, event)?;
-        let _replaced = self.cells.write_all(writes)?;
-        Ok(None)
     }
 
     // The refusal of the event that a line says, or none where it happens.
