@@ -5,12 +5,14 @@ ghost use Rattle.std.specs.List.{AllByRecursion, IsDistinct};
 ghost use Rattle.std.specs.Ordering.{eq_by_cmp};
 ghost use Rattle.std.specs.FinMap as map;
 ghost use Rattle.rev_cells.specs.declared.cell.Cell.{Cell};
+ghost use Rattle.rev_cells.specs.Asked.{asked_cell};
 ghost use Rattle.rev_cells.specs.Keys.{cell_cmp};
 ghost use Rattle.rev_cells.specs.Effects.{cells_of, former_values, set_all, stored_in, stored_values};
 ghost use Rattle.rev_cells.specs.State.{default_or, set, value_at};
 ghost use Rattle.rev_cells.specs.Table.{Table, no_records, opened, raised, raised_by, written, written_all};
 ghost use Rattle.rev_cells.specs.Values.{Fits, unless_default};
 
+use crate::asked::Asked;
 use crate::cell::Cell;
 use crate::opening::Opening;
 use crate::value::Value;
@@ -124,6 +126,14 @@ impl Cells {
         ensures fits { IfSome (option_copied result) (Fits cell.now) }
     {
         self.entries.get(cell)
+    }
+
+    // What a cell holds that is asked for by a borrowed path.
+    pub(crate) fn find(&self, asked: Asked<'_>) -> Option<&Value>
+        ensures { default_or (asked_cell asked.entry) (option_copied result)
+            ≡ value_at self.now.state (asked_cell asked.entry) }
+    {
+        self.entries.get(asked)
     }
 
     /// Whether a cell has a place.

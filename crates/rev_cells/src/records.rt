@@ -3,7 +3,7 @@ ghost use Rattle.std.specs.Prelude.{◌≡◌, IfOk};
 ghost use Rattle.std.specs.Option.{option_copied};
 ghost use Rattle.rev_cells.specs.State.{stamp_of, built_of, deps_of};
 
-use crate::cell::Cell;
+use crate::asked::Asked;
 use crate::cells::Cells;
 use crate::value::{BuiltRecord, DepsRecord, Value};
 use rev_paths::Name;
@@ -16,7 +16,7 @@ use std::alloc::AllocError;
 pub fn stamp(cells: &Cells, path: &Name) -> Result<u64, AllocError>
     ensures { IfOk result (λ stamp. stamp ≡ stamp_of cells.now.state path.now) }
 {
-    match cells.get(&Cell::Stamp(path.copy()?)) {
+    match cells.find(Asked::Stamp(path)) {
         Some(Value::Stamp(stamp)) => Ok(*stamp),
         _ => Ok(0),
     }
@@ -29,7 +29,7 @@ pub fn stamp(cells: &Cells, path: &Name) -> Result<u64, AllocError>
 pub fn built<'a>(cells: &'a Cells, path: &Name) -> Result<Option<&'a BuiltRecord>, AllocError>
     ensures { IfOk result (λ built. option_copied built ≡ built_of cells.now.state path.now) }
 {
-    match cells.get(&Cell::Built(path.copy()?)) {
+    match cells.find(Asked::Built(path)) {
         Some(Value::Built(Some(built))) => Ok(Some(built)),
         _ => Ok(None),
     }
@@ -42,7 +42,7 @@ pub fn built<'a>(cells: &'a Cells, path: &Name) -> Result<Option<&'a BuiltRecord
 pub fn deps<'a>(cells: &'a Cells, path: &Name) -> Result<Option<&'a DepsRecord>, AllocError>
     ensures { IfOk result (λ deps. option_copied deps ≡ deps_of cells.now.state path.now) }
 {
-    match cells.get(&Cell::Deps(path.copy()?)) {
+    match cells.find(Asked::Deps(path)) {
         Some(Value::Deps(Some(deps))) => Ok(Some(deps)),
         _ => Ok(None),
     }
