@@ -1,6 +1,6 @@
 // The reasons of edges of small builds that are written as manifests.
 use rev_cells::{Cell, Cells, Mark, Opening, Positions, Value};
-use rev_dirty::{Reason, reasons};
+use rev_dirty::{DependencyScan, Reason, producers_of, reasons};
 use rev_graph::Graph;
 use rev_manifest::{Manifest, read};
 use rev_paths::Name;
@@ -162,6 +162,68 @@ fn explained_with_deps(
     add_built(alloc, &mut opening, b"a.o", 100, b"cc a.c")?;
     add_deps(alloc, &mut opening, listed)?;
     explained(alloc, OBJECT, &opening, 0)
+}
+
+// The reasons of an edge that keeps no deps, by a scan that looks up no producer of listed paths.
+fn found_over_sources(
+    alloc: Global,
+    graph: &Graph,
+    cells: &Cells,
+    edge: u32,
+) -> Result<Vec<Reason>, Fail> {
+    if edge >= graph.edges() {
+        return Err(Fail::from("no edge of that number"));
+    }
+    if graph.keeps_deps(edge) {
+        return Err(Fail::from("an edge that keeps deps"));
+    }
+    let mut scan = DependencyScan::new(alloc, graph, cells);
+    let reasons = scan.reasons_over_sources(edge)?;
+    Ok(reasons)
+}
+
+#[test]
+fn an_edge_over_sources_has_the_same_reasons(rt: HostRuntime) -> Result<(), Fail> {
+    let alloc = rt.alloc();
+    let graph = graph_of(alloc, PROGRAM)?;
+    let cells = Cells::new(alloc, &opening_of(alloc, &[(b"a.c", 10)])?)?;
+    assert_eq!(rt;
+        found_over_sources(alloc, &graph, &cells, 0)?.as_slice(),
+        [Reason::Missing(0), Reason::Older(0, 0), Reason::NoRecord(0)].as_slice()
+    );
+    Ok(())
+}
+
+// Whether an edge that has to be there lacks its first output.
+fn lacks_first(alloc: Global, graph: &Graph, cells: &Cells, edge: u32) -> Result<bool, Fail> {
+    if edge >= graph.edges() {
+        return Err(Fail::from("no edge of that number"));
+    }
+    let scan = DependencyScan::new(alloc, graph, cells);
+    let lacks = scan.lacks_first_output(edge)?;
+    Ok(lacks)
+}
+
+#[test]
+fn a_missing_output_is_found_without_inputs(rt: HostRuntime) -> Result<(), Fail> {
+    let alloc = rt.alloc();
+    let graph = graph_of(alloc, PROGRAM)?;
+    let cells = Cells::new(alloc, &opening_of(alloc, &[(b"a.o", 10)])?)?;
+    assert!(rt; !lacks_first(alloc, &graph, &cells, 0)?);
+    assert!(rt; lacks_first(alloc, &graph, &cells, 1)?);
+    Ok(())
+}
+
+#[test]
+fn outputs_alone_have_producers(rt: HostRuntime) -> Result<(), Fail> {
+    let alloc = rt.alloc();
+    let graph = graph_of(alloc, PROGRAM)?;
+    let paths = [named(alloc, b"b.o")?, named(alloc, b"b.c")?];
+    assert_eq!(rt;
+        producers_of(alloc, &graph, &paths)?.as_slice(),
+        [Some(1), None].as_slice()
+    );
+    Ok(())
 }
 
 #[test]

@@ -1,5 +1,6 @@
 pub mod ChangeLemmas
 pub mod ChosenLemmas
+pub mod FirstReason
 pub mod InputLemmas
 pub mod ListLemmas
 pub mod ReasonLemmas

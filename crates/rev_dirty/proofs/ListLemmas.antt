@@ -1,5 +1,5 @@
 -- Functions that agree on the elements of a list, and what stands in lists that are made of others.
-use Rattle.std.proofs.Common.{◌≡◌, ℕ, zero, suc, ◌+◌, Bool, true, false, cond, not, ◌||◌, List, [], ◌∷◌, ◌++◌, map, length, nat_lt, Option, Some, None, inl, inr, refl, sym, ap, ◌∙◌}
+use Rattle.std.proofs.Common.{◌≡◌, ℕ, zero, suc, ◌+◌, Bool, true, false, cond, not, ◌||◌, List, [], ◌∷◌, ◌++◌, map, length, nat_lt, replicate, Option, Some, None, inl, inr, refl, sym, ap, ◌∙◌}
 use Rattle.std.specs.List.{list_any, filter_map, flat_map, cons_option, position, position_or_len, filter}
 use Rattle.rev_causal.specs.Order.{Has}
 use Rattle.rev_dirty.specs.Reasons.{holds_at}
@@ -79,3 +79,14 @@ holds-same f g (x ∷ xs) (suc i) same = holds-same f g xs i (λ y h. same y (in
 pub any-map : {X Y : Type 0} (f : Y → Bool) (g : X → Y) (xs : List X) → list_any f (map g xs) ≡ list_any (λ x. f (g x)) xs
 any-map f g [] = refl
 any-map f g (x ∷ xs) = ap (λ b. f (g x) || b) (any-map f g xs)
+
+-- a list of which nothing is given gives nothing anywhere
+pub none-given : {X Y : Type 0} (f : X → Option Y) (xs : List X) → filter_map f xs ≡ [] → replicate (length xs) None ≡ map f xs
+none-given f [] h = refl
+none-given {Y = Y} f (x ∷ xs) h = by (f x) refl (none-given f xs)
+  where
+    by : (o : Option Y) → f x ≡ o → (filter_map f xs ≡ [] → replicate (length xs) None ≡ map f xs) → None ∷ replicate (length xs) None ≡ f x ∷ map f xs
+    by None e rest =
+        ap (λ (o : Option Y). o ∷ replicate (length xs) None) (sym e)
+        ∙ ap (λ (os : List (Option Y)). f x ∷ os) (rest (ap (λ (o : Option Y). cons_option o (filter_map f xs)) (sym e) ∙ h))
+    by (Some y) e rest = absurd (let no : y ∷ filter_map f xs ≡ [] = ap (λ (o : Option Y). cons_option o (filter_map f xs)) (sym e) ∙ h in cc)

@@ -166,6 +166,7 @@ fn push_changes(
         ++ map (is_rebuilt_in graph.now.manifest.builds cells.now.state)
         (map (an kind) paths.now)) }
 {
+    changes.reserve(paths.len())?;
     for (place, path) in paths.iter().enumerate() {
         let producer = producers[place];
         let rebuilt = is_rebuilt(alloc, graph, cells, changed, kind, path, producer)?;

@@ -1,16 +1,16 @@
 //! The reasons to run an edge's command.
-ghost use Rattle.std.specs.Prelude.{◌≡◌, ◌<◌, ◌++◌, ◌==◌, ◌&&◌, ◌+◌, is_none, true, false, nat_lt, map, length, IfOk, OnOk};
+ghost use Rattle.std.specs.Prelude.{◌≡◌, ◌<◌, ◌++◌, ◌==◌, ◌&&◌, ◌+◌, is_none, true, false, nat_lt, [], map, length, IfOk, OnOk};
 ghost use Rattle.std.specs.Option.{option_copied};
 ghost use Rattle.std.specs.List.{position, list_any};
 ghost use Rattle.rev_cells.specs.declared.value.DepsRecord.{DepsRecord};
 ghost use Rattle.rev_dirty.specs.Visible.{greatest, visible_stamp};
 ghost use Rattle.rev_dirty.specs.Walk.{shown as shown_of, IsKnowledge};
-ghost use Rattle.rev_graph.specs.Graph.{build_at, inputs_of, IsGraph};
+ghost use Rattle.rev_graph.specs.Graph.{build_at, inputs_of, producer_of, IsGraph};
 ghost use Rattle.rev_dirty.specs.declared.input.Input.{Input};
 ghost use Rattle.rev_dirty.specs.declared.output.Output.{Output};
 ghost use Rattle.rev_dirty.specs.declared.reason.Reason.TheVariants as reason;
 ghost use Rattle.rev_dirty.specs.Chosen.{positions, lacks as lacks_of, has_shown, older_by, where_holds, stamp_of_first, all_reasons as all_reasons_of};
-ghost use Rattle.rev_dirty.specs.Inputs.{deps_record as record_of, inputs as inputs_in, paths_in};
+ghost use Rattle.rev_dirty.specs.Inputs.{deps_record as record_of, inputs as inputs_in, paths_in, producers_in};
 ghost use Rattle.rev_dirty.specs.Changes.{AreChanges};
 ghost use Rattle.rev_dirty.specs.Reasons.{reasons_of, holds, newest_stamp, is_rebuilt};
 
@@ -305,6 +305,24 @@ fn all_reasons(
     Ok(reasons)
 }
 
+// The edges that produce the paths that a deps record lists. Where the caller knows that none does, none is looked up.
+fn listed_producers(
+    alloc: Global,
+    graph: &Graph,
+    listed: &[Name],
+    are_sources: bool,
+) -> Result<Vec<Option<u32>>, AllocError>
+    requires { are_sources ≡ true → producers_in graph.now.manifest.builds listed.now ≡ [] }
+    ensures { IfOk result (λ producers. producers.items
+        ≡ map (producer_of graph.now.manifest.builds) listed.now) }
+{
+    if are_sources {
+        let none = vec![in alloc; None; listed.len()]?;
+        return Ok(none);
+    }
+    producers_of(alloc, graph, listed)
+}
+
 // The reasons of an edge that is not phony.
 fn command_reasons(
     alloc: Global,
@@ -313,9 +331,12 @@ fn command_reasons(
     known: &mut Known,
     changed: &mut Changed,
     edge: u32,
+    are_sources: bool,
 ) -> Result<Vec<Reason>, AllocError>
     requires edge { edge < length graph.now.manifest.builds }
     requires command { (build_at graph.now.manifest.builds edge).phony ≡ false }
+    requires sources { are_sources ≡ true → producers_in graph.now.manifest.builds
+        (paths_in (record_of cells.now.state (build_at graph.now.manifest.builds edge))) ≡ [] }
     requires graph { IsGraph graph.now }
     requires knowledge { IsKnowledge graph.now.manifest.builds cells.now.state known.old.entries }
     requires changed { AreChanges graph.now.manifest.builds cells.now.state changed.old.entries }
@@ -327,7 +348,7 @@ fn command_reasons(
     let deps = deps_record(graph, cells, edge)?;
     let listed = listed_in(deps);
     let outputs = outputs_of(alloc, graph, cells, edge)?;
-    let producers = producers_of(alloc, graph, listed)?;
+    let producers = listed_producers(alloc, graph, listed, are_sources)?;
     let inputs = all_inputs(alloc, graph, cells, edge, listed, &producers)?;
     let changes = changes_of(alloc, graph, cells, changed, edge, listed, &producers)?;
     know(alloc, graph, cells, known, &inputs)?;
@@ -346,6 +367,7 @@ fn command_reasons(
 }
 
 /// The reasons of an edge, by what is known of phony edges and of what edges changed, and by what is learned of them.
+/// Where the caller knows that no edge produces what the deps record lists, these producers are not looked up.
 pub(crate) fn reasons_by(
     alloc: Global,
     graph: &Graph,
@@ -353,8 +375,11 @@ pub(crate) fn reasons_by(
     known: &mut Known,
     changed: &mut Changed,
     edge: u32,
+    are_sources: bool,
 ) -> Result<Vec<Reason>, AllocError>
     requires edge { edge < length graph.now.manifest.builds }
+    requires sources { are_sources ≡ true → producers_in graph.now.manifest.builds
+        (paths_in (record_of cells.now.state (build_at graph.now.manifest.builds edge))) ≡ [] }
     requires graph { IsGraph graph.now }
     requires knowledge { IsKnowledge graph.now.manifest.builds cells.now.state known.old.entries }
     requires changed { AreChanges graph.now.manifest.builds cells.now.state changed.old.entries }
@@ -366,7 +391,7 @@ pub(crate) fn reasons_by(
     if graph.is_phony(edge) {
         return phony_reasons(alloc, graph, cells, edge);
     }
-    command_reasons(alloc, graph, cells, known, changed, edge)
+    command_reasons(alloc, graph, cells, known, changed, edge, are_sources)
 }
 
 /// The greatest visible stamp of the inputs of an edge that are not order-only, 0 where there is none.

@@ -66,8 +66,11 @@ pub(crate) fn line_producers(graph: &Graph, edge: u32) -> Producers<'_>
     }
 }
 
-/// The edges that produce paths.
-pub(crate) fn producers_of(
+/// For each path the edge that produces it, if one does.
+///
+/// # Errors
+/// [`AllocError`] only where an allocation was refused.
+pub fn producers_of(
     alloc: Global,
     graph: &Graph,
     paths: &[Name],
@@ -152,6 +155,7 @@ fn push_inputs(
         ≡ inputs.old.items
         ++ map (input_facts graph.now.manifest.builds cells.now.state kind) paths.now) }
 {
+    inputs.reserve(paths.len())?;
     for (place, path) in paths.iter().enumerate() {
         inputs.push(input_of(graph, cells, kind, path, producers[place])?)?;
     }

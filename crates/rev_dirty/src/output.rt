@@ -1,9 +1,10 @@
 //! What is asked of an edge's outputs.
-ghost use Rattle.std.specs.Prelude.{◌≡◌, ◌<◌, ◌++◌, map, max, length, IfOk, OnOk, if◌then◌else◌};
+ghost use Rattle.std.specs.Prelude.{◌≡◌, ◌<◌, ◌++◌, true, Some, map, max, length, slice_get, IfOk, OnOk, if◌then◌else◌};
 ghost use Rattle.std.specs.Option.{option_copied};
 ghost use Rattle.rev_graph.specs.Graph.{build_at, outputs_of as outputs_on};
 ghost use Rattle.rev_dirty.specs.Facts.{output_facts};
-ghost use Rattle.rev_dirty.specs.Reasons.{recorded_stamp};
+ghost use Rattle.rev_dirty.specs.Reasons.{reasons_of, recorded_stamp};
+ghost use Rattle.rev_dirty.specs.declared.reason.Reason.TheVariants.{Missing};
 
 use rev_cells::records::{built, stamp};
 use rev_cells::{BuiltRecord, Cells};
@@ -116,4 +117,34 @@ pub(crate) fn outputs_of(
     push_outputs(&mut outputs, graph, cells, edge, paths.explicit)?;
     push_outputs(&mut outputs, graph, cells, edge, paths.implicit)?;
     Ok(outputs)
+}
+
+// The first output of an edge.
+fn first_output(graph: &Graph, edge: u32) -> Option<&Name>
+    requires { edge < length graph.now.manifest.builds }
+    ensures { option_copied result ≡ slice_get (outputs_on (build_at graph.now.manifest.builds edge)) 0 }
+{
+    let outputs = graph.outputs(edge);
+    match outputs.explicit.first() {
+        Some(output) => Some(output),
+        None => outputs.implicit.first(),
+    }
+}
+
+/// Whether an edge that is not phony lacks its first output, which is then the first of its reasons.
+pub(crate) fn lacks_first(graph: &Graph, cells: &Cells, edge: u32) -> Result<bool, AllocError>
+    requires { edge < length graph.now.manifest.builds }
+    ensures { IfOk result (λ lacks. lacks ≡ true
+        → slice_get (reasons_of graph.now.manifest.builds cells.now.state edge) 0 ≡ Some (Missing 0)) }
+{
+    if graph.is_phony(edge) {
+        return Ok(false);
+    }
+    match first_output(graph, edge) {
+        Some(output) => {
+            let stamp = stamp(cells, output)?;
+            Ok(stamp == 0)
+        }
+        None => Ok(false),
+    }
 }

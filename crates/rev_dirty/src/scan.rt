@@ -1,13 +1,15 @@
 //! A scan over many edges that keeps what it learned.
-ghost use Rattle.std.specs.Prelude.{◌≡◌, ◌<◌, length, IfOk};
+ghost use Rattle.std.specs.Prelude.{◌≡◌, ◌<◌, [], true, Some, length, slice_get, IfOk};
 ghost use Rattle.std.specs.List.{list_any};
 ghost use Rattle.rev_graph.specs.Graph.{build_at};
-ghost use Rattle.rev_dirty.specs.Inputs.{inputs};
+ghost use Rattle.rev_dirty.specs.Inputs.{inputs, paths_in, producers_in, deps_record};
 ghost use Rattle.rev_dirty.specs.Reasons.{reasons_of, newest_stamp, is_rebuilt};
 ghost use Rattle.rev_dirty.specs.Visible.{visible_stamp};
+ghost use Rattle.rev_dirty.specs.declared.reason.Reason.TheVariants.{Missing};
 
 use crate::change::Changed;
 use crate::dirtiness::{has_rebuilt_by, newest_stamp_by, reasons_by, visible_stamp_by};
+use crate::output::lacks_first;
 use crate::reason::Reason;
 use crate::walk::Known;
 use indexmap::IndexMap;
@@ -89,7 +91,45 @@ impl<'a> DependencyScan<'a> {
             &mut self.known,
             &mut self.changed,
             edge,
+            false,
         )
+    }
+
+    /// What [`DependencyScan::reasons`] gives, of an edge whose deps record lists sources alone, paths that no edge
+    /// produces. What produces them is not looked up.
+    ///
+    /// # Errors
+    /// [`AllocError`] only where an allocation was refused.
+    pub fn reasons_over_sources(&mut self, edge: u32) -> Result<Vec<Reason>, AllocError>
+        requires edge { edge < length self.old.graph.manifest.builds }
+        requires sources { producers_in self.old.graph.manifest.builds
+            (paths_in (deps_record self.old.state (build_at self.old.graph.manifest.builds edge))) ≡ [] }
+        ensures reasons { IfOk result (λ reasons. reasons.items
+            ≡ reasons_of self.old.graph.manifest.builds self.old.state edge) }
+        ensures same { self.new ≡ self.old }
+    {
+        reasons_by(
+            self.alloc,
+            self.graph,
+            self.cells,
+            &mut self.known,
+            &mut self.changed,
+            edge,
+            true,
+        )
+    }
+
+    /// Whether an edge lacks its first output and is not phony: then its first reason is that output, whatever its
+    /// inputs are, and none of them is looked at. Where it says no, the edge may have reasons all the same.
+    ///
+    /// # Errors
+    /// [`AllocError`] only where an allocation was refused.
+    pub fn lacks_first_output(&self, edge: u32) -> Result<bool, AllocError>
+        requires { edge < length self.now.graph.manifest.builds }
+        ensures { IfOk result (λ lacks. lacks ≡ true
+            → slice_get (reasons_of self.now.graph.manifest.builds self.now.state edge) 0 ≡ Some (Missing 0)) }
+    {
+        lacks_first(self.graph, self.cells, edge)
     }
 
     /// The greatest visible stamp of the inputs of an edge that are not order-only, 0 where there is none: what its

@@ -1,6 +1,7 @@
 //! When events are refused.
-ghost use Rattle.std.specs.Prelude.{◌≡◌, ◌<◌, length, IsTrue, Some, None, IfOk, OnOk, IsErrOf};
+ghost use Rattle.std.specs.Prelude.{◌≡◌, ◌<◌, ◌==◌, length, IsTrue, Some, None, IfOk, OnOk, IsErrOf};
 ghost use Rattle.rev_cells.specs.State.{is_halted as is_halted_in};
+ghost use Rattle.rev_dirty.specs.Reasons.{reasons_of};
 ghost use Rattle.rev_graph.specs.Graph.{build_at, pool_of};
 ghost use Rattle.rev_events.specs.declared.refusal.Refusal.{Refusal};
 ghost use Rattle.rev_events.specs.Edge.{slot_holder as slot_holder_in};
@@ -17,7 +18,7 @@ use crate::refusal::Refusal;
 use crate::words::{is_halted, is_through, is_wanted, job_holder, running, slot_holder};
 use rev_cells::Cells;
 use rev_depfile::{DepfileFault, read};
-use rev_dirty::reasons;
+use rev_dirty::{DependencyScan, reasons};
 use rev_graph::Graph;
 use rev_paths::Name;
 use rev_plan::{PlanFault, plan};
@@ -53,6 +54,20 @@ fn holder_of(graph: &Graph, cells: &Cells, edge: u32, slot: Option<u32>) -> Opti
     }
 }
 
+// Whether an edge has no reason to run. Where its first output is missing its inputs are not looked at.
+fn is_clean(alloc: Global, graph: &Graph, cells: &Cells, edge: u32) -> Result<bool, AllocError>
+    requires { edge < length graph.now.manifest.builds }
+    ensures { IfOk result (λ clean. clean
+        ≡ (length (reasons_of graph.now.manifest.builds cells.now.state edge) == 0)) }
+{
+    let mut scan = DependencyScan::new(alloc, graph, cells);
+    if scan.lacks_first_output(edge)? {
+        return Ok(false);
+    }
+    let reasons = scan.reasons(edge)?;
+    Ok(reasons.is_empty())
+}
+
 // Why a start is refused.
 #[tactic(auto, unfolding(crate::specs::Kinds::start_refusal))]
 fn start_refusal(
@@ -79,7 +94,7 @@ fn start_refusal(
     if let Some(at) = blocking_input(alloc, graph, cells, edge)? {
         return Ok(Some(Refusal::Blocked(at)));
     }
-    if reasons(alloc, graph, cells, edge)?.is_empty() {
+    if is_clean(alloc, graph, cells, edge)? {
         return Ok(Some(Refusal::NotDirty));
     }
     if job >= cells.jobs() {

@@ -1,7 +1,9 @@
 //! The marks of a plan.
 ghost use Rattle.std.specs.Prelude.{◌≡◌, ◌<◌, ◌≤◌, ◌^◌, ℕ, None, not, ◌&&◌, find, map, length, IfOk, IfErr, OnOk, if◌then◌else◌};
 ghost use Rattle.std.specs.List.{All, list_any, position, range_with_len};
-ghost use Rattle.rev_graph.specs.Graph.{is_known};
+ghost use Rattle.rev_graph.specs.Graph.{build_at, is_known};
+ghost use Rattle.rev_dirty.specs.Inputs.{producers_in, paths_in, deps_record};
+ghost use Rattle.rev_dirty.specs.Reasons.{reasons_of};
 ghost use Rattle.rev_cells.specs.State.{State};
 ghost use Rattle.rev_cells.specs.declared.mark.Mark.TheVariants as mark;
 ghost use Rattle.rev_ranks.specs.Graph.{graph_of, Reaches};
@@ -66,9 +68,35 @@ fn has_own_reason(reasons: &[Reason]) -> bool
     reasons.iter().any(|reason| reason.kind() != 4)
 }
 
-// Whether an edge that has a mark has a reason of its own.
-fn is_dirty_where(scan: &mut DependencyScan, edge: u32, is_marked: bool) -> Result<bool, AllocError>
-    requires { edge < length scan.old.graph.manifest.builds }
+// The reasons of an edge, where `listed` produce what its deps record lists.
+fn reasons_by(
+    scan: &mut DependencyScan,
+    edge: u32,
+    listed: &[u32],
+) -> Result<Vec<Reason>, AllocError>
+    requires edge { edge < length scan.old.graph.manifest.builds }
+    requires listed { listed.now ≡ producers_in scan.old.graph.manifest.builds
+        (paths_in (deps_record scan.old.state (build_at scan.old.graph.manifest.builds edge))) }
+    ensures reasons { IfOk result (λ reasons. reasons.items
+        ≡ reasons_of scan.old.graph.manifest.builds scan.old.state edge) }
+    ensures same { scan.new ≡ scan.old }
+{
+    if listed.is_empty() {
+        return scan.reasons_over_sources(edge);
+    }
+    scan.reasons(edge)
+}
+
+// Whether an edge that has a mark has a reason of its own, where `listed` produce what its deps record lists.
+fn is_dirty_where(
+    scan: &mut DependencyScan,
+    edge: u32,
+    listed: &[u32],
+    is_marked: bool,
+) -> Result<bool, AllocError>
+    requires edge { edge < length scan.old.graph.manifest.builds }
+    requires listed { listed.now ≡ producers_in scan.old.graph.manifest.builds
+        (paths_in (deps_record scan.old.state (build_at scan.old.graph.manifest.builds edge))) }
     ensures dirty { IfOk result (λ dirty. dirty
         ≡ (is_marked && is_dirty scan.old.graph.manifest.builds scan.old.state edge)) }
     ensures same { scan.new ≡ scan.old }
@@ -76,17 +104,24 @@ fn is_dirty_where(scan: &mut DependencyScan, edge: u32, is_marked: bool) -> Resu
     if !is_marked {
         return Ok(false);
     }
-    let reasons = scan.reasons(edge)?;
+    if scan.lacks_first_output(edge)? {
+        return Ok(true);
+    }
+    let reasons = reasons_by(scan, edge, listed)?;
     Ok(has_own_reason(&reasons))
 }
 
-// The edges that have a mark and a reason of their own. Each is asked for its reasons once.
+// The edges that have a mark and a reason of their own, where `listed` produce what deps records list. Each is asked
+// for its reasons once.
 fn dirty_among(
     alloc: Global,
     graph: &Graph,
     cells: &Cells,
+    listed: &[Vec<u32>],
     marks: &[bool],
 ) -> Result<Vec<bool>, AllocError>
+    requires listed { AreListed graph.now.manifest.builds cells.now.state (graph_of listed.now) }
+    requires each_listed { length listed.now ≡ length graph.now.manifest.builds }
     requires each { length marks.now ≡ length graph.now.manifest.builds }
     requires few { length graph.now.manifest.builds ≤ Graph.MAX_EDGES }
     ensures { IfOk result (λ dirty.
@@ -95,7 +130,7 @@ fn dirty_among(
     let mut scan = DependencyScan::new(alloc, graph, cells);
     let mut dirty = Vec::with_capacity(alloc, marks.len())?;
     for edge in 0..marks.len() {
-        dirty.push(is_dirty_where(&mut scan, edge as u32, marks[edge])?)?;
+        dirty.push(is_dirty_where(&mut scan, edge as u32, &listed[edge], marks[edge])?)?;
     }
     Ok(dirty)
 }
@@ -183,7 +218,7 @@ fn plan_for(
     }
     let inputs = steps_among(alloc, graph, listed, &reached, Along::Inputs)?;
     refuse_cycle(alloc, &inputs)?;
-    let dirty = dirty_among(alloc, graph, cells, &reached)?;
+    let dirty = dirty_among(alloc, graph, cells, listed, &reached)?;
     let counted = steps_among(alloc, graph, listed, &reached, Along::Counted)?;
     let wanted = leading_to(alloc, &counted, &dirty)?;
     let waiting = leading_to(alloc, &inputs, &wanted)?;
