@@ -75,6 +75,7 @@ fn edges_have_inputs(rt: HostRuntime) -> Result<(), Fail> {
     assert_eq!(rt; inputs.explicit.first(), Some(&named(alloc, b"b.o")?));
     assert_eq!(rt; inputs.implicit.len() + inputs.order_only.len(), 0);
     assert_eq!(rt; graph.producers(1), [Some(0)].as_slice());
+    assert_eq!(rt; graph.counted_producers(1), [Some(0)].as_slice());
     Ok(())
 }
 

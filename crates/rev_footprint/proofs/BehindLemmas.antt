@@ -1,5 +1,5 @@
 -- The phony edges behind edges, one after the other.
-use Rattle.std.proofs.Common.{◌≡◌, ℕ, zero, suc, ◌||◌, ◌+◌, ◌<◌, ◌≤◌, Bool, true, false, List, [], ◌∷◌, ◌++◌, length, get_or, take, Option, Some, None, inl, inr, refl, sym, ap, subst, ◌∙◌, arith, append_assoc, nat_eq, if◌then◌else◌}
+use Rattle.std.proofs.Common.{◌≡◌, ℕ, zero, suc, ◌||◌, ◌+◌, ◌<◌, ◌≤◌, Bool, true, false, List, [], ◌∷◌, ◌++◌, map, length, get_or, take, Option, IfSome, Some, None, inl, inr, refl, sym, ap, subst, ◌∙◌, arith, append_assoc, nat_eq, if◌then◌else◌}
 use Rattle.std.specs.List.{list_any, cons_option}
 use Rattle.std.proofs.lemmas.Bool.{eqb-true}
 use Rattle.std.proofs.lemmas.List.{append-nil, take_more, take_all, take-append-le}
@@ -13,7 +13,8 @@ use Rattle.rev_dirty.specs.Facts.{phony_only}
 use Rattle.rev_dirty.specs.Visible.{line_inputs}
 use Rattle.rev_dirty.proofs.ListLemmas.{in-front, in-back, in-filter_map}
 use Rattle.rev_dirty.proofs.SeesLemmas.{append-cases}
-use Rattle.rev_footprint.specs.Behind.{phony_producers, next_edges, IsBehind, IsBehind.itself, IsBehind.further, AreBehind, ArePhony, Grows}
+use Rattle.rev_dirty.proofs.WalkLemmas.{filter_map-map}
+use Rattle.rev_footprint.specs.Behind.{phony_among, phony_producers, next_edges, IsBehind, IsBehind.itself, IsBehind.further, AreBehind, ArePhony, Grows}
 
 -- LISTS THAT GROW
 pub grows-not : (old : List ℕ) → Grows old old []
@@ -68,6 +69,31 @@ phony-if builds edge other true is h =
     let same : edge ≡ other = cc in
     (same, is)
 phony-if builds edge other false is h = absurd (let no : None ≡ Some other = h in cc)
+
+-- PRODUCERS OF PATHS
+pub grows-among : (builds : List BuildValue) (old new : List ℕ) (producers : List (Option ℕ)) (paths : List (List ℕ)) → producers ≡ map (producer_of builds) paths → Grows old new (phony_among builds producers) → Grows old new (phony_producers builds paths)
+grows-among builds old new producers paths same grown =
+    grows-as old new (phony_among builds producers) (phony_producers builds paths) (ap (phony_among builds) same ∙ filter_map-map (producer_of builds) (phony_only builds) paths) grown
+
+pub grows-among-both : (builds : List BuildValue) (old middle new : List ℕ) (ps qs : List (Option ℕ)) (xs ys : List (List ℕ)) → ps ≡ map (producer_of builds) xs → qs ≡ map (producer_of builds) ys
+    → Grows old middle (phony_among builds ps) → Grows middle new (phony_among builds qs) → Grows old new (phony_producers builds (xs ++ ys))
+grows-among-both builds old middle new ps qs xs ys e f g h =
+    grows-as old new (phony_producers builds xs ++ phony_producers builds ys) (phony_producers builds (xs ++ ys)) (phony-next builds xs ys)
+    (grows-then old middle new (phony_producers builds xs) (phony_producers builds ys) (grows-among builds old middle ps xs e g) (grows-among builds middle new qs ys f h))
+
+if-within : (n : ℕ) (o : Option ℕ) → ((edge : ℕ) → o ≡ Some edge → edge < n) → IfSome o (λ edge. edge < n)
+if-within n None h = tt
+if-within n (Some edge) h = h edge refl
+
+within-at : (builds : List BuildValue) (paths : List (List ℕ)) (i : ℕ) (d : Option ℕ) → i < length (map (producer_of builds) paths) → IfSome (get_or (map (producer_of builds) paths) i d) (λ edge. edge < length builds)
+within-at builds [] i d lt = absurd (omega arith)
+within-at builds (path ∷ paths) zero d lt = if-within (length builds) (producer_of builds path) (λ edge. producer_of-within path builds edge)
+within-at builds (path ∷ paths) (suc i) d lt = within-at builds paths i d (omega arith)
+
+-- a producer of paths is an edge
+pub producer-within : (builds : List BuildValue) (producers : List (Option ℕ)) (paths : List (List ℕ)) (i : ℕ) → producers ≡ map (producer_of builds) paths → i < length producers → IfSome (get_or producers i None) (λ edge. edge < length builds)
+producer-within builds producers paths i same lt =
+    subst (λ (os : List (Option ℕ)). IfSome (get_or os i None) (λ edge. edge < length builds)) (sym same) (within-at builds paths i None (subst (λ (os : List (Option ℕ)). i < length os) same lt))
 
 -- what a path's producer is where it is phony
 pub record IsPhonyProducer (builds : List BuildValue) (path : List ℕ) (edge : ℕ) : Type 0 where

@@ -1,5 +1,5 @@
 -- The phony edges behind paths.
-use Rattle.std.specs.Prelude.{◌≡◌, ℕ, ◌++◌, List}
+use Rattle.std.specs.Prelude.{◌≡◌, ℕ, ◌++◌, List, Option, map}
 use Rattle.std.specs.List.{filter_map, flat_map}
 use Rattle.rev_manifest.specs.Manifest.{BuildValue}
 use Rattle.rev_graph.specs.Graph.{build_at, producer_of}
@@ -13,6 +13,14 @@ use Rattle.rev_dirty.specs.Walk.{IsPhonyEdge}
 -- the phony edges that produce some of these paths
 abbrev pub phony_producers : List BuildValue → List (List ℕ) → List ℕ
 phony_producers builds paths = filter_map (λ path. phony_only builds (producer_of builds path)) paths
+
+-- the phony edges among producers
+abbrev pub phony_among : List BuildValue → List (Option ℕ) → List ℕ
+phony_among builds producers = filter_map (phony_only builds) producers
+
+-- these are the producers of some paths
+abbrev pub AreProducers : List BuildValue → List (Option ℕ) → Type 0
+AreProducers builds producers = (paths : List (List ℕ)) × (producers ≡ map (producer_of builds) paths)
 
 -- the phony edges whose outputs a phony edge has among its inputs that count
 abbrev pub next_edges : List BuildValue → ℕ → List ℕ

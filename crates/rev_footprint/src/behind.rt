@@ -1,21 +1,19 @@
 //! The phony edges behind the inputs of an edge.
-ghost use Rattle.std.specs.Prelude.{◌≡◌, ◌<◌, [], length, OnOk};
+ghost use Rattle.std.specs.Prelude.{◌≡◌, ◌<◌, [], length, IfSome, OnOk};
 ghost use Rattle.std.specs.List.{cons_option};
 ghost use Rattle.rev_dirty.specs.Facts.{phony_only};
-ghost use Rattle.rev_graph.specs.Graph.{producer_of};
-ghost use Rattle.rev_footprint.specs.Behind.{phony_producers, next_edges, AreBehind, ArePhony, Grows};
+ghost use Rattle.rev_footprint.specs.Behind.{phony_among, next_edges, AreBehind, ArePhony, AreProducers, Grows};
 
 use indexmap::IndexSet;
 use rev_graph::Graph;
-use rev_paths::Name;
 use std::alloc::AllocError;
 
 // The edge that produces a path, where it is phony.
-fn phony_producer(graph: &Graph, path: &Name) -> Option<u32>
-    ensures { result ≡ phony_only graph.now.manifest.builds
-        (producer_of graph.now.manifest.builds path.now) }
+fn phony_producer(graph: &Graph, producer: Option<u32>) -> Option<u32>
+    requires { IfSome producer (λ edge. edge < length graph.now.manifest.builds) }
+    ensures { result ≡ phony_only graph.now.manifest.builds producer }
 {
-    match graph.producer(path) {
+    match producer {
         Some(edge) => {
             if graph.is_phony(edge) {
                 Some(edge)
@@ -40,17 +38,18 @@ fn add_edge(edges: &mut IndexSet<u32>, edge: Option<u32>) -> Result<(), AllocErr
     }
 }
 
-/// Adds the phony edges that produce some of the paths.
+/// Adds the phony edges among the producers of paths.
 pub(crate) fn add_phony(
     graph: &Graph,
     edges: &mut IndexSet<u32>,
-    paths: &[Name],
+    producers: &[Option<u32>],
 ) -> Result<(), AllocError>
+    requires { AreProducers graph.now.manifest.builds producers.now }
     ensures { OnOk result (Grows edges.old.keys edges.new.keys
-        (phony_producers graph.now.manifest.builds paths.now)) }
+        (phony_among graph.now.manifest.builds producers.now)) }
 {
-    for path in paths {
-        add_edge(edges, phony_producer(graph, path))?;
+    for producer in producers {
+        add_edge(edges, phony_producer(graph, *producer))?;
     }
     Ok(())
 }
@@ -61,9 +60,7 @@ fn add_next(graph: &Graph, edges: &mut IndexSet<u32>, edge: u32) -> Result<(), A
     ensures { OnOk result (Grows edges.old.keys edges.new.keys
         (next_edges graph.now.manifest.builds edge)) }
 {
-    let inputs = graph.inputs(edge);
-    add_phony(graph, edges, inputs.explicit)?;
-    add_phony(graph, edges, inputs.implicit)?;
+    add_phony(graph, edges, graph.counted_producers(edge))?;
     Ok(())
 }
 

@@ -14,7 +14,7 @@ use crate::reads::{add, add_all, add_built, add_producer_marks, add_seen_stamps,
 use crate::writes::{deps_cell, written};
 use indexmap::IndexSet;
 use rev_cells::{Cell, Cells};
-use rev_dirty::listed_inputs;
+use rev_dirty::{listed_inputs, producers_of};
 use rev_events::Event;
 use rev_graph::Graph;
 use rev_paths::Name;
@@ -76,8 +76,9 @@ fn add_reason_cells(
         (clean_reads graph.now.manifest edge cells.now.state)) }
 {
     let listed = listed_inputs(graph, cells, edge)?;
-    add_producer_marks(graph, cells, reads, edge, listed)?;
-    add_seen_stamps(alloc, graph, cells, reads, edge, listed)?;
+    let producers = producers_of(alloc, graph, listed)?;
+    add_producer_marks(graph, cells, reads, edge, &producers)?;
+    add_seen_stamps(alloc, graph, cells, reads, edge, listed, &producers)?;
     add_output_stamps(graph, reads, edge)?;
     add_output_records(graph, reads, edge)?;
     add_deps(graph, reads, edge)?;
@@ -103,6 +104,7 @@ fn add_start_cells(
 
 // Adds what a pass of an edge reads besides.
 fn add_pass_cells(
+    alloc: Global,
     graph: &Graph,
     cells: &Cells,
     reads: &mut IndexSet<Cell>,
@@ -113,7 +115,8 @@ fn add_pass_cells(
         (pass_reads graph.now.manifest edge cells.now.state)) }
 {
     let listed = listed_inputs(graph, cells, edge)?;
-    add_producer_marks(graph, cells, reads, edge, listed)?;
+    let producers = producers_of(alloc, graph, listed)?;
+    add_producer_marks(graph, cells, reads, edge, &producers)?;
     add_output_stamps(graph, reads, edge)?;
     add_deps(graph, reads, edge)?;
     Ok(())
@@ -163,6 +166,7 @@ fn of_clean(
 
 // Adds what a pass reads besides of the edge that has the output.
 fn of_pass(
+    alloc: Global,
     graph: &Graph,
     cells: &Cells,
     reads: &mut IndexSet<Cell>,
@@ -174,7 +178,7 @@ fn of_pass(
 {
     match graph.producer(out) {
         Some(edge) => {
-            add_pass_cells(graph, cells, reads, edge)?;
+            add_pass_cells(alloc, graph, cells, reads, edge)?;
             Ok(())
         }
         None => Ok(()),
@@ -199,7 +203,7 @@ fn add_besides(
             slot: _,
         } => of_start(alloc, graph, cells, reads, out),
         Event::Clean { out } => of_clean(alloc, graph, cells, reads, out),
-        Event::Pass { out } => of_pass(graph, cells, reads, out),
+        Event::Pass { out } => of_pass(alloc, graph, cells, reads, out),
         Event::Abort { out: _, stamps: _ } => add(reads, Cell::Halted),
         Event::Plan(_) => Ok(()),
         Event::Finish {

@@ -1,5 +1,5 @@
 //! Graphs of edges.
-ghost use Rattle.std.specs.Prelude.{◌≡◌, ℕ, ◌<◌, ◌↔◌, length, Some, IfSome, IfOk, IfErr, IsErrOf, OnOk};
+ghost use Rattle.std.specs.Prelude.{◌≡◌, ℕ, ◌<◌, ◌++◌, ◌↔◌, length, map, Some, IfSome, IfOk, IfErr, IsErrOf, OnOk};
 ghost use Rattle.rev_manifest.specs.Seen.{seen_pools};
 ghost use Rattle.rev_graph.specs.Fault.{Explains, IsFaultless};
 ghost use Rattle.rev_graph.specs.Graph.{build_at, is_known, producer_of, pool_of, input_producers, rank_at, IsGraph, Produces};
@@ -146,6 +146,19 @@ impl Graph {
             (build_at self.now.manifest.builds edge) }
     {
         &self.producers[edge as usize]
+    }
+
+    /// For each explicit and then each implicit input of an edge, the edge that produces it, if one does.
+    pub fn counted_producers(&self, edge: u32) -> &[Option<u32>]
+        requires { edge < length self.now.manifest.builds }
+        ensures { result.now ≡ map (producer_of self.now.manifest.builds)
+            ((build_at self.now.manifest.builds edge).explicit
+            ++ (build_at self.now.manifest.builds edge).implicit) }
+    {
+        let producers = self.producers(edge);
+        let order_only = self.inputs(edge).order_only.len();
+        let (counted, _) = producers.split_at(producers.len() - order_only);
+        counted
     }
 
     /// The outputs of an edge.

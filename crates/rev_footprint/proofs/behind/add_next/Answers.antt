@@ -1,16 +1,12 @@
-use Rattle.std.proofs.Common.{◌≡◌, ◌++◌, ◌∙◌}
 use Rattle.rev_graph.specs.Graph.{build_at}
-use Rattle.rev_footprint.specs.Behind.{phony_producers, next_edges}
-use Rattle.rev_footprint.proofs.BehindLemmas.{grows-then, grows-as, phony-next}
+use Rattle.rev_dirty.specs.Visible.{line_inputs}
+use Rattle.rev_footprint.proofs.BehindLemmas.{grows-among}
 use Rattle.rev_footprint.proofs.behind.add_next.Goals as goal
+
+pub add_phony-requires : goal.add_phony-requires
+add_phony-requires c = (line_inputs (build_at c.args.graph.now.manifest.builds c.args.edge), c.counted_producers.ensures)
 
 pub returns : goal.returns
 returns c =
     let builds = c.args.graph.now.manifest.builds in
-    let build = build_at builds c.args.edge in
-    let first = phony_producers builds c.inputs-inputs.result.explicit.now in
-    let second = phony_producers builds c.inputs-inputs.result.implicit.now in
-    let whole : first ++ second ≡ next_edges builds c.args.edge =
-    (λ i. phony_producers builds (c.inputs-inputs.ensures.explicit i) ++ phony_producers builds (c.inputs-inputs.ensures.implicit i)) ∙ phony-next builds build.explicit build.implicit in
-    grows-as c.args.edges.now.keys c.add_phony-2.new.edges.keys (first ++ second) (next_edges builds c.args.edge) whole
-    (grows-then c.args.edges.now.keys c.add_phony.new.edges.keys c.add_phony-2.new.edges.keys first second c.in_ok-add_phony.ensures c.in_ok-add_phony-2.ensures)
+    grows-among builds c.args.edges.now.keys c.add_phony.new.edges.keys c.counted_producers.result.now (line_inputs (build_at builds c.args.edge)) c.counted_producers.ensures c.in_ok-add_phony.ensures

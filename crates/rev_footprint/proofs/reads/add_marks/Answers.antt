@@ -1,23 +1,19 @@
-use Rattle.std.proofs.Common.{◌+◌, ◌++◌, [], ℕ, Option, take, map, ap, sym, ◌∙◌}
-use Rattle.std.specs.List.{cons_option}
+use Rattle.std.proofs.Common.{◌+◌, ◌++◌, [], ℕ, Option, None, get_or, take, map, refl, ap, sym, ◌∙◌}
+use Rattle.std.specs.List.{cons_option, filter_map}
 use Rattle.std.proofs.lemmas.List.{map-append}
 use Rattle.rev_cells.specs.declared.cell.Cell.TheVariants.{Mark}
-use Rattle.rev_dirty.specs.Inputs.{producers_in}
-use Rattle.rev_graph.specs.Graph.{producer_of}
 use Rattle.rev_footprint.proofs.AddsLemmas.{adds-nothing, adds-next, kept-next}
 use Rattle.rev_footprint.proofs.reads.add_marks.Goals as goal
 
-pub loop-path-init : goal.loop-path-init
-loop-path-init c = adds-nothing c.args.reads.now.keys
+pub loop-producer-init : goal.loop-producer-init
+loop-producer-init c = adds-nothing c.args.reads.now.keys
 
-pub loop-path-preserved : goal.loop-path-preserved
-loop-path-preserved c =
-    let builds = c.args.graph.now.manifest.builds in
-    let paths = c.args.paths.now in
-    let i = c.loop-path.path-index in
-    let front = producers_in builds (take i paths) in
-    adds-next c.args.reads.now.keys c.loop-path.reads.keys c.add_mark.new.reads.keys (map Mark front) (map Mark (cons_option c.producer.result [])) (map Mark (producers_in builds (take (i + 1) paths)))
-    c.loop-path.invariant c.in_ok-add_mark.ensures
-    (ap (λ (o : Option ℕ). map Mark front ++ map Mark (cons_option o [])) c.producer.ensures.value
-    ∙ sym (map-append Mark front (cons_option (producer_of builds c.path-item.result) []))
-    ∙ ap (map Mark) (kept-next (producer_of builds) paths i c.path-item.result c.path-item.result c.loop-path-test.true c.path-item.is))
+pub loop-producer-preserved : goal.loop-producer-preserved
+loop-producer-preserved c =
+    let producers = c.args.producers.now in
+    let i = c.loop-producer.producer-index in
+    let one = get_or producers i None in
+    let front = filter_map (λ (producer : Option ℕ). producer) (take i producers) in
+    adds-next c.args.reads.now.keys c.loop-producer.reads.keys c.add_mark.new.reads.keys (map Mark front) (map Mark (cons_option one [])) (map Mark (filter_map (λ (producer : Option ℕ). producer) (take (i + 1) producers)))
+    c.loop-producer.invariant c.in_ok-add_mark.ensures
+    (sym (map-append Mark front (cons_option one [])) ∙ ap (map Mark) (kept-next (λ (producer : Option ℕ). producer) producers i one None c.loop-producer-test.true refl))

@@ -1,41 +1,34 @@
-use Rattle.std.proofs.Common.{◌≡◌, ◌++◌, ap, ◌∙◌}
+use Rattle.std.proofs.Common.{◌++◌}
 use Rattle.rev_graph.specs.Graph.{build_at}
 use Rattle.rev_dirty.specs.Visible.{line_inputs}
-use Rattle.rev_footprint.specs.Behind.{phony_producers, Grows}
-use Rattle.rev_footprint.proofs.BehindLemmas.{grows-then, grows-as, phony-next, behind-grown, phony-grown}
+use Rattle.rev_footprint.specs.Behind.{phony_producers}
+use Rattle.rev_footprint.proofs.BehindLemmas.{grows-among-both, behind-grown, phony-grown}
 use Rattle.rev_footprint.proofs.reads.edges_behind.Goals as goal
+
+pub add_phony-requires : goal.add_phony-requires
+add_phony-requires c = (line_inputs (build_at c.args.graph.now.manifest.builds c.args.edge), c.counted_producers.ensures)
+
+pub add_phony-requires-2 : goal.add_phony-requires-2
+add_phony-requires-2 c = (c.args.listed.now, c.requires.producers)
 
 pub add_behind-requires : goal.add_behind-requires
 add_behind-requires c =
     let builds = c.args.graph.now.manifest.builds in
-    let build = build_at builds c.args.edge in
+    let on_line = line_inputs (build_at builds c.args.edge) in
     let old = c.new-edges.result.keys in
-    let x = phony_producers builds c.inputs-on_line.result.explicit.now in
-    let y = phony_producers builds c.inputs-on_line.result.implicit.now in
-    let z = phony_producers builds c.args.listed.now in
-    let whole : x ++ y ++ z ≡ phony_producers builds (line_inputs build ++ c.args.listed.now) =
-    (λ i. phony_producers builds (c.inputs-on_line.ensures.explicit i) ++ phony_producers builds (c.inputs-on_line.ensures.implicit i) ++ z)
-    ∙ ap (λ es. es ++ z) (phony-next builds build.explicit build.implicit) ∙ phony-next builds (line_inputs build) c.args.listed.now in
-    let grown : Grows old c.add_phony-3.new.edges.keys (phony_producers builds (line_inputs build ++ c.args.listed.now)) =
-    grows-as old c.add_phony-3.new.edges.keys (x ++ y ++ z) (phony_producers builds (line_inputs build ++ c.args.listed.now)) whole
-    (grows-then old c.add_phony-2.new.edges.keys c.add_phony-3.new.edges.keys (x ++ y) z
-    (grows-then old c.add_phony.new.edges.keys c.add_phony-2.new.edges.keys x y c.in_ok-add_phony.ensures c.in_ok-add_phony-2.ensures) c.in_ok-add_phony-3.ensures) in
-    phony-grown builds old c.add_phony-3.new.edges.keys (line_inputs build ++ c.args.listed.now) c.new-edges.ensures.empty grown
+    let middle = c.add_phony.new.edges.keys in
+    let new = c.add_phony-2.new.edges.keys in
+    phony-grown builds old new (on_line ++ c.args.listed.now) c.new-edges.ensures.empty
+    (grows-among-both builds old middle new c.counted_producers.result.now c.args.producers.now on_line c.args.listed.now c.counted_producers.ensures c.requires.producers
+    c.in_ok-add_phony.ensures c.in_ok-add_phony-2.ensures)
 
 pub returns-clause-behind : goal.returns-clause-behind
 returns-clause-behind c =
     let builds = c.args.graph.now.manifest.builds in
-    let build = build_at builds c.args.edge in
+    let on_line = line_inputs (build_at builds c.args.edge) in
     let old = c.new-edges.result.keys in
-    let x = phony_producers builds c.inputs-on_line.result.explicit.now in
-    let y = phony_producers builds c.inputs-on_line.result.implicit.now in
-    let z = phony_producers builds c.args.listed.now in
-    let more = phony_producers builds (line_inputs build ++ c.args.listed.now) in
-    let whole : x ++ y ++ z ≡ more =
-    (λ i. phony_producers builds (c.inputs-on_line.ensures.explicit i) ++ phony_producers builds (c.inputs-on_line.ensures.implicit i) ++ z)
-    ∙ ap (λ es. es ++ z) (phony-next builds build.explicit build.implicit) ∙ phony-next builds (line_inputs build) c.args.listed.now in
-    let grown : Grows old c.add_phony-3.new.edges.keys more =
-    grows-as old c.add_phony-3.new.edges.keys (x ++ y ++ z) more whole
-    (grows-then old c.add_phony-2.new.edges.keys c.add_phony-3.new.edges.keys (x ++ y) z
-    (grows-then old c.add_phony.new.edges.keys c.add_phony-2.new.edges.keys x y c.in_ok-add_phony.ensures c.in_ok-add_phony-2.ensures) c.in_ok-add_phony-3.ensures) in
-    behind-grown builds old c.add_phony-3.new.edges.keys more c.add_behind.new.edges.keys c.new-edges.ensures.empty grown c.in_ok-add_behind.ensures
+    let middle = c.add_phony.new.edges.keys in
+    let new = c.add_phony-2.new.edges.keys in
+    behind-grown builds old new (phony_producers builds (on_line ++ c.args.listed.now)) c.add_behind.new.edges.keys c.new-edges.ensures.empty
+    (grows-among-both builds old middle new c.counted_producers.result.now c.args.producers.now on_line c.args.listed.now c.counted_producers.ensures c.requires.producers
+    c.in_ok-add_phony.ensures c.in_ok-add_phony-2.ensures) c.in_ok-add_behind.ensures
