@@ -1,5 +1,5 @@
 -- The numbers under each cell, after a write of one cell and of several.
-use Rattle.std.proofs.Common.{◌≡◌, ℕ, ◌+◌, ◌<◌, ◌≤◌, Bool, true, false, ◌||◌, cond, List, [], ◌∷◌, ◌++◌, Option, None, Some, IsSome, is_some, length, take, drop, get_or, suc, refl, sym, ap, subst, ◌∙◌, inl, inr, true≢false, arith, zero, add-one}
+use Rattle.std.proofs.Common.{◌≡◌, ℕ, ◌+◌, ◌<◌, ◌≤◌, Bool, true, false, ◌||◌, cond, List, [], ◌∷◌, ◌++◌, None, Some, IsSome, length, take, drop, get_or, suc, refl, sym, ap, subst, ◌∙◌, inl, inr, true≢false, arith, zero, add-one}
 use Rattle.std.proofs.Math.Seq.{take-suc}
 use Rattle.std.specs.Map.{lookup}
 use Rattle.std.specs.Ordering.{eq_by_cmp}
@@ -58,21 +58,16 @@ at_none es c none = at_code es c ∙ ap or_none (sym none)
 pub at_some : (es : Index) (c : Cell) (v : List ℕ) → Some v ≡ lookup (cell_eq c) es → numbers_at es c ≡ v
 at_some es c v some = at_code es c ∙ ap or_none (sym some)
 
--- an empty list that is made shows nothing
-pub at_made : (es fs : Index) (c : Cell) → false ≡ is_some (lookup (cell_eq c) es) → ((q : Cell) → lookup (cell_eq q) fs ≡ cond (cell_eq c q) (Some []) (lookup (cell_eq q) es)) → (q : Cell) → numbers_at fs q ≡ numbers_at es q
-at_made es fs c none at q = at_code fs q ∙ ap or_none (at q) ∙ by (cell_eq c q) refl ∙ sym (at_code es q)
+-- a list that is made of what a change makes of nothing
+pub at_fresh : (es fs : Index) (c : Cell) (g : List ℕ → List ℕ) (w : List ℕ) → None ≡ lookup (cell_eq c) es → w ≡ g []
+    → ((q : Cell) → lookup (cell_eq q) fs ≡ cond (cell_eq c q) (Some w) (lookup (cell_eq q) es))
+    → (q : Cell) → numbers_at fs q ≡ cond (eq_by_cmp cell_cmp q c) (g (numbers_at es q)) (numbers_at es q)
+at_fresh es fs c g w none is at q =
+    at_code fs q ∙ ap or_none (at q) ∙ by (cell_eq c q) refl ∙ ap (λ b. cond b (g (numbers_at es q)) (numbers_at es q)) (sym (test_is c q))
   where
-    nothing : (o : Option (List ℕ)) → false ≡ is_some o → [] ≡ or_none o
-    nothing None h = refl
-    nothing (Some v) h = cc
-
-    by : (b : Bool) → cell_eq c q ≡ b → or_none (cond b (Some []) (lookup (cell_eq q) es)) ≡ or_none (lookup (cell_eq q) es)
-    by true e = nothing (lookup (cell_eq c) es) none ∙ ap (λ k. or_none (lookup (cell_eq k) es)) (cell_eq-exact c q e)
-    by false e = refl
-
-pub made_has : (es fs : Index) (c : Cell) → ((q : Cell) → lookup (cell_eq q) fs ≡ cond (cell_eq c q) (Some []) (lookup (cell_eq q) es)) → IsSome (lookup (eq_by_cmp cell_cmp c) fs)
-made_has es fs c at =
-    found_by fs c (subst IsSome (sym (at c ∙ ap (λ b. cond b (Some []) (lookup (cell_eq c) es)) (sym (test_is c c) ∙ (eq_by_cmp_equiv cells_total).refl c))) refl)
+    by : (b : Bool) → cell_eq c q ≡ b → or_none (cond b (Some w) (lookup (cell_eq q) es)) ≡ cond b (g (numbers_at es q)) (numbers_at es q)
+    by true e = is ∙ ap g (ap or_none none ∙ ap (λ k. or_none (lookup (cell_eq k) es)) (cell_eq-exact c q e) ∙ sym (at_code es q))
+    by false e = sym (at_code es q)
 
 -- where nothing stands, taking out changes nothing
 pub at_nothing : (es fs : Index) (c : Cell) (g : List ℕ → List ℕ) → None ≡ lookup (cell_eq c) es → g [] ≡ [] → ((q : Cell) → numbers_at fs q ≡ numbers_at es q)

@@ -1,5 +1,5 @@
 -- Numbers that rise, with one more and with one less.
-use Rattle.std.proofs.Common.{◌≡◌, ℕ, ◌+◌, ◌<◌, ◌≤◌, Bool, true, false, not, ◌&&◌, cond, List, [], ◌∷◌, ◌++◌, ◌||◌, filter, slice_get, length, get_or, drop, Option, Some, None, is_some, Ok, Err, refl, sym, ap, ap₂, ◌∙◌, inl, inr, true≢false, eq-eqb, eqb-true, ltb-true, ltb-false, lt-ltb, le-ltb, arith, zero, suc}
+use Rattle.std.proofs.Common.{◌≡◌, ℕ, ◌+◌, ◌-◌, ◌<◌, ◌≤◌, Bool, true, false, not, ◌&&◌, cond, List, [], ◌∷◌, ◌++◌, ◌||◌, filter, slice_get, length, get_or, drop, Option, Some, None, is_some, Ok, Err, refl, sym, ap, ap₂, subst, ◌∙◌, inl, inr, true≢false, eq-eqb, ne_eqb, eqb-true, ltb-true, ltb-false, lt-ltb, le-ltb, arith, zero, suc}
 use Rattle.std.specs.Prelude.{nat_eq, nat_lt}
 use Rattle.std.specs.List.{AllByRecursion}
 use Rattle.std.specs.List.Sorted.{IsBinarySearchResult}
@@ -8,7 +8,7 @@ use Rattle.std.specs.Ordering.{nat_cmp}
 use Rattle.std.proofs.lemmas.List.Sorted.{searched}
 use Rattle.rev_causal.specs.AccessLists.{first_above}
 use Rattle.rev_causal.specs.Chosen.{IsRising, is_among, without, placed}
-use Rattle.rev_causal.proofs.Chosen.{IsRising-filter, nat_eq_comm, rest_apart, without-not_among, placed-first, placed-next, rising_at}
+use Rattle.rev_causal.proofs.Chosen.{IsRising-filter, IsRising-placed, nat_eq_comm, rest_apart, without-not_among, placed-first, placed-next, rising_at}
 use Rattle.rev_causal.proofs.Runs.{either}
 use Rattle.rev_accesses.specs.Following.{is_below}
 use Rattle.rev_accesses.specs.Value.{with_number}
@@ -179,4 +179,43 @@ none_below (Some b) x k ks rising h = elim (either (is_among (x ∷ ks) k)) [
       ] in
       ap₂ (λ c d. c && d) t (le-ltb k b (omega arith))
   | inr f ↦ ap (λ c. c && nat_lt k b) f
+]
+
+-- A NUMBER ABOVE ALL OTHERS
+-- all are below one that is above the last
+below-place : (ks : List ℕ) (i l n : ℕ) → length ks ≡ suc i → IsRising ks → Some l ≡ slice_get ks i → l < n → AllByRecursion (λ k. k < n) ks
+below-place [] i l n count rising at lt = tt
+below-place (k ∷ []) zero l n count rising at lt = (let same : l ≡ k = cc in omega arith, tt)
+below-place (k ∷ []) (suc i) l n count rising at lt = absurd (omega arith)
+below-place (k ∷ m ∷ ks) zero l n count rising at lt = absurd (omega arith)
+below-place (k ∷ m ∷ ks) (suc i) l n count rising at lt =
+    let rest : AllByRecursion (λ j. j < n) (m ∷ ks) = below-place (m ∷ ks) i l n (omega arith) rising.1 at lt in
+    (let one : k < m = rising.0.0 in let two : m < n = rest.0 in omega arith, rest)
+
+pub below-last : (ks : List ℕ) (l n : ℕ) → IsRising ks → Some l ≡ slice_get ks (length ks - 1) → l < n → AllByRecursion (λ k. k < n) ks
+below-last [] l n rising at lt = tt
+below-last (k ∷ ks) l n rising at lt =
+    let place : length (k ∷ ks) - 1 ≡ length ks = omega arith in
+    below-place (k ∷ ks) (length ks) l n refl rising (at ∙ ap (slice_get (k ∷ ks)) place) lt
+
+pub apart-above : (n : ℕ) (ks : List ℕ) → AllByRecursion (λ k. k < n) ks → is_among ks n ≡ false
+apart-above n [] h = refl
+apart-above n (k ∷ ks) h = ap (λ b. b || is_among ks n) (ne_eqb n k (λ e. let lt : k < n = h.0 in omega arith)) ∙ apart-above n ks h.1
+
+placed-last : (n : ℕ) (ks : List ℕ) → AllByRecursion (λ k. k < n) ks → placed n ks ≡ ks ++ n ∷ []
+placed-last n [] h = refl
+placed-last n (k ∷ ks) h = placed-next n k ks h.0 ∙ ap (λ xs. k ∷ xs) (placed-last n ks h.1)
+
+-- it comes last
+pub with_number-last : (n : ℕ) (ks : List ℕ) → AllByRecursion (λ k. k < n) ks → with_number n ks ≡ ks ++ n ∷ []
+with_number-last n ks h = ap (λ b. cond b ks (placed n ks)) (apart-above n ks h) ∙ placed-last n ks h
+
+pub rising-last : (n : ℕ) (ks : List ℕ) → IsRising ks → AllByRecursion (λ k. k < n) ks → IsRising (ks ++ n ∷ [])
+rising-last n ks rising h = subst IsRising (placed-last n ks h) (IsRising-placed n ks rising (apart-above n ks h))
+
+-- the others stay
+pub with_number-but : (n : ℕ) (ks : List ℕ) → IsRising ks → without n (with_number n ks) ≡ without n ks
+with_number-but n ks rising = elim (either (is_among ks n)) [
+  | inl t ↦ ap (λ b. without n (cond b ks (placed n ks))) t
+  | inr f ↦ ap (λ b. without n (cond b ks (placed n ks))) f ∙ without-placed n ks rising f
 ]

@@ -15,25 +15,14 @@ use indexmap::IndexMap;
 use rev_cells::Cell;
 use std::alloc::{AllocError, Global};
 
-// Makes an empty list for a cell that has none.
-fn make_list(
+// Puts a number into the list of a cell, unless it is there; a cell that has no list gets one. It looks a cell that has
+// one up once.
+fn put_at(
     alloc: Global,
     index: &mut IndexMap<Cell, Rising>,
     cell: &Cell,
+    number: u32,
 ) -> Result<(), AllocError>
-    ensures same { (c : Cell) → numbers_at index.new.entries c ≡ numbers_at index.old.entries c }
-    ensures has { OnOk result (IsSome (lookup (eq_by_cmp cell_cmp cell.now) index.new.entries)) }
-{
-    if index.contains_key(cell) {
-        return Ok(());
-    }
-    index.insert(cell.copy()?, Rising::new(alloc))?;
-    Ok(())
-}
-
-// Puts a number into the list of a cell, unless it is there.
-fn put_at(index: &mut IndexMap<Cell, Rising>, cell: &Cell, number: u32) -> Result<(), AllocError>
-    requires { IsSome (lookup (eq_by_cmp cell_cmp cell.now) index.old.entries) }
     ensures ok { OnOk result ((c : Cell)
         → numbers_at index.new.entries c
         ≡ cond (eq_by_cmp cell_cmp c cell.now)
@@ -43,10 +32,11 @@ fn put_at(index: &mut IndexMap<Cell, Rising>, cell: &Cell, number: u32) -> Resul
     ensures others { (c : Cell) → eq_by_cmp cell_cmp c cell.now ≡ false
         → numbers_at index.new.entries c ≡ numbers_at index.old.entries c }
 {
-    let Some(numbers) = index.get_mut(cell) else {
-        unreachable!()
-    };
-    numbers.put(number)?;
+    if let Some(numbers) = index.get_mut(cell) {
+        numbers.put(number)?;
+        return Ok(());
+    }
+    index.insert(cell.copy()?, Rising::of(alloc, number)?)?;
     Ok(())
 }
 
@@ -95,8 +85,7 @@ pub(crate) fn put_all(
     ensures partly { PartlyPut number cells.now index.old.entries index.new.entries }
 {
     for cell in cells {
-        make_list(alloc, index, cell)?;
-        put_at(index, cell, number)?;
+        put_at(alloc, index, cell, number)?;
     }
     Ok(())
 }

@@ -1,11 +1,11 @@
 //! The numbers under one cell.
-ghost use Rattle.std.specs.Prelude.{◌≡◌, ℕ, ◌||◌, [], OnOk, OnErr};
+ghost use Rattle.std.specs.Prelude.{◌≡◌, ℕ, ◌||◌, ◌∷◌, [], IfOk, OnOk, OnErr};
 ghost use Rattle.rev_causal.specs.AccessLists.{first_above as first_above_in};
 ghost use Rattle.rev_causal.specs.Chosen.{IsRising, is_among, without};
 ghost use Rattle.rev_accesses.specs.Following.{is_between};
 ghost use Rattle.rev_accesses.specs.Value.{with_number};
 
-use crate::numbers::{add_between, first_above, place_of, put_in, take_out};
+use crate::numbers::{add_between, first_above, is_above_all, place_of, put_in, take_out};
 use crate::pending::Pending;
 use std::alloc::{AllocError, Global};
 use std::marker::Model;
@@ -37,12 +37,25 @@ impl Rising {
         }
     }
 
-    // Puts a number at its place, unless it is there.
+    // One number.
+    pub(crate) fn of(alloc: Global, number: u32) -> Result<Rising, AllocError>
+        ensures { IfOk result (λ rising. rising ≡ number ∷ []) }
+    {
+        let mut rising = Rising::new(alloc);
+        rising.put(number)?;
+        Ok(rising)
+    }
+
+    // Puts a number at its place, unless it is there. One that is above all others is put last without a search.
     pub(crate) fn put(&mut self, number: u32) -> Result<(), AllocError>
         ensures ok { OnOk result (self.new ≡ with_number number self.old) }
         ensures err { OnErr result (self.new ≡ self.old) }
         ensures but_for { without number self.new ≡ without number self.old }
     {
+        if is_above_all(&self.numbers, number) {
+            self.numbers.push(number)?;
+            return Ok(());
+        }
         if place_of(&self.numbers, number).is_some() {
             return Ok(());
         }
