@@ -4,3 +4,4 @@ pub mod IndexLemmas
 pub mod Places
 pub mod RisingLemmas
 pub mod ShowsLemmas
+pub mod UsersLemmas

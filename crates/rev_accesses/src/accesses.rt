@@ -14,19 +14,20 @@ use crate::index::{add_firsts, add_users, lesser, nearest, put_all, take_all};
 use crate::numbers::add_between;
 use crate::pending::Pending;
 use crate::rising::Rising;
+use crate::users::{Access, Users};
 use indexmap::IndexMap;
 use rev_cells::Cell;
 use std::alloc::{AllocError, Global};
 use std::marker::Model;
 
 /// Under each cell the rising numbers of the events that write it, and of those that read it; beside them those of
-/// whole events, which read and write every cell. A list that was made for a cell stays, so that taking out takes no
-/// memory.
+/// whole events, which read and write every cell. Both lists of a cell stand under it in one map, so that a cell that
+/// is read and written is kept once. The lists that were made for a cell stay, empty or not, so that taking out takes
+/// no memory.
 #[derive(Drop)]
 pub struct Accesses {
     alloc: Global,
-    writers: IndexMap<Cell, Rising>,
-    readers: IndexMap<Cell, Rising>,
+    users: IndexMap<Cell, Users>,
     whole: Rising,
 }
 
@@ -37,7 +38,14 @@ impl Model for Accesses {
 
     ghost coded = { accesses_code };
 
-    ghost view = { λ a. record { writers = a.writers.entries; readers = a.readers.entries; whole = a.whole } };
+    ghost use Rattle.rev_accesses.specs.declared.users.Access.TheVariants.{Read, Write};
+    ghost use Rattle.rev_accesses.specs.Users.{listed};
+
+    ghost view = { λ a. record {
+      writers = listed Write a.users.entries;
+      readers = listed Read a.users.entries;
+      whole = a.whole;
+    } };
 }
 
 impl Accesses {
@@ -47,8 +55,7 @@ impl Accesses {
     {
         Accesses {
             alloc,
-            writers: IndexMap::new(alloc),
-            readers: IndexMap::new(alloc),
+            users: IndexMap::new(alloc),
             whole: Rising::new(alloc),
         }
     }
@@ -104,9 +111,9 @@ impl Accesses {
             → Shows self.now prints → result ≡ nearest_in cell_cmp number f prints }
     {
         let whole = self.whole.first_above(number);
-        let written = nearest(&self.writers, writes, number);
-        let used = nearest(&self.readers, writes, number);
-        let source = nearest(&self.writers, reads, number);
+        let written = nearest(&self.users, Access::Write, writes, number);
+        let used = nearest(&self.users, Access::Read, writes, number);
+        let source = nearest(&self.users, Access::Write, reads, number);
         lesser(whole, lesser(lesser(written, used), source))
     }
 
@@ -125,8 +132,8 @@ impl Accesses {
             → IsFollowed prints number f pending.old pending.new) }
     {
         pending.add_some(self.whole.first_above(number))?;
-        add_users(pending, &self.writers, &self.readers, writes, number)?;
-        add_firsts(pending, &self.writers, reads, number)?;
+        add_users(pending, &self.users, writes, number)?;
+        add_firsts(pending, &self.users, reads, number)?;
         Ok(())
     }
 
@@ -156,8 +163,8 @@ impl Accesses {
         ensures partly_read { PartlyPut number reads.now self.old.readers self.new.readers }
         ensures whole { self.new.whole ≡ self.old.whole }
     {
-        put_all(self.alloc, &mut self.writers, writes, number)?;
-        put_all(self.alloc, &mut self.readers, reads, number)?;
+        put_all(self.alloc, &mut self.users, Access::Read, reads, number)?;
+        put_all(self.alloc, &mut self.users, Access::Write, writes, number)?;
         Ok(())
     }
 
@@ -167,7 +174,7 @@ impl Accesses {
         ensures read { TakenFrom number reads.now self.old.readers self.new.readers }
         ensures whole { self.new.whole ≡ self.old.whole }
     {
-        take_all(&mut self.writers, writes, number);
-        take_all(&mut self.readers, reads, number);
+        take_all(&mut self.users, Access::Read, reads, number);
+        take_all(&mut self.users, Access::Write, writes, number);
     }
 }

@@ -1,5 +1,5 @@
 //! The numbers under one cell.
-ghost use Rattle.std.specs.Prelude.{◌≡◌, ℕ, ◌||◌, ◌∷◌, [], IfOk, OnOk, OnErr};
+ghost use Rattle.std.specs.Prelude.{◌≡◌, ℕ, ◌||◌, [], OnOk, OnErr};
 ghost use Rattle.rev_causal.specs.AccessLists.{first_above as first_above_in};
 ghost use Rattle.rev_causal.specs.Chosen.{IsRising, is_among, without};
 ghost use Rattle.rev_accesses.specs.Following.{is_between};
@@ -36,15 +36,6 @@ impl Rising {
         Rising {
             numbers: SmallVec::new(alloc),
         }
-    }
-
-    // One number.
-    pub(crate) fn of(alloc: Global, number: u32) -> Result<Rising, AllocError>
-        ensures { IfOk result (λ rising. rising ≡ number ∷ []) }
-    {
-        let mut rising = Rising::new(alloc);
-        rising.put(number)?;
-        Ok(rising)
     }
 
     // Puts a number at its place, unless it is there. One that is above all others is put last without a search.

@@ -1,0 +1,72 @@
+//! Those that use one cell.
+ghost use Rattle.std.specs.Prelude.{◌≡◌, ◌∷◌, [], IfOk, OnOk};
+ghost use Rattle.rev_causal.specs.Chosen.{without};
+ghost use Rattle.rev_accesses.specs.Users.{numbers_of, other};
+ghost use Rattle.rev_accesses.specs.Value.{with_number};
+
+use crate::rising::Rising;
+use std::alloc::{AllocError, Global};
+
+/// How a cell is accessed.
+#[derive(Clone, Copy)]
+pub(crate) enum Access {
+    /// It is read.
+    Read,
+    /// It is written.
+    Write,
+}
+
+/// The numbers of the events that read one cell, and of those that write it. A number may be in both.
+#[derive(Drop)]
+pub(crate) struct Users {
+    pub(crate) readers: Rising,
+    pub(crate) writers: Rising,
+}
+
+impl Users {
+    // One number.
+    pub(crate) fn of(alloc: Global, access: Access, number: u32) -> Result<Users, AllocError>
+        ensures one { IfOk result (λ users. numbers_of access users ≡ number ∷ []) }
+        ensures rest { IfOk result (λ users. numbers_of (other access) users ≡ []) }
+    {
+        let mut users = Users {
+            readers: Rising::new(alloc),
+            writers: Rising::new(alloc),
+        };
+        users.put(access, number)?;
+        Ok(users)
+    }
+
+    // Puts a number at its place, unless it is there.
+    pub(crate) fn put(&mut self, access: Access, number: u32) -> Result<(), AllocError>
+        ensures ok { OnOk result (numbers_of access self.new ≡ with_number number (numbers_of access self.old)) }
+        ensures but_for { without number (numbers_of access self.new) ≡ without number (numbers_of access self.old) }
+        ensures rest { numbers_of (other access) self.new ≡ numbers_of (other access) self.old }
+    {
+        match access {
+            Access::Read => self.readers.put(number),
+            Access::Write => self.writers.put(number),
+        }
+    }
+
+    // Takes a number out, if it is there. It takes no memory.
+    pub(crate) fn take(&mut self, access: Access, number: u32)
+        ensures taken { numbers_of access self.new ≡ without number (numbers_of access self.old) }
+        ensures rest { numbers_of (other access) self.new ≡ numbers_of (other access) self.old }
+    {
+        match access {
+            Access::Read => self.readers.take(number),
+            Access::Write => self.writers.take(number),
+        }
+    }
+
+    // The numbers of those that access the cell in one way.
+    pub(crate) fn numbers(&self, access: Access) -> &Rising
+        ensures { result.now ≡ numbers_of access self.now }
+    {
+        match access {
+            Access::Read => &self.readers,
+            Access::Write => &self.writers,
+        }
+    }
+}
