@@ -39,6 +39,10 @@ positions_in xs = range_with_len 0 (length xs)
 abbrev pub is_missing : State → List ℕ → Bool
 is_missing state output = stamp_of state output == 0
 
+-- a missing first output is a reason of an edge that is not phony, whatever its inputs are
+abbrev pub lacks_first : State → BuildValue → Bool
+lacks_first state build = not build.phony && holds_at (is_missing state) (outputs_of build) 0
+
 -- the stamp of the first of outputs
 abbrev pub first_stamp : State → List (List ℕ) → ℕ
 first_stamp state [] = 0

@@ -3,7 +3,7 @@ ghost use Rattle.std.specs.Prelude.{◌≡◌, ◌<◌, ◌++◌, true, Some, ma
 ghost use Rattle.std.specs.Option.{option_copied};
 ghost use Rattle.rev_graph.specs.Graph.{build_at, outputs_of as outputs_on};
 ghost use Rattle.rev_dirty.specs.Facts.{output_facts};
-ghost use Rattle.rev_dirty.specs.Reasons.{reasons_of, recorded_stamp};
+ghost use Rattle.rev_dirty.specs.Reasons.{lacks_first as lacks_first_of, reasons_of, recorded_stamp};
 ghost use Rattle.rev_dirty.specs.declared.reason.Reason.TheVariants.{Missing};
 
 use rev_cells::records::{built, stamp};
@@ -134,7 +134,9 @@ fn first_output(graph: &Graph, edge: u32) -> Option<&Name>
 /// Whether an edge that is not phony lacks its first output, which is then the first of its reasons.
 pub(crate) fn lacks_first(graph: &Graph, cells: &Cells, edge: u32) -> Result<bool, AllocError>
     requires { edge < length graph.now.manifest.builds }
-    ensures { IfOk result (λ lacks. lacks ≡ true
+    ensures exact { IfOk result (λ lacks. lacks
+        ≡ lacks_first_of cells.now.state (build_at graph.now.manifest.builds edge)) }
+    ensures first { IfOk result (λ lacks. lacks ≡ true
         → slice_get (reasons_of graph.now.manifest.builds cells.now.state edge) 0 ≡ Some (Missing 0)) }
 {
     if graph.is_phony(edge) {

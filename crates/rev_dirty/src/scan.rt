@@ -3,7 +3,7 @@ ghost use Rattle.std.specs.Prelude.{◌≡◌, ◌<◌, [], true, Some, length, 
 ghost use Rattle.std.specs.List.{list_any};
 ghost use Rattle.rev_graph.specs.Graph.{build_at};
 ghost use Rattle.rev_dirty.specs.Inputs.{inputs, paths_in, producers_in, deps_record};
-ghost use Rattle.rev_dirty.specs.Reasons.{reasons_of, newest_stamp, is_rebuilt};
+ghost use Rattle.rev_dirty.specs.Reasons.{lacks_first as lacks_first_of, reasons_of, newest_stamp, is_rebuilt};
 ghost use Rattle.rev_dirty.specs.Visible.{visible_stamp};
 ghost use Rattle.rev_dirty.specs.declared.reason.Reason.TheVariants.{Missing};
 
@@ -126,7 +126,9 @@ impl<'a> DependencyScan<'a> {
     /// [`AllocError`] only where an allocation was refused.
     pub fn lacks_first_output(&self, edge: u32) -> Result<bool, AllocError>
         requires { edge < length self.now.graph.manifest.builds }
-        ensures { IfOk result (λ lacks. lacks ≡ true
+        ensures exact { IfOk result (λ lacks. lacks
+            ≡ lacks_first_of self.now.state (build_at self.now.graph.manifest.builds edge)) }
+        ensures first { IfOk result (λ lacks. lacks ≡ true
             → slice_get (reasons_of self.now.graph.manifest.builds self.now.state edge) 0 ≡ Some (Missing 0)) }
     {
         lacks_first(self.graph, self.cells, edge)
