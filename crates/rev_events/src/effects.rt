@@ -42,7 +42,7 @@ fn start_effect(
         Adds [] writes.items (start_effect_in graph.now.manifest edge job slot cells.now.state)) }
 {
     let seen = stamp_seen(alloc, graph, cells, edge)?;
-    let mut writes = Vec::new(alloc);
+    let mut writes = Vec::with_capacity(alloc, 2)?;
     let running = Mark::Running { job, slot, seen };
     push_write(&mut writes, Cell::Mark(edge), Value::Mark(running))?;
     push_write(&mut writes, Cell::Job(job), Value::Job(Some(edge)))?;

@@ -6,6 +6,7 @@ pub mod HeldRuns
 pub mod KindLemmas
 pub mod Local
 pub mod MadeLemmas
+pub mod OnceLemmas
 pub mod RowLemmas
 pub mod SeenStamps
 pub mod WritesLemmas

@@ -1,6 +1,9 @@
 -- A footprint that is made of its cells.
 use Rattle.std.proofs.Common.{◌≡◌, Bool, true, ◌||◌, List, [], ◌++◌, sym, ap, ◌∙◌}
 use Rattle.std.specs.FinSet as cells
+use Rattle.std.specs.Ordering.{eq_by_cmp}
+use Rattle.std.proofs.lemmas.List.{append-nil}
+use Rattle.std.proofs.lemmas.List.Folds.{list_any-append}
 use Rattle.rev_cells.specs.declared.cell.Cell.{Cell}
 use Rattle.rev_cells.specs.Keys.{cell_cmp}
 use Rattle.rev_cells.proofs.EntryLemmas.{cells_total, cells_exact}
@@ -22,5 +25,10 @@ or-left : (a b : Bool) → a ≡ true → (a || b) ≡ true
 or-left a b h = ap (λ x. x || b) h
 
 -- what is written is among them
-pub written-read : (keys writes middle : List Cell) (besides : List Cell) → Adds [] middle writes → Adds middle keys besides → (c : Cell) → among cell_cmp writes c ≡ true → among cell_cmp keys c ≡ true
-written-read keys writes middle besides first then c h = then c ∙ or-left (among cell_cmp middle c) (among cell_cmp besides c) (first c ∙ h)
+pub written-read : (keys writes besides : List Cell) → Adds [] keys (writes ++ besides) → (c : Cell) → among cell_cmp writes c ≡ true → among cell_cmp keys c ≡ true
+written-read keys writes besides added c h =
+    added c ∙ list_any-append (eq_by_cmp cell_cmp c) writes besides ∙ or-left (among cell_cmp writes c) (among cell_cmp besides c) h
+
+-- what is written, where nothing is read besides
+pub adds-themselves : (writes besides : List Cell) → besides ≡ [] → Adds [] writes (writes ++ besides)
+adds-themselves writes besides none c = ap (λ ks. among cell_cmp ks c) (sym (ap (λ more. writes ++ more) none ∙ append-nil writes))

@@ -1,6 +1,7 @@
 pub mod Adds
 pub mod Behind
 pub mod Footprint
+pub mod Held
 pub mod Laws
 pub mod Machine
 pub mod Reads

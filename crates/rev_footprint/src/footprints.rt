@@ -5,16 +5,17 @@ ghost use Rattle.std.specs.List.{IsDistinct, list_any};
 ghost use Rattle.std.specs.Ordering.{eq_by_cmp};
 ghost use Rattle.rev_causal.specs.Store.{among, conflict as conflict_of};
 ghost use Rattle.rev_cells.specs.Keys.{cell_cmp};
+ghost use Rattle.rev_footprint.specs.Held.{cells_read};
 ghost use Rattle.rev_footprint.specs.Value.{print_of};
 
-use indexmap::IndexSet;
+use crate::held::Held;
 use rev_cells::Cell;
 use std::marker::Model;
 
 /// The cells that an event reads and writes in a state. A written cell is read too.
 #[derive(Drop)]
 pub struct Footprint {
-    reads: IndexSet<Cell>,
+    reads: Held,
     writes: Vec<Cell>,
     whole: bool,
 }
@@ -35,10 +36,12 @@ impl Model for Footprint {
 
 impl Footprint {
     // The footprint of an event that writes these cells, and reads these, in which the written ones are.
-    pub(crate) fn of(reads: IndexSet<Cell>, writes: Vec<Cell>, whole: bool) -> Footprint
-        requires { (c : Cell) → among cell_cmp writes.items c ≡ true → among cell_cmp reads.keys c ≡ true }
+    pub(crate) fn of(reads: Held, writes: Vec<Cell>, whole: bool) -> Footprint
+        requires read { (c : Cell) → among cell_cmp writes.items c ≡ true
+            → among cell_cmp (cells_read reads writes.items) c ≡ true }
+        requires distinct { IsDistinct (eq_by_cmp cell_cmp) (cells_read reads writes.items) }
         ensures { result ≡ record {
-          reads = cells.from_list reads.keys;
+          reads = cells.from_list (cells_read reads writes.items);
           writes = writes.items;
           whole =
               whole;
@@ -57,7 +60,28 @@ impl Footprint {
         ensures same { cells.from_list result.now ≡ self.now.reads }
         ensures distinct { IsDistinct (eq_by_cmp cell_cmp) result.now }
     {
-        self.reads.as_slice()
+        match &self.reads {
+            Held::Written => self.writes.as_slice(),
+            Held::Listed(cells) => cells.as_slice(),
+            Held::Hashed(cells) => cells.as_slice(),
+        }
+    }
+
+    // Whether a cell is read. Where there are many it is looked up.
+    fn has(&self, cell: &Cell) -> bool
+        ensures { result ≡ cells.contains self.now.reads cell.now }
+    {
+        match &self.reads {
+            Held::Hashed(cells) => cells.contains(cell),
+            Held::Written | Held::Listed(_) => self.reads().contains(cell),
+        }
+    }
+
+    // Whether one of the cells is read.
+    fn has_some(&self, asked: &[Cell]) -> bool
+        ensures { result ≡ list_any (cells.contains self.now.reads) asked.now }
+    {
+        asked.iter().any(|cell| self.has(cell))
     }
 
     /// The cells that are written, in the order of the event's effect.
@@ -75,20 +99,6 @@ impl Footprint {
     }
 }
 
-// Whether a cell is in the set.
-fn has(set: &IndexSet<Cell>, cell: &Cell) -> bool
-    ensures { result ≡ among cell_cmp set.now.keys cell.now }
-{
-    set.contains(cell)
-}
-
-// Whether one of the cells is in the set.
-fn has_some(set: &IndexSet<Cell>, cells: &[Cell]) -> bool
-    ensures { result ≡ list_any (among cell_cmp set.now.keys) cells.now }
-{
-    cells.iter().any(|cell| has(set, cell))
-}
-
 /// Whether two footprints conflict: one is whole, or a cell that one writes is read or written by the other.
 ///
 /// It takes no memory, and time linear in the cells that they write, up to hashing.
@@ -101,8 +111,8 @@ pub fn conflict(first: &Footprint, second: &Footprint) -> bool
     if second.whole {
         return true;
     }
-    if has_some(&second.reads, &first.writes) {
+    if second.has_some(first.writes()) {
         return true;
     }
-    has_some(&first.reads, &second.writes)
+    first.has_some(second.writes())
 }

@@ -3,6 +3,7 @@
 
 mod behind;
 mod footprints;
+mod held;
 pub mod laws;
 mod of_event;
 mod reads;

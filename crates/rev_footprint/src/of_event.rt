@@ -1,15 +1,23 @@
 //! The footprint of an event.
-ghost use Rattle.std.specs.Prelude.{◌≡◌, ◌<◌, [], length, IfOk, OnOk};
+ghost use Rattle.std.specs.Prelude.{◌≡◌, ◌<◌, ◌++◌, true, [], length, IfOk, OnOk};
+ghost use Rattle.std.specs.List.{IsDistinct};
+ghost use Rattle.std.specs.Ordering.{eq_by_cmp};
 ghost use Rattle.rev_events.specs.Machine.{of_edge, edge_of};
 ghost use Rattle.rev_graph.specs.Graph.{build_at};
 ghost use Rattle.rev_dirty.specs.Inputs.{paths_in, deps_record};
 ghost use Rattle.rev_dirty.specs.Seen.{stamp_cells, built_cells, deps_cells};
 ghost use Rattle.rev_graph.specs.Graph.{outputs_of};
+ghost use Rattle.rev_cells.specs.Keys.{cell_cmp};
+ghost use Rattle.rev_cells.specs.State.{State};
+ghost use Rattle.rev_events.specs.Written.{written as written_by};
+ghost use Rattle.rev_manifest.specs.Manifest.{ManifestValue};
 ghost use Rattle.rev_footprint.specs.Adds.{Adds};
 ghost use Rattle.rev_footprint.specs.Footprint.{footprint as footprint_of, is_plan as is_plan_event};
+ghost use Rattle.rev_footprint.specs.Held.{cells_read};
 ghost use Rattle.rev_footprint.specs.Reads.{start_reads, clean_reads, pass_reads, reads_besides};
 
 use crate::footprints::Footprint;
+use crate::held::{Held, are_few, set_held};
 use crate::reads::{add, add_all, add_built, add_producer_marks, add_seen_stamps, add_stamps};
 use crate::writes::{deps_cell, written};
 use indexmap::IndexSet;
@@ -19,6 +27,9 @@ use rev_events::Event;
 use rev_graph::Graph;
 use rev_paths::Name;
 use std::alloc::{AllocError, Global};
+
+// Room for the cells that most events read.
+const USUAL: usize = 32;
 
 // Adds the stamps of an edge's outputs.
 fn add_output_stamps(graph: &Graph, reads: &mut IndexSet<Cell>, edge: u32) -> Result<(), AllocError>
@@ -227,6 +238,69 @@ fn is_plan(event: &Event) -> bool
     }
 }
 
+// Whether an event reads no cells but those that it writes.
+fn reads_its_writes(event: &Event) -> bool
+    ensures { result ≡ true → (manifest : ManifestValue) (state : State)
+        → reads_besides manifest state event.now ≡ [] }
+{
+    match event {
+        Event::Start {
+            out: _,
+            job: _,
+            slot: _,
+        } => false,
+        Event::Clean { out: _ } => false,
+        Event::Pass { out: _ } => false,
+        Event::Abort { out: _, stamps: _ } => false,
+        Event::Plan(_) => true,
+        Event::Finish {
+            out: _,
+            stamps: _,
+            listing: _,
+        } => true,
+        Event::Fail { out: _, stamps: _ } => true,
+        Event::Touch { path: _, stamp: _ } => true,
+        Event::Interrupt => true,
+    }
+}
+
+// Whether the list of so many cells that an event writes does for those that it reads: it reads no others, and they are
+// few, or the event is whole, whose cells are not looked through.
+fn do_for_reads(event: &Event, writes: usize) -> bool
+    ensures { result ≡ true → (manifest : ManifestValue) (state : State)
+        → reads_besides manifest state event.now ≡ [] }
+{
+    if !reads_its_writes(event) {
+        return false;
+    }
+    is_plan(event) || are_few(writes)
+}
+
+// The cells that an event reads which writes these.
+fn cells_held(
+    alloc: Global,
+    graph: &Graph,
+    cells: &Cells,
+    event: &Event,
+    writes: &[Cell],
+) -> Result<Held, AllocError>
+    requires { writes.now ≡ written_by graph.now.manifest cells.now.state event.now }
+    ensures cells { IfOk result (λ held. Adds [] (cells_read held writes.now)
+        (writes.now ++ reads_besides graph.now.manifest cells.now.state event.now)) }
+    ensures distinct { IfOk result (λ held. IsDistinct (eq_by_cmp cell_cmp) (cells_read held writes.now)) }
+{
+    // What it promises of every graph, that no output stands twice on a build line, is why no cell is written twice.
+    let _edges = graph.edges();
+    if do_for_reads(event, writes.len()) {
+        return Ok(Held::Written);
+    }
+    let mut reads = IndexSet::with_capacity(alloc, USUAL)?;
+    add_all(&mut reads, writes)?;
+    add_besides(alloc, graph, cells, &mut reads, event)?;
+    let held = set_held(alloc, reads)?;
+    Ok(held)
+}
+
 /// The footprint of an event in a state: exactly the cells that an accepted event of its kind reads and writes there. A
 /// plan is whole.
 ///
@@ -249,8 +323,6 @@ pub fn footprint(
         ≡ footprint_of graph.now.manifest cells.now.state event.now) }
 {
     let writes = written(alloc, graph, cells, event)?;
-    let mut reads = IndexSet::new(alloc);
-    add_all(&mut reads, &writes)?;
-    add_besides(alloc, graph, cells, &mut reads, event)?;
+    let reads = cells_held(alloc, graph, cells, event, &writes)?;
     Ok(Footprint::of(reads, writes, is_plan(event)))
 }

@@ -170,7 +170,7 @@ fn start_writes(
     ensures { IfOk result (λ writes. (state : State)
         → writes.items ≡ start_writes_of graph.now.manifest edge job slot state) }
 {
-    let mut writes = Vec::new(alloc);
+    let mut writes = Vec::with_capacity(alloc, 2)?;
     writes.push(Cell::Mark(edge))?;
     writes.push(Cell::Job(job))?;
     push_slot(&mut writes, graph.pool(edge), slot)?;

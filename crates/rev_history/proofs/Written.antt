@@ -20,6 +20,7 @@ use Rattle.rev_events.specs.Laws.{OutputsOnce}
 use Rattle.rev_events.specs.Machine.{effect}
 use Rattle.rev_events.specs.Written.{written}
 use Rattle.rev_events.proofs.WrittenLemmas.{written-same, written-once}
+use Rattle.rev_footprint.proofs.OnceLemmas.{once_by_test, outputs_once}
 
 -- one by one
 pub each_fits : (ws : List (Cell × Value)) → AllFit ws → AllByRecursion (λ (w : Cell × Value). Fits w.0 w.1) ws
@@ -34,36 +35,7 @@ cells-keys : (ws : List (Cell × Value)) → cells_of ws ≡ keys_of (stored_val
 cells-keys [] = refl
 cells-keys (w ∷ ws) = ap (λ cs. w.0 ∷ cs) (cells-keys ws)
 
--- what stands once, by the test
-once_by_test : (xs : List Cell) → Distinct xs → IsDistinct (eq_by_cmp cell_cmp) xs
-unfolding IsDistinct
-once_by_test [] h = tt
-once_by_test (x ∷ xs) h = (apart xs h.0, once_by_test xs h.1)
-  where
-    apart : (ys : List Cell) → (Has ys x → ⊥) → AllByRecursion (λ y. eq_by_cmp cell_cmp x y ≡ false) ys
-    apart [] none = tt
-    apart (y ∷ ys) none = (other_cell x y (λ e. none (inl (sym e))), apart ys (λ r. none (inr r)))
-
-once_by_bytes : (xs : List (List ℕ)) → IsDistinct bytes_eq xs → Distinct xs
-unfolding IsDistinct
-once_by_bytes [] h = tt
-once_by_bytes (x ∷ xs) h = (λ has. apart xs h.0 has, once_by_bytes xs h.1)
-  where
-    apart : (ys : List (List ℕ)) → AllByRecursion (λ y. bytes_eq x y ≡ false) ys → Has ys x → ⊥
-    apart [] none has = has
-    apart (y ∷ ys) none has = elim has [
-      | inl p ↦ true≢false (sym (own_bytes x) ∙ sym (ap (bytes_eq x) p) ∙ none.0)
-      | inr r ↦ apart ys none.1 r
-    ]
-
-build_within : (pools : ℕ) (builds : List BuildValue) (edge : ℕ) → All (IsBuild pools) builds → Distinct (outputs_of (build_at builds edge))
-build_within pools [] edge h = tt
-build_within pools (b ∷ builds) zero h = once_by_bytes (outputs_of b) (h zero b (omega arith)).outputs.once
-build_within pools (b ∷ builds) (suc edge) h = build_within pools builds edge (λ k d lt. h (suc k) d (omega arith))
-
-pub outputs_once : (manifest : ManifestValue) → IsManifest manifest → OutputsOnce manifest
-outputs_once manifest m edge = build_within (length manifest.pools) manifest.builds edge m.builds
-
+-- no cell is written twice
 pub writes_once : (manifest : ManifestValue) (s : State) (e : Event) (ws : List (Cell × Value)) → IsManifest manifest → stored ws ≡ effect manifest s e → IsDistinct (eq_by_cmp cell_cmp) (cells_of ws)
 writes_once manifest s e ws m is =
     let keys : cells_of ws ≡ written manifest s e = cells-keys ws ∙ ap keys_of (sym (stored-is ws) ∙ is) ∙ written-same manifest s e in

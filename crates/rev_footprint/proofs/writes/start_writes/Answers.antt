@@ -11,4 +11,4 @@ returns c = λ state.
     let slots = slot_cells (pool_of c.args.graph.now.manifest c.args.edge) c.args.slot in
     c.in_ok-push_slot.ensures ∙ (λ i. c.in_ok-push-2.ensures.items i ++ slot_cells (c.pool.ensures i) c.args.slot)
     ∙ ap (λ cs. (cs ++ cell.Job c.args.job ∷ []) ++ slots) c.in_ok-push.ensures.items
-    ∙ ap (λ cs. ((cs ++ cell.Mark c.args.edge ∷ []) ++ cell.Job c.args.job ∷ []) ++ slots) c.new-writes.ensures.items
+    ∙ ap (λ cs. ((cs ++ cell.Mark c.args.edge ∷ []) ++ cell.Job c.args.job ∷ []) ++ slots) c.in_ok-writes.ensures.items

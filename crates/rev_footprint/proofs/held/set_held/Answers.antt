@@ -1,0 +1,12 @@
+use Rattle.std.proofs.Common.{sym, subst}
+use Rattle.std.specs.List.{IsDistinct}
+use Rattle.std.specs.Ordering.{eq_by_cmp}
+use Rattle.rev_cells.specs.Keys.{cell_cmp}
+use Rattle.rev_cells.proofs.EntryLemmas.{distinct_by_cmp}
+use Rattle.rev_footprint.proofs.held.set_held.Goals as goal
+
+pub returns-then-not-are_few-clause-distinct : goal.returns-then-not-are_few-clause-distinct
+returns-then-not-are_few-clause-distinct c = λ writes. distinct_by_cmp c.args.cells.keys c.len.ensures.unique
+
+pub returns-clause-distinct : goal.returns-clause-distinct
+returns-clause-distinct c = λ writes. subst (IsDistinct (eq_by_cmp cell_cmp)) (sym c.in_ok-listed.ensures) (distinct_by_cmp c.args.cells.keys c.len.ensures.unique)
