@@ -5,7 +5,7 @@ ghost use Rattle.rev_workers.specs.Closing.{left_by};
 use crate::fault::RunFault;
 use crate::output::send;
 use crate::report::{
-    Status, open_desk, report_fault, report_graph_fault, report_manifest_fault, run_words,
+    Status, leave, open_desk, report_fault, report_graph_fault, report_manifest_fault, run_words,
 };
 use crate::script::{Word, read_script};
 use crate::text::{answer_line, close_line};
@@ -126,7 +126,11 @@ fn run_and_finish<R: Threads + Wait + Sync, W: Write>(
 {
     let before = desk.journal().len();
     match run_lanes(rt, alloc, desk, trace)? {
-        Ok(mut desk) => finish(alloc, &mut desk, before, words, writer),
+        Ok(mut desk) => {
+            let finished = finish(alloc, &mut desk, before, words, writer);
+            leave(desk);
+            finished
+        }
         Err(fault) => report_close_fault(alloc, &fault, before, writer),
     }
 }
@@ -148,7 +152,10 @@ fn run_on_threads<R: Threads + Wait + Sync, W: Write>(
     run_words(alloc, &mut desk, lane, &[], before, writer)?;
     match after {
         Some(words) => run_and_finish(rt, alloc, desk, trace, words, writer),
-        None => Ok(Status::Success),
+        None => {
+            leave(desk);
+            Ok(Status::Success)
+        }
     }
 }
 
@@ -207,6 +214,7 @@ fn report_edges<R: Threads + Wait + Sync, W: Write>(
 /// say, `fault close CODE LANE` is the report's last line.
 ///
 /// Answers `Write` where the writer fails in any way or takes no byte, and `Memory` where the system refused memory.
+/// What the desk of the run holds is left to the end of the process.
 pub fn run_parallel<R: Threads + Wait + Sync, W: Write>(
     rt: &R,
     alloc: Global,
