@@ -222,7 +222,7 @@ pub(crate) fn open_desk(
 }
 
 // Leaves a desk to the end of the process, which gives back what its history holds in one go. To free it piece by piece
-// takes a sixth of a run.
+// took an eighth of a run.
 pub(crate) fn leave(desk: Desk) {
     mem::forget(desk);
 }
