@@ -1,6 +1,7 @@
 """Runs rebug on a recording and tells in words what it accepted."""
 
 import os
+import shutil
 import subprocess
 
 # What a refusal of a recorded command says of the recording, by its number.
@@ -18,9 +19,7 @@ MEANINGS = {
     63: "the build was interrupted before this start",
     64: "an abort without an interrupt before it",
     65: "a second interrupt",
-    66: "rebug's plan does not want this edge (or has settled it), and Ninja ran it. Most often the last build's "
-        "command failed and "
-        "left its output, so that Ninja's log is older than the input while the file is not",
+    66: "rebug's plan does not want this edge (or has settled it), and Ninja ran it",
     67: "this edge was not running: its start was refused",
     68: "an input's producer had not settled: rebug takes it to be dirty and Ninja did not run it, or the order of "
         "the trace is wrong",
@@ -40,15 +39,25 @@ REASONS = {1: "an output is missing", 2: "there is no deps record", 3: "the deps
            8: "another command"}
 
 
-def check(folder, program=None, say=print):
-    """Replays the recording, says how it went, and gives the exit status: 0 where every command was accepted."""
+def check(folder, program=None, say=print, launcher=None):
+    """Replays the recording, says how it went, and gives the exit status: 0 where every command was accepted.
+
+    The program is the one that is given, else the one that REBUG names, else the launcher: a recording may have been
+    moved away from the one that it was made beside.
+    """
     replay = os.path.join(folder, "replay")
     if not os.path.exists(replay):
         say(f"{folder} has no recording: there is no file {replay}")
         return 3
-    environment = {**os.environ, **({"REBUG": os.path.abspath(program)} if program else {})}
+    given = program or os.environ.get("REBUG")
+    found = _found(given) if given else launcher
+    if given and not found:
+        say(f"{given} cannot be run: {'--rebug' if program else 'REBUG'} wants the program rebug")
+        return 2
+    environment = {**os.environ, **({"REBUG": found} if found else {})}
     # what the launcher says while it builds the program, and what rebug says of a fault, goes through to the user
-    done = subprocess.run(["sh", replay], stdin=subprocess.DEVNULL, stdout=subprocess.PIPE, env=environment)
+    done = subprocess.run(["sh", os.path.abspath(replay)], stdin=subprocess.DEVNULL, stdout=subprocess.PIPE,
+                          env=environment)
     report = done.stdout.split(b"\n")
     if done.returncode or report[0].startswith(b"fault "):
         say("rebug did not replay the recording:")
@@ -57,6 +66,14 @@ def check(folder, program=None, say=print):
         say("docs/CODES.md says what each number means")
         return 1
     return _judge(folder, report, say)
+
+
+def _found(program):
+    """The whole path of a program that is named by a path, or by a name on the PATH; None where there is none."""
+    path = os.path.abspath(program)
+    if os.path.isfile(path) and os.access(path, os.X_OK):
+        return path
+    return shutil.which(program) if os.path.basename(program) == program else None
 
 
 def read_commands(folder):

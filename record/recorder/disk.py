@@ -1,12 +1,12 @@
 """What Ninja and the disk show at one moment: stamps, the build log, the deps records."""
 
 import os
-import subprocess
 from dataclasses import dataclass
 
 from .depfiles import read_depfile
+from .depslog import DepsLog
 from .fields import canonical
-from .logs import HASHED_VERSIONS, BuildLog, hash_of, read_build_log, read_deps
+from .logs import HASHED_VERSIONS, BuildLog, hash_of, read_build_log
 
 
 def stamp_of(folder, path):
@@ -19,7 +19,7 @@ def stamp_of(folder, path):
 
 @dataclass
 class Snapshot:
-    """The state of a build folder; paths are canonical."""
+    """The state of a build folder; paths are canonical. `deps` has output -> (stamp, Listing)."""
 
     stamps: dict
     log: BuildLog
@@ -27,17 +27,16 @@ class Snapshot:
     without_deps_log: dict
 
 
-def take_snapshot(folder, manifest, ninja):
+def take_snapshot(folder, manifest):
     """Reads the logs as far as they go, the depfiles that Ninja keeps no record of, and the stamp of every path."""
     log = read_build_log(read_file(os.path.join(folder, manifest.log_folder(), b".ninja_log")))
-    deps = _deps_records(folder, manifest, ninja)
+    deps = _deps_records(folder, manifest)
     texts = {}
     for edge in manifest.edges:
         if edge.depfile and not edge.deps:
             texts[edge.name] = read_file(os.path.join(folder, edge.depfile))
     paths = manifest.known_paths()
-    for _, listed in deps.values():
-        paths.update(dict.fromkeys(listed))
+    paths.update(dict.fromkeys(_listed_paths(deps)))
     for name, text in texts.items():
         paths.update(dict.fromkeys(read_depfile(text, manifest.producer[name].outputs) or ()))
     return Snapshot({it: stamp_of(folder, it) for it in paths}, log, deps, texts)
@@ -52,19 +51,18 @@ def read_file(path):
         return b""
 
 
-def _deps_records(folder, manifest, ninja):
-    """The records of `ninja -t deps` for first outputs. Of other outputs neither Ninja nor rebug reads one."""
-    if not os.path.exists(os.path.join(folder, manifest.log_folder(), b".ninja_deps")):
-        return {}
-    # as a dry run, so that Ninja does not write its logs anew
-    done = subprocess.run([ninja, "-n", "-f", manifest.files[0][0], "-t", "deps"], cwd=folder, capture_output=True,
-                          stdin=subprocess.DEVNULL)
-    records = {}
-    for output, (stamp, paths) in read_deps(done.stdout).items():
-        edge = manifest.producer.get(canonical(output))
-        if edge is not None and edge.name == canonical(output) and edge.keeps_deps:
-            records[edge.name] = stamp, [canonical(it) for it in paths]
-    return records
+def _deps_records(folder, manifest):
+    """The records of the deps log for first outputs. Of other outputs neither Ninja nor rebug reads one."""
+    places = DepsLog(os.path.join(folder, manifest.log_folder(), b".ninja_deps")).places
+    return {edge.name: places[edge.name] for edge in manifest.edges if edge.deps and edge.name in places}
+
+
+def _listed_paths(deps):
+    """Each path that the records list."""
+    numbers = {}
+    for _, listing in deps.values():
+        numbers.setdefault(listing.log, set()).update(listing.numbers())
+    return [log.paths[it] for log, found in numbers.items() for it in sorted(found)]
 
 
 def built_records(manifest, log):

@@ -1,49 +1,57 @@
-"""Writes a recording: the manifest's files, the trace, the script, and a script that replays them."""
+"""Writes a recording: the manifest's files, the trace, its times, the script, and a script that replays them."""
 
 import os
-import shlex
 import stat
 
-from .fields import canonical, line
+from .depslog import text_of
+from .fields import canonical, line, shown
+from .replaying import replay_text
 
 MOST_LANES = 63
+_TAKEN = (b"..", b"trace", b"script", b"replay", b"times")
 
 
-def write_recording(it, folder, with_lanes, program):
-    """Writes everything into the folder, and gives the names of the manifest's files there."""
+def write_recording(it, folder, with_lanes, program, at=None):
+    """Writes everything into the folder, and gives the names of the manifest's files there.
+
+    `at` is where the folder will stand, by which `replay` finds the program.
+    """
     os.makedirs(folder, exist_ok=True)
     names = write_manifest(it, folder)
-    lanes, script = (_lanes(it) if with_lanes else _one_lane(it))
-    _write(folder, b"trace", b"".join(text + b"\n" for text in [b"rebug-trace 1", *opening(it), *lanes]))
-    _write(folder, b"script", b"".join(text + b"\n" for text in script))
-    words = ["--manifest", names[0], "--trace", "trace", "--script", "script", *(["--workers"] if with_lanes else []),
-             *names[1:]]
-    top = os.path.dirname(program)
-    is_beside = os.path.commonpath([top, os.path.abspath(folder)]) == top
-    _write_replay(folder, [os.fsdecode(it) for it in words], os.path.relpath(program, folder) if is_beside else program)
+    lanes, script = _lanes(it) if with_lanes else _one_lane(it)
+    with _open(folder, b"trace") as file:
+        file.write(b"rebug-trace 1\n")
+        file.writelines(text + b"\n" for text in opening(it))
+        for number, places in enumerate(lanes):
+            file.write(b"lane %d\n" % number)
+            file.writelines(command(it.found.events[place]) + b"\n" for place in places)
+    with _open(folder, b"times") as file:
+        file.write(b"rebug-times 1\n")
+        file.writelines(times(it.found.times, lanes))
+    with _open(folder, b"script") as file:
+        file.writelines(text + b"\n" for text in script)
+    words = ["--manifest", os.fsdecode(names[0]), "--trace", "trace"]
+    _write_replay(folder, replay_text(words, [os.fsdecode(name) for name in names[1:]], script, with_lanes,
+                                      _beside(program, at or folder)))
     return names
 
 
-def _write(folder, name, content):
+def _open(folder, name):
     path = os.path.join(os.fsencode(folder), name)
     os.makedirs(os.path.dirname(path), exist_ok=True)
-    with open(path, "wb") as file:
-        file.write(content)
+    return open(path, "wb")
 
 
-def _write_replay(folder, words, program):
-    text = ["#!/bin/sh", "# Replays this recorded build. REBUG names another rebug than the one beside the recorder.",
-            'if [ $# -gt 0 ]; then',
-            '    echo "replay takes no words: put your questions into a file, and name it by --script as the last line '
-            'here does" >&2',
-            '    exit 2',
-            'fi',
-            'cd "$(dirname "$0")" || exit 3',
-            f"program=${{REBUG:-{shlex.quote(program)}}}",
-            f'exec "$program" {" ".join(map(shlex.quote, words))}']
-    _write(folder, b"replay", os.fsencode("\n".join(text) + "\n"))
-    path = os.path.join(folder, "replay")
-    os.chmod(path, os.stat(path).st_mode | stat.S_IXUSR | stat.S_IXGRP | stat.S_IXOTH)
+def _beside(program, folder):
+    """The program's path from the folder where both stand below the program's, so that they can be moved together."""
+    top, folder = os.path.dirname(program), os.path.abspath(os.fsdecode(folder))
+    return os.path.relpath(program, folder) if os.path.commonpath([top, folder]) == top else program
+
+
+def _write_replay(folder, text):
+    with _open(folder, b"replay") as file:
+        file.write(os.fsencode(text))
+        os.fchmod(file.fileno(), stat.S_IMODE(os.fstat(file.fileno()).st_mode) | 0o111)
 
 
 def write_manifest(it, folder):
@@ -51,19 +59,19 @@ def write_manifest(it, folder):
     names = {}
     for name, _, _ in it.manifest.files:
         path = canonical(name)
-        is_inside = not path.startswith((b"/", b"../")) and path not in (b"..", b"trace", b"script",
-                                                                         b"replay") and _is_text(path)
+        is_inside = not path.startswith((b"/", b"../", b".new/", b".old/")) and path not in _TAKEN and _is_text(path)
         names[path] = path if is_inside else b"outside/%d.ninja" % len(names)
         if not is_inside:
-            it.notes.append(f"{os.fsdecode(name)!r} is copied as {names[path].decode()}, and the line that names "
-                            f"it is changed")
+            it.remarks.append(f"'{shown(name)}' is copied as {names[path].decode()}, and the line that names it is "
+                              f"changed")
     for name, content, includes in it.manifest.files:
         for place in reversed(includes):
             if names[canonical(place.path)] != canonical(place.path):
                 text = place.keyword + b" " + names[canonical(place.path)]
                 text += b"$\n" * content.count(b"\n", place.begin, place.end)
                 content = content[: place.begin] + text + content[place.end :]
-        _write(folder, names[canonical(name)], content)
+        with _open(folder, names[canonical(name)]) as file:
+            file.write(content)
     return list(names.values())
 
 
@@ -80,7 +88,7 @@ def opening(it):
     yield line("jobs", it.jobs)
     yield from (line("stamp", path, stamp) for path, stamp in sorted(it.stamps.items()) if stamp)
     yield from (line("built", path, stamp, command) for path, (stamp, command) in sorted(it.built.items()))
-    yield from (line("deps", path, stamp, *paths) for path, (stamp, paths) in sorted(it.deps.items()))
+    yield from (line("deps", path, it.deps[path][0]) + text_of(it.deps[path][1]) for path in sorted(it.deps))
     yield from (line("target", path) for path in it.targets)
 
 
@@ -90,15 +98,24 @@ def command(event):
     if word == "plan":
         return b"plan"
     if word == "finish" and len(rest) == 3:
-        listing = ("depfile", rest[2]) if isinstance(rest[2], bytes) else ("list", *rest[2])
-        return line(word, rest[0], ",".join(map(str, rest[1])), *listing)
+        head = line(word, rest[0], ",".join(map(str, rest[1])))
+        return head + (b" " + line("depfile", rest[2]) if isinstance(rest[2], bytes) else b" list" + text_of(rest[2]))
     if word in ("finish", "fail", "abort"):
         return line(word, rest[0], ",".join(map(str, rest[1])))
     return line(word, *rest)
 
 
+def times(known, lanes):
+    """A line for each event of the trace: its label, and the milliseconds since Ninja began (`-`: not known)."""
+    for number, places in enumerate(lanes):
+        for count, place in enumerate(places, 1):
+            time = known[place]
+            yield b"%d:%d -\n" % (number, count) if time is None else b"%d:%d %d\n" % (number, count, time)
+
+
 def _one_lane(it):
-    return [b"lane 0", *map(command, it.found.events)], [b"run", b"kept", b"marks"]
+    """The places of the events of each lane, and the script."""
+    return [range(len(it.found.events))], [b"run", b"kept", b"marks"]
 
 
 def _lanes(it):
@@ -106,7 +123,7 @@ def _lanes(it):
     lanes, lane_of, behind = [[] for _ in range(max(1, it.found.jobs))], {}, []
     is_over = False
     last = 0
-    for event in it.found.events:
+    for place, event in enumerate(it.found.events):
         is_over = is_over or event[0] == "interrupt"
         if event[0] == "plan":
             plan = line("plan", *it.targets)
@@ -117,9 +134,8 @@ def _lanes(it):
         if event[0] == "start":
             lane_of[event[1]] = event[2]
         last = lane_of.get(event[1], last)
-        lanes[last].append(command(event))
+        lanes[last].append(place)
     if len(lanes) > MOST_LANES:
         it.notes.append(f"{len(lanes)} jobs ran side by side, and a trace has at most {MOST_LANES} lanes: rebug "
                         f"refuses it (102)")
-    texts = [text for number, commands in enumerate(lanes) for text in (b"lane %d" % number, *commands)]
-    return texts, [plan, b"run", *behind, b"kept", b"marks"]
+    return lanes, [plan, b"run", *behind, b"kept", b"marks"]

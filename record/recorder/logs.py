@@ -1,4 +1,4 @@
-"""Reads what Ninja keeps: the build log, and the deps log as `ninja -t deps` lists it."""
+"""Reads Ninja's build log."""
 
 import re
 from dataclasses import dataclass
@@ -77,20 +77,3 @@ def new_entries(before, after):
         if entry is None or kept.pop(entry.output, None) != entry:
             break
     return after.entries[at:]
-
-
-_DEPS = re.compile(rb"(.*): #deps (\d+), deps mtime (-?\d+) \((?:STALE|VALID)\)")
-
-
-def read_deps(listing):
-    """Reads what `ninja -t deps` prints: output -> (stamp, list of paths)."""
-    records, lines = {}, listing.split(b"\n")
-    at = 0
-    while at < len(lines):
-        head = _DEPS.fullmatch(lines[at])
-        at += 1
-        if head:
-            count = int(head[2])
-            records[head[1]] = (max(0, int(head[3])), [it[4:] for it in lines[at : at + count]])
-            at += count
-    return records

@@ -68,6 +68,7 @@ class Edge:
     phony: bool = False
     command: bytes = b""
     ninja_command: bytes = b""
+    content: bytes = b""
     depfile: bytes = b""
     deps: bytes = b""
     dyndep: bytes = b""
@@ -136,6 +137,7 @@ class Manifest:
     def __init__(self, name, read_file):
         self.edges, self.files, self.pools, self.default_paths = [], [], {b"console": 1}, []
         self.pool_names, self.read_file, self._known = [b"console"], read_file, {}
+        self.depths, self.deepest = {}, 0
         self.scope = Scope()
         self._read(name, self.scope, 0)
         for edge in self.edges:
@@ -147,7 +149,8 @@ class Manifest:
 
     def _read(self, name, scope, depth):
         if depth > 100:
-            raise BadManifest(f"{name!r} is included by itself")
+            raise BadManifest(f"{shown(name)} is included by itself")
+        self.deepest = max(self.deepest, depth)
         known = self._known.get(canonical(name))
         if known is None:
             content = self.read_file(name)
@@ -160,7 +163,7 @@ class Manifest:
         if edge.phony:
             return
         lookup = _Lookup(edge)
-        edge.command = _compared(lookup)
+        edge.command, edge.content = _compared(lookup), lookup.value(b"rspfile_content")
         edge.ninja_command = edge.command if edge.block else _compared(_Lookup(edge, as_ninja=True))
         as_it_stands = _Lookup(edge, as_ninja=True, escape=lambda it: it)
         edge.depfile = as_it_stands.value(b"depfile")
@@ -321,7 +324,8 @@ class _Reader:
         values = {}
         while self.indented():
             self.binding(self.name_here("depth"), values)
-        depth = values.get(b"depth", b"").strip()
+        self.manifest.depths[name] = values.get(b"depth", b"")
+        depth = self.manifest.depths[name].strip()
         self.manifest.pools[name] = int(depth) if depth.isdigit() else 0
         self.manifest.pool_names.append(name)
 

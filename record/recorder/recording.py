@@ -4,9 +4,12 @@ from dataclasses import dataclass, field
 
 from .disk import built_records, deps_records, stamp_of
 from .fields import canonical, shown
+from .limits import place_of
 from .logs import new_entries
+from .openings import stamps_of_what_was_built
 from .rules import Build
 from .sequence import EdgeRun, Sequence, sequence
+from .words import MOST_JOBS
 
 _NANOSECONDS = 1_000_000
 # The last version of the build log whose stamps are those of outputs.
@@ -18,7 +21,7 @@ _LONGEST_BEGINNING = 500 * _NANOSECONDS
 
 @dataclass
 class Recording:
-    """Everything that is written of one build."""
+    """Everything that is written of one build. `remarks` are notes that ask for nothing."""
 
     manifest: object
     jobs: int
@@ -28,28 +31,34 @@ class Recording:
     deps: dict
     found: Sequence = None
     notes: list = field(default_factory=list)
+    remarks: list = field(default_factory=list)
 
 
 def record(folder, manifest, words, jobs, before, after, ran):
-    """Works out the opening and the events. Notes say what could not be known, and what rebug will refuse."""
+    """Works out the opening and the events. Notes say what could not be known, and what rebug will refuse.
+
+    `jobs` is how many commands Ninja may run side by side where the jobs are to be those that ran, else None.
+    """
     built, unhashed = built_records(manifest, before.log)
-    it = Recording(manifest, jobs, _targets(manifest, words.targets), dict(before.stamps), built,
+    it = Recording(manifest, jobs or 1, _targets(manifest, words.targets), dict(before.stamps), built,
                    deps_records(manifest, before))
     if unhashed:
         it.notes.append(f"this Ninja's log (version {before.log.version}) has hashes that the recorder does not "
                         f"know: its "
                         "commands are taken to be the manifest's")
     _note_what_is_outside(it)
+    it.stamps.update(stamps_of_what_was_built(it, before))
     runs, begin = _runs(it, before, after, ran)
     touches = _touches(it, before, after, runs, begin, ran.begin, folder)
-    build = Build(manifest, jobs, it.stamps, it.built, it.deps)
-    it.found = sequence(build, it.targets, runs, touches, words.failures, ran.interrupted)
-    it.jobs = max(jobs, it.found.jobs, 1)
+    build = Build(manifest, it.jobs, it.stamps, it.built, it.deps)
+    it.found = sequence(build, it.targets, runs, touches, words.failures, ran.interrupted, as_run=jobs is not None)
+    it.jobs = min(MOST_JOBS, max(it.jobs if jobs else len(runs), it.found.jobs, 1))
     _note_order(it, runs)
     if ran.interrupted and not any(run.word == "abort" for run in runs):
         it.notes.append("the build was interrupted, and no command was seen running then: the trace has the "
                         "interrupt alone")
-    _note_refusals(it)
+    if runs or not ran.status:
+        _note_refusals(it, build)
     return it
 
 
@@ -68,8 +77,6 @@ def _targets(manifest, targets):
 
 def _note_what_is_outside(it):
     edges = it.manifest.edges
-    _note_edges(it, [edge for edge in edges if edge.dyndep], "a dyndep, which rebug does not read: it refuses the "
-                                                             "manifest (22)")
     _note_edges(it, [edge for edge in edges if edge.deps == b"msvc"], "deps = msvc: the list is taken from Ninja's "
                                                                       "deps log")
     _note_edges(it, [edge for edge in edges if edge.ninja_command != edge.command],
@@ -80,9 +87,9 @@ def _note_what_is_outside(it):
 def _note_edges(it, edges, what):
     """Names the edges, the first ones one by one."""
     for edge in edges[:_NAMED_EDGES]:
-        it.notes.append(f"{shown(edge.file)}:{edge.line}: {shown(edge.name)} has {what}")
+        it.remarks.append(f"{place_of(edge)} has {what}")
     if edges[_NAMED_EDGES:]:
-        it.notes.append(f"and {len(edges) - _NAMED_EDGES} more edges have that")
+        it.remarks.append(f"and {len(edges) - _NAMED_EDGES} more edges have that")
 
 
 def _runs(it, before, after, ran):
@@ -117,7 +124,7 @@ def _without_manifest_edges(it, entries):
     places = [at for at, entry in enumerate(entries) if maker is not None and canonical(entry.output) in maker.outputs]
     if not places:
         return entries
-    it.notes.append(f"Ninja ran {shown(maker.name)} first, to bring the manifest up to date: that is no part of "
+    it.remarks.append(f"Ninja ran {shown(maker.name)} first, to bring the manifest up to date: that is no part of "
                     f"the trace")
     return entries[places[-1] + 1 :]
 
@@ -227,20 +234,35 @@ def _touches(it, before, after, runs, begin, ran_begin, folder):
 def _note_order(it, runs):
     if it.found.tied:
         names = ", ".join(shown(edge.name) for edge in it.found.tied[:3])
-        it.notes.append(f"{len(it.found.tied)} starts fell into the millisecond of another command's end, and are "
-                        f"taken to be after it: {names}")
+        it.remarks.append(f"{len(it.found.tied)} starts fell into the millisecond of another command's end, and are "
+                          f"taken to be after it: {names}")
     guessed = [run for run in runs if run.word != "finish"]
     if guessed:
         seen = sum(run.is_start_known for run in guessed)
         names = ", ".join(f"{shown(run.edge.name)} ({run.word})" for run in guessed[:5])
-        it.notes.append(f"Ninja's log has no commands that did not end well: {names}. {seen} of {len(guessed)} "
-                        f"start where they were "
-                        "first seen running, the others right before their end")
+        it.remarks.append(f"Ninja's log has no commands that did not end well: {names}. {seen} of {len(guessed)} "
+                          f"start where they were first seen running, the others right before their end")
 
 
-def _note_refusals(it):
+def _note_refusals(it, build):
     for event, refusal in it.found.refused[:1]:
         words = " ".join([event[0], *(shown(part) for part in event[1:2] if isinstance(part, bytes))])
+        path = _refused_path(it, build, event, refusal)
         it.notes.append(f"rebug's rules differ here from what Ninja did: they refuse '{words}' "
-                        f"({' '.join(map(str, refusal))}); "
+                        f"({' '.join(map(str, refusal))}){f', for {shown(path)}' if path else ''}; "
                         f"{len(it.found.refused)} in all. --check says more")
+
+
+def _refused_path(it, build, event, refusal):
+    """The path that a refusal is about, where it is not the one that the event names."""
+    number, *rest = refusal
+    edges = it.manifest.edges
+    if number == 51:
+        return (event[1] or it.manifest.defaults())[rest[0]]
+    if number == 52:
+        return edges[rest[1]].inputs[rest[0]]
+    if number in (50, 53, 72, 74):
+        return edges[rest[0]].name
+    if number == 68:
+        return build.inputs(it.manifest.producer[event[1]])[rest[0]]
+    return None

@@ -5,6 +5,7 @@ Ninja's has, and to tell at once where rebug will refuse what Ninja did. The jud
 """
 
 from .depfiles import read_depfile
+from .depslog import Listing, paths_of
 
 IDLE, WANTED, THROUGH, RUNNING = "idle", "wanted", "through", "running"
 DONE, CLEAN, FAILED, STOPPED = "done", "clean", "failed", "stopped"
@@ -27,7 +28,7 @@ class Build:
     def listed(self, edge):
         """The paths of the edge's deps record."""
         record = self.deps.get(edge.outputs[0]) if edge.keeps_deps else None
-        return record[1] if record else []
+        return paths_of(record[1]) if record else []
 
     def inputs(self, edge):
         return edge.inputs + self.listed(edge)
@@ -76,6 +77,11 @@ class Build:
                 newest, first = shows, path
         found += [("older", it, first) for it in edge.outputs if self.effective(edge, it) < newest]
         return found + self.record_reasons(edge)
+
+    def newest(self, edge, known=None):
+        """The greatest stamp that an input shows, order-only ones left out; 0 where there is none."""
+        known = {} if known is None else known
+        return max((self.visible(path, known) for _, path in self.dirtying_inputs(edge)), default=0)
 
     def effective(self, edge, path):
         record = self.built.get(path) if edge.restat else None
@@ -261,7 +267,7 @@ class Build:
             getattr(self, f"do_{word}")(self.producer[event[1]], *event[2:])
 
     def do_start(self, edge, job, slot=None):
-        seen = max((self.visible(path) for _, path in self.dirtying_inputs(edge)), default=0)
+        seen = self.newest(edge)
         self.marks[edge.number], self.running[edge.number] = RUNNING, (job, slot, seen)
         self.jobs[job] = edge.number
         if slot is not None:
@@ -284,8 +290,10 @@ class Build:
             is_changed = at in self.changed[edge.number]
             self.built[path] = (stamp if is_changed else seen, edge.command)
         if edge.keeps_deps:
-            paths = read_depfile(listing, edge.outputs) if isinstance(listing, bytes) else listing or []
-            self.deps[edge.outputs[0]] = (stamps[0], list(dict.fromkeys(paths)))
+            if not isinstance(listing, Listing):
+                paths = read_depfile(listing, edge.outputs) if isinstance(listing, bytes) else listing or []
+                listing = list(dict.fromkeys(paths))
+            self.deps[edge.outputs[0]] = (stamps[0], listing)
 
     def do_fail(self, edge, stamps):
         self.end(edge, FAILED, stamps)

@@ -12,11 +12,12 @@ import re
 import signal
 import struct
 import subprocess
-import sys
 import termios
 import threading
 import time
 from dataclasses import dataclass, field
+
+from .signals import write_all
 
 _BEGIN, _END = b"\x1e", b"\x1f"
 _MARK = re.compile(_BEGIN + rb"(\d+)\.(\d{3})" + _END)
@@ -48,10 +49,16 @@ class Ran:
     failed: list = field(default_factory=list)
     children: list = field(default_factory=list)
     said_interrupted: bool = False
+    said_stopped: bool = False
+
+    @property
+    def died(self):
+        """Whether Ninja ended in the middle of a build: it was killed, or met what it calls fatal."""
+        return self.status < 0 or self.status > 0 and bool(self.children) and not self.said_stopped
 
     @property
     def interrupted(self):
-        return self.said_interrupted or self.status < 0 or self.status == 130
+        return self.said_interrupted or self.status == 130 or self.died
 
 
 class _Output:
@@ -87,8 +94,9 @@ class _Output:
             self.ran.failed.append((failed[1], self.time, time.time_ns()))
         elif not marks:
             self.time = None
-        if re.match(rb"ninja: build stopped: interrupted", text):
-            self.ran.said_interrupted = True
+        if text.startswith(b"ninja: build stopped: "):
+            self.ran.said_stopped = True
+            self.ran.said_interrupted = self.ran.said_interrupted or text[22:].startswith(b"interrupted")
 
 
 class _Watcher(threading.Thread):
@@ -165,18 +173,17 @@ def _has_the_terminal():
         os.close(terminal)
 
 
-def run_ninja(words, folder):
+def run_ninja(words, folder, signals):
     """Runs the words in the folder to their end, whatever signal comes in between.
 
     Signals go on to Ninja, but for an interrupt from the terminal: Ninja has got that, and a second one would kill it.
     """
-    to = sys.stdout.fileno()
-    outer, inner = _channel(to)
+    outer, inner = _channel(1)
     status_format = os.environb.get(b"NINJA_STATUS", b"[%f/%t] ")
     environment = {**os.environb, b"NINJA_STATUS": _BEGIN + b"%e" + _END + status_format}
     ran, started, early = Ran(0, time.time_ns()), [], []
 
-    def hand_on(number, _):
+    def hand_on(number):
         if not started:
             early.append(number)
         for process, watcher in started:
@@ -184,26 +191,56 @@ def run_ninja(words, folder):
             if number != signal.SIGINT or not _has_the_terminal():
                 process.send_signal(number)
 
-    sys.stdout.flush()
-    former = {it: signal.signal(it, hand_on) for it in (signal.SIGINT, signal.SIGTERM, signal.SIGHUP)}
-    process = subprocess.Popen(words, cwd=folder, stdout=inner, env=environment, close_fds=True)
-    os.close(inner)
-    watcher = _Watcher(process.pid, ran)
-    watcher.start()
-    started.append((process, watcher))
-    for number in early:
-        process.send_signal(number)
-    output = _Output(ran, lambda data: _write_all(to, data))
-    while data := _read(outer):
+    signals.hand_on = hand_on
+    try:
+        process = subprocess.Popen(words, cwd=folder, stdout=inner, env=environment, close_fds=True)
+        os.close(inner)
+        watcher = _Watcher(process.pid, ran)
+        watcher.start()
+        started.append((process, watcher))
+        for number in early:
+            process.send_signal(number)
+        _pass_on(outer, _Output(ran, _Writer()))
+        ran.status = process.wait()
+        watcher.is_over.set()
+        watcher.join()
+    finally:
+        signals.hand_on = None
+    return ran
+
+
+def run_quietly(words, folder, signals):
+    """Runs the words with their output kept: the status and what was written. Signals go on to them."""
+    process = subprocess.Popen(words, cwd=folder, stdin=subprocess.DEVNULL, stdout=subprocess.PIPE,
+                               stderr=subprocess.STDOUT)
+
+    def hand_on(number):
+        if number != signal.SIGINT or not _has_the_terminal():
+            process.send_signal(number)
+
+    signals.hand_on = hand_on
+    try:
+        said = process.communicate()[0]
+    finally:
+        signals.hand_on = None
+    return process.returncode, said
+
+
+class _Writer:
+    """Writes to standard output as long as somebody takes it."""
+
+    def __init__(self):
+        self.is_open = True
+
+    def __call__(self, data):
+        self.is_open = self.is_open and write_all(1, data)
+
+
+def _pass_on(descriptor, output):
+    while data := _read(descriptor):
         output.take(data)
     output.end()
-    os.close(outer)
-    ran.status = process.wait()
-    for number, handler in former.items():
-        signal.signal(number, handler)
-    watcher.is_over.set()
-    watcher.join()
-    return ran
+    os.close(descriptor)
 
 
 def _read(descriptor):
@@ -211,11 +248,3 @@ def _read(descriptor):
         return os.read(descriptor, 65536)
     except OSError:  # a pseudo terminal whose other end is closed
         return b""
-
-
-def _write_all(descriptor, data):
-    while data:
-        try:
-            data = data[os.write(descriptor, data) :]
-        except BrokenPipeError:
-            return

@@ -10,6 +10,7 @@ from dataclasses import dataclass, field
 
 from .manifest import Edge
 from .rules import SETTLED, THROUGH, WANTED
+from .words import MOST_JOBS
 
 _PHONY_EDGES = 100
 
@@ -29,9 +30,13 @@ class EdgeRun:
 
 @dataclass
 class Sequence:
-    """The events in order, those that rebug's rules refuse with the refusal, and starts that could stand elsewhere."""
+    """The events in order, those that rebug's rules refuse with the refusal, and starts that could stand elsewhere.
+
+    `times` has the milliseconds of each event since Ninja began, None where they are not known.
+    """
 
     events: list = field(default_factory=list)
+    times: list = field(default_factory=list)
     refused: list = field(default_factory=list)
     tied: list = field(default_factory=list)
     jobs: int = 0
@@ -40,15 +45,16 @@ class Sequence:
 class _Places:
     """Jobs, or the slots of a pool. Which of the free ones an edge takes no log says, so one is taken that adds least.
 
-    An edge that takes a place depends on the edge that held it last. So it takes a place of an edge that it stands on
-    in any case; else one that was never held, while there are such; else the one that is free for the longest time.
+    An edge that takes a place depends on the edge that held it last. So it takes one that was never held, while there
+    are such; else the one that is free for the longest time. Where few places are wanted (`below`), it first looks for
+    one of an edge that it stands on in any case.
     """
 
     def __init__(self, count):
         self.free, self.used, self.count, self.holder = [], 0, count, {}
 
-    def take(self, edge, below):
-        known = [it for it in self.free if self.holder[it] in below]
+    def take(self, edge, below=()):
+        known = [it for it in self.free if self.holder[it] in below] if below else ()
         if known:
             place = known[-1]
             self.free.remove(place)
@@ -67,14 +73,15 @@ class _Places:
 class Sequencer:
     """Hands events to the rules one by one, with the passes and cleans that become possible after each."""
 
-    def __init__(self, build, failures):
+    def __init__(self, build, failures, most_jobs, as_run):
         self.build, self.edges, self.producer = build, build.edges, build.producer
-        self.failures_left, self.found = failures, Sequence()
-        self.jobs, self.pools, self.held = _Places(build.job_count), {}, {}
+        self.failures_left, self.found, self.now, self.as_run = failures, Sequence(), 0, as_run
+        self.jobs, self.pools, self.held = _Places(most_jobs), {}, {}
         self.waits, self.users, self.ready, self.will_run = {}, {}, [], set()
 
     def put(self, *event):
         self.found.events.append(event)
+        self.found.times.append(self.now)
         refusal = self.build.refusal(event)
         if refusal:
             self.found.refused.append((event, refusal))
@@ -117,7 +124,7 @@ class Sequencer:
 
     def start(self, run):
         edge = run.edge
-        below = self.below(edge)
+        below = self.below(edge) if self.as_run else ()
         job, slot = self.jobs.take(edge, below), ()
         depth = self.build.manifest.depth(edge)
         if depth:
@@ -152,9 +159,12 @@ class Sequencer:
         return not self.waits.get(run.edge.number)
 
 
-def sequence(build, targets, runs, touches, failures, interrupted=False):
-    """The order of a whole run. `touches` has (milliseconds or None, path, stamp); those without a time come last."""
-    it = Sequencer(build, failures)
+def sequence(build, targets, runs, touches, failures, interrupted=False, as_run=False):
+    """The order of a whole run. `touches` has (milliseconds or None, path, stamp); those without a time come last.
+
+    Each start takes a job of its own, as far as MOST_JOBS go; `as_run` takes as few as ran side by side.
+    """
+    it = Sequencer(build, failures, build.job_count if as_run else min(len(runs), MOST_JOBS), as_run)
     it.will_run = {run.edge.number for run in runs}
     build.job_count = max(build.job_count, len(runs))  # whatever the order asks for is given, and written as `jobs`
     it.plan(targets)
@@ -167,13 +177,16 @@ def sequence(build, targets, runs, touches, failures, interrupted=False):
         if time is not None:
             moments.setdefault(time, ([], [], []))[0].append((path, stamp))
     for time in sorted(moments):
+        it.now = time
         _moment(it, *moments[time])
     if interrupted:
         it.failures_left = 0
+        it.now = max((run.end for run in runs), default=0)
         it.put("interrupt")
         for run in runs:
             if run.word == "abort":
                 it.end(run)
+    it.now = None
     for time, path, stamp in touches:
         if time is None:
             it.put("touch", path, stamp)

@@ -9,6 +9,7 @@ import atexit
 import json
 import os
 import pathlib
+import re
 import shutil
 import signal
 import subprocess
@@ -17,7 +18,7 @@ import tempfile
 import time
 
 from recorder.disk import stamp_of
-from recorder.logs import hash_of, read_build_log, read_deps
+from recorder.logs import hash_of, read_build_log
 from recorder.manifest import Manifest
 
 RECORDER = pathlib.Path(__file__).resolve().parent.parent / "rebug-record"
@@ -84,11 +85,27 @@ class Chain:
             "deps": {text(it): [stamp, *map(text, paths)] for it, (stamp, paths) in deps.items()},
         }))
 
-
     def paths(self, name, deps):
         """The paths of the manifest, of the deps lists, and of the recording's opening."""
         found = set(Manifest(b"build.ninja", lambda it: read(self.build / os.fsdecode(it))).known_paths())
         return found.union(stamped(self.folder / name), *(listed for _, listed in deps.values()))
+
+
+_DEPS = re.compile(rb"(.*): #deps (\d+), deps mtime (-?\d+) \((?:STALE|VALID)\)")
+
+
+def read_deps(listing):
+    """Reads what `ninja -t deps` prints: output -> (stamp, list of paths). The recorder reads the log itself."""
+    records, lines = {}, listing.split(b"\n")
+    at = 0
+    while at < len(lines):
+        head = _DEPS.fullmatch(lines[at])
+        at += 1
+        if head:
+            count = int(head[2])
+            records[head[1]] = (max(0, int(head[3])), [it[4:] for it in lines[at : at + count]])
+            at += count
+    return records
 
 
 def read(path):

@@ -39,6 +39,32 @@ def failed_command_that_left_its_output():
     return it.recorded(status=1)
 
 
+def failed_restat_command_that_left_its_output():
+    it = Difference("failed_restat_command_that_left_its_output")
+    it.write("build.ninja", "rule two\n  command = cat $in > $out && ! grep -q bad $in\n  restat = 1\nbuild o: two s\n")
+    it.write("s", "good")
+    it.ninja()
+    it.write("s", "bad")
+    it.ninja()
+    it.write("s", "good again")
+    it.touch("o")
+    return it.recorded()
+
+
+def failed_post_build_step():
+    it = Difference("failed_post_build_step")
+    it.write("src/CMakeLists.txt", "cmake_minimum_required(VERSION 3.13)\nproject(o C)\nadd_executable(o o.c)\n"
+             "add_custom_command(TARGET o POST_BUILD COMMAND test ! -e ${CMAKE_SOURCE_DIR}/stop)\n")
+    it.write("src/o.c", "int main(void) { return 0; }\n")
+    subprocess.run(["cmake", "-G", "Ninja", "-S", it.build / "src", "-B", it.build], check=True, capture_output=True)
+    it.ninja()
+    it.write("src/o.c", "int main(void) { return 1; }\n")
+    it.write("src/stop", "")
+    it.ninja()
+    (it.build / "src/stop").unlink()
+    return it.recorded()
+
+
 def input_and_output_touched():
     it = Difference("input_and_output_touched")
     it.write("build.ninja", COPY + "build o: cp s\n")
@@ -142,10 +168,21 @@ def depfile_without_deps():
     return it.recorded()
 
 
+# what records it -> the reason that rebug gives, where the opening has the stamp of the log
+OLDER = {
+    "failed_command_that_left_its_output": "why o older o s",
+    "failed_restat_command_that_left_its_output": "why o older o s",
+    "failed_post_build_step": "why o older o CMakeFiles/o.dir/o.c.o",
+    "input_and_output_touched": "why o older o s",
+}
+NEEDS = {"failed_post_build_step": ("ninja", "cmake", "cc")}
+
 # name -> (what records it, the numbers of the first refusal, the first event that Ninja ran)
 BUILDS = {it.__name__: (it, refusal, event) for it, refusal, event in (
-    (failed_command_that_left_its_output, (66,), "start o 0"),
-    (input_and_output_touched, (66,), "start o 0"),
+    (failed_command_that_left_its_output, None, "start o 0"),
+    (failed_restat_command_that_left_its_output, None, "start o 0"),
+    (failed_post_build_step, None, "start o 0"),
+    (input_and_output_touched, None, "start o 0"),
     (restat_behind_a_phony_edge, None, "start o 0"),
     (two_outputs_of_one_record, None, None),
     (old_list_with_a_missing_header, (68, 1), "start o 0"),
@@ -157,6 +194,11 @@ BUILDS = {it.__name__: (it, refusal, event) for it, refusal, event in (
     (depfile_without_deps, None, "start o 0"),
     (variable_of_the_file, None, "start o 0"),
 )}
+
+
+def lacking(name):
+    """A sentence that says which tools the difference wants and this machine has not, or None."""
+    return builds.missing_tools(*NEEDS.get(name, ("ninja",)))
 
 
 def made(name):

@@ -1,12 +1,12 @@
 """rebug does what docs/NINJA.md says of it."""
 
+import os
 import pathlib
 import subprocess
 import tempfile
 import unittest
 
 import differences
-from builds import missing_tools
 from recorder.checking import check
 from test_replays import program, why_not
 
@@ -32,7 +32,7 @@ def _build_test(name):
     _, refusal, _ = differences.BUILDS[name]
 
     def test(self):
-        lacking = missing_tools("ninja")
+        lacking = differences.lacking(name)
         if lacking:
             self.skipTest(lacking)
         said = []
@@ -45,6 +45,17 @@ def _build_test(name):
     return test
 
 
+def _reason_test(name):
+    def test(self):
+        if differences.lacking(name):
+            self.skipTest(differences.lacking(name))
+        done = subprocess.run(["sh", differences.made(name) / "recorded/replay", "why o"], stdin=subprocess.DEVNULL,
+                              env={**os.environ, "REBUG": os.path.abspath(program())}, capture_output=True, text=True)
+        self.assertEqual(done.stdout, f"1 0 ok\n{differences.OLDER[name]}\n")
+
+    return test
+
+
 def _line_test(name):
     manifest, _, rebug = differences.LINES[name]
     return lambda self: self.assertEqual(self.report(manifest), rebug + "\n")
@@ -52,5 +63,7 @@ def _line_test(name):
 
 for _name in differences.BUILDS:
     setattr(ReplaysOfDifferences, f"test_{_name}", _build_test(_name))
+for _name in differences.OLDER:
+    setattr(ReplaysOfDifferences, f"test_reason_of_{_name}", _reason_test(_name))
 for _name in differences.LINES:
     setattr(ReplaysOfDifferences, f"test_line_{_name.replace(' ', '_')}", _line_test(_name))

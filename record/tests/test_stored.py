@@ -5,18 +5,19 @@ import re
 import tempfile
 import unittest
 
+from builds import read_deps
 from recorder.checking import check
 from recorder.depfiles import read_depfile
 from recorder.disk import Snapshot, built_records
 from recorder.fields import canonical, field, line, quoted
 from recorder.files import command, opening, write_recording
-from recorder.logs import BuildLog, LogEntry, hash_of, new_entries, read_build_log, read_deps
+from recorder.logs import BuildLog, LogEntry, hash_of, new_entries, read_build_log
 from recorder.manifest import BadManifest, Manifest
 from recorder.recording import record
 from recorder.rules import Build
 from recorder.running import Child, Ran, _Output
 from recorder.sequence import EdgeRun, sequence
-from recorder.words import BadWords, read_words
+from recorder.words import MOST_JOBS, BadWords, read_words
 
 # Written by Ninja 1.11.1.
 LOG = (b"# ninja log v5\n"
@@ -144,11 +145,7 @@ class Outside(unittest.TestCase):
     def notes(self, text):
         found = manifest(text)
         empty = Snapshot({}, BuildLog(5, []), {}, {})
-        return record("nowhere", found, read_words([]), 1, empty, empty, Ran(0, 0)).notes
-
-    def test_dyndep(self):
-        notes = self.notes(b"rule r\n  command = r\nbuild dd: r\nbuild o: r || dd\n  dyndep = dd\n")
-        self.assertTrue(notes[0].startswith("build.ninja:4: o has a dyndep"), notes)
+        return record("nowhere", found, read_words([]), 1, empty, empty, Ran(0, 0)).remarks
 
     def test_list_of_another_compiler(self):
         notes = self.notes(b"rule r\n  command = r\n  deps = msvc\nbuild o.obj: r\n")
@@ -199,15 +196,15 @@ class Orders(unittest.TestCase):
 
     def test_ends_go_first_in_one_millisecond(self):
         found = self.events(FOUR, [(b"a", 0, 5), (b"b", 0, 9), (b"c", 5, 9)])
-        self.assertEqual(found, ["plan", "start a 0", "start b 1", "finish a 105", "start c 0", "finish b 109",
+        self.assertEqual(found, ["plan", "start a 0", "start b 1", "finish a 105", "start c 2", "finish b 109",
                                  "finish c 109", "pass all"])
         self.assertEqual(self.found.tied, [])
 
     def test_commands_of_no_length_end_before_what_stands_on_them(self):
         found = self.events(FOUR, [(b"a", 3, 3), (b"c", 3, 3), (b"b", 3, 3)])
-        self.assertEqual(found[1:], ["start a 0", "finish a 103", "start c 0", "finish c 103", "start b 1",
+        self.assertEqual(found[1:], ["start a 0", "finish a 103", "start c 1", "finish c 103", "start b 2",
                                      "finish b 103", "pass all"])
-        self.assertEqual(self.found.jobs, 2)
+        self.assertEqual(self.found.jobs, 3)
 
     def test_an_order_that_is_not_known_is_told(self):
         self.events(FOUR, [(b"a", 0, 5), (b"b", 5, 9), (b"c", 5, 9)])
@@ -240,13 +237,48 @@ class Orders(unittest.TestCase):
         self.manifest = manifest(text)
         runs = [EdgeRun(self.manifest.producer[out], "finish", start, end, [end + 1]) for out, start, end in
                 ((b"a", 0, 3), (b"c", 3, 5), (b"b", 1, 9))]
-        found = sequence(Build(self.manifest, 4), [], runs, [], 1)
-        starts = [it[1:] for it in found.events if it[0] == "start"]
-        self.assertEqual(starts, [(b"a", 0, 0), (b"b", 1, 1), (b"c", 2, 0)])
+        for as_run, jobs in ((False, 3), (True, 3)):
+            found = sequence(Build(self.manifest, 4), [], runs, [], 1, as_run=as_run)
+            starts = [it[1:] for it in found.events if it[0] == "start"]
+            self.assertEqual(starts, [(b"a", 0, 0), (b"b", 1, 1), (b"c", 2, 0)])
+            self.assertEqual(found.jobs, jobs)
+
+    def test_as_run_an_edge_takes_the_job_of_one_that_it_stands_on(self):
+        found = self.events(FOUR, [(b"a", 0, 5), (b"b", 0, 9), (b"c", 5, 9)], as_run=True)
+        self.assertEqual(found[1:5], ["start a 0", "start b 1", "finish a 105", "start c 0"])
+        self.assertEqual(self.found.jobs, 2)
+
+    def test_each_start_has_a_job_of_its_own_up_to_the_most_and_then_the_one_free_longest(self):
+        count = MOST_JOBS + 3
+        self.manifest = manifest(b"rule r\n  command = r\n" + b"".join(b"build o%d: r\n" % it for it in range(count)))
+        runs = [EdgeRun(edge, "finish", 2 * edge.number, 2 * edge.number + 1, [5]) for edge in self.manifest.edges]
+        found = sequence(Build(self.manifest), [], runs, [], 1)
+        self.assertEqual([it[2] for it in found.events if it[0] == "start"], [*range(MOST_JOBS), 0, 1, 2])
+        self.assertEqual((found.jobs, found.refused), (MOST_JOBS, []))
+
+    def test_a_slot_is_another_one_where_the_pool_was_not_full(self):
+        text = b"pool p\n  depth = 3\nrule r\n  command = r\n  pool = p\n" + b"".join(
+            b"build %c: r\n" % it for it in b"abcdef")
+        self.manifest = manifest(text)
+        edge = self.manifest.producer
+        times = ((b"a", 0, 1), (b"b", 2, 9), (b"c", 3, 8), (b"d", 4, 7), (b"e", 7, 10), (b"f", 12, 13))
+        runs = [EdgeRun(edge[out], "finish", start, end, [5]) for out, start, end in times]
+        found = sequence(Build(self.manifest), [], runs, [], 1)
+        slots = {it[1]: it[3] for it in found.events if it[0] == "start"}
+        # d had to take the one free slot, and e that of d, which had just left a full pool; f takes the longest free
+        self.assertEqual(slots, {b"a": 0, b"b": 1, b"c": 2, b"d": 0, b"e": 0, b"f": 2})
+        self.assertEqual(found.refused, [])
+
+    def test_each_event_has_its_time(self):
+        self.events(FOUR, [(b"a", 0, 5), (b"b", 0, 9, "abort"), (b"c", 6, 9)], touches=[(7, b"s", 90), (None, b"t", 3)],
+                    interrupted=True)
+        self.assertEqual([it[0] for it in self.found.events],
+                         ["plan", "start", "start", "finish", "start", "touch", "finish", "interrupt", "abort", "touch"])
+        self.assertEqual(self.found.times, [0, 0, 0, 5, 6, 7, 9, 9, 9, None])
 
     def test_touches_stand_where_they_came(self):
         found = self.events(FOUR, [(b"a", 0, 5), (b"b", 0, 9), (b"c", 6, 9)], touches=[(7, b"s", 90), (None, b"t", 3)])
-        self.assertEqual(found[4:6], ["start c 0", "touch s 90"])
+        self.assertEqual(found[4:6], ["start c 2", "touch s 90"])
         self.assertEqual(found[-1], "touch t 3")
 
     def test_a_start_that_rebug_refuses_is_kept_and_told(self):
@@ -316,7 +348,8 @@ class Whole(unittest.TestCase):
         before = {b"a.c": at(-5), b"b.c": 5, b"a.o": 7, b"b.o": 0, b"app": 0}
         after = {**before, b"a.o": at(59), b"b.o": at(39), b"x.h": 4, b"made.h": at(20), b"app": 0}
         deps = {b"a.o": (at(59), [b"a.c", b"x.h"]), b"b.o": (at(39), [b"b.c", b"made.h"])}
-        ran = Ran(1, self.begin, failed=[(b"app", 90, 0)], children=[Child([b"/bin/sh", b"-c", b"ld a.o b.o"], at(65))])
+        ran = Ran(1, self.begin, failed=[(b"app", 90, 0)], children=[Child([b"/bin/sh", b"-c", b"ld a.o b.o"], at(65))],
+                  said_stopped=True)
         self.found = record("nowhere", self.manifest, read_words([]), 2,
                             Snapshot(before, BuildLog(5, old), {b"a.o": (7, [b"a.c"])}, {}),
                             Snapshot(after, BuildLog(5, old + new), deps, {}), ran)

@@ -1,0 +1,101 @@
+"""Reads Ninja's deps log from its file. Lists stay there and are read one by one, since together they are large."""
+
+import os
+import struct
+from array import array
+
+from .fields import LONGEST_PATH, canonical, field
+
+_HEADER = b"# ninjadeps\n"
+_KNOWN = (3, 4)
+_RECORD = 1 << 31
+_LARGEST = 1 << 19  # Ninja takes no larger record
+
+
+class Listing:
+    """What one record lists. The paths are read from the file each time that they are asked for."""
+
+    __slots__ = ("log", "at", "count")
+
+    def __init__(self, log, at, count):
+        self.log, self.at, self.count = log, at, count
+
+    def numbers(self):
+        """The listed paths by their numbers in the log."""
+        found = array("I")
+        found.frombytes(os.pread(self.log.file.fileno(), 4 * self.count, self.at))
+        return found
+
+    def paths(self):
+        return list(map(self.log.paths.__getitem__, self.numbers()))
+
+    def text(self):
+        """The paths as fields of a trace line, with a space in front of each."""
+        fields = self.log.fields
+        if len(fields) != len(self.log.paths):
+            fields = self.log.fields = [b" " + field(it) for it in self.log.paths]
+        return b"".join(map(fields.__getitem__, self.numbers()))
+
+
+class DepsLog:
+    """A deps log as far as it can be read: `places` has output -> (stamp, Listing), the last of each output.
+
+    The file is kept open, so lists can be read also when Ninja has written the log anew.
+    """
+
+    def __init__(self, path=None):
+        self.paths, self.fields, self.places, self.file, self.version = [], [], {}, None, 0
+        try:
+            self.file = open(path, "rb") if path else None
+        except OSError:
+            return
+        if self.file:
+            self._read()
+
+    def _read(self):
+        head = self.file.read(len(_HEADER) + 4)
+        if head[:-4] != _HEADER or len(head) != len(_HEADER) + 4:
+            return
+        self.version = struct.unpack("<I", head[-4:])[0]
+        if self.version not in _KNOWN:
+            return
+        at = len(head)
+        while True:
+            head = self.file.read(4)
+            size = int.from_bytes(head, "little")
+            length = size & ~_RECORD
+            body = self.file.read(length) if len(head) == 4 and 0 < length <= _LARGEST else b""
+            if not body or len(body) != length or length % 4:
+                break
+            if size & _RECORD:
+                self._note(body, at + 4)
+            elif not self._name(body):
+                break
+            at += 4 + length
+
+    def _note(self, body, at):
+        long = self.version >= 4
+        number, skip = int.from_bytes(body[:4], "little"), 12 if long else 8
+        stamp = int.from_bytes(body[4:skip], "little", signed=True)
+        if number < len(self.paths) and len(body) >= skip:
+            self.places[self.paths[number]] = max(0, stamp), Listing(self, at + skip, (len(body) - skip) // 4)
+
+    def _name(self, body):
+        """A path's record: its bytes, filled up by NULs to four, and its number turned over."""
+        if int.from_bytes(body[-4:], "little") != len(self.paths) ^ 0xFFFFFFFF:
+            return False
+        path = body[:-4]
+        for _ in range(3):
+            path = path[:-1] if path.endswith(b"\0") else path
+        self.paths.append(canonical(path) if len(path) <= LONGEST_PATH else path)
+        return True
+
+
+def paths_of(listing):
+    """The paths of a listing, whether it is a list or stands in a file."""
+    return listing.paths() if isinstance(listing, Listing) else listing
+
+
+def text_of(listing):
+    """The paths of a listing as fields, with a space in front of each."""
+    return listing.text() if isinstance(listing, Listing) else b"".join(b" " + field(it) for it in listing)

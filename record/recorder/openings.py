@@ -1,0 +1,37 @@
+"""The stamps of an opening that are not those of the disk.
+
+A command that fails after it wrote its output leaves a file that is newer than its inputs, beside an older entry of the
+log. Ninja goes by the entry and builds it again; rebug has one stamp of a path, so there the opening has the entry's,
+that of the output that was really built last.
+"""
+
+from .fields import shown
+from .rules import Build
+
+_NAMED = 5
+
+
+def stamps_of_what_was_built(it, before):
+    """The outputs whose log entry is older than the newest input that counts and whose file is not: path -> stamp.
+
+    Edges whose list is older than their output are left alone: Ninja and rebug both run them, for that reason.
+    """
+    build, known, found = Build(it.manifest, 1, before.stamps, it.built, it.deps), {}, {}
+    for edge in it.manifest.edges:
+        if not edge.phony and any(path in it.built for path in edge.outputs) and not _has_an_old_list(build, edge):
+            newest = build.newest(edge, known)
+            for path in edge.outputs:
+                stamp, record = build.stamps.get(path, 0), it.built.get(path)
+                if record and record[0] < newest <= stamp:
+                    found[path] = max(1, record[0])
+    if found:
+        names = ", ".join(shown(path) for path in list(found)[:_NAMED])
+        it.notes.append(f"{names}{' and more' if found.keys() - set(list(found)[:_NAMED]) else ''}: changed since "
+                        f"Ninja's log has it as built, and the log's entry is older than an input, so Ninja builds it "
+                        f"again. The opening has the stamp of the log")
+    return found
+
+
+def _has_an_old_list(build, edge):
+    record = build.deps.get(edge.name) if edge.keeps_deps else None
+    return bool(record) and record[0] < build.stamps.get(edge.name, 0)

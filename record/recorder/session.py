@@ -1,0 +1,137 @@
+"""One recording from its first look at the folders to its last sentence."""
+
+import os
+import shlex
+import shutil
+import sys
+
+from .disk import read_file, take_snapshot
+from .fields import canonical, shown
+from .files import write_recording
+from .folders import OutFolder
+from .limits import what_is_refused
+from .manifest import Manifest
+from .recording import record
+from .running import run_ninja, run_quietly
+from .signals import name_of, write_all
+from .words import number_of_jobs, read_words
+
+NOT_RUN, NOT_RECORDED = 2, 3
+
+
+class Failure(Exception):
+    """A sentence for the user, with which the recorder ends, and its status."""
+
+    def __init__(self, text, status=NOT_RUN):
+        super().__init__(text)
+        self.status = status
+
+
+class Session:
+    """Records one build, as the options say."""
+
+    def __init__(self, options, signals, say, launcher):
+        self.options, self.signals, self.say, self.launcher = options, signals, say, launcher
+        self.words = read_words(options.for_ninja)
+        self.ninja, self.build = _ninja(), os.fsencode(options.build)
+        if not os.path.isdir(self.build):
+            raise Failure(f"{options.build} is no folder")
+
+    def run(self):
+        """The whole of it; gives the exit status."""
+        with OutFolder(self.options.out) as out:
+            manifest = self.up_to_date_manifest()
+            self.look_at_limits(manifest)
+            as_run = self.options.jobs_as_run or self.options.lanes
+            jobs = number_of_jobs(self.ninja, self.words.jobs) if as_run else None
+            before = take_snapshot(self.build, manifest)
+            self.signals.end_if_held()
+            ran = run_ninja([self.ninja, *self.words.all], self.build, self.signals)
+            status = ran.status if ran.status >= 0 else 128 - ran.status
+            try:
+                return self.write(out, manifest, jobs, before, ran, status)
+            except OSError as why:
+                raise Failure(f"the recording could not be written ({why.strerror or why}): {self.options.out} is as "
+                              f"it was", status or NOT_RECORDED) from why
+
+    def write(self, out, manifest, jobs, before, ran, status):
+        """Writes what a run of Ninja left; gives the exit status."""
+        for name, content, _ in manifest.files:
+            if read_file(os.path.join(self.build, name)) != content:
+                raise Failure(f"{shown(name)} was written anew during the build, and a trace is of one manifest: "
+                              f"nothing was recorded. Record again, now that it is there", status or NOT_RECORDED)
+        found = record(self.build, manifest, self.words, jobs, before, take_snapshot(self.build, manifest), ran)
+        if status and not ran.interrupted and not _has_started(found, ran) and not self.options.force:
+            if out.has_recording():
+                self.say(f"Ninja built nothing, so the recording in {self.options.out} stays (--force replaces it)")
+                return status
+        write_recording(found, out.staging, self.options.lanes, self.launcher, at=out.folder)
+        self.signals.is_switching = True
+        out.switch()
+        self.tell(found, ran)
+        return 128 + self.signals.held[0] if self.signals.held else status
+
+    def tell(self, found, ran):
+        if ran.status < 0:
+            self.say(f"Ninja was killed by {name_of(-ran.status)}: its commands may have gone on, and the recording "
+                     f"has what was there right after")
+        elif ran.died:
+            self.say("Ninja ended in the middle of the build: its commands may have gone on, and the recording has "
+                     "what was there right after")
+        for note in found.notes + (found.remarks if self.options.verbose else []):
+            self.say(note)
+        out = self.options.out
+        check = " ".join(map(shlex.quote, [sys.argv[0], "--check", out]))
+        self.say(f"{out} has {len(found.found.events)} events of this build. Next: {check}, or "
+                 f"{shlex.quote(os.path.join(out, 'replay'))}")
+
+    def look_at_limits(self, manifest):
+        """Says what makes a recording useless before Ninja runs."""
+        refused = what_is_refused(manifest)
+        for it in refused:
+            self.say(it)
+        if refused and not self.options.anyway:
+            raise Failure("rebug refuses a recording of this manifest, so Ninja was not run (--anyway records it all "
+                          "the same)")
+
+    def up_to_date_manifest(self):
+        """Reads the manifest, once Ninja has brought it up to date where an edge of it makes it."""
+        manifest = self.manifest()
+        maker = manifest.producer.get(canonical(self.words.manifest))
+        if maker is None:
+            return manifest
+        status, said = run_quietly([self.ninja, "-f", self.words.manifest, maker.name], self.build, self.signals)
+        lines = [it for it in said.splitlines(keepends=True) if it != b"ninja: no work to do.\n"]
+        write_all(1, b"".join(lines))
+        if status:
+            raise Failure("the manifest could not be brought up to date: nothing was recorded",
+                          status if status > 0 else 128 - status)
+        if not lines:
+            return manifest
+        self.say("that was the manifest, brought up to date before the recording begins")
+        return self.manifest()
+
+    def manifest(self):
+        return Manifest(self.words.manifest, lambda name: _content(os.path.join(self.build, name)))
+
+
+def _has_started(found, ran):
+    """Whether Ninja started a command."""
+    return bool(ran.children or ran.failed) or any(event[0] == "start" for event in found.found.events)
+
+
+def _ninja():
+    given = os.environ.get("NINJA")
+    found = shutil.which(given or "ninja")
+    if found:
+        return os.path.abspath(found)
+    raise Failure(f"NINJA names {given}, which cannot be run" if given else
+                  "there is no ninja on the PATH (NINJA may name one)")
+
+
+def _content(path):
+    try:
+        with open(path, "rb") as file:
+            return file.read()
+    except OSError as why:
+        raise Failure(f"cannot read {shown(path)}: {why.strerror}") from why

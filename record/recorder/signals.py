@@ -1,0 +1,75 @@
+"""What signals do to a recording.
+
+While Ninja runs they are Ninja's. While the recorder works they are held until the recording is written; a second one
+within two seconds ends the recorder, and the recording that was there stays.
+"""
+
+import os
+import signal
+import time
+
+NUMBERS = (signal.SIGINT, signal.SIGTERM, signal.SIGHUP)
+_SECOND_WITHIN = 2.0
+
+
+class Ended(BaseException):
+    """The recorder was told to end. No `except Exception` takes it."""
+
+    def __init__(self, number):
+        super().__init__(number)
+        self.number = number
+
+
+def name_of(number):
+    """A signal's name."""
+    try:
+        return signal.Signals(number).name
+    except ValueError:
+        return f"signal {number}"
+
+
+class Signals:
+    """Takes the three signals by which users and systems end a program."""
+
+    def __init__(self, say):
+        self.say, self.hand_on, self.held, self.last, self.is_switching = say, None, [], None, False
+
+    def install(self):
+        """Takes them from now on. A hangup that the caller has told to be ignored stays so."""
+        for number in NUMBERS:
+            if number != signal.SIGHUP or signal.getsignal(number) != signal.SIG_IGN:
+                signal.signal(number, self._came)
+
+    def give_back(self):
+        """From now on each ends the process, without a word."""
+        for number in NUMBERS:
+            if signal.getsignal(number) != signal.SIG_IGN:
+                signal.signal(number, signal.SIG_DFL)
+
+    def _came(self, number, _):
+        if self.hand_on:
+            self.hand_on(number)
+            return
+        now, last = time.monotonic(), self.last
+        self.held.append(number)
+        self.last = now
+        if self.is_switching:
+            return
+        if last is not None and now - last <= _SECOND_WITHIN:
+            raise Ended(number)
+        self.say(f"{name_of(number)} is held until the recording is written; another one within two seconds ends it now")
+
+    def end_if_held(self):
+        """Ends the recorder where a signal came before Ninja was run."""
+        if self.held:
+            raise Ended(self.held[0])
+
+
+def write_all(descriptor, data):
+    """Writes the bytes; false where nobody can take them any more."""
+    while data:
+        try:
+            data = data[os.write(descriptor, data) :]
+        except OSError:
+            return False
+    return True
