@@ -2,7 +2,7 @@
 
 import os
 import struct
-from array import array
+from operator import itemgetter
 
 from .fields import LONGEST_PATH, canonical, field
 
@@ -22,19 +22,22 @@ class Listing:
 
     def numbers(self):
         """The listed paths by their numbers in the log."""
-        found = array("I")
-        found.frombytes(os.pread(self.log.file.fileno(), 4 * self.count, self.at))
-        return found
+        return struct.unpack(f"<{self.count}I", os.pread(self.log.file.fileno(), 4 * self.count, self.at))
 
     def paths(self):
-        return list(map(self.log.paths.__getitem__, self.numbers()))
+        return _taken(self.log.paths, self.numbers())
 
     def text(self):
         """The paths as fields of a trace line, with a space in front of each."""
         fields = self.log.fields
         if len(fields) != len(self.log.paths):
             fields = self.log.fields = [b" " + field(it) for it in self.log.paths]
-        return b"".join(map(fields.__getitem__, self.numbers()))
+        return b"".join(_taken(fields, self.numbers()))
+
+
+def _taken(values, numbers):
+    """The values with these numbers. One getter for all is the quickest way of many, and it wants two numbers."""
+    return itemgetter(*numbers)(values) if len(numbers) > 1 else tuple(values[it] for it in numbers)
 
 
 class DepsLog:

@@ -8,6 +8,7 @@ from .fields import canonical, line, shown
 from .replaying import replay_text
 
 MOST_LANES = 63
+_BUFFER = 1 << 18
 _TAKEN = (b"..", b"trace", b"script", b"replay", b"times")
 
 
@@ -39,7 +40,7 @@ def write_recording(it, folder, with_lanes, program, at=None):
 def _open(folder, name):
     path = os.path.join(os.fsencode(folder), name)
     os.makedirs(os.path.dirname(path), exist_ok=True)
-    return open(path, "wb")
+    return open(path, "wb", buffering=_BUFFER)
 
 
 def _beside(program, folder):

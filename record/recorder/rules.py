@@ -28,7 +28,7 @@ class Build:
     def listed(self, edge):
         """The paths of the edge's deps record."""
         record = self.deps.get(edge.outputs[0]) if edge.keeps_deps else None
-        return paths_of(record[1]) if record else []
+        return list(paths_of(record[1])) if record else []
 
     def inputs(self, edge):
         return edge.inputs + self.listed(edge)
