@@ -8,7 +8,6 @@ of a recording of that, and of the recording of the whole build, from the same f
 import os
 import pathlib
 import resource
-import shutil
 import subprocess
 import sys
 import tempfile
@@ -44,6 +43,15 @@ class Steps:
     def __init__(self):
         self.began = time.monotonic()
 
+    def least(self, step, runs=5):
+        """Does the step so often, and counts the least of the times, as is done for Ninja."""
+        found = []
+        for run in range(runs):
+            begin = time.monotonic()
+            step(run)
+            found.append(time.monotonic() - begin)
+        self.began = time.monotonic() - min(found)
+
     def done(self, name):
         now = time.monotonic()
         memory = resource.getrusage(resource.RUSAGE_SELF).ru_maxrss // 1024
@@ -62,8 +70,8 @@ def steps(folder, out, is_whole):
     before = Snapshot(sources, BuildLog(after.log.version, []), {}, {}) if is_whole else after
     found = record(folder, manifest, read_words([]), None, before, after, Ran(0, 0))
     it.done("the events are worked out")
-    write_recording(found, out, False, "/nowhere/rebug")
-    it.done(f"{len(found.found.events):,} events, {os.path.getsize(out / 'trace'):,} bytes are written")
+    it.least(lambda run: write_recording(found, f"{out}{run}", False, "/nowhere/rebug"))
+    it.done(f"{len(found.found.events):,} events, {os.path.getsize(f'{out}0/trace'):,} bytes are written")
 
 
 def main(edges=20_000, headers=300):
@@ -78,11 +86,10 @@ def main(edges=20_000, headers=300):
             print("a recording of the whole build:" if is_whole else "a recording of no work:", flush=True)
             child = os.fork()
             if not child:
-                steps(folder, pathlib.Path(room) / "out", is_whole)
+                steps(folder, f"{room}/out{is_whole}", is_whole)
                 os._exit(0)
             if os.waitpid(child, 0)[1]:
                 return 1
-            shutil.rmtree(pathlib.Path(room) / "out")
     return 0
 
 

@@ -4,8 +4,9 @@ import re
 
 LONGEST_PATH = 4096
 _PLAIN = re.compile(rb"[A-Za-z0-9_+\-./]+")
-_ESCAPES = {b" ": b"\\s", b"\t": b"\\t", b"\n": b"\\n", b"\r": b"\\r", b"\\": b"\\\\"}
-_TO_ESCAPE = re.compile(rb"[ \t\n\r\\]")
+_TO_ESCAPE = re.compile(rb"[ \t\n\r\\]").search
+# a backslash first, since the others bring one along
+_ESCAPES = ((b"\\", b"\\\\"), (b" ", b"\\s"), (b"\t", b"\\t"), (b"\n", b"\\n"), (b"\r", b"\\r"))
 
 
 def canonical(path):
@@ -34,12 +35,16 @@ def quoted(path):
 
 def field(text):
     """A text as one field of a trace line."""
-    return _TO_ESCAPE.sub(lambda it: _ESCAPES[it[0]], text) or b"\\0"
+    if _TO_ESCAPE(text):
+        for byte, escape in _ESCAPES:
+            text = text.replace(byte, escape)
+    return text or b"\\0"
 
 
 def line(*parts):
     """A trace line: bytes are fields, numbers are written in decimal, and words are words."""
-    return b" ".join(field(it) if isinstance(it, bytes) else str(it).encode() for it in parts)
+    return b" ".join([field(it) if isinstance(it, bytes) else b"%d" % it if isinstance(it, int) else it.encode()
+                      for it in parts])
 
 
 def shown(text):

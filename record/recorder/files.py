@@ -4,7 +4,7 @@ import os
 import stat
 
 from .depslog import text_of
-from .fields import canonical, line, shown
+from .fields import canonical, field, line, shown
 from .replaying import replay_text
 
 MOST_LANES = 63
@@ -87,9 +87,13 @@ def _is_text(path):
 def opening(it):
     """The opening lines, in byte order within their kind."""
     yield line("jobs", it.jobs)
-    yield from (line("stamp", path, stamp) for path, stamp in sorted(it.stamps.items()) if stamp)
-    yield from (line("built", path, stamp, command) for path, (stamp, command) in sorted(it.built.items()))
-    yield from (line("deps", path, it.deps[path][0]) + text_of(it.deps[path][1]) for path in sorted(it.deps))
+    for path in sorted(it.stamps):
+        if it.stamps[path]:
+            yield b"stamp %b %d" % (field(path), it.stamps[path])
+    for path in sorted(it.built):
+        yield b"built %b %d %b" % (field(path), it.built[path][0], field(it.built[path][1]))
+    for path in sorted(it.deps):
+        yield b"deps %b %d%b" % (field(path), it.deps[path][0], text_of(it.deps[path][1]))
     yield from (line("target", path) for path in it.targets)
 
 
@@ -99,8 +103,8 @@ def command(event):
     if word == "plan":
         return b"plan"
     if word == "finish" and len(rest) == 3:
-        head = line(word, rest[0], ",".join(map(str, rest[1])))
-        return head + (b" " + line("depfile", rest[2]) if isinstance(rest[2], bytes) else b" list" + text_of(rest[2]))
+        listed = b"depfile " + field(rest[2]) if isinstance(rest[2], bytes) else b"list" + text_of(rest[2])
+        return b"finish %b %b %b" % (field(rest[0]), b",".join([b"%d" % it for it in rest[1]]), listed)
     if word in ("finish", "fail", "abort"):
         return line(word, rest[0], ",".join(map(str, rest[1])))
     return line(word, *rest)
