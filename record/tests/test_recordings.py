@@ -8,6 +8,7 @@ import tempfile
 import unittest
 
 import builds
+import projects  # noqa: F401, adds its chains
 from builds import CHAINS, missing_tools, unescaped
 
 
@@ -96,8 +97,8 @@ class Commands(unittest.TestCase):
         self.assertIn(b"fail t", words)
 
     def test_no_two_edges_hold_one_job(self):
-        for chain, (_, _, names) in CHAINS.items():
-            for name in names:
+        for chain, (_, tools, names) in CHAINS.items():
+            for name in names if not missing_tools(*tools) else ():
                 held = {}
                 for line in self.lines(chain, name):
                     word, *rest = line.split(b" ")

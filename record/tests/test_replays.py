@@ -10,6 +10,7 @@ import tempfile
 import unittest
 
 import builds
+import projects  # noqa: F401, adds its chains
 from builds import CHAINS, missing_tools, unescaped
 from recorder.checking import check
 from recorder.manifest import Manifest

@@ -62,7 +62,7 @@ class ReplaysOfQuestions(unittest.TestCase):
         said, errors, status = self.asked("dependents 2", "why w", "undo 2")
         self.assertEqual((errors, status), (b"", 0))
         self.assertEqual(said, b"1 0 ok\n" + REASONS + b"2 0 ok\n3 0 ok\n4 0 ok\n5 0 ok\n"
-                         b"dependents 2 3\n6 1 refused 82 3\n")
+                         b"dependents 2 3 4\n6 1 refused 82 3\n")
 
     def test_a_recording_of_lanes_is_asked(self):
         if why_no_lanes():
