@@ -19,7 +19,8 @@ def main(folder, edges, headers):
     for it in range(16):
         listed = " ".join(names[(7 * it + 3 * at) % len(names)] for at in range(headers - 1))
         (folder / f"list{it}.d").write_text(f"@: % {listed}\n")
-    lines = ["rule cc", "  command = sed 's|@|$out|; s|%|$in|' list$list.d >$out.d && : >$out", "  depfile = $out.d", "  deps = gcc"]
+    command = "sed 's|@|$out|; s|%|$in|' list$list.d >$out.d && : >$out"
+    lines = ["rule cc", f"  command = {command}", "  depfile = $out.d", "  deps = gcc"]
     for it in range(edges):
         (folder / f"src/file_{it:05}.c").write_text("")
         lines += [f"build out/file_{it:05}.o: cc src/file_{it:05}.c", f"  list = {it % 16}"]

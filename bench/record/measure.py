@@ -62,7 +62,7 @@ class Steps:
 def steps(folder, out, is_whole):
     """Records from the files as they are: nothing to do, or the whole build."""
     it, folder = Steps(), os.fsencode(folder)
-    manifest = Manifest(b"build.ninja", lambda name: (pathlib.Path(os.fsdecode(folder)) / os.fsdecode(name)).read_bytes())
+    manifest = Manifest(b"build.ninja", lambda name: pathlib.Path(os.fsdecode(os.path.join(folder, name))).read_bytes())
     it.done("the manifest is read")
     after = take_snapshot(folder, manifest)
     it.done("stamps and logs are read")

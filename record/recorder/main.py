@@ -27,6 +27,11 @@ def launcher():
     return os.path.join(top, "rebug")
 
 
+def _named(why):
+    """The file that an error of the system is about, for the beginning of a sentence."""
+    return f"{os.fsdecode(why.filename)}: " if isinstance(why.filename, (str, bytes)) else ""
+
+
 def main(words):
     signals = Signals(say)
     try:
@@ -47,7 +52,7 @@ def main(words):
         say(f"ended by {name_of(why.number)}: nothing was recorded, and what was there stays")
         return 128 + why.number
     except OSError as why:
-        say(f"{why.filename + ': ' if isinstance(why.filename, str) else ''}{why.strerror or why}: nothing was recorded")
+        say(f"{_named(why)}{why.strerror or why}: nothing was recorded")
         return NOT_RECORDED
     except Exception as why:  # no traceback for users; the kind of the error is for those who mend the recorder
         say(f"a fault of the recorder, {type(why).__name__}: {why}. Nothing was recorded")

@@ -1,5 +1,6 @@
 """The text of a recording's `replay`, a script that needs a shell and rebug alone, and can be moved."""
 
+import os
 import shlex
 
 _SCRIPT = r"""#!/bin/sh
@@ -49,7 +50,7 @@ exit "${status##*
 def replay_text(words, files, script, with_lanes, program):
     """The text, for the words that name the manifest and the trace, and the further files of the manifest."""
     at = script.index(b"run")
-    shown = lambda lines: "printf '%s\\n' " + " ".join(shlex.quote(it.decode("utf-8", "surrogateescape")) for it in lines)
+    shown = lambda lines: "printf '%s\\n' " + " ".join(shlex.quote(os.fsdecode(it)) for it in lines)
     plan, rest = (script[:at], script[at:-2]) if with_lanes else ([b"run 1"], [b"run"])
     values = {"@PROGRAM@": shlex.quote(program), "@PLAN@": shown(plan), "@REST@": shown(rest),
               "@WORDS@": " ".join(map(shlex.quote, words)),

@@ -57,7 +57,7 @@ class Signals:
             return
         if last is not None and now - last <= _SECOND_WITHIN:
             raise Ended(number)
-        self.say(f"{name_of(number)} is held until the recording is written; another one within two seconds ends it now")
+        self.say(f"{name_of(number)} is held until the recording is written; a second one within two seconds ends it")
 
     def end_if_held(self):
         """Ends the recorder where a signal came before Ninja was run."""

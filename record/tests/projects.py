@@ -87,7 +87,8 @@ def write_sources(it, folder, texts):
 
 
 def c_sources():
-    return {"version.in": "#define VERSION 1\n", "kept.in": "#define KEPT 1\n", "step.sh": QUICK, "words.h": "#define W 1\n",
+    return {"version.in": "#define VERSION 1\n", "kept.in": "#define KEPT 1\n", "step.sh": QUICK,
+            "words.h": "#define W 1\n",
             "w one.c": '#include "words.h"\n#include "step.h"\nint w1(void) { return W + STEP; }\n',
             "w_\u00fc.c": '#include "words.h"\n#include "kept.h"\nint w2(void) { return W + KEPT; }\n',
             "w3.c": '#include "version.h"\nint w3(void) { return VERSION; }\n',

@@ -45,7 +45,7 @@ class Kept(unittest.TestCase):
         return [sys.executable, builds.RECORDER, self.build, out or self.out, *own, *(["--", *words] if words else [])]
 
     def run_recorder(self, *words, own=(), out=None, **how):
-        how = {"stdin": subprocess.DEVNULL, "stdout": subprocess.PIPE, "stderr": subprocess.STDOUT, "timeout": 60, **how}
+        how = {"stdin": subprocess.DEVNULL, "stdout": subprocess.PIPE, "stderr": subprocess.STDOUT, **how}
         done = subprocess.run(self.words(*words, own=own, out=out), text=True, **how)
         self.assertNotIn("Traceback", done.stdout or "")
         return done.returncode, done.stdout
@@ -293,7 +293,8 @@ class Full(Kept):
         (self.build / "s").write_text("again")
         status, said = self.run_recorder(**how)
         self.assertEqual(status, 3, said)
-        self.assertRegex(said, r"\[1/1\] touch o\nrebug-record: the recording could not be written \(.*\): .* is as it was\n$")
+        self.assertRegex(said, r"\[1/1\] touch o\nrebug-record: the recording could not be written \(.*\): "
+                               r".* is as it was\n$")
         self.assert_kept()
 
 

@@ -1,4 +1,4 @@
-"""The six builds of each project: the events are the edges that Ninja's log has, in its order, and the times are its."""
+"""The six builds of each project: the events are the edges of Ninja's log, in its order, and the times are its."""
 
 import json
 import unittest

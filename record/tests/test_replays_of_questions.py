@@ -46,8 +46,8 @@ class ReplaysOfQuestions(unittest.TestCase):
         return done.stdout, done.stderr, done.returncode
 
     def checked(self, *words, recording=None):
-        return subprocess.run([sys.executable, builds.RECORDER, "--check", recording or self.out, *words], cwd=self.room,
-                              stdin=subprocess.DEVNULL, capture_output=True, text=True)
+        whole = [sys.executable, builds.RECORDER, "--check", recording or self.out, *words]
+        return subprocess.run(whole, cwd=self.room, stdin=subprocess.DEVNULL, capture_output=True, text=True)
 
     def test_without_words_the_script_is_run(self):
         said, errors, status = self.asked()
@@ -96,7 +96,7 @@ class ReplaysOfQuestions(unittest.TestCase):
         (moved / "replay").write_text(text.replace("program=", "program=/nowhere", 1))
         said, errors, status = self.asked(recording=moved, rebug=False)
         self.assertEqual((said, status), (b"", 3))
-        self.assertRegex(errors, rb"^replay: there is no rebug at /nowhere.*: name one, as in REBUG=/path/to/rebug .*\n$")
+        self.assertRegex(errors, rb"^replay: there is no rebug at /nowhere.*: name one, as in REBUG=/path/to/.*\n$")
 
     def test_a_program_that_is_not_there(self):
         done = self.checked("--rebug", "nowhere/rebug")

@@ -273,7 +273,7 @@ class Orders(unittest.TestCase):
         self.events(FOUR, [(b"a", 0, 5), (b"b", 0, 9, "abort"), (b"c", 6, 9)], touches=[(7, b"s", 90), (None, b"t", 3)],
                     interrupted=True)
         self.assertEqual([it[0] for it in self.found.events],
-                         ["plan", "start", "start", "finish", "start", "touch", "finish", "interrupt", "abort", "touch"])
+                         "plan start start finish start touch finish interrupt abort touch".split())
         self.assertEqual(self.found.times, [0, 0, 0, 5, 6, 7, 9, 9, 9, None])
 
     def test_touches_stand_where_they_came(self):
