@@ -25,17 +25,17 @@ class Listing:
         return struct.unpack(f"<{self.count}I", os.pread(self.log.file.fileno(), 4 * self.count, self.at))
 
     def paths(self):
-        return _taken(self.log.paths, self.numbers())
+        return taken(self.log.paths, self.numbers())
 
     def text(self):
         """The paths as fields of a trace line, with a space in front of each."""
         fields = self.log.fields
         if len(fields) != len(self.log.paths):
             fields = self.log.fields = [b" " + field(it) for it in self.log.paths]
-        return b"".join(_taken(fields, self.numbers()))
+        return b"".join(taken(fields, self.numbers()))
 
 
-def _taken(values, numbers):
+def taken(values, numbers):
     """The values with these numbers. One getter for all is the quickest way of many, and it wants two numbers."""
     return itemgetter(*numbers)(values) if len(numbers) > 1 else tuple(values[it] for it in numbers)
 

@@ -6,6 +6,7 @@ Ninja's has, and to tell at once where rebug will refuse what Ninja did. The jud
 
 from .depfiles import read_depfile
 from .depslog import Listing, paths_of
+from .listed import ListedPaths
 
 IDLE, WANTED, THROUGH, RUNNING = "idle", "wanted", "through", "running"
 DONE, CLEAN, FAILED, STOPPED = "done", "clean", "failed", "stopped"
@@ -22,21 +23,16 @@ class Build:
         self.marks = [IDLE] * len(self.edges)
         self.running, self.changed = {}, {}
         self.jobs, self.slots, self.halted = {}, {}, False
+        self.lists = ListedPaths(self)
 
     # What the state shows.
 
     def listed(self, edge):
         """The paths of the edge's deps record."""
-        record = self.deps.get(edge.outputs[0]) if edge.keeps_deps else None
-        return list(paths_of(record[1])) if record else []
+        return list(paths_of(self.lists.listing(edge)))
 
     def inputs(self, edge):
         return edge.inputs + self.listed(edge)
-
-    def dirtying_inputs(self, edge):
-        """(position, path) of the inputs that are not order-only."""
-        yield from enumerate(edge.explicit + edge.implicit)
-        yield from enumerate(self.listed(edge), len(edge.inputs))
 
     def visible(self, path, known=None):
         """The stamp that a path shows: of a missing output of a phony edge the greatest of that edge's inputs."""
@@ -66,22 +62,26 @@ class Build:
             found.append(("no-deps",))
         if record and record[0] < stamp(edge.outputs[0], 0):
             found.append(("deps-old",))
-        inputs = list(self.dirtying_inputs(edge))
-        found += [("rebuilt", it) for _, it in inputs if self.is_changed(it)]
+        line = edge.explicit + edge.implicit
+        found += [("rebuilt", it) for it in line if self.is_changed(it)]
+        found += [("rebuilt", it) for it in self.lists.changed(edge)]
         known, newest, first = {} if known is None else known, 0, None
-        for place, path in inputs:
+        for path in line:
             shows = self.visible(path, known)
-            if not shows and place >= len(edge.inputs) and path not in self.producer:
-                found.append(("missing-dep", path))
             if shows > newest:
                 newest, first = shows, path
+        shows, path, missing = self.lists.newest(edge, known)
+        found += [("missing-dep", it) for it in missing]
+        if shows > newest:
+            newest, first = shows, path
         found += [("older", it, first) for it in edge.outputs if self.effective(edge, it) < newest]
         return found + self.record_reasons(edge)
 
     def newest(self, edge, known=None):
         """The greatest stamp that an input shows, order-only ones left out; 0 where there is none."""
         known = {} if known is None else known
-        return max((self.visible(path, known) for _, path in self.dirtying_inputs(edge)), default=0)
+        line = max((self.visible(path, known) for path in edge.explicit + edge.implicit), default=0)
+        return max(line, self.lists.newest(edge, known)[0])
 
     def effective(self, edge, path):
         record = self.built.get(path) if edge.restat else None
@@ -109,7 +109,12 @@ class Build:
         return [found[it] for it in sorted(found)]
 
     def producers(self, edge):
-        return [self.producer[it] for it in self.inputs(edge) if it in self.producer]
+        return [self.producer[it] for it in edge.inputs if it in self.producer] + self.lists.makers(edge)
+
+    def dirtying_producers(self, edge):
+        """The producers of inputs that are not order-only."""
+        line = [self.producer[it] for it in edge.explicit + edge.implicit if it in self.producer]
+        return line + self.lists.makers(edge)
 
     def plan_refusal(self, targets):
         running = [it.number for it in self.edges if self.marks[it.number] == RUNNING]
@@ -165,13 +170,12 @@ class Build:
         """Marks what the targets want; the plan must not be refused."""
         ordered, _ = self.in_order(self.reached(targets))
         marks, known = [IDLE] * len(self.edges), {}
-        mark_of = lambda path: marks[self.producer[path].number] if path in self.producer else IDLE
         for edge in ordered:
             if any(it[0] != "rebuilt" for it in self.reasons(edge, known)):
                 marks[edge.number] = WANTED
-            elif any(mark_of(path) == WANTED for _, path in self.dirtying_inputs(edge)):
+            elif any(marks[it.number] == WANTED for it in self.dirtying_producers(edge)):
                 marks[edge.number] = WANTED
-            elif any(mark_of(path) in (WANTED, THROUGH) for path in self.inputs(edge)):
+            elif any(marks[it.number] in (WANTED, THROUGH) for it in self.producers(edge)):
                 marks[edge.number] = THROUGH
         self.marks, self.halted = marks, False
 
@@ -195,6 +199,8 @@ class Build:
         return getattr(self, f"{word}_refusal")(edge, *event[2:])
 
     def blocked(self, edge):
+        if all(self.marks[it.number] in SETTLED for it in self.producers(edge)):
+            return None
         for place, path in enumerate(self.inputs(edge)):
             maker = self.producer.get(path)
             if maker is not None and self.marks[maker.number] not in SETTLED:
@@ -260,11 +266,15 @@ class Build:
         if word == "plan":
             self.plan(event[1] or self.manifest.defaults())
         elif word == "touch":
-            self.stamps[event[1]] = event[2]
+            self.set_stamp(event[1], event[2])
         elif word == "interrupt":
             self.halted = True
         else:
             getattr(self, f"do_{word}")(self.producer[event[1]], *event[2:])
+
+    def set_stamp(self, path, stamp):
+        self.stamps[path] = stamp
+        self.lists.stamped(path, stamp)
 
     def do_start(self, edge, job, slot=None):
         seen = self.newest(edge)
@@ -280,7 +290,8 @@ class Build:
             del self.slots[edge.pool, slot]
         self.marks[edge.number] = mark
         before = [self.stamps.get(it, 0) for it in edge.outputs]
-        self.stamps.update(zip(edge.outputs, stamps))
+        for path, stamp in zip(edge.outputs, stamps):
+            self.set_stamp(path, stamp)
         return seen, [was != now for was, now in zip(before, stamps)]
 
     def do_finish(self, edge, stamps, listing=None):
@@ -294,6 +305,7 @@ class Build:
                 paths = read_depfile(listing, edge.outputs) if isinstance(listing, bytes) else listing or []
                 listing = list(dict.fromkeys(paths))
             self.deps[edge.outputs[0]] = (stamps[0], listing)
+            self.lists.forget(edge)
 
     def do_fail(self, edge, stamps):
         self.end(edge, FAILED, stamps)
