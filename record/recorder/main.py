@@ -32,7 +32,17 @@ def _named(why):
     return f"{os.fsdecode(why.filename)}: " if isinstance(why.filename, (str, bytes)) else ""
 
 
+def _fill_missing_descriptors():
+    """Opens what the caller has closed of the first three, so that no file of a recording is taken for one of them."""
+    for descriptor in range(3):
+        try:
+            os.fstat(descriptor)
+        except OSError:
+            os.open(os.devnull, os.O_RDWR)
+
+
 def main(words):
+    _fill_missing_descriptors()
     signals = Signals(say)
     try:
         if not words or words[0] in ("-h", "--help"):

@@ -18,12 +18,12 @@ def stamps_of_what_was_built(it, before):
     """
     build, known, found = Build(it.manifest, 1, before.stamps, it.built, it.deps), {}, {}
     for edge in it.manifest.edges:
-        if not edge.phony and any(path in it.built for path in edge.outputs) and not _has_an_old_list(build, edge):
+        changed = [path for path in edge.outputs if path in it.built and it.built[path][0] < build.stamps.get(path, 0)]
+        if changed and not edge.phony and not _has_an_old_list(build, edge):
             newest = build.newest(edge, known)
-            for path in edge.outputs:
-                stamp, record = build.stamps.get(path, 0), it.built.get(path)
-                if record and record[0] < newest <= stamp:
-                    found[path] = max(1, record[0])
+            for path in changed:
+                if it.built[path][0] < newest <= build.stamps[path]:
+                    found[path] = max(1, it.built[path][0])
     if found:
         names = ", ".join(shown(path) for path in list(found)[:_NAMED])
         it.notes.append(f"{names}{' and more' if found.keys() - set(list(found)[:_NAMED]) else ''}: changed since "

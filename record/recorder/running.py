@@ -187,9 +187,12 @@ def run_ninja(words, folder, signals):
         if not started:
             early.append(number)
         for process, watcher in started:
+            if process.poll() is not None:
+                return False
             watcher.look()
             if number != signal.SIGINT or not _has_the_terminal():
                 process.send_signal(number)
+        return True
 
     signals.hand_on = hand_on
     try:
@@ -215,8 +218,11 @@ def run_quietly(words, folder, signals):
                                stderr=subprocess.STDOUT)
 
     def hand_on(number):
+        if process.poll() is not None:
+            return False
         if number != signal.SIGINT or not _has_the_terminal():
             process.send_signal(number)
+        return True
 
     signals.hand_on = hand_on
     try:

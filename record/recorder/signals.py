@@ -32,6 +32,7 @@ class Signals:
     """Takes the three signals by which users and systems end a program."""
 
     def __init__(self, say):
+        # `hand_on` says whether there is somebody to hand a signal on to
         self.say, self.hand_on, self.held, self.last, self.is_switching = say, None, [], None, False
 
     def install(self):
@@ -47,8 +48,7 @@ class Signals:
                 signal.signal(number, signal.SIG_DFL)
 
     def _came(self, number, _):
-        if self.hand_on:
-            self.hand_on(number)
+        if self.hand_on and self.hand_on(number):
             return
         now, last = time.monotonic(), self.last
         self.held.append(number)

@@ -378,6 +378,16 @@ class Ended(Kept):
         self.assertIn("Ninja was killed by SIGKILL", said)
         self.assertRegex((self.out / "trace").read_text(), r"lane 0\nplan\nstart o 0\ninterrupt\nabort o \d+\n$")
 
+    def test_a_ninja_that_ends_in_the_middle_is_said(self):
+        self.write("rule slow\n  command = echo $$$$ > pid; touch begun; sleep 30\nbuild o: slow s\n"
+                   "rule quick\n  command = sleep 0.5; touch $out\nbuild q: quick s\n"
+                   "rule long\n  command = touch $out # " + "x" * 200_000 + "\nbuild p: long q\n")
+        status, said = self.run_recorder()
+        os.killpg(int((self.build / "pid").read_text()), signal.SIGKILL)
+        self.assertEqual(status, 1)
+        self.assertIn("Ninja ended in the middle of the build", said)
+        self.assertTrue((self.out / "trace").read_text().endswith("\ninterrupt\nabort o 0\n"))
+
     def test_signals_reach_ninja(self):
         for number in (signal.SIGINT, signal.SIGTERM, signal.SIGHUP):
             with self.subTest(number=number):
@@ -390,6 +400,11 @@ class Ended(Kept):
                 self.assertEqual(process.wait(60), 2, said)
                 self.assertIn(b"interrupt\nabort o 0\n", (self.out / "trace").read_bytes())
                 (self.build / "begun").unlink()
+
+    def test_descriptors_that_are_closed(self):
+        command = f"'{sys.executable}' '{builds.RECORDER}' '{self.build}' '{self.out}' <&- >&- 2>&-"
+        self.assertEqual(subprocess.run(["sh", "-c", command]).returncode, 0)
+        self.assertIn(b"lane 0\nplan\nstart o 0\n", (self.out / "trace").read_bytes())
 
     def test_a_reader_that_goes_away(self):
         self.record_first()
