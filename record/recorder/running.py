@@ -194,7 +194,7 @@ def run_ninja(words, folder, signals):
                 process.send_signal(number)
         return True
 
-    signals.hand_on = hand_on
+    signals.hand_on, signals.has_run = hand_on, True
     try:
         process = subprocess.Popen(words, cwd=folder, stdout=inner, env=environment, close_fds=True)
         os.close(inner)

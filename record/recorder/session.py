@@ -45,7 +45,6 @@ class Session:
             as_run = self.options.jobs_as_run or self.options.lanes
             jobs = number_of_jobs(self.ninja, self.words.jobs) if as_run else None
             before = take_snapshot(self.build, manifest)
-            self.signals.end_if_held()
             ran = run_ninja([self.ninja, *self.words.all], self.build, self.signals)
             status = ran.status if ran.status >= 0 else 128 - ran.status
             try:

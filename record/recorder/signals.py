@@ -1,7 +1,7 @@
 """What signals do to a recording.
 
-While Ninja runs they are Ninja's. While the recorder works they are held until the recording is written; a second one
-within two seconds ends the recorder, and the recording that was there stays.
+Before Ninja runs one ends the recorder. While Ninja runs they are Ninja's. After that they are held until the recording
+is written; a second one within two seconds ends the recorder, and the recording that was there stays.
 """
 
 import os
@@ -33,7 +33,8 @@ class Signals:
 
     def __init__(self, say):
         # `hand_on` says whether there is somebody to hand a signal on to
-        self.say, self.hand_on, self.held, self.last, self.is_switching = say, None, [], None, False
+        self.say, self.hand_on, self.held, self.last = say, None, [], None
+        self.has_run, self.is_switching = False, False
 
     def install(self):
         """Takes them from now on. A hangup that the caller has told to be ignored stays so."""
@@ -50,6 +51,8 @@ class Signals:
     def _came(self, number, _):
         if self.hand_on and self.hand_on(number):
             return
+        if not self.has_run:
+            raise Ended(number)
         now, last = time.monotonic(), self.last
         self.held.append(number)
         self.last = now
@@ -58,11 +61,6 @@ class Signals:
         if last is not None and now - last <= _SECOND_WITHIN:
             raise Ended(number)
         self.say(f"{name_of(number)} is held until the recording is written; a second one within two seconds ends it")
-
-    def end_if_held(self):
-        """Ends the recorder where a signal came before Ninja was run."""
-        if self.held:
-            raise Ended(self.held[0])
 
 
 def write_all(descriptor, data):

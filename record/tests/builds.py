@@ -303,6 +303,8 @@ def failing_chain():
     it.write("build.ninja", FAILING_MANIFEST.replace("break s", "make s"))
     it.record("repaired", "w")
     it.record("recorded_with_lanes", "-k0", "t", "w", status=1, own=["--lanes"])
+    it.write("s", "again\n")
+    it.record("jobs_as_run", "w", own=["--jobs-as-run"])
 
 
 # chain -> the function that makes it, what it needs, its recordings
@@ -316,7 +318,7 @@ CHAINS = {
         "source_named_with_a_caret",
         "nothing_to_do", "interrupted_while_slow", "resumed")),
     "failing": (failing_chain, ("ninja",), (
-        "first_failure_ends", "keep_going", "console_failure", "repaired", "recorded_with_lanes")),
+        "first_failure_ends", "keep_going", "console_failure", "repaired", "recorded_with_lanes", "jobs_as_run")),
 }
 
 

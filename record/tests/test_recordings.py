@@ -96,6 +96,14 @@ class Commands(unittest.TestCase):
         words = self.words("failing", "console_failure")
         self.assertIn(b"fail t", words)
 
+    def test_jobs_are_as_many_as_commands_or_as_ninja_had(self):
+        for name, jobs, count in (("repaired", b"jobs 3", 3), ("jobs_as_run", b"jobs 4", 5)):
+            taken = [int(it.split(b" ")[2]) for it in self.lines("failing", name) if it.startswith(b"start ")]
+            self.assertIn(jobs, (builds.made("failing") / name / "trace").read_bytes().split(b"\n"))
+            self.assertEqual(len(taken), count)
+            self.assertEqual(taken == list(range(count)), name == "repaired")
+            self.assertLess(max(taken), 4)
+
     def test_no_two_edges_hold_one_job(self):
         for chain, (_, tools, names) in CHAINS.items():
             for name in names if not missing_tools(*tools) else ():

@@ -302,18 +302,21 @@ class Ended(Kept):
     """Signals while the recorder works are held; a second one within two seconds ends it."""
 
     def waiting(self):
-        """A recorder that waits for what it reads, and the end by which it goes on."""
+        """A recorder that waits for what it reads after the build, and the end by which it goes on."""
         self.record_first()
         self.write(WAITING)
         self.process = self.started()
-        fifo = self.build / "o.d"
-        builds.wait_for(fifo)
+        builds.wait_for(self.build / "o.d")
+        return self.end_of(self.build / "o.d")
+
+    def end_of(self, fifo):
+        """The end to write to, once the recorder has the other one."""
         for _ in range(1000):
             try:
                 return os.open(fifo, os.O_WRONLY | os.O_NONBLOCK)
             except OSError:
                 time.sleep(0.01)
-        raise AssertionError("the recorder did not come to the depfile")
+        raise AssertionError(f"the recorder did not come to {fifo}")
 
     def lines_until(self, text):
         for line in self.process.stdout:
@@ -341,6 +344,21 @@ class Ended(Kept):
         self.build.mkdir()
         (self.build / "s").write_text("s")
         self.write(ONE)
+
+    def test_one_before_ninja_runs_ends_it(self):
+        self.record_first()
+        (self.build / "o").unlink()
+        self.write(ONE + "include more.ninja\n")
+        os.mkfifo(self.build / "more.ninja")
+        process = self.started()
+        end = self.end_of(self.build / "more.ninja")
+        process.send_signal(signal.SIGTERM)
+        said = process.stdout.read()
+        os.close(end)
+        self.assertEqual((process.wait(60), said), (
+            143, "rebug-record: ended by SIGTERM: nothing was recorded, and what was there stays\n"))
+        self.assertFalse((self.build / "o").exists())
+        self.assert_kept()
 
     def test_a_second_one_ends_it(self):
         end = self.waiting()
