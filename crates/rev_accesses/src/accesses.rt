@@ -24,11 +24,21 @@ use std::marker::Model;
 /// whole events, which read and write every cell. Both lists of a cell stand under it in one map, so that a cell that
 /// is read and written is kept once. The lists that were made for a cell stay, empty or not, so that taking out takes
 /// no memory.
-#[derive(Drop)]
 pub struct Accesses {
     alloc: Global,
     users: IndexMap<Cell, Users>,
     whole: Rising,
+}
+
+// Written, since a derived drop is proved again at each exit of each caller.
+impl Drop for Accesses {
+    fn drop(self) {
+        let Accesses {
+            alloc: _alloc,
+            users: _users,
+            whole: _whole,
+        } = self;
+    }
 }
 
 impl Model for Accesses {

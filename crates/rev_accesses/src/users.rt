@@ -17,10 +17,19 @@ pub(crate) enum Access {
 }
 
 /// The numbers of the events that read one cell, and of those that write it. A number may be in both.
-#[derive(Drop)]
 pub(crate) struct Users {
     pub(crate) readers: Rising,
     pub(crate) writers: Rising,
+}
+
+// Written, since a derived drop is proved again at each exit of each caller.
+impl Drop for Users {
+    fn drop(self) {
+        let Users {
+            readers: _readers,
+            writers: _writers,
+        } = self;
+    }
 }
 
 impl Users {

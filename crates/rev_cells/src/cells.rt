@@ -23,11 +23,21 @@ use std::mem;
 
 /// What each cell holds. Some cells have a place: all that hold no default, and those for which one was made.
 /// A cell that has a place can be written with no more memory.
-#[derive(Drop)]
 pub struct Cells {
     jobs: u32,
     entries: IndexMap<Cell, Value>,
     writes: u64,
+}
+
+// Written, since a derived drop is proved again at each exit of each caller.
+impl Drop for Cells {
+    fn drop(self) {
+        let Cells {
+            jobs: _jobs,
+            entries: _entries,
+            writes: _writes,
+        } = self;
+    }
 }
 
 impl Model for Cells {

@@ -6,12 +6,22 @@ use crate::mark::Mark;
 use std::alloc::AllocError;
 
 /// What the build log has of an output.
-#[derive(Debug, Drop, PartialEq, Eq)]
+#[derive(Debug, PartialEq, Eq)]
 pub struct BuiltRecord {
     /// The command that made it.
     pub command: Text,
     /// The stamp that it was given then.
     pub stamp: u64,
+}
+
+// Written, since a derived drop is proved again at each exit of each caller.
+impl Drop for BuiltRecord {
+    fn drop(self) {
+        let BuiltRecord {
+            command: _command,
+            stamp: _stamp,
+        } = self;
+    }
 }
 
 impl BuiltRecord {
@@ -35,12 +45,22 @@ impl Clone for BuiltRecord {
 }
 
 /// What the deps log has of an output.
-#[derive(Debug, Drop, PartialEq, Eq)]
+#[derive(Debug, PartialEq, Eq)]
 pub struct DepsRecord {
     /// The stamp that the output had when its prerequisites were listed.
     pub stamp: u64,
     /// The prerequisites as they were listed, repeated ones too.
     pub paths: Names,
+}
+
+// Written, since a derived drop is proved again at each exit of each caller.
+impl Drop for DepsRecord {
+    fn drop(self) {
+        let DepsRecord {
+            stamp: _stamp,
+            paths: _paths,
+        } = self;
+    }
 }
 
 impl DepsRecord {

@@ -22,10 +22,19 @@ use std::marker::Model;
 /// One history that several lanes change by commands. Each command is answered at once and makes one entry of the
 /// journal, also where it is refused. The journal alone says where the desk stands: its commands, answered from the
 /// opening, lead to the history, to the breaks that stand, and to the pause.
-#[derive(Drop)]
 pub struct Desk {
     bench: Bench,
     journal: Journal,
+}
+
+// Written, since a derived drop is proved again at each exit of each caller.
+impl Drop for Desk {
+    fn drop(self) {
+        let Desk {
+            bench: _bench,
+            journal: _journal,
+        } = self;
+    }
 }
 
 impl Model for Desk {

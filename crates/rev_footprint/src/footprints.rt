@@ -13,11 +13,21 @@ use rev_cells::Cell;
 use std::marker::Model;
 
 /// The cells that an event reads and writes in a state. A written cell is read too.
-#[derive(Drop)]
 pub struct Footprint {
     reads: Held,
     writes: Vec<Cell>,
     whole: bool,
+}
+
+// Written, since a derived drop is proved again at each exit of each caller.
+impl Drop for Footprint {
+    fn drop(self) {
+        let Footprint {
+            reads: _reads,
+            writes: _writes,
+            whole: _whole,
+        } = self;
+    }
 }
 
 impl Model for Footprint {

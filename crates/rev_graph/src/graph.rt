@@ -16,12 +16,23 @@ use std::marker::Model;
 /// no edge reaches itself through explicit, implicit or order-only inputs.
 ///
 /// Calls about one edge take a number below [`Graph::edges`]. No call but [`Graph::build`] takes memory.
-#[derive(Drop)]
 pub struct Graph {
     manifest: Manifest,
     table: Table,
     producers: Vec<Vec<Option<u32>>>,
     ranks: Vec<u32>,
+}
+
+// Written, since a derived drop is proved again at each exit of each caller.
+impl Drop for Graph {
+    fn drop(self) {
+        let Graph {
+            manifest: _manifest,
+            table: _table,
+            producers: _producers,
+            ranks: _ranks,
+        } = self;
+    }
 }
 
 impl Model for Graph {

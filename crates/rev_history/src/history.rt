@@ -25,7 +25,6 @@ use std::marker::Model;
 /// state is that which the kept events lead to from the opening, in the order of their numbers. Beside each event stand
 /// its footprint and what it replaced, so that an undo puts that back; and under each cell stand the kept numbers that
 /// access it.
-#[derive(Drop)]
 pub struct History {
     alloc: Global,
     graph: Graph,
@@ -36,6 +35,23 @@ pub struct History {
     accesses: Accesses,
     cells: Cells,
     last: u32,
+}
+
+// Written, since a derived drop is proved again at each exit of each caller.
+impl Drop for History {
+    fn drop(self) {
+        let History {
+            alloc: _alloc,
+            graph: _graph,
+            opening: _opening,
+            accepted: _accepted,
+            steps: _steps,
+            kept: _kept,
+            accesses: _accesses,
+            cells: _cells,
+            last: _last,
+        } = self;
+    }
 }
 
 impl Model for History {

@@ -11,10 +11,19 @@ use rev_footprint::Footprint;
 
 /// What is kept beside an accepted event: the cells that it reads and writes, and what those that it writes held before
 /// it. As long as the event is not kept these are of no use, and the memory that they take waits for a redo.
-#[derive(Drop)]
 pub(crate) struct Step {
     pub(crate) footprint: Footprint,
     pub(crate) replaced: Vec<(Cell, Value)>,
+}
+
+// Written, since a derived drop is proved again at each exit of each caller.
+impl Drop for Step {
+    fn drop(self) {
+        let Step {
+            footprint: _footprint,
+            replaced: _replaced,
+        } = self;
+    }
 }
 
 /// The footprint of the event that was accepted under a number.

@@ -20,7 +20,6 @@ use std::marker::Model;
 use std::sync::Arc;
 
 /// What a manifest has, and its copies share.
-#[derive(Drop)]
 pub(crate) struct Parts {
     /// The edges, in the order of their build statements.
     pub(crate) builds: Vec<Build>,
@@ -30,11 +29,28 @@ pub(crate) struct Parts {
     pub(crate) defaults: Vec<Name>,
 }
 
+// Written, since a derived drop is proved again at each exit of each caller.
+impl Drop for Parts {
+    fn drop(self) {
+        let Parts {
+            builds: _builds,
+            pools: _pools,
+            defaults: _defaults,
+        } = self;
+    }
+}
+
 /// What a build manifest says. Only [`read`] makes one, and nothing changes it: each of its edges has an output and
 /// none twice, a pool of the manifest or none, and where it is phony nothing to run.
-#[derive(Drop)]
 pub struct Manifest {
     parts: Arc<Parts>,
+}
+
+// Written, since a derived drop is proved again at each exit of each caller.
+impl Drop for Manifest {
+    fn drop(self) {
+        let Manifest { parts: _parts } = self;
+    }
 }
 
 impl Model for Manifest {

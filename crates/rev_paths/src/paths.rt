@@ -10,9 +10,15 @@ use std::marker::Model;
 
 /// Names in the order in which they were first given, none of them twice. A name's
 /// number is its place, which counts from 0 and stays.
-#[derive(Drop)]
 pub struct Paths {
     names: IndexSet<Name>,
+}
+
+// Written, since a derived drop is proved again at each exit of each caller.
+impl Drop for Paths {
+    fn drop(self) {
+        let Paths { names: _names } = self;
+    }
 }
 
 impl Model for Paths {

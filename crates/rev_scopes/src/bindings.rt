@@ -8,9 +8,15 @@ use std::alloc::{AllocError, Global};
 use std::marker::Model;
 
 /// Variables with their values, each bound once, in the order in which they were first bound.
-#[derive(Drop)]
 pub struct Bindings {
     entries: IndexMap<Vec<u8>, Vec<u8>>,
+}
+
+// Written, since a derived drop is proved again at each exit of each caller.
+impl Drop for Bindings {
+    fn drop(self) {
+        let Bindings { entries: _entries } = self;
+    }
 }
 
 impl Model for Bindings {

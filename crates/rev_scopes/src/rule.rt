@@ -81,9 +81,15 @@ impl RuleTexts {
 }
 
 /// A rule: its variables with their texts, which are expanded for each edge. Copies share the texts.
-#[derive(Drop)]
 pub struct Rule {
     texts: ArcSlice<RuleText>,
+}
+
+// Written, since a derived drop is proved again at each exit of each caller.
+impl Drop for Rule {
+    fn drop(self) {
+        let Rule { texts: _texts } = self;
+    }
 }
 
 impl Model for Rule {

@@ -90,9 +90,15 @@ impl Scope {
 
 /// The scopes of manifests, each with a number, from 0 in the order in which they were added. A scope has variables and
 /// rules, and a parent or none; a parent's number is below its scope's (Ninja manual, scoping).
-#[derive(Drop)]
 pub struct Scopes {
     scopes: Vec<Scope>,
+}
+
+// Written, since a derived drop is proved again at each exit of each caller.
+impl Drop for Scopes {
+    fn drop(self) {
+        let Scopes { scopes: _scopes } = self;
+    }
 }
 
 impl Model for Scopes {

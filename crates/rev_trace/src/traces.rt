@@ -18,7 +18,6 @@ use std::alloc::Global;
 pub type TraceFault = ReadFault;
 
 /// What a trace says.
-#[derive(Drop)]
 pub struct Trace {
     /// The number of jobs and the records with which the trace begins.
     pub opening: Opening,
@@ -26,6 +25,31 @@ pub struct Trace {
     pub targets: Names,
     /// The commands of each lane, in their order. There are at most 63 lanes, and none where no line opens one.
     pub lanes: Vec<Vec<Command>>,
+}
+
+impl Trace {
+    /// The commands of the lanes alone.
+    pub fn into_lanes(self) -> Vec<Vec<Command>>
+        ensures { result.items ≡ self.lanes.items }
+    {
+        let Trace {
+            opening: _opening,
+            targets: _targets,
+            lanes,
+        } = self;
+        lanes
+    }
+}
+
+// Written, since a derived drop is proved again at each exit of each caller.
+impl Drop for Trace {
+    fn drop(self) {
+        let Trace {
+            opening: _opening,
+            targets: _targets,
+            lanes: _lanes,
+        } = self;
+    }
 }
 
 impl Trace {

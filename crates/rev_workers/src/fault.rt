@@ -29,9 +29,19 @@ impl CloseCode {
 }
 
 /// Why a desk does not come back as it should, with the least lane of which that is so, and the desk.
-#[derive(Drop)]
 pub struct CloseFault {
     pub code: CloseCode,
     pub lane: u32,
     pub desk: Desk,
+}
+
+// Written, since a derived drop is proved again at each exit of each caller.
+impl Drop for CloseFault {
+    fn drop(self) {
+        let CloseFault {
+            code: _code,
+            lane: _lane,
+            desk: _desk,
+        } = self;
+    }
 }

@@ -25,11 +25,20 @@ pub(crate) enum Standing {
 }
 
 /// A desk, the book of its ledger, and which lanes wait or have ended. Contracts see it as the desk.
-#[derive(Drop)]
 pub struct Held<L: Ledger> {
     desk: Desk,
     book: Book<L>,
     standings: Vec<Standing>,
+}
+
+impl<L: Ledger> Drop for Held<L> {
+    fn drop(self) {
+        let Held {
+            desk: _desk,
+            book: _book,
+            standings: _standings,
+        } = self;
+    }
 }
 
 impl<L: Ledger> Model for Held<L> {
@@ -188,7 +197,12 @@ impl<L: Ledger> Held<L> {
     pub(crate) fn into_desk(self) -> Desk
         ensures { result ≡ self }
     {
-        self.desk
+        let Held {
+            desk,
+            book: _book,
+            standings: _standings,
+        } = self;
+        desk
     }
 
     // Notes how a lane stands.

@@ -57,8 +57,7 @@ pub fn run_workers<L: Ledger + Send + Sync, R: Threads + Wait + Sync, G: Gate>(
     ensures said { IfOk result (λ desk.
         AreSaid lanes.items (map (λ v. v.items) trace.lanes.items) desk.journal) }
 {
-    let Trace { lanes: lists, .. } = trace;
-    run_lists(rt, alloc, shared, lanes, lists, gate)
+    run_lists(rt, alloc, shared, lanes, trace.into_lanes(), gate)
 }
 
 // Each lane says the commands of the list at its place, each from a thread of its own, and the desk is closed.
