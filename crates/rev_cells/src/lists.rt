@@ -8,9 +8,16 @@ use std::alloc::AllocError;
 use std::marker::Model;
 
 /// Positions of an edge's outputs, which count from 0.
-#[derive(Debug, Drop)]
+#[derive(Debug)]
 pub struct Positions {
     items: Vec<u64>,
+}
+
+// Written, since a derived drop is proved again at each exit of each caller.
+impl Drop for Positions {
+    fn drop(self) {
+        let Positions { items: _items } = self;
+    }
 }
 
 impl Model for Positions {
@@ -40,7 +47,8 @@ impl Positions {
     pub fn into_vec(self) -> Vec<u64>
         ensures { result.items ≡ self }
     {
-        self.items
+        let Positions { items } = self;
+        items
     }
 
     /// Equal positions.
@@ -76,9 +84,16 @@ impl Eq for Positions {
 }
 
 /// The bytes of a text, as a command.
-#[derive(Debug, Drop)]
+#[derive(Debug)]
 pub struct Text {
     bytes: Vec<u8>,
+}
+
+// Written, since a derived drop is proved again at each exit of each caller.
+impl Drop for Text {
+    fn drop(self) {
+        let Text { bytes: _bytes } = self;
+    }
 }
 
 impl Model for Text {
@@ -108,7 +123,8 @@ impl Text {
     pub fn into_vec(self) -> Vec<u8>
         ensures { result.items ≡ self }
     {
-        self.bytes
+        let Text { bytes } = self;
+        bytes
     }
 
     /// An equal text.
@@ -144,9 +160,16 @@ impl Eq for Text {
 }
 
 /// Paths in a given order, in which one may stand more than once.
-#[derive(Debug, Drop)]
+#[derive(Debug)]
 pub struct Names {
     paths: Vec<Name>,
+}
+
+// Written, since a derived drop is proved again at each exit of each caller.
+impl Drop for Names {
+    fn drop(self) {
+        let Names { paths: _paths } = self;
+    }
 }
 
 impl Model for Names {
@@ -176,7 +199,8 @@ impl Names {
     pub fn into_vec(self) -> Vec<Name>
         ensures { result.items ≡ self }
     {
-        self.paths
+        let Names { paths } = self;
+        paths
     }
 
     /// Equal paths in the same order.

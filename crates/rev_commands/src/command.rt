@@ -8,7 +8,7 @@ use rev_events::{Event, Listing};
 use std::alloc::AllocError;
 
 /// A command of a lane or of a script.
-#[derive(Debug, Drop, PartialEq, Eq)]
+#[derive(Debug, PartialEq, Eq)]
 pub enum Command {
     /// This event happens.
     Event(Event),
@@ -26,6 +26,22 @@ pub enum Command {
     Unbreak(u32),
     /// `continue`: the desk is not paused any more.
     Continue,
+}
+
+// Written, since a derived drop is proved again at each exit of each caller.
+impl Drop for Command {
+    fn drop(self) {
+        match self {
+            Command::Event(_part) => {}
+            Command::Undo(_part) => {}
+            Command::Redo(_part) => {}
+            Command::Back => {}
+            Command::Cone(_part) => {}
+            Command::Break(_part) => {}
+            Command::Unbreak(_part) => {}
+            Command::Continue => {}
+        }
+    }
 }
 
 impl Command {

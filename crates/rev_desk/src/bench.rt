@@ -22,12 +22,23 @@ use rev_history::History;
 use std::alloc::{AllocError, Global};
 
 /// The history, the breaks that stand, and whether events wait for a `continue`.
-#[derive(Drop)]
 pub(crate) struct Bench {
     pub(crate) alloc: Global,
     pub(crate) history: History,
     pub(crate) breaks: Breaks,
     pub(crate) paused: bool,
+}
+
+// Written, since a derived drop is proved again at each exit of each caller.
+impl Drop for Bench {
+    fn drop(self) {
+        let Bench {
+            alloc: _alloc,
+            history: _history,
+            breaks: _breaks,
+            paused: _paused,
+        } = self;
+    }
 }
 
 impl Bench {

@@ -78,11 +78,21 @@ fn forget_at(
 
 /// The breaks that stand, in rising number, and the numbers of those that wait for the same events, so that those
 /// that an event meets are looked up at once.
-#[derive(Drop)]
 pub(crate) struct Breaks {
     pub(crate) standing: Vec<(u32, Point)>,
     pub(crate) numbers: Vec<u32>,
     pub(crate) spots: IndexMap<Spot, Vec<u32>>,
+}
+
+// Written, since a derived drop is proved again at each exit of each caller.
+impl Drop for Breaks {
+    fn drop(self) {
+        let Breaks {
+            standing: _standing,
+            numbers: _numbers,
+            spots: _spots,
+        } = self;
+    }
 }
 
 impl Breaks {

@@ -57,10 +57,20 @@ impl Why {
 }
 
 /// A command that made no entry, and changed nothing.
-#[derive(Debug, Drop)]
+#[derive(Debug)]
 pub struct Unsaid {
     /// What kept it from an entry.
     pub why: Why,
     /// The command, given back.
     pub command: Command,
+}
+
+// Written, since a derived drop is proved again at each exit of each caller.
+impl Drop for Unsaid {
+    fn drop(self) {
+        let Unsaid {
+            why: _why,
+            command: _command,
+        } = self;
+    }
 }

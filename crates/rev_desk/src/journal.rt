@@ -8,10 +8,19 @@ use rev_commands::{Command, Which};
 use std::alloc::{AllocError, Global};
 
 /// The entries, and each lane's numbers of its own, so that a label is looked up at once.
-#[derive(Drop)]
 pub(crate) struct Journal {
     pub(crate) entries: Vec<Entry>,
     pub(crate) numbers: Vec<Vec<u32>>,
+}
+
+// Written, since a derived drop is proved again at each exit of each caller.
+impl Drop for Journal {
+    fn drop(self) {
+        let Journal {
+            entries: _entries,
+            numbers: _numbers,
+        } = self;
+    }
 }
 
 // The number at a place that counts from 1.

@@ -44,7 +44,7 @@ fn same_refusal(refusal: Refusal, other: Refusal) -> bool
 }
 
 /// An entry of the journal, whose number is its place there, from 1.
-#[derive(Debug, PartialEq, Eq, Drop)]
+#[derive(Debug, PartialEq, Eq)]
 pub struct Entry {
     /// The lane that gave the command. Lanes count from 0.
     pub lane: u32,
@@ -52,6 +52,17 @@ pub struct Entry {
     pub command: Command,
     /// What it was told.
     pub reply: Reply,
+}
+
+// Written, since a derived drop is proved again at each exit of each caller.
+impl Drop for Entry {
+    fn drop(self) {
+        let Entry {
+            lane: _lane,
+            command: _command,
+            reply: _reply,
+        } = self;
+    }
 }
 
 impl Entry {

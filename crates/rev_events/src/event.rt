@@ -7,7 +7,7 @@ use rev_paths::Name;
 use std::alloc::AllocError;
 
 /// What is said of the files that a command read.
-#[derive(Debug, Drop, PartialEq, Eq)]
+#[derive(Debug, PartialEq, Eq)]
 pub enum Listing {
     /// Nothing.
     Nothing,
@@ -15,6 +15,17 @@ pub enum Listing {
     Depfile(Text),
     /// The paths as they were listed, repeated ones too.
     Paths(Names),
+}
+
+// Written, since a derived drop is proved again at each exit of each caller.
+impl Drop for Listing {
+    fn drop(self) {
+        match self {
+            Listing::Nothing => {}
+            Listing::Depfile(_part) => {}
+            Listing::Paths(_part) => {}
+        }
+    }
 }
 
 impl Listing {
@@ -40,7 +51,7 @@ impl Clone for Listing {
 
 /// What happened in a build. An edge is named by any of its outputs; stamps of its outputs stand in the order of the
 /// outputs, explicit before implicit.
-#[derive(Debug, Drop, PartialEq, Eq)]
+#[derive(Debug, PartialEq, Eq)]
 pub enum Event {
     /// The edges that are needed for these targets are marked; the graph's defaults where no target is named.
     Plan(Names),
@@ -81,6 +92,40 @@ pub enum Event {
     },
     /// The build was interrupted.
     Interrupt,
+}
+
+// Written, since a derived drop is proved again at each exit of each caller.
+impl Drop for Event {
+    fn drop(self) {
+        match self {
+            Event::Plan(_part) => {}
+            Event::Start {
+                out: _out,
+                job: _job,
+                slot: _slot,
+            } => {}
+            Event::Finish {
+                out: _out,
+                stamps: _stamps,
+                listing: _listing,
+            } => {}
+            Event::Fail {
+                out: _out,
+                stamps: _stamps,
+            } => {}
+            Event::Abort {
+                out: _out,
+                stamps: _stamps,
+            } => {}
+            Event::Clean { out: _out } => {}
+            Event::Pass { out: _out } => {}
+            Event::Touch {
+                path: _path,
+                stamp: _stamp,
+            } => {}
+            Event::Interrupt => {}
+        }
+    }
 }
 
 impl Event {

@@ -15,7 +15,6 @@ const FEW: usize = 64;
 
 /// The cells that an event reads, each once. Most events read a few dozen: as a list these take half the memory of a
 /// set, which serves where they are many.
-#[derive(Drop)]
 pub(crate) enum Held {
     /// Those that are written, and no others.
     Written,
@@ -23,6 +22,17 @@ pub(crate) enum Held {
     Listed(Vec<Cell>),
     /// Many, the written ones among them.
     Hashed(IndexSet<Cell>),
+}
+
+// Written, since a derived drop is proved again at each exit of each caller.
+impl Drop for Held {
+    fn drop(self) {
+        match self {
+            Held::Written => {}
+            Held::Listed(_part) => {}
+            Held::Hashed(_part) => {}
+        }
+    }
 }
 
 /// Whether so many cells are few.

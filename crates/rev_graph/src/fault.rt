@@ -9,7 +9,7 @@ use std::alloc::{AllocError, AllocFailed};
 
 /// Why a manifest has no graph. The faults are asked for in the order [`GraphFault::TooManyEdges`],
 /// [`GraphFault::MultipleProducers`], [`GraphFault::Cycle`].
-#[derive(Debug, Drop, PartialEq, Eq)]
+#[derive(Debug, PartialEq, Eq)]
 pub enum GraphFault {
     /// An allocation was refused, which says nothing about the manifest.
     Memory,
@@ -21,6 +21,18 @@ pub enum GraphFault {
     /// The first output of the least edge that reaches itself through explicit, implicit or order-only inputs
     /// (Ninja: "dependency cycle").
     Cycle(Name),
+}
+
+// Written, since a derived drop is proved again at each exit of each caller.
+impl Drop for GraphFault {
+    fn drop(self) {
+        match self {
+            GraphFault::Memory => {}
+            GraphFault::TooManyEdges => {}
+            GraphFault::MultipleProducers(_part) => {}
+            GraphFault::Cycle(_part) => {}
+        }
+    }
 }
 
 impl GraphFault {

@@ -6,7 +6,6 @@ use rev_paths::Name;
 use std::marker::Model;
 
 /// An edge of a manifest: the paths of its build line, and the values of its rule's variables.
-#[derive(Drop)]
 pub struct Build {
     pub(crate) phony: bool,
     pub(crate) explicit_outs: Vec<Name>,
@@ -22,6 +21,28 @@ pub struct Build {
     pub(crate) pool: Option<u32>,
     pub(crate) file: u64,
     pub(crate) line: u64,
+}
+
+// Written, since a derived drop is proved again at each exit of each caller.
+impl Drop for Build {
+    fn drop(self) {
+        let Build {
+            phony: _phony,
+            explicit_outs: _explicit_outs,
+            implicit_outs: _implicit_outs,
+            explicit: _explicit,
+            implicit: _implicit,
+            order_only: _order_only,
+            validations: _validations,
+            command: _command,
+            keeps_deps: _keeps_deps,
+            restat: _restat,
+            generator: _generator,
+            pool: _pool,
+            file: _file,
+            line: _line,
+        } = self;
+    }
 }
 
 impl Model for Build {

@@ -14,7 +14,7 @@ use rev_paths::Name;
 use std::alloc::{AllocError, Global};
 
 /// How an edge's command comes to be run: from the edge by inputs to one with reasons.
-#[derive(Debug, Drop)]
+#[derive(Debug)]
 pub struct Chain {
     /// Each edge that has no reason itself, with the position of the input by which the chain goes on: in the list of
     /// explicit, implicit and order-only inputs and then of what the deps record lists.
@@ -23,6 +23,17 @@ pub struct Chain {
     pub last: u32,
     /// The reasons of that edge.
     pub reasons: Vec<Reason>,
+}
+
+// Written, since a derived drop is proved again at each exit of each caller.
+impl Drop for Chain {
+    fn drop(self) {
+        let Chain {
+            steps: _steps,
+            last: _last,
+            reasons: _reasons,
+        } = self;
+    }
 }
 
 // Whether the mark of an edge is `Wanted`.

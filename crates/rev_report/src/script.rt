@@ -13,7 +13,7 @@ use rev_trace::{command_of_texts, which_of};
 use std::alloc::Global;
 
 /// A line of a script.
-#[derive(Debug, Drop, PartialEq, Eq)]
+#[derive(Debug, PartialEq, Eq)]
 pub enum Word {
     /// A command of the script's own lane.
     Command(Command),
@@ -32,6 +32,22 @@ pub enum Word {
     Why(Name),
     /// `dependents WHICH` lists the kept events that depend on a kept one.
     Dependents(Which),
+}
+
+// Written, since a derived drop is proved again at each exit of each caller.
+impl Drop for Word {
+    fn drop(self) {
+        match self {
+            Word::Command(_part) => {}
+            Word::Run(_part) => {}
+            Word::Kept => {}
+            Word::Marks => {}
+            Word::Stamps => {}
+            Word::Logs => {}
+            Word::Why(_part) => {}
+            Word::Dependents(_part) => {}
+        }
+    }
 }
 
 const BAD_LINE: LineFault = LineFault::Kind(FaultKind::Syntax);

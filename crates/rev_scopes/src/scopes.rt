@@ -12,11 +12,21 @@ use std::alloc::{AllocError, Global};
 use std::marker::Model;
 
 // A scope.
-#[derive(Drop)]
 struct Scope {
     parent: Option<usize>,
     variables: Bindings,
     rules: IndexMap<Vec<u8>, Rule>,
+}
+
+// Written, since a derived drop is proved again at each exit of each caller.
+impl Drop for Scope {
+    fn drop(self) {
+        let Scope {
+            parent: _parent,
+            variables: _variables,
+            rules: _rules,
+        } = self;
+    }
 }
 
 impl Model for Scope {

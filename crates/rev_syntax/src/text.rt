@@ -41,9 +41,16 @@ impl<'a> Model for Text<'a> {
 }
 
 /// A text with its own memory, to be kept when its file is gone.
-#[derive(Debug, Drop)]
+#[derive(Debug)]
 pub struct StoredText {
     raw: Vec<u8>,
+}
+
+// Written, since a derived drop is proved again at each exit of each caller.
+impl Drop for StoredText {
+    fn drop(self) {
+        let StoredText { raw: _raw } = self;
+    }
 }
 
 impl Model for StoredText {
