@@ -100,13 +100,13 @@ fn one_cycle_among_scattered_steps(rt: HostRuntime) -> Result<(), Fail> {
     Ok(())
 }
 
-/// A later node steps to the first, so that nearly all nodes reach each other, and the first itself.
+/// The last node steps to the middle of the chain, so that all nodes behind it reach each other.
 #[test]
 fn a_large_cycle(rt: HostRuntime) -> Result<(), Fail> {
     let mut lists = chain(rt.alloc())?;
     if let Some(row) = lists.get_mut(262_143) {
-        row.push(0)?;
+        row.push(131_072)?;
     }
-    assert_eq!(rt; ranked(&rt, &lists).err(), Some(RankFault::Cycle(0)));
+    assert_eq!(rt; ranked(&rt, &lists).err(), Some(RankFault::Cycle(131_072)));
     Ok(())
 }
