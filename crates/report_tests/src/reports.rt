@@ -1,6 +1,7 @@
 // Whole runs, from bytes to bytes.
 
-use rev_report::{RunFault, Status, run_parallel, run_serial};
+use rev_parallel::run_parallel;
+use rev_report::{RunFault, Status, run_serial};
 use std::alloc::Global;
 use std::io;
 use std::io::Write;

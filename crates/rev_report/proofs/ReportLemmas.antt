@@ -4,7 +4,7 @@ use Rattle.std.proofs.Math.Seq.{drop-cons}
 use Rattle.std.specs.List.{flat_map}
 use Rattle.rev_commands.specs.declared.command.Command.{Command}
 use Rattle.rev_desk.specs.Machine.{DeskValue}
-use Rattle.rev_report.specs.declared.script.Word.{Word}
+use Rattle.rev_script.specs.declared.script.Word.{Word}
 use Rattle.rev_report.specs.Report.{after_word, left_after, script_text, word_text}
 
 -- what is left from an item on

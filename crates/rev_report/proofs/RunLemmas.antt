@@ -6,15 +6,15 @@ use Rattle.rev_commands.specs.declared.command.Command.{Command}
 use Rattle.rev_desk.specs.Machine.{DeskValue, opened_desk}
 use Rattle.rev_cells.specs.Table.{Records}
 use Rattle.rev_manifest.specs.Manifest.{ManifestValue}
-use Rattle.rev_report.specs.declared.script.Word.{Word}
+use Rattle.rev_script.specs.declared.script.Word.{Word}
 use Rattle.rev_report.specs.Report.{script_text, session_text}
 use Rattle.std.specs.Global.{Vec}
 use Rattle.rev_trace.specs.Traces.{lanes_of}
-use Rattle.rev_report.specs.declared.turns.Turn.{Turn}
+use Rattle.rev_script.specs.declared.turns.Turn.{Turn}
 use Rattle.rev_report.specs.Answers.{after_answer, answer_to, names_break, said_line}
 use Rattle.rev_report.specs.Runs.{after_turns, answers, answers_text, offered, taken, until_break}
-use Rattle.rev_report.specs.SeenTurns.{seen_turns}
-use Rattle.rev_report.specs.Turns.{AreOf, longest, round, round_from, turn_of, turns}
+use Rattle.rev_script.specs.SeenTurns.{seen_turns}
+use Rattle.rev_script.specs.Turns.{AreOf, longest, round, round_from, turn_of, turns}
 
 -- the turns from a place on
 pub seen_next : (turns : List Turn) (i : ℕ) (t : Turn) → i < length turns → t ≡ get_or turns i t → seen_turns (drop i turns) ≡ (t.lane, t.command.now) ∷ seen_turns (drop (i + 1) turns)

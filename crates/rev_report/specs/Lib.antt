@@ -1,10 +1,4 @@
 pub mod Answers
-pub mod Closing
 pub mod Dependents
-pub mod Output
-pub mod LeftTurns
 pub mod Report
 pub mod Runs
-pub mod Scripts
-pub mod SeenTurns
-pub mod Turns

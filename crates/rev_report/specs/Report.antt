@@ -1,5 +1,5 @@
 -- The report: what a run writes for files, a trace and a script, and its status.
-use Rattle.std.specs.Prelude.{ℕ, ◌+◌, List, [], ◌∷◌, ◌++◌, drop, length, Option, Some, None, Result, Ok, Err, codes, decimal, slice_get}
+use Rattle.std.specs.Prelude.{ℕ, ◌+◌, List, [], ◌∷◌, ◌++◌, drop, length, Option, Some, None, Result, Ok, Err, codes, decimal}
 use Rattle.std.specs.List.{flat_map}
 use Rattle.rev_listing.specs.Logs as logs
 use Rattle.rev_listing.specs.Marks as marks
@@ -8,40 +8,29 @@ use Rattle.rev_listing.specs.Why as reasons
 use Rattle.rev_cells.specs.State.{State}
 use Rattle.rev_graph.specs.Graph.{producer_of}
 use Rattle.rev_cells.specs.Table.{Records}
-use Rattle.rev_events.specs.declared.event.Event.{Event}
 use Rattle.rev_events.specs.declared.refusal.Refusal.{Refusal}
 use Rattle.rev_events.specs.declared.refusal.Refusal.TheVariants.{NoSuchEdge, NoSuchEvent}
 use Rattle.rev_events.specs.Refusal as refusals
 use Rattle.rev_history.specs.Timeline.{Timeline, cone_refusal, event_at, state_at}
 use Rattle.rev_manifest.specs.declared.fault.ManifestFault.{ManifestFault}
-use Rattle.rev_manifest.specs.Fault as manifest_faults
 use Rattle.rev_manifest.specs.Manifest as manifest
 use Rattle.rev_manifest.specs.Manifest.{BuildValue, ManifestValue}
-use Rattle.rev_graph.specs.declared.fault.GraphFault.{GraphFault}
 use Rattle.rev_graph.specs.Decided.{graph_fault}
-use Rattle.rev_graph.specs.Fault as graph_faults
 use Rattle.rev_commands.specs.declared.command.Command.{Command}
 use Rattle.rev_desk.specs.Machine.{DeskValue, named, opened_desk}
-use Rattle.rev_report.specs.declared.script.Word.{Word}
-use Rattle.rev_report.specs.declared.script.Word.TheVariants as word
-use Rattle.rev_fields.specs.declared.faults.TextFault.{TextFault}
-use Rattle.rev_report.specs.declared.report.Status.{Status}
-use Rattle.rev_report.specs.declared.report.Status.TheVariants.{Success, Fault}
-use Rattle.rev_fields.specs.Faults.{code_of}
-use Rattle.rev_fields.specs.Fields.{field_text}
-use Rattle.rev_trace.specs.Texts.{event_text}
+use Rattle.rev_script.specs.declared.script.Word.{Word}
+use Rattle.rev_script.specs.declared.script.Word.TheVariants as word
+use Rattle.rev_script.specs.declared.status.Status.{Status}
+use Rattle.rev_script.specs.declared.status.Status.TheVariants.{Success, Fault}
+use Rattle.rev_script.specs.Lines.{edges_fault_line, kept_line, manifest_fault_line, refused_line, text_fault_line}
+use Rattle.rev_script.specs.Scripts.{script_fault, script_of}
+use Rattle.rev_script.specs.Turns.{turns}
 use Rattle.rev_trace.specs.Traces.{trace_fault, trace_of}
 use Rattle.rev_report.specs.Answers.{after_answer, said_line}
 use Rattle.rev_report.specs.Dependents.{dependents}
 use Rattle.rev_report.specs.Runs.{after_turns, answers_text, taken}
-use Rattle.rev_report.specs.Turns.{turns}
-use Rattle.rev_report.specs.Scripts.{script_fault, script_of}
 
 -- The word `kept`: a line for each kept event, in rising number, with the command that it was.
-
-abbrev pub kept_line : ℕ → Option Event → List ℕ
-kept_line number None = []
-kept_line number (Some e) = codes "kept " ++ decimal number ++ codes " " ++ event_text e ++ codes "\n"
 
 abbrev pub kept_text : Timeline → List ℕ
 kept_text t = flat_map (λ number. kept_line number (event_at t number)) t.kept
@@ -54,10 +43,6 @@ state_now d = state_at d.history
 
 abbrev pub builds_of : DeskValue → List BuildValue
 builds_of d = d.history.manifest.builds
-
--- a question that is refused
-abbrev pub refused_line : ℕ → List ℕ
-refused_line code = codes "refused " ++ decimal code ++ codes "\n"
 
 -- `why OUT`: refused where no edge has the output
 abbrev pub why_edge : List BuildValue → State → Option ℕ → List ℕ
@@ -115,40 +100,6 @@ script_text lane d left (w ∷ words) =
 abbrev pub session_text : ManifestValue → Records → List (List Command) → List Word → List ℕ
 session_text manifest opening lanes words =
     script_text (length lanes) (opened_desk manifest opening.jobs opening.state (length lanes + 1)) (turns lanes) words
-
--- Faults: one line, with the line and the number of the fault.
-
-abbrev pub fault_line : List ℕ → ℕ → ℕ → List ℕ
-fault_line what line code =
-    codes "fault " ++ what ++ codes " " ++ decimal line ++ codes " " ++ decimal code ++ codes "\n"
-
--- the name of a file as it was given, or a dash where there is none
-abbrev pub name_text : Option (List ℕ × List ℕ) → List ℕ
-name_text None = codes "-"
-name_text (Some file) = field_text file.0
-
-abbrev pub manifest_fault_line : List (List ℕ × List ℕ) → ManifestFault → List ℕ
-manifest_fault_line files f =
-    fault_line (codes "manifest " ++ name_text (slice_get files f.file)) f.line (manifest_faults.code_of f.kind)
-
-abbrev pub text_fault_line : List ℕ → TextFault → List ℕ
-text_fault_line what f = fault_line what f.line (code_of f.kind)
-
--- the path that a fault of a graph names
-abbrev pub path_text : Option (List ℕ) → List ℕ
-path_text None = []
-path_text (Some path) = codes " " ++ field_text path
-
-abbrev pub graph_fault_line : ℕ → Option (List ℕ) → List ℕ
-graph_fault_line code path = codes "fault graph " ++ decimal code ++ path_text path ++ codes "\n"
-
--- the line of a fault about edges; `Memory` is none
-abbrev pub numbered_line : Option (List ℕ) → Option ℕ → List ℕ
-numbered_line path None = []
-numbered_line path (Some code) = graph_fault_line code path
-
-abbrev pub edges_fault_line : GraphFault → List ℕ
-edges_fault_line f = numbered_line (graph_faults.path_of f) (graph_faults.code_of f)
 
 -- what is written, and the status
 pub record Report : Type 0 where

@@ -3,8 +3,8 @@ ghost use Rattle.std.specs.Prelude.{◌≡◌, ◌<◌, IfOk, OnOk};
 ghost use Rattle.rev_report.specs.Answers.{after_answer, answer_to, names_break};
 ghost use Rattle.rev_desk.specs.Machine.{next_number};
 
-use crate::fault::RunFault;
 use rev_desk::{Command, Desk, Reply, Unsaid, Why};
+use rev_script::RunFault;
 
 /// The number of a desk's next entry.
 pub(crate) fn next_number(desk: &Desk) -> u64

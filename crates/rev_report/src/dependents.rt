@@ -6,12 +6,12 @@ ghost use Rattle.rev_report.specs.Report.{dependents_line, dependents_text, name
 ghost use Rattle.rev_desk.specs.Machine.{named};
 ghost use Rattle.rev_history.specs.Timeline.{event_at, is_among};
 
-use crate::text::refused_line;
 use rev_desk::{Desk, Which};
 use rev_events::Refusal;
 use rev_fields::push_number;
 use rev_footprint::Footprint;
 use rev_history::History;
+use rev_script::refused_line;
 use std::alloc::{AllocError, Global};
 
 // Adds the numbers of the kept events above one that conflict with a footprint, each with a space before it. The search

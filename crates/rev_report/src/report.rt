@@ -1,9 +1,9 @@
 //! The report of a run: what is written for files, a trace and a script.
-ghost use Rattle.std.specs.Prelude.{◌≡◌, ◌≢◌, ◌<◌, ◌≤◌, ◌+◌, ◌++◌, ℕ, List, IfOk, OnOk, drop, length, slice_get};
-ghost use Rattle.rev_report.specs.Output.{Writes};
-ghost use Rattle.rev_report.specs.Report.{after_word, edges_fault_line, edges_report, kept_text, left_after, manifest_fault_line, name_text, named_text, report, script_report, script_text, session_text, text_fault_line, trace_report, why_edge, word_text};
-ghost use Rattle.rev_report.specs.SeenTurns.{seen_turns};
-ghost use Rattle.rev_report.specs.Turns.{AreOf, turns};
+ghost use Rattle.std.specs.Prelude.{◌≡◌, ◌<◌, ◌≤◌, ◌+◌, IfOk, OnOk, drop, length};
+ghost use Rattle.rev_report.specs.Report.{after_word, edges_report, kept_text, left_after, named_text, report, script_report, script_text, session_text, trace_report, why_edge, word_text};
+ghost use Rattle.rev_script.specs.Output.{Writes};
+ghost use Rattle.rev_script.specs.SeenTurns.{seen_turns};
+ghost use Rattle.rev_script.specs.Turns.{AreOf, turns};
 ghost use Rattle.rev_desk.specs.Machine.{named, opened_desk};
 ghost use Rattle.rev_history.specs.Timeline.{state_at};
 ghost use Rattle.rev_trace.specs.Traces.{lanes_of};
@@ -12,38 +12,27 @@ ghost use Rattle.rev_listing.specs.Logs as logs;
 ghost use Rattle.rev_listing.specs.Marks as marks;
 ghost use Rattle.rev_listing.specs.Stamps as stamps;
 ghost use Rattle.rev_manifest.specs.Seen.{seen_files};
-ghost use Rattle.rev_report.specs.declared.report.Status.{Status};
 
 use crate::dependents::named_text;
-use crate::fault::RunFault;
-use crate::output::send;
 use crate::runs::{run_command, run_taken};
-use crate::script::{Word, read_script};
-use crate::text::{fault_line, graph_fault_line, kept_line, refused_line};
-use crate::turns::{Turn, turns_of};
 use rev_cells::Opening;
 use rev_commands::Command;
 use rev_desk::{Desk, DeskFault, Which};
 use rev_events::Refusal;
-use rev_fields::{ReadFault, TextFault, push_field};
-use rev_graph::{Graph, GraphFault};
+use rev_fields::ReadFault;
+use rev_graph::Graph;
 use rev_history::History;
 use rev_listing::{logs_text, marks_text, stamps_text, why_text};
-use rev_manifest::{Manifest, ManifestFault, read};
+use rev_manifest::{Manifest, read};
 use rev_paths::Name;
+use rev_script::{
+    RunFault, Status, Turn, Word, kept_line, read_script, refused_line, report_fault,
+    report_graph_fault, report_manifest_fault, send, turns_of,
+};
 use rev_trace::Trace;
-use std::alloc::{AllocError, Global};
+use std::alloc::Global;
 use std::io::Write;
 use std::mem;
-
-/// How a run ended, which is the program's exit status.
-#[derive(Clone, Copy, Debug, PartialEq, Eq)]
-pub enum Status {
-    /// 0: the script was run.
-    Success,
-    /// 1: the manifest, its graph, the trace or the script has a fault, and its line is the report.
-    Fault,
-}
 
 // Writes the lines of the kept events.
 fn write_kept<W: Write>(alloc: Global, history: &History, writer: &mut W) -> Result<(), RunFault>
@@ -180,8 +169,9 @@ fn run_word<W: Write>(
     }
 }
 
-// Does the words of the script in turn.
-pub(crate) fn run_words<W: Write>(
+/// Does the words of a script in turn, where `run` takes the turns that are left of these. The script's own commands
+/// are of the given lane.
+pub fn run_words<W: Write>(
     alloc: Global,
     desk: &mut Desk,
     lane: u32,
@@ -202,8 +192,8 @@ pub(crate) fn run_words<W: Write>(
     Ok(())
 }
 
-// A desk to which nothing was said yet, with one lane more than these.
-pub(crate) fn open_desk(
+/// A desk to which nothing was said yet, with one lane more than these.
+pub fn open_desk(
     alloc: Global,
     graph: Graph,
     opening: &Opening,
@@ -221,9 +211,9 @@ pub(crate) fn open_desk(
     }
 }
 
-// Leaves a desk to the end of the process, which gives back what its history holds in one go. To free it piece by piece
-// took an eighth of a run.
-pub(crate) fn leave(desk: Desk) {
+/// Leaves a desk to the end of the process, which gives back what its history holds in one go. To free it piece by piece
+/// took an eighth of a run.
+pub fn leave(desk: Desk) {
     mem::forget(desk);
 }
 
@@ -262,22 +252,6 @@ fn run_script<W: Write>(
     let ran = run_opened(alloc, &mut desk, lanes, words, writer);
     leave(desk);
     ran
-}
-
-// Writes the line of the first fault of a text.
-pub(crate) fn report_fault<W: Write>(
-    alloc: Global,
-    what: &[u8],
-    fault: TextFault,
-    writer: &mut W,
-) -> Result<Status, RunFault>
-    ensures text { Writes result (W.contents writer.old) (W.contents writer.new)
-        (text_fault_line what.now fault) }
-    ensures status { IfOk result (λ status. status ≡ Status.Fault) }
-{
-    let line = fault_line(alloc, what, fault.line, fault.kind.code())?;
-    send(writer, &line)?;
-    Ok(Status::Fault)
 }
 
 // Reports on a script, for a trace that has been read.
@@ -325,25 +299,6 @@ fn report_trace<W: Write>(
     }
 }
 
-// Writes the line of a fault of a manifest's edges. `Memory` is no fault of theirs.
-pub(crate) fn report_graph_fault<W: Write>(
-    alloc: Global,
-    fault: &GraphFault,
-    writer: &mut W,
-) -> Result<Status, RunFault>
-    ensures text { (text : List ℕ) → (fault.now ≢ GraphFault.Memory → text ≡ edges_fault_line fault.now)
-        → Writes result (W.contents writer.old) (W.contents writer.new) text }
-    ensures status { (wanted : Status) → (fault.now ≢ GraphFault.Memory → wanted ≡ Status.Fault)
-        → IfOk result (λ status. status ≡ wanted) }
-{
-    let Some(code) = fault.code() else {
-        return Err(RunFault::Memory);
-    };
-    let line = graph_fault_line(alloc, code, fault.path())?;
-    send(writer, &line)?;
-    Ok(Status::Fault)
-}
-
 // Reports on a trace and a script, for a manifest that has been read.
 fn report_edges<W: Write>(
     alloc: Global,
@@ -360,46 +315,6 @@ fn report_edges<W: Write>(
         Ok(graph) => report_trace(alloc, graph, trace, script, writer),
         Err(fault) => report_graph_fault(alloc, &fault, writer),
     }
-}
-
-// Adds the name of the file at a place, or a dash where there is none.
-fn push_name(line: &mut Vec<u8>, files: &[(Vec<u8>, Vec<u8>)], place: u64) -> Result<(), AllocError>
-    ensures { OnOk result (line.new.items
-        ≡ line.old.items ++ name_text (slice_get (seen_files files.now) place)) }
-{
-    match files.get(place as usize) {
-        None => line.extend_from_slice(b"-"),
-        Some((name, _)) => push_field(line, name),
-    }
-}
-
-// The line of the first fault of a manifest.
-fn manifest_fault_line(
-    alloc: Global,
-    files: &[(Vec<u8>, Vec<u8>)],
-    fault: ManifestFault,
-) -> Result<Vec<u8>, AllocError>
-    ensures { IfOk result (λ line. line.items ≡ manifest_fault_line (seen_files files.now) fault) }
-{
-    let mut what = Vec::from_slice(alloc, b"manifest ")?;
-    push_name(&mut what, files, fault.file)?;
-    fault_line(alloc, &what, fault.line, fault.kind.code())
-}
-
-// Writes the line of the first fault of a manifest.
-pub(crate) fn report_manifest_fault<W: Write>(
-    alloc: Global,
-    files: &[(Vec<u8>, Vec<u8>)],
-    fault: ManifestFault,
-    writer: &mut W,
-) -> Result<Status, RunFault>
-    ensures text { Writes result (W.contents writer.old) (W.contents writer.new)
-        (manifest_fault_line (seen_files files.now) fault) }
-    ensures status { IfOk result (λ status. status ≡ Status.Fault) }
-{
-    let line = manifest_fault_line(alloc, files, fault)?;
-    send(writer, &line)?;
-    Ok(Status::Fault)
 }
 
 /// Reads a manifest, builds its graph, reads a trace and a script, runs the script, and writes the report, which ends

@@ -1,18 +1,16 @@
 //! What `run` takes, and what comes of it.
 ghost use Rattle.std.specs.Prelude.{◌≡◌, ℕ, ◌+◌, ◌<◌, ◌≤◌, List, IfOk, OnOk, length, take, drop};
 ghost use Rattle.rev_report.specs.Answers.{after_answer, answer_to, names_break, said_line};
-ghost use Rattle.rev_report.specs.Output.{Writes};
+ghost use Rattle.rev_script.specs.Output.{Writes};
 ghost use Rattle.rev_report.specs.Runs.{after_turns, answers_text, offered, taken, until_break};
-ghost use Rattle.rev_report.specs.SeenTurns.{seen_turns};
-ghost use Rattle.rev_report.specs.Turns.{AreOf};
+ghost use Rattle.rev_script.specs.SeenTurns.{seen_turns};
+ghost use Rattle.rev_script.specs.Turns.{AreOf};
 ghost use Rattle.rev_commands.specs.declared.command.Command.{Command};
 
 use crate::answers::{answer, names_break, next_number};
-use crate::fault::RunFault;
-use crate::output::send;
 use crate::text::answer_line;
-use crate::turns::Turn;
 use rev_desk::{Command, Desk};
+use rev_script::{RunFault, Turn, send};
 use std::alloc::Global;
 use std::io::Write;
 

@@ -3,10 +3,11 @@ use Rattle.rev_graph.specs.declared.fault.GraphFault.{GraphFault}
 use Rattle.rev_manifest.specs.Manifest.{ManifestValue}
 use Rattle.rev_graph.specs.Decided.{graph_fault}
 use Rattle.rev_graph.proofs.DecidedLemmas.{fault-decided, faultless-decided}
-use Rattle.rev_report.specs.declared.fault.RunFault.{RunFault}
-use Rattle.rev_report.specs.declared.report.Status.{Status}
-use Rattle.rev_report.specs.Output.{Writes}
-use Rattle.rev_report.specs.Report.{Report, edges_fault_line, edges_report, trace_report, unless_fault}
+use Rattle.rev_script.specs.declared.fault.RunFault.{RunFault}
+use Rattle.rev_script.specs.declared.status.Status.{Status}
+use Rattle.rev_script.specs.Output.{Writes}
+use Rattle.rev_report.specs.Report.{Report, edges_report, trace_report, unless_fault}
+use Rattle.rev_script.specs.Lines.{edges_fault_line}
 use Rattle.rev_report.proofs.report.report_edges.Goals as goal
 
 pub returns-in-Ok-clause-text : goal.returns-in-Ok-clause-text

@@ -1,5 +1,5 @@
 use Rattle.std.proofs.Common.{ap, ◌∙◌}
-use Rattle.rev_report.specs.SeenTurns.{seen_turns}
+use Rattle.rev_script.specs.SeenTurns.{seen_turns}
 use Rattle.rev_report.proofs.RunLemmas.{of_desk}
 use Rattle.rev_report.proofs.report.run_opened.Goals as goal
 

@@ -1,5 +1,5 @@
 use Rattle.std.proofs.Common.{subst}
-use Rattle.rev_report.specs.Output.{Writes}
+use Rattle.rev_script.specs.Output.{Writes}
 use Rattle.rev_report.proofs.RunLemmas.{session_of}
 use Rattle.rev_report.proofs.report.run_script.Goals as goal
 

@@ -2,8 +2,9 @@ use Rattle.std.proofs.Common.{◌≡◌, Err, Some, Option, ap, sym, subst}
 use Rattle.rev_manifest.specs.declared.fault.ManifestFault.{ManifestFault}
 use Rattle.rev_manifest.specs.Manifest.{first_fault, manifest_of}
 use Rattle.rev_manifest.specs.Seen.{seen_files}
-use Rattle.rev_report.specs.Output.{Writes}
-use Rattle.rev_report.specs.Report.{manifest_fault_line, manifest_report, unless_fault}
+use Rattle.rev_script.specs.Output.{Writes}
+use Rattle.rev_report.specs.Report.{manifest_report, unless_fault}
+use Rattle.rev_script.specs.Lines.{manifest_fault_line}
 use Rattle.rev_report.proofs.report.run_serial.Goals as goal
 
 pub returns-in-Err-Manifest-clause-text : goal.returns-in-Err-Manifest-clause-text

@@ -1,8 +1,8 @@
 use Rattle.std.proofs.Common.{subst}
 use Rattle.rev_history.specs.Timeline.{Timeline, state_at}
 use Rattle.rev_listing.specs.Marks as marks
-use Rattle.rev_report.specs.Output.{AppendsFront}
-use Rattle.rev_report.proofs.OutputLemmas.{writes-err}
+use Rattle.rev_script.specs.Output.{AppendsFront}
+use Rattle.rev_script.proofs.OutputLemmas.{writes-err}
 use Rattle.rev_report.proofs.report.run_word.Goals as goal
 
 pub returns-in_err-write_marks-in-Marks-clause-text : goal.returns-in_err-write_marks-in-Marks-clause-text

@@ -1,7 +1,7 @@
 use Rattle.std.proofs.Common.{◌+◌, drop, sym, refl, ◌∙◌}
 use Rattle.rev_report.specs.Report.{script_text}
-use Rattle.rev_report.specs.SeenTurns.{seen_turns}
-use Rattle.rev_report.proofs.OutputLemmas.{leads-to, goes-on, stops-in, writes-err}
+use Rattle.rev_script.specs.SeenTurns.{seen_turns}
+use Rattle.rev_script.proofs.OutputLemmas.{leads-to, goes-on, stops-in, writes-err}
 use Rattle.rev_report.proofs.ReportLemmas.{script_next}
 use Rattle.rev_report.proofs.report.run_words.Goals as goal
 

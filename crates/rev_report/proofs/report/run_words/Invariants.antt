@@ -1,7 +1,7 @@
 use Rattle.std.proofs.Common.{◌≡◌, ◌≤◌, drop, length}
 use Rattle.rev_report.specs.Report.{script_text}
-use Rattle.rev_report.specs.SeenTurns.{seen_turns}
-use Rattle.rev_report.proofs.OutputLemmas.{Leads}
+use Rattle.rev_script.specs.SeenTurns.{seen_turns}
+use Rattle.rev_script.proofs.OutputLemmas.{Leads}
 use Rattle.rev_report.proofs.report.run_words.Given as goal
 
 -- the words so far were done

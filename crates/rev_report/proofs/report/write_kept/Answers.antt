@@ -1,6 +1,6 @@
 use Rattle.std.proofs.Common.{◌∙◌, ap}
-use Rattle.rev_report.specs.Report.{kept_line}
-use Rattle.rev_report.proofs.OutputLemmas.{goes-on, stops-in, writes-err}
+use Rattle.rev_script.specs.Lines.{kept_line}
+use Rattle.rev_script.proofs.OutputLemmas.{goes-on, stops-in, writes-err}
 use Rattle.rev_report.proofs.ReportLemmas.{flat_next_number}
 use Rattle.rev_report.proofs.report.write_kept.Goals as goal
 

@@ -1,8 +1,9 @@
 use Rattle.std.proofs.Common.{drop}
 use Rattle.std.specs.List.{flat_map}
 use Rattle.rev_history.specs.Timeline.{event_at}
-use Rattle.rev_report.specs.Report.{kept_line, kept_text}
-use Rattle.rev_report.proofs.OutputLemmas.{Leads}
+use Rattle.rev_report.specs.Report.{kept_text}
+use Rattle.rev_script.specs.Lines.{kept_line}
+use Rattle.rev_script.proofs.OutputLemmas.{Leads}
 use Rattle.rev_report.proofs.report.write_kept.Given as goal
 
 -- the lines so far were written

@@ -1,4 +1,4 @@
-use Rattle.rev_report.proofs.OutputLemmas.{nothing-sent, writes-err}
+use Rattle.rev_script.proofs.OutputLemmas.{nothing-sent, writes-err}
 use Rattle.rev_report.proofs.report.write_why.Goals as goal
 
 pub returns-in_err-text-in-Some : goal.returns-in_err-text-in-Some

@@ -1,10 +1,10 @@
 use Rattle.std.proofs.Common.{◌≡◌, ◌+◌, ◌-◌, drop, length, take, sym, ap, ◌∙◌, subst}
 use Rattle.std.specs.Io.KnownBytes.{Appends}
-use Rattle.rev_report.specs.Output.{AppendsFront}
+use Rattle.rev_script.specs.Output.{AppendsFront}
 use Rattle.rev_report.specs.Runs.{after_turns, answers_text, offered, until_break}
-use Rattle.rev_report.specs.SeenTurns.{seen_turns}
-use Rattle.rev_report.specs.Turns.{AreOf}
-use Rattle.rev_report.proofs.OutputLemmas.{writes-err}
+use Rattle.rev_script.specs.SeenTurns.{seen_turns}
+use Rattle.rev_script.specs.Turns.{AreOf}
+use Rattle.rev_script.proofs.OutputLemmas.{writes-err}
 use Rattle.rev_report.proofs.RunLemmas.{left_len, of_offered, of_rest, part_is}
 use Rattle.rev_report.proofs.runs.run_taken.Goals as goal
 

@@ -1,6 +1,6 @@
 use Rattle.std.proofs.Common.{◌≡◌, ◌+◌, false, refl, sym, ap, ◌∙◌, arith, drop, length, suc}
-use Rattle.rev_report.specs.SeenTurns.{seen_turns}
-use Rattle.rev_report.proofs.OutputLemmas.{goes-on, leads-end, stops-in, writes-err}
+use Rattle.rev_script.specs.SeenTurns.{seen_turns}
+use Rattle.rev_script.proofs.OutputLemmas.{goes-on, leads-end, stops-in, writes-err}
 use Rattle.rev_report.proofs.RunLemmas.{after_on, count_on, of_next, seen_next, text_any, text_off, text_on}
 use Rattle.rev_report.proofs.runs.run_turns.Goals as goal
 

@@ -1,8 +1,8 @@
 use Rattle.std.proofs.Common.{◌≡◌, ◌+◌, drop, length}
 use Rattle.rev_report.specs.Runs.{after_turns, answers_text, until_break}
-use Rattle.rev_report.specs.SeenTurns.{seen_turns}
-use Rattle.rev_report.specs.Turns.{AreOf}
-use Rattle.rev_report.proofs.OutputLemmas.{Leads}
+use Rattle.rev_script.specs.SeenTurns.{seen_turns}
+use Rattle.rev_script.specs.Turns.{AreOf}
+use Rattle.rev_script.proofs.OutputLemmas.{Leads}
 use Rattle.rev_report.proofs.runs.run_turns.Given as goal
 
 -- the turns so far were taken, and what is taken of the others leads where all that is taken does

@@ -1,0 +1,6 @@
+pub mod LeftTurns
+pub mod Lines
+pub mod Output
+pub mod Scripts
+pub mod SeenTurns
+pub mod Turns
