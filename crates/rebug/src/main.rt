@@ -2,11 +2,10 @@
 #![tactic(auto)]
 
 mod fault;
-mod input;
 
 use clap::error::ErrorKind;
-use fault::ProgramFault;
-use input::{InputFault, read_whole};
+use fault::{ProgramFault, Unread};
+use rev_input::{TakeFault, take_up_to};
 use rev_options::{Options, options};
 use rev_parallel::run_parallel;
 use rev_report::{RunFault, Status, run_serial};
@@ -24,28 +23,68 @@ const USAGE: u8 = 2;
 // The status of a run that could not read, write or get memory.
 const FAILURE: u8 = 3;
 
-// All bytes of a file.
+// The most bytes that the manifest and the files that it names may have together. With more the manifest is refused.
+const MANIFEST_BYTES: usize = 268_435_456;
+// The most bytes of a trace, and of a script.
+const LINES_BYTES: usize = 1_073_741_824;
+
+// The bytes of a file, where there are no more than `most`, and else more than `most`, from its start.
 fn read_file<'a, R: Files + AllocGlobal>(
     rt: &R,
     name: &'a str,
+    most: usize,
 ) -> Result<Vec<u8>, ProgramFault<'a>> {
-    let Ok(mut file) = fs::open(rt, name) else {
-        return Err(ProgramFault::Read(name));
+    let mut file = match fs::open(rt, name) {
+        Ok(file) => file,
+        Err(error) => return Err(ProgramFault::Read(name, Unread::from(error.kind()))),
     };
-    match read_whole(rt.alloc(), &mut file) {
+    match take_up_to(rt.alloc(), &mut file, most) {
         Ok(bytes) => Ok(bytes),
-        Err(InputFault::Read) => Err(ProgramFault::Read(name)),
-        Err(InputFault::Memory) => Err(ProgramFault::Run(RunFault::Memory)),
+        Err(TakeFault::Memory) => Err(ProgramFault::Run(RunFault::Memory)),
+        Err(TakeFault::Read) if is_folder(rt, name) => {
+            Err(ProgramFault::Read(name, Unread::Folder))
+        }
+        Err(TakeFault::Read) => Err(ProgramFault::Read(name, Unread::Failed)),
     }
 }
 
-// The name of a file and all its bytes.
-fn named_file<'a, R: Files + AllocGlobal>(
+// Whether a name is a folder's, which opens as a file does and fails at the first read.
+fn is_folder<R: Files>(rt: &R, name: &str) -> bool {
+    match rt.metadata(name) {
+        Ok(metadata) => metadata.is_dir(),
+        Err(_) => false,
+    }
+}
+
+// All bytes of a trace or of a script.
+fn read_lines<'a, R: Files + AllocGlobal>(
     rt: &R,
     name: &'a str,
-) -> Result<(Vec<u8>, Vec<u8>), ProgramFault<'a>> {
-    let bytes = read_file(rt, name)?;
-    Ok((Vec::from_slice(rt.alloc(), name.as_bytes())?, bytes))
+) -> Result<Vec<u8>, ProgramFault<'a>> {
+    let bytes = read_file(rt, name, LINES_BYTES)?;
+    if bytes.len() > LINES_BYTES {
+        return Err(ProgramFault::Read(name, Unread::Long));
+    }
+    Ok(bytes)
+}
+
+// The manifest and the files that it may name, each with its name. What goes past the limit of a manifest's bytes is
+// read so far that the limit is passed, since that is what the manifest is then refused for.
+fn read_manifest<'a, R: Files + AllocGlobal>(
+    rt: &R,
+    options: &Options<'a>,
+) -> Result<Vec<(Vec<u8>, Vec<u8>)>, ProgramFault<'a>> {
+    let alloc = rt.alloc();
+    let bytes = read_file(rt, options.manifest, MANIFEST_BYTES)?;
+    let mut left = MANIFEST_BYTES.saturating_sub(bytes.len());
+    let mut files = Vec::new(alloc);
+    files.push((Vec::from_slice(alloc, options.manifest.as_bytes())?, bytes))?;
+    for name in &options.files {
+        let bytes = read_file(rt, *name, left)?;
+        left = left.saturating_sub(bytes.len());
+        files.push((Vec::from_slice(alloc, name.as_bytes())?, bytes))?;
+    }
+    Ok(files)
 }
 
 // Reads the files and writes the report to the standard output.
@@ -54,13 +93,9 @@ fn run<'a, R: Files + Print + Eprint + AllocGlobal + Threads + Wait + Sync>(
     options: &Options<'a>,
 ) -> Result<Status, ProgramFault<'a>> {
     let alloc = rt.alloc();
-    let mut files = Vec::new(alloc);
-    files.push(named_file(rt, options.manifest)?)?;
-    for name in &options.files {
-        files.push(named_file(rt, *name)?)?;
-    }
-    let trace = read_file(rt, options.trace)?;
-    let script = read_file(rt, options.script)?;
+    let files = read_manifest(rt, options)?;
+    let trace = read_lines(rt, options.trace)?;
+    let script = read_lines(rt, options.script)?;
     let Ok(mut writer) = BufWriter::new(alloc, io::writer(rt)) else {
         return Err(ProgramFault::Run(RunFault::Memory));
     };

@@ -1,7 +1,7 @@
 -- What reads take from a reader.
 use Rattle.std.proofs.Common.{◌≡◌, ℕ, List, ◌++◌, Option, Some, None, IfSome, sym, ap, ◌∙◌, append_assoc, append-nil}
 use Rattle.std.specs.Io.KnownBytes.{Consumes, IsAtEnd}
-use Rattle.rebug.specs.Input.{ReadOn}
+use Rattle.rev_input.specs.Input.{ReadOn}
 
 -- a further read
 pub consumes_more : (old mid new : Option (List ℕ)) (before after : List ℕ) → Consumes old mid before → ReadOn mid new before after → Consumes old new after
