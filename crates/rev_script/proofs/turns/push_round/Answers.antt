@@ -1,4 +1,4 @@
-use Rattle.std.proofs.Common.{◌≡◌, ◌++◌, ◌∙◌, ap}
+use Rattle.std.proofs.Common.{◌++◌, ◌∙◌, ap}
 use Rattle.rev_script.specs.SeenTurns.{seen_turns}
 use Rattle.rev_script.specs.Turns.{turn_of}
 use Rattle.rev_script.proofs.TurnLemmas.{round_more}

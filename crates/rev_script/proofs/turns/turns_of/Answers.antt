@@ -1,4 +1,4 @@
-use Rattle.std.proofs.Common.{◌≡◌, ◌<◌, ◌≤◌, ◌+◌, ◌++◌, ◌∙◌, ℕ, ap, subst, arith, refl}
+use Rattle.std.proofs.Common.{◌<◌, ◌+◌, ◌++◌, ◌∙◌, ap, subst, arith}
 use Rattle.rev_trace.specs.Traces.{lanes_of}
 use Rattle.rev_script.specs.LeftTurns.{round_of, seen_left}
 use Rattle.rev_script.specs.SeenTurns.{seen_turns}
