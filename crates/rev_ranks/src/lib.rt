@@ -12,6 +12,3 @@ mod searches;
 pub use fault::RankFault;
 pub use ranking::ranks;
 pub use searches::{leading_to, reachable_from, reversed};
-
-#[cfg(test)]
-mod tests;
