@@ -8,13 +8,25 @@ use std::marker::Model;
 use std::sync::ledger::{Ledger, Share};
 
 /// What a lane knows: its number, what it said and was told, and one part of the ledger. There is one of each number.
-#[derive(Drop)]
 pub struct Lane<L: Ledger> {
     pub(crate) number: u32,
     pub(crate) base: u64,
     pub(crate) seen: u64,
     pub(crate) list: Vec<(Command, Reply)>,
     pub(crate) share: Share<L>,
+}
+
+// Written, since a derived drop is proved again at each exit of each caller.
+impl<L: Ledger> Drop for Lane<L> {
+    fn drop(self) {
+        let Lane {
+            number: _number,
+            base: _base,
+            seen: _seen,
+            list: _list,
+            share: _share,
+        } = self;
+    }
 }
 
 impl<L: Ledger> Model for Lane<L> {
@@ -56,7 +68,14 @@ impl<L: Ledger> Lane<L> {
         ensures parts { result.parts ≡ 1 }
         ensures amount { result.amount ≡ self.base + length self.list }
     {
-        self.share
+        let Lane {
+            number: _number,
+            base: _base,
+            seen: _seen,
+            list: _list,
+            share,
+        } = self;
+        share
     }
 
     /// The lane's number.
