@@ -11,8 +11,6 @@ mod lane;
 mod run;
 mod shared;
 mod standing;
-#[cfg(test)]
-mod tests;
 
 pub use fault::{CloseCode, CloseFault};
 pub use gate::Gate;
