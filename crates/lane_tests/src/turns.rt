@@ -47,7 +47,7 @@ impl From<Unsaid> for Lost {
 
 // The commands of a trace's first lane.
 fn commands_of(alloc: Global, trace: Trace) -> Vec<Command> {
-    let mut lanes = trace.lanes.into_iter();
+    let mut lanes = trace.into_lanes().into_iter();
     match lanes.next() {
         Some(commands) => commands,
         None => Vec::new(alloc),
