@@ -44,7 +44,10 @@ fn refused_in_chain<R: Threads + Wait + Sync>(
     let gate = Holding::new((1, 1), (0, 1), 1_000_000);
     let desk = closed_desk(run(rt, alloc, &content, &text, &gate)?)?;
     let journal = desk.journal();
-    let refused = journal.iter().filter(|entry| code_of(entry.reply) != 0).count();
+    let refused = journal
+        .iter()
+        .filter(|entry| code_of(entry.reply) != 0)
+        .count();
     Ok((refused, journal.len()))
 }
 

@@ -1,5 +1,7 @@
 //! Lanes that undo what others did, that a break stops, and that meet a journal which is full.
-use crate::builds::{MANIFEST, Outcome, closed_desk, desk_of, journal_text, run, run_desk, trace_of};
+use crate::builds::{
+    MANIFEST, Outcome, closed_desk, desk_of, journal_text, run, run_desk, trace_of,
+};
 use crate::gates::{Both, Holding};
 use rev_cells::{Cell, Value};
 use rev_desk::{Command, Desk};
@@ -33,7 +35,10 @@ fn each_undoes_what_the_other_did(rt: HostRuntime) -> Result<(), Fail> {
     assert_eq!(rt; told.as_str().matches("1 ok; ").count(), 2);
     assert_eq!(rt; desk.journal().len(), 4);
     assert!(rt; desk.history().kept().is_empty());
-    let stamps = (stamp_of(alloc, &desk, b"a.c")?, stamp_of(alloc, &desk, b"b.c")?);
+    let stamps = (
+        stamp_of(alloc, &desk, b"a.c")?,
+        stamp_of(alloc, &desk, b"b.c")?,
+    );
     assert_eq!(rt; stamps, (10, 20));
     Ok(())
 }

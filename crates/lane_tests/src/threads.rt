@@ -74,6 +74,9 @@ fn all_wait_and_the_stall_ends(rt: HostRuntime) -> Result<(), Fail> {
     let alloc = rt.alloc();
     let gate = Holding::new((1, 1), (0, 2), 1_000_000);
     let told = told_text(&rt, alloc, MANIFEST, THREE_LANES, &gate)?;
-    assert_eq!(rt; told.as_str().bytes().filter(|byte| *byte == b';').count(), 6);
+    assert_eq!(rt;
+        told.as_str().bytes().filter(|byte| *byte == b';').count(),
+        6
+    );
     Ok(())
 }

@@ -7,7 +7,8 @@ use std::test::Fail;
 const BY_JOB: &str = "rebug-trace 1\njobs 2\nstamp a.c 10\nstamp b.c 20\n\
 lane 0\nplan app\nstart a.o 0\nfinish a.o 100\nlane 1\nstart b.o 0\n";
 
-const POOLS: &str = "pool one\n  depth = 1\npool any\n  depth = 0\nrule r\n  command = r $out\n  pool = one\n\
+const POOLS: &str =
+    "pool one\n  depth = 1\npool any\n  depth = 0\nrule r\n  command = r $out\n  pool = one\n\
 build x: r\nbuild y: r\nbuild z: r\n  pool = any\nbuild t: r\n  pool = console\n";
 
 const BY_SLOT: &str = "rebug-trace 1\njobs 2\n\
