@@ -40,7 +40,8 @@ inputs = [f"i{it}" for it in range(INPUTS - 1)]
 waiting = [f"w{it}" for it in range(1, CROWD + 1)]
 write("crowd.ninja", ["rule cc", "  command = cc $in", "build a: cc i0",
                       *(f"build {it}: cc {' '.join(inputs)} a" for it in waiting)])
-lanes = [line for lane, it in enumerate(waiting, 1) for line in (f"lane {lane}", f"start {it} {lane}", f"finish {it} 9")]
+lanes = [line for lane, it in enumerate(waiting, 1)
+         for line in (f"lane {lane}", f"start {it} {lane}", f"finish {it} 9")]
 write("crowd", ["rebug-trace 1", f"jobs {CROWD + 1}", *(f"stamp {it} 1" for it in inputs), "lane 0", "start a 0",
                 *touches(0, 1, files // 500), "finish a 5", *lanes])
 write("crowd.run", [f"plan {' '.join(waiting)}", "run"])
