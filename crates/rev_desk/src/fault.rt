@@ -65,6 +65,16 @@ pub struct Unsaid {
     pub command: Command,
 }
 
+impl Unsaid {
+    /// The command, to be said again or elsewhere.
+    pub fn into_command(self) -> Command
+        ensures { result ≡ self.command }
+    {
+        let Unsaid { why: _why, command } = self;
+        command
+    }
+}
+
 // Written, since a derived drop is proved again at each exit of each caller.
 impl Drop for Unsaid {
     fn drop(self) {

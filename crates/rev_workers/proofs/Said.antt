@@ -85,6 +85,9 @@ pub missing-ran : (lanes n : ℕ) (ts : List Track) (lists : List (List Command)
 missing-ran lanes n ts lists us ran is =
     (λ e. is.0 (numbered-ran n ts lists us ran ∙ e), λ m less. sym (numbered-ran m ts lists us ran) ∙ is.1 m less)
 
+pub one_of_each-ran : (lanes : ℕ) (ts : List Track) (lists : List (List Command)) (us : List Track) → AllRan (pair_up ts lists) us → IsOneOfEach lanes us → IsOneOfEach lanes ts
+one_of_each-ran lanes ts lists us ran one n = sym (numbered-ran n ts lists us ran) ∙ one n
+
 -- a lane with its commands keeps its number
 pub numbers-paired : (ts : List Track) (lists : List (List Command)) → numbers_in (pair_up ts lists) ≡ map (λ (t : Track). t.number) ts
 numbers-paired [] lists = refl

@@ -1,36 +1,43 @@
 //! What lies under the lock.
-ghost use Rattle.std.specs.Prelude.{◌≡◌, ◌≢◌, ◌<◌, ◌≤◌, ◌^◌, ◌↔◌, ℕ, Some, IfOk, IfErr, IsTrue, OnOk, OnErr, length, slice_get};
+ghost use Rattle.std.specs.Prelude.{◌≡◌, ◌≢◌, ◌<◌, ◌≤◌, ◌^◌, ◌↔◌, ℕ, Some, IfOk, IfErr, IsTrue, OnOk, OnErr, length, slice_get, slice_set};
+ghost use Rattle.rev_commands.specs.declared.command.Command.{Command};
+ghost use Rattle.rev_desk.specs.declared.fault.Unsaid.{Unsaid};
 ghost use Rattle.rev_desk.specs.Machine.{reply_to, after};
 ghost use Rattle.rev_desk.specs.declared.fault.Why.TheVariants as why;
 ghost use Rattle.rev_workers.specs.Closing.{AreStated, IsMissing, IsMisstated, IsOneOfEach, entries_of, left_by};
 ghost use Rattle.rev_workers.specs.declared.fault.CloseCode.TheVariants as code;
 ghost use Rattle.std.specs.List.{AllByRecursion};
 ghost use Rattle.rev_workers.specs.Tracks.{Track, Carries, fresh, said};
-ghost use Rattle.rev_workers.specs.Waiting.{MayPass};
+ghost use Rattle.rev_workers.specs.declared.held.Untold.TheVariants as untold;
+ghost use Rattle.rev_workers.specs.declared.standing.Standing.TheVariants as standing;
+ghost use Rattle.rev_workers.specs.Waiting.{MayPass, OthersRest};
 
 use crate::closing::{missing, misstated, settle};
 use crate::fault::{CloseCode, CloseFault};
 use crate::lane::{Lane, base_of};
+use crate::standing::{Standing, others_rest, stand_at_first};
 use rev_desk::{Command, Desk, Reply, Unsaid, Why};
 use std::alloc::{AllocError, Global};
 use std::marker::Model;
 use std::sync::ledger::{Blank, Book, Ledger};
 
-/// Whether a lane goes on.
-#[derive(Clone, Copy, Debug, PartialEq, Eq)]
-pub(crate) enum Standing {
-    Going,
-    Waiting,
-    Ended,
+/// Why a command that waits until it is able has no answer.
+#[derive(Drop)]
+pub enum Untold {
+    /// It is to wait.
+    Waits(Command),
+    /// It can make no entry.
+    Unsaid(Unsaid),
 }
 
-/// A desk, the book of its ledger, and which lanes wait or have ended. Contracts see it as the desk.
+/// A desk, the book of its ledger, and how each lane stands. Contracts see the desk and the standings.
 pub struct Held<L: Ledger> {
     desk: Desk,
     book: Book<L>,
     standings: Vec<Standing>,
 }
 
+// Written, since a derived drop is proved again at each exit of each caller.
 impl<L: Ledger> Drop for Held<L> {
     fn drop(self) {
         let Held {
@@ -43,13 +50,13 @@ impl<L: Ledger> Drop for Held<L> {
 
 impl<L: Ledger> Model for Held<L> {
     ghost use Rattle.std.specs.Prelude.{◌≡◌, ◌<◌, length};
-    ghost use Rattle.rev_desk.specs.Machine.{DeskValue, desk_code};
+    ghost use Rattle.rev_workers.specs.Locked.{Locked, coded_locked};
 
-    ghost Value = { DeskValue };
+    ghost Value = { Locked };
 
-    ghost coded = { desk_code };
+    ghost coded = { coded_locked };
 
-    ghost view = { λ h. h.desk };
+    ghost view = { λ h. record { desk = h.desk; standings = h.standings.items } };
 
     ghost invariant = { λ h. (h.book.total ≡ length h.desk.journal) × (h.desk.lanes ≡ L.parts)
         × (length h.standings.items ≡ L.parts) × (0 < L.parts) };
@@ -65,7 +72,7 @@ impl<L: Ledger> Held<L> {
         requires name { blank.name ≡ L.name }
         requires parts { blank.parts ≡ L.parts }
         requires lanes { blank.parts ≡ desk.lanes }
-        ensures desk { IfOk result (λ made. made.0 ≡ desk) }
+        ensures desk { IfOk result (λ made. made.0.desk ≡ desk) }
         ensures count { IfOk result (λ made. length made.1.items ≡ desk.lanes) }
         ensures lanes { IfOk result (λ made. (k : ℕ) → k < desk.lanes
             → slice_get made.1.items k ≡ Some (fresh (length desk.journal) k)) }
@@ -93,13 +100,15 @@ impl<L: Ledger> Held<L> {
 
     /// Answers a command of a lane. Of a command that was not answered nothing is changed.
     pub fn step(&mut self, lane: &mut Lane<L>, command: Command) -> Result<Reply, Unsaid>
-        requires { lane.old.number < self.old.lanes }
-        ensures reply { IfOk result (λ reply. reply ≡ reply_to self.old command) }
-        ensures desk { OnOk result (self.new ≡ after self.old lane.old.number command) }
-        ensures lane { IfOk result (λ reply. lane.new ≡ said lane.old command reply (length self.new.journal)) }
+        requires { lane.old.number < self.old.desk.lanes }
+        ensures reply { IfOk result (λ reply. reply ≡ reply_to self.old.desk command) }
+        ensures desk { OnOk result (self.new.desk ≡ after self.old.desk lane.old.number command) }
+        ensures standings { self.new.standings ≡ self.old.standings }
+        ensures lane { IfOk result (λ reply. lane.new
+            ≡ said lane.old command reply (length self.new.desk.journal)) }
         ensures carried { IfOk result (λ reply. Carries reply lane.new.seen) }
         ensures full { IfErr result (λ unsaid. (unsaid.why ≡ why.JournalFull)
-            → (length self.old.journal ≡ Desk.MAX_ENTRIES)) }
+            → (length self.old.desk.journal ≡ Desk.MAX_ENTRIES)) }
         ensures back { IfErr result (λ unsaid. unsaid.command ≡ command) }
         ensures same { OnErr result (self.new ≡ self.old) }
         ensures same_lane { OnErr result (lane.new ≡ lane.old) }
@@ -123,9 +132,55 @@ impl<L: Ledger> Held<L> {
         Ok(reply)
     }
 
+    /// Answers a command of a lane, or has the lane wait: it waits exactly where the command is refused 68, 72 or 74
+    /// and another lane goes on. So such a refusal is answered only where every other lane has ended, or waits and
+    /// looked at a desk whose journal is as long as this one.
+    pub fn step_when_able(&mut self, lane: &mut Lane<L>, command: Command) -> Result<Reply, Untold>
+        requires { lane.old.number < self.old.desk.lanes }
+        ensures reply { IfOk result (λ reply. reply ≡ reply_to self.old.desk command) }
+        ensures able { IfOk result (λ reply. MayPass reply
+            → OthersRest lane.old.number (length self.old.desk.journal) self.old.standings) }
+        ensures desk { OnOk result (self.new.desk ≡ after self.old.desk lane.old.number command) }
+        ensures lane { IfOk result (λ reply. lane.new
+            ≡ said lane.old command reply (length self.new.desk.journal)) }
+        ensures carried { IfOk result (λ reply. Carries reply lane.new.seen) }
+        ensures goes { OnOk result (self.new.standings
+            ≡ slice_set self.old.standings lane.old.number standing.Going) }
+        ensures waits { IfErr result (λ why. (c : Command) → why ≡ untold.Waits c
+            → (c ≡ command) × MayPass (reply_to self.old.desk command)
+            × ¬ (OthersRest lane.old.number (length self.old.desk.journal) self.old.standings)
+            × (self.new.standings ≡ slice_set self.old.standings lane.old.number
+            (standing.Waiting (length self.old.desk.journal)))) }
+        ensures unsaid { IfErr result (λ why. (u : Unsaid) → why ≡ untold.Unsaid u
+            → (u.command ≡ command)
+            × (self.new.standings ≡ slice_set self.old.standings lane.old.number standing.Going)) }
+        ensures same { OnErr result (self.new.desk ≡ self.old.desk) }
+        ensures same_lane { OnErr result (lane.new ≡ lane.old) }
+    {
+        let entries = self.desk.journal().len() as u64;
+        if !others_rest(&self.standings, lane.number, entries) {
+            let Ok(verdict) = self.desk.verdict(&command) else {
+                self.stand(lane.number, Standing::Going);
+                return Err(Untold::Unsaid(Unsaid {
+                    why: Why::Memory,
+                    command,
+                }));
+            };
+            if may_pass(verdict) {
+                self.stand(lane.number, Standing::Waiting(entries));
+                return Err(Untold::Waits(command));
+            }
+        }
+        self.stand(lane.number, Standing::Going);
+        match self.step(lane, command) {
+            Ok(answer) => Ok(answer),
+            Err(unsaid) => Err(Untold::Unsaid(unsaid)),
+        }
+    }
+
     /// Takes the lanes back, and hands the desk out.
     pub(crate) fn close(self, lanes: Vec<Lane<L>>) -> Result<Desk, CloseFault>
-        ensures desk { left_by result ≡ self }
+        ensures desk { left_by result ≡ self.desk }
         ensures counted { IsOneOfEach (left_by result).lanes lanes.items
             → length (left_by result).journal ≡ entries_of lanes.items }
         ensures ok { IfOk result (λ desk. IsOneOfEach desk.lanes lanes.items
@@ -165,37 +220,21 @@ impl<L: Ledger> Held<L> {
 
     // There is a lane for each part of the ledger. Proofs alone need the call.
     pub(crate) fn know_lanes(&self)
-        ensures { self.now.lanes ≡ L.parts }
+        ensures { self.now.desk.lanes ≡ L.parts }
     {
         let _ = &self.desk;
     }
 
-    // Whether a lane's command is to wait now: it is blocked, and another lane goes on.
-    pub(crate) fn waits(&self, number: u32, command: &Command) -> Result<bool, AllocError> {
-        let verdict = self.desk.verdict(command)?;
-        Ok(may_pass(verdict) && self.another_goes(number))
-    }
-
-    // Whether a lane beside this one neither waits nor has ended.
-    fn another_goes(&self, number: u32) -> bool {
-        for (place, standing) in self.standings.iter().enumerate() {
-            if place as u64 != u64::from(number) && *standing == Standing::Going {
-                return true;
-            }
-        }
-        false
-    }
-
     // Notes that these lanes go on, and that all others have ended.
     pub(crate) fn begin(&mut self, lanes: &[Lane<L>])
-        ensures { self.new ≡ self.old }
+        ensures { self.new.desk ≡ self.old.desk }
     {
         stand_at_first(&mut self.standings, lanes);
     }
 
     // The desk alone.
     pub(crate) fn into_desk(self) -> Desk
-        ensures { result ≡ self }
+        ensures { result ≡ self.desk }
     {
         let Held {
             desk,
@@ -207,15 +246,15 @@ impl<L: Ledger> Held<L> {
 
     // Notes how a lane stands.
     pub(crate) fn stand(&mut self, number: u32, standing: Standing)
-        requires { number < self.old.lanes }
-        ensures { self.new ≡ self.old }
+        requires { number < self.old.desk.lanes }
+        ensures { self.new ≡ record self.old { standings = slice_set self.old.standings number standing } }
     {
         self.standings[number as usize] = standing;
     }
 
     /// The desk.
     pub fn desk(&self) -> &Desk
-        ensures { result.now ≡ self.now }
+        ensures { result.now ≡ self.now.desk }
     {
         &self.desk
     }
@@ -228,18 +267,5 @@ fn may_pass(reply: Reply) -> bool
     match reply {
         Reply::Refused(refusal) => matches!(refusal.code(), 68 | 72 | 74),
         _ => false,
-    }
-}
-
-// These lanes go on, and all others have ended.
-fn stand_at_first<L: Ledger>(standings: &mut [Standing], lanes: &[Lane<L>])
-    ensures { length standings.new ≡ length standings.old }
-{
-    standings.fill(Standing::Ended);
-    for lane in lanes {
-        let number = lane.number() as usize;
-        if number < standings.len() {
-            standings[number] = Standing::Going;
-        }
     }
 }

@@ -14,10 +14,19 @@ use std::sync::Wait;
 use std::sync::ledger::Ledger;
 
 /// A lane, with what it is to say.
-#[derive(Drop)]
 pub(crate) struct Job<L: Ledger> {
     lane: Lane<L>,
     commands: Vec<Command>,
+}
+
+// Written, since a derived drop is proved again at each exit of each caller.
+impl<L: Ledger> Drop for Job<L> {
+    fn drop(self) {
+        let Job {
+            lane: _lane,
+            commands: _commands,
+        } = self;
+    }
 }
 
 impl<L: Ledger> Model for Job<L> {
@@ -36,6 +45,15 @@ impl<L: Ledger> Job<L> {
         ensures { result ≡ self.now.0.number }
     {
         self.lane.number()
+    }
+
+    // Its lane, and what that is to say.
+    fn into_parts(self) -> (Lane<L>, Vec<Command>)
+        ensures lane { result.0 ≡ self.0 }
+        ensures commands { result.1.items ≡ self.1 }
+    {
+        let Job { lane, commands } = self;
+        (lane, commands)
     }
 }
 
@@ -84,7 +102,7 @@ pub(crate) fn run_job<L: Ledger, R: Wait, G: Gate>(
     ensures ok { IfOk result (λ after. Ran job.0 job.1 after) }
     ensures stopped { IfErr result (λ number. number ≡ job.0.number) }
 {
-    let Job { lane, commands } = job;
+    let (lane, commands) = job.into_parts();
     run_lane(rt, shared, gate, lane, commands)
 }
 

@@ -1,5 +1,5 @@
 //! A lane's token.
-ghost use Rattle.std.specs.Prelude.{◌≡◌, ◌+◌, ◌++◌, ◌∷◌, [], length};
+ghost use Rattle.std.specs.Prelude.{◌≡◌, ◌<◌, ◌+◌, ◌++◌, ◌∷◌, [], length, slice_set};
 ghost use Rattle.rev_workers.specs.Tracks.{fresh, base_at};
 
 use rev_desk::{Command, Reply};
@@ -8,13 +8,25 @@ use std::marker::Model;
 use std::sync::ledger::{Ledger, Share};
 
 /// What a lane knows: its number, what it said and was told, and one part of the ledger. There is one of each number.
-#[derive(Drop)]
 pub struct Lane<L: Ledger> {
     pub(crate) number: u32,
     pub(crate) base: u64,
     pub(crate) seen: u64,
     pub(crate) list: Vec<(Command, Reply)>,
     pub(crate) share: Share<L>,
+}
+
+// Written, since a derived drop is proved again at each exit of each caller.
+impl<L: Ledger> Drop for Lane<L> {
+    fn drop(self) {
+        let Lane {
+            number: _number,
+            base: _base,
+            seen: _seen,
+            list: _list,
+            share: _share,
+        } = self;
+    }
 }
 
 impl<L: Ledger> Model for Lane<L> {
@@ -56,7 +68,14 @@ impl<L: Ledger> Lane<L> {
         ensures parts { result.parts ≡ 1 }
         ensures amount { result.amount ≡ self.base + length self.list }
     {
-        self.share
+        let Lane {
+            number: _number,
+            base: _base,
+            seen: _seen,
+            list: _list,
+            share,
+        } = self;
+        share
     }
 
     /// The lane's number.
@@ -85,6 +104,15 @@ impl<L: Ledger> Lane<L> {
         ensures { result ≡ self.now.seen }
     {
         self.seen
+    }
+
+    /// Puts another command and reply in the place of those that the lane said and was told there. Number, base, what
+    /// it has seen and the other places stay. The journal is not touched, so [`close`](crate::close) finds it (111).
+    pub fn restate(&mut self, place: usize, command: Command, reply: Reply)
+        requires { place < length self.old.list }
+        ensures { self.new ≡ record self.old { list = slice_set self.old.list place (command, reply) } }
+    {
+        self.list[place] = (command, reply);
     }
 
     /// The lane's commands, each with its reply.

@@ -10,12 +10,12 @@ mod jobs;
 mod lane;
 mod run;
 mod shared;
-#[cfg(test)]
-mod tests;
+mod standing;
 
 pub use fault::{CloseCode, CloseFault};
 pub use gate::Gate;
-pub use held::Held;
+pub use held::{Held, Untold};
 pub use lane::Lane;
 pub use run::run_workers;
 pub use shared::{Shared, close};
+pub use standing::Standing;

@@ -2,7 +2,7 @@
 ghost use Rattle.std.specs.Prelude.{◌≡◌, ◌<◌, ◌≤◌, [], IfErr, IfNone, IfOk, IfSome, length, map};
 ghost use Rattle.std.specs.List.{AllByRecursion};
 ghost use Rattle.rev_workers.specs.Tracks.{Track};
-ghost use Rattle.rev_workers.specs.Closing.{IsMissing, left_by};
+ghost use Rattle.rev_workers.specs.Closing.{IsMissing, IsOneOfEach, left_by};
 ghost use Rattle.rev_workers.specs.declared.fault.CloseCode.TheVariants as code;
 ghost use Rattle.rev_workers.specs.Running.{AreSaid, HasNumber};
 
@@ -54,6 +54,9 @@ pub fn run_workers<L: Ledger + Send + Sync, R: Threads + Wait + Sync, G: Gate>(
     ensures stopped { IfErr result (λ fault. fault.code ≡ code.LaneStopped → HasNumber lanes.items fault.lane) }
     ensures missing { IfErr result (λ fault. fault.code ≡ code.LaneMissing
         → IsMissing fault.desk.lanes lanes.items fault.lane) }
+    ensures mismatch { IfErr result (λ fault. fault.code ≡ code.LaneMismatch
+        → IsOneOfEach fault.desk.lanes lanes.items) }
+    ensures each { IfOk result (λ desk. IsOneOfEach desk.lanes lanes.items) }
     ensures said { IfOk result (λ desk.
         AreSaid lanes.items (map (λ v. v.items) trace.lanes.items) desk.journal) }
 {
@@ -75,6 +78,9 @@ fn run_lists<L: Ledger + Send + Sync, R: Threads + Wait + Sync, G: Gate>(
     ensures stopped { IfErr result (λ fault. fault.code ≡ code.LaneStopped → HasNumber lanes.items fault.lane) }
     ensures missing { IfErr result (λ fault. fault.code ≡ code.LaneMissing
         → IsMissing fault.desk.lanes lanes.items fault.lane) }
+    ensures mismatch { IfErr result (λ fault. fault.code ≡ code.LaneMismatch
+        → IsOneOfEach fault.desk.lanes lanes.items) }
+    ensures each { IfOk result (λ desk. IsOneOfEach desk.lanes lanes.items) }
     ensures said { IfOk result (λ desk. AreSaid lanes.items (map (λ v. v.items) lists.items) desk.journal) }
 {
     let Some(least) = least_number(&lanes) else {

@@ -7,8 +7,9 @@ ghost use Rattle.std.specs.List.{AllByRecursion};
 ghost use Rattle.rev_workers.specs.Tracks.{Track, Carries, fresh, said};
 
 use crate::fault::{CloseCode, CloseFault};
-use crate::held::{Held, Standing};
+use crate::held::{Held, Untold};
 use crate::lane::Lane;
+use crate::standing::Standing;
 use rev_desk::{Command, Desk, Reply, Unsaid, Why};
 use std::alloc::{AllocError, Global};
 use std::marker::Model;
@@ -16,11 +17,21 @@ use std::sync::ledger::{Blank, Ledger};
 use std::sync::{Condvar, Mutex, Wait};
 
 /// A desk under a lock. Contracts see it as the number of its lanes.
-#[derive(Drop)]
 pub struct Shared<L: Ledger> {
     lanes: u32,
     held: Mutex<Held<L>>,
     changed: Condvar,
+}
+
+// Written, since a derived drop is proved again at each exit of each caller.
+impl<L: Ledger> Drop for Shared<L> {
+    fn drop(self) {
+        let Shared {
+            lanes: _lanes,
+            held: _held,
+            changed: _changed,
+        } = self;
+    }
 }
 
 impl<L: Ledger> Model for Shared<L> {
@@ -86,16 +97,23 @@ impl<L: Ledger> Shared<L> {
         ensures lane { result.lane ≡ lane }
         ensures lanes { result.desk.lanes ≡ self }
     {
-        let Shared {
-            lanes: _,
-            held,
-            changed: _,
-        } = self;
         CloseFault {
             code: CloseCode::LaneStopped,
             lane,
-            desk: held.into_inner().into_desk(),
+            desk: self.into_held().into_desk(),
         }
+    }
+
+    // What lies under the lock.
+    fn into_held(self) -> Held<L>
+        ensures { result.desk.lanes ≡ self }
+    {
+        let Shared {
+            lanes: _lanes,
+            held,
+            changed: _changed,
+        } = self;
+        held.into_inner()
     }
 
     /// How many lanes there are.
@@ -128,7 +146,7 @@ impl<L: Ledger> Lane<L> {
         Ok(reply)
     }
 
-    /// Sends a command once it is not blocked, or no other lane goes on.
+    /// Sends a command once it is not blocked, or no other lane goes on ([`Held::step_when_able`]).
     pub fn send_when_able<R: Wait>(
         &mut self,
         shared: &Shared<L>,
@@ -142,33 +160,23 @@ impl<L: Ledger> Lane<L> {
         ensures err { OnErr result (self.new ≡ self.old) }
     {
         let mut held = shared.held.lock(rt);
-        let mut waiting = false;
+        let mut command = command;
         for _ in rt.forever() {
-            let Ok(waits) = held.waits(self.number, &command) else {
-                held.know_lanes();
-                held.stand(self.number, Standing::Going);
-                return Err(Unsaid {
-                    why: Why::Memory,
-                    command,
-                });
-            };
-            if !waits {
-                break;
+            held.know_lanes();
+            match held.step_when_able(self, command) {
+                Ok(reply) => {
+                    drop(held);
+                    shared.changed.notify_all();
+                    return Ok(reply);
+                }
+                Err(Untold::Unsaid(unsaid)) => return Err(unsaid),
+                Err(Untold::Waits(back)) => {
+                    command = back;
+                    held = shared.changed.wait(rt, held);
+                }
             }
-            if !waiting {
-                waiting = true;
-                held.know_lanes();
-                held.stand(self.number, Standing::Waiting);
-                shared.changed.notify_all();
-            }
-            held = shared.changed.wait(rt, held);
         }
-        held.know_lanes();
-        held.stand(self.number, Standing::Going);
-        let answer = held.step(self, command)?;
-        drop(held);
-        shared.changed.notify_all();
-        Ok(answer)
+        unreachable!()
     }
 }
 
@@ -186,10 +194,5 @@ pub fn close<L: Ledger>(shared: Shared<L>, lanes: Vec<Lane<L>>) -> Result<Desk, 
         × IsMisstated fault.desk.lanes fault.desk.journal lanes.items fault.lane) }
     ensures not_stopped { IfErr result (λ fault. fault.code ≢ code.LaneStopped) }
 {
-    let Shared {
-        lanes: _,
-        held,
-        changed: _,
-    } = shared;
-    held.into_inner().close(lanes)
+    shared.into_held().close(lanes)
 }

@@ -2,7 +2,7 @@ use Rattle.std.proofs.Common.{◌≡◌, ◌∙◌, ℕ, List, Contains, map, sy
 use Rattle.std.proofs.lemmas.Result.{IfErr-weaker, IfOk-weaker}
 use Rattle.rev_workers.specs.Running.{AllRan, numbers_in, pair_up}
 use Rattle.rev_workers.specs.Tracks.{Track}
-use Rattle.rev_workers.proofs.Said.{all_said, missing-ran, nobody_said, numbers-paired, pair_up-all}
+use Rattle.rev_workers.proofs.Said.{all_said, missing-ran, nobody_said, numbers-paired, one_of_each-ran, pair_up-all}
 use Rattle.rev_workers.proofs.run.run_lists.Goals as goal
 
 pub run_halves-requires-clause-below : goal.run_halves-requires-clause-below
@@ -35,6 +35,22 @@ returns-in-Ok-run_halves-clause-missing g c =
     let us = c.in-Ok-run_halves.lanes.items in
     let ran : AllRan (pair_up ts lists) us = rw c.in-Ok.ensures at c.in-Ok-run_halves.ensures.ran in
     IfErr-weaker c.close-in-Ok-run_halves.result _ _ (λ fault h is. missing-ran fault.desk.lanes fault.lane ts lists us ran (h is)) c.close-in-Ok-run_halves.ensures.missing
+
+pub returns-in-Ok-run_halves-clause-mismatch : goal.returns-in-Ok-run_halves-clause-mismatch
+returns-in-Ok-run_halves-clause-mismatch g c =
+    let ts = c.args.lanes.items in
+    let lists = map (λ v. v.items) c.args.lists.items in
+    let us = c.in-Ok-run_halves.lanes.items in
+    let ran : AllRan (pair_up ts lists) us = rw c.in-Ok.ensures at c.in-Ok-run_halves.ensures.ran in
+    IfErr-weaker c.close-in-Ok-run_halves.result _ _ (λ fault h is. one_of_each-ran fault.desk.lanes ts lists us ran (h is).0) c.close-in-Ok-run_halves.ensures.mismatch
+
+pub returns-in-Ok-run_halves-clause-each : goal.returns-in-Ok-run_halves-clause-each
+returns-in-Ok-run_halves-clause-each g c =
+    let ts = c.args.lanes.items in
+    let lists = map (λ v. v.items) c.args.lists.items in
+    let us = c.in-Ok-run_halves.lanes.items in
+    let ran : AllRan (pair_up ts lists) us = rw c.in-Ok.ensures at c.in-Ok-run_halves.ensures.ran in
+    IfOk-weaker c.close-in-Ok-run_halves.result _ _ (λ desk h. one_of_each-ran desk.lanes ts lists us ran h.0) c.close-in-Ok-run_halves.ensures.ok
 
 pub returns-clause-stopped : goal.returns-clause-stopped
 returns-clause-stopped g c = λ is.

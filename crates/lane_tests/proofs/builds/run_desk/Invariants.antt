@@ -1,4 +1,4 @@
-use Rattle.undo_tests.proofs.threads.run_desk.Given as goal
+use Rattle.lane_tests.proofs.builds.run_desk.Given as goal
 
 abbrev pub ghosts-run_at : goal.ghosts-run_at
 ghosts-run_at g a = record { name = a.blank.name; parts = a.blank.parts }

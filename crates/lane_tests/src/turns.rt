@@ -1,7 +1,7 @@
 //! Lanes that go on in turn from one thread, and desks that are closed at once.
 ghost use Rattle.std.specs.Prelude.{◌≡◌};
 
-use crate::threads::{Outcome, code_of, desk_of, trace_of};
+use crate::builds::{MANIFEST, Outcome, code_of, desk_of, trace_of};
 use rev_desk::{Command, Desk, Unsaid, Why};
 use rev_trace::Trace;
 use rev_workers::{CloseCode, Lane, Shared, close};
@@ -47,7 +47,7 @@ impl From<Unsaid> for Lost {
 
 // The commands of a trace's first lane.
 fn commands_of(alloc: Global, trace: Trace) -> Vec<Command> {
-    let mut lanes = trace.lanes.into_iter();
+    let mut lanes = trace.into_lanes().into_iter();
     match lanes.next() {
         Some(commands) => commands,
         None => Vec::new(alloc),
@@ -72,7 +72,7 @@ fn say_all(desk: &mut Desk, commands: Vec<Command>, lanes: &[u32]) -> Result<(),
 // A new desk to which lanes said what the first lane of a trace has.
 fn said_desk(alloc: Global, text: &str, lanes: &[u32]) -> Result<Desk, Fail> {
     let trace = trace_of(alloc, text)?;
-    let mut desk = desk_of(alloc, &trace)?;
+    let mut desk = desk_of(alloc, MANIFEST, &trace)?;
     say_all(&mut desk, commands_of(alloc, trace), lanes)?;
     Ok(desk)
 }
@@ -220,7 +220,7 @@ fn backed_after(alloc: Global, outcome: Outcome) -> Result<(u16, String), Lost> 
 // A desk to which nothing was said.
 fn new_desk(alloc: Global, text: &str) -> Result<Desk, Fail> {
     let trace = trace_of(alloc, text)?;
-    desk_of(alloc, &trace)
+    desk_of(alloc, MANIFEST, &trace)
 }
 
 // What the cells of a new desk hold.
@@ -331,7 +331,7 @@ fn taken_in_turn<R: Wait>(
     left_out: bool,
 ) -> Result<(Vec<u64>, (u16, u32)), Fail> {
     let trace = trace_of(alloc, IN_TURN)?;
-    let desk = desk_of(alloc, &trace)?;
+    let desk = desk_of(alloc, MANIFEST, &trace)?;
     let (seen, closed) = turns_of(rt, alloc, desk, commands_of(alloc, trace), left_out);
     Ok((seen?, closed))
 }

@@ -1,0 +1,61 @@
+//! The calls of a history.
+
+use crate::said::{LINES, OPENING, Said, Stop, command, graph, print_kept, shown, trace};
+use rev_commands::{Command, Which};
+use rev_events::Fault;
+use rev_history::History;
+use std::alloc::Global;
+
+// Does a command, as the event of this number where it is one.
+fn act(history: &mut History, number: u32, command: &Command) -> Result<(), Fault> {
+    match command {
+        Command::Event(event) if number > history.last() => history.accept(number, event),
+        Command::Undo(Which::Number(number)) => history.undo(*number),
+        Command::Redo(Which::Number(number)) => history.redo(*number),
+        Command::Cone(Which::Number(number)) => match history.cone(*number) {
+            Ok(_) => Ok(()),
+            Err(fault) => Err(fault),
+        },
+        _ => Ok(()),
+    }
+}
+
+// Does a line, and again where memory was refused.
+fn say<R: Print>(
+    rt: &R,
+    alloc: Global,
+    history: &mut History,
+    number: u32,
+    line: &'static str,
+) -> Said {
+    let command = command(alloc, line)?;
+    let before = shown(alloc, history)?;
+    match act(history, number, &command) {
+        Ok(()) => return Ok(()),
+        Err(Fault::Memory) => {}
+        Err(Fault::Refused(_)) => return Err(Stop::NotAccepted(line)),
+    }
+    if shown(alloc, history)? != before {
+        println!(rt; "{line}: memory was refused, and something has changed")?;
+    }
+    if matches!(&command, Command::Undo(_)) {
+        println!(rt; "{line}: an undo asked for memory")?;
+    }
+    match act(history, number, &command) {
+        Ok(()) => Ok(()),
+        Err(_) => Err(Stop::NotAccepted(line)),
+    }
+}
+
+/// Accepts five events, and takes the fourth back, puts it again, and takes out what stands on the third.
+pub(crate) fn run<R: Print>(rt: &R, alloc: Global) -> Said {
+    let trace = trace(alloc, OPENING)?;
+    let mut history = History::new(alloc, graph(alloc)?, &trace.opening)?;
+    println!(rt; "made")?;
+    let mut number = 0u32;
+    for line in LINES {
+        number = number.saturating_add(1);
+        say(rt, alloc, &mut history, number, line)?;
+    }
+    print_kept(rt, &history)
+}

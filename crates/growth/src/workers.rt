@@ -1,0 +1,100 @@
+//! Lanes on threads.
+ghost use Rattle.std.specs.Prelude.{◌≡◌, ◌≤◌, length};
+
+use crate::said::{Said, Stop, desk, trace};
+use rev_desk::{Desk, Entry};
+use rev_trace::Trace;
+use rev_workers::{Gate, Shared, run_workers};
+use std::alloc::Global;
+use std::marker::Brand;
+use std::sync::Wait;
+use std::sync::ledger::{Blank, Ledger};
+use std::thread::Threads;
+
+const TRACE: &[u8] = b"rebug-trace 1\njobs 2\nstamp a.c 10\nstamp b.c 20\n\
+lane 0\nplan app\nstart a.o 0\nfinish a.o 100\nlane 1\nundo 0:3\n";
+
+// A gate that does nothing.
+struct Open;
+
+impl Gate for Open {
+    fn before(&self, _lane: u32, _place: u32) {}
+
+    fn after(&self, _lane: u32, _place: u32) {}
+}
+
+// Applies an entry's command, and once more where memory was refused.
+fn apply_again(desk: &mut Desk, entry: &Entry) -> Result<bool, Stop> {
+    if entry.lane >= desk.lanes() {
+        return Ok(false);
+    }
+    let command = match entry.command.copy() {
+        Ok(command) => command,
+        Err(_) => entry.command.copy()?,
+    };
+    let reply = match desk.apply(entry.lane, command) {
+        Ok(reply) => reply,
+        Err(unsaid) => {
+            if entry.lane >= desk.lanes() {
+                return Ok(false);
+            }
+            match desk.apply(entry.lane, unsaid.into_command()) {
+                Ok(reply) => reply,
+                Err(_) => return Err(Stop::Memory),
+            }
+        }
+    };
+    Ok(reply.same(entry.reply))
+}
+
+// Says whether the journal gives the same replies on a new desk.
+fn look_at<R: Print>(rt: &R, journal: &[Entry], other: &mut Desk) -> Said {
+    for entry in journal {
+        if !apply_again(other, entry)? {
+            println!(rt; "the journal gives another reply on a new desk")?;
+        }
+    }
+    Ok(())
+}
+
+fn run_at<L: Ledger + Send + Sync, R: Print + Threads + Wait + Sync>(
+    rt: &R,
+    alloc: Global,
+    blank: Blank,
+    desk: Desk,
+    trace: Trace,
+    other: &mut Desk,
+) -> Said
+    requires name { blank.name ≡ L.name }
+    requires parts { blank.parts ≡ L.parts }
+    requires lanes { blank.parts ≡ desk.lanes }
+    requires few { length trace.lanes.items ≤ desk.lanes }
+{
+    let Ok((shared, lanes)) = Shared::<L>::new(alloc, desk, blank) else {
+        println!(rt; "memory")?;
+        return Ok(());
+    };
+    match run_workers(rt, alloc, shared, lanes, trace, &Open) {
+        Ok(desk) => {
+            println!(rt; "closed")?;
+            look_at(rt, desk.journal(), other)
+        }
+        Err(fault) => {
+            println!(rt; "fault {}", fault.code.number())?;
+            look_at(rt, fault.desk.journal(), other)
+        }
+    }
+}
+
+/// Runs two lanes on threads, and what they said once more on a new desk.
+pub(crate) fn run<R: Print + Threads + Wait + Sync>(rt: &R, alloc: Global) -> Said {
+    let trace = trace(alloc, TRACE)?;
+    let mut other = desk(alloc, &trace, 2)?;
+    let desk = desk(alloc, &trace, 2)?;
+    if trace.lanes.len() > desk.lanes() as usize {
+        return Err(Stop::Build);
+    }
+    println!(rt; "made")?;
+    let blank = Blank::new(u64::from(desk.lanes()));
+    run_at::<Brand, R>(rt, alloc, blank, desk, trace, &mut other)
+}

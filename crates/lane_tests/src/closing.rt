@@ -1,0 +1,121 @@
+//! Lanes that do not fit the journal when their desk is closed.
+ghost use Rattle.std.specs.Prelude.{◌≡◌};
+
+use crate::builds::{MANIFEST, desk_of, trace_of};
+use rev_desk::{Command, Desk, Reply};
+use rev_events::Refusal;
+use rev_workers::{Lane, Shared, close};
+use std::alloc::Global;
+use std::marker::Brand;
+use std::sync::Wait;
+use std::sync::ledger::{Blank, Ledger};
+use std::test::Fail;
+
+const TWO_LANES: &str = "rebug-trace 1\nlane 0\nlane 1\n";
+
+// What is done to lane 1's list before two lanes are closed.
+#[derive(Clone, Copy, Debug, PartialEq, Eq)]
+enum Change {
+    Nothing,
+    Command,
+    Reply,
+}
+
+// A lane says that it steps back, and is told that nothing is kept.
+fn say<L: Ledger, R: Wait>(rt: &R, shared: &Shared<L>, lane: &mut Lane<L>) {
+    if lane.number() < shared.lanes() {
+        let _reply = lane.send(shared, rt, Command::Back);
+    }
+}
+
+// What the lane said first, or was told then, is changed in its list.
+fn change_first<L: Ledger>(lane: &mut Lane<L>, change: Change) {
+    let Some((_, reply)) = lane.list().first() else {
+        return;
+    };
+    let reply = *reply;
+    match change {
+        Change::Nothing => {}
+        Change::Command => lane.restate(0, Command::Continue, reply),
+        Change::Reply => lane.restate(0, Command::Back, Reply::Refused(Refusal::Halted)),
+    }
+}
+
+// The number and the lane of the fault with which lanes are closed, zeros where there is none.
+fn close_code<L: Ledger>(shared: Shared<L>, lanes: Vec<Lane<L>>) -> (u16, u32) {
+    match close(shared, lanes) {
+        Ok(_) => (0, 0),
+        Err(fault) => (fault.code.number(), fault.lane),
+    }
+}
+
+// How two lanes are closed that each said something, where lane 1's list is changed and a lane is left out.
+fn close_changed<L: Ledger, R: Wait>(
+    rt: &R,
+    alloc: Global,
+    blank: Blank,
+    desk: Desk,
+    change: Change,
+    left_out: Option<usize>,
+) -> (u16, u32)
+    requires name { blank.name ≡ L.name }
+    requires parts { blank.parts ≡ L.parts }
+    requires lanes { blank.parts ≡ desk.lanes }
+{
+    let Ok((shared, lanes)) = Shared::<L>::new(alloc, desk, blank) else {
+        return (0, 1);
+    };
+    let mut lanes = lanes;
+    for lane in &mut lanes {
+        say(rt, &shared, lane);
+    }
+    if let Some(lane) = lanes.get_mut(1) {
+        change_first(lane, change);
+    }
+    if let Some(place) = left_out {
+        if place < lanes.len() {
+            let _lane = lanes.remove(place);
+        }
+    }
+    close_code(shared, lanes)
+}
+
+fn closed_changed<R: Wait>(
+    rt: &R,
+    alloc: Global,
+    desk: Desk,
+    change: Change,
+    left_out: Option<usize>,
+) -> (u16, u32) {
+    let blank = Blank::new(u64::from(desk.lanes()));
+    close_changed::<Brand, R>(rt, alloc, blank, desk, change, left_out)
+}
+
+// How two lanes of a new desk are closed.
+fn close_new<R: Wait>(
+    rt: &R,
+    alloc: Global,
+    change: Change,
+    left_out: Option<usize>,
+) -> Result<(u16, u32), Fail> {
+    let trace = trace_of(alloc, TWO_LANES)?;
+    let desk = desk_of(alloc, MANIFEST, &trace)?;
+    Ok(closed_changed(rt, alloc, desk, change, left_out))
+}
+
+#[test]
+fn lanes_that_do_not_fit_are_named(rt: HostRuntime) -> Result<(), Fail> {
+    let alloc = rt.alloc();
+    for (change, left_out, wanted) in [
+        (Change::Nothing, None, (0, 0)),
+        (Change::Nothing, Some(0), (110, 0)),
+        (Change::Nothing, Some(1), (110, 1)),
+        (Change::Command, None, (111, 1)),
+        (Change::Reply, None, (111, 1)),
+        (Change::Command, Some(0), (110, 0)),
+    ] {
+        let told = close_new(&rt, alloc, change, left_out)?;
+        assert_eq!(rt; told, wanted, "{change:?} {left_out:?}");
+    }
+    Ok(())
+}

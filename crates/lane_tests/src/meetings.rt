@@ -1,0 +1,95 @@
+//! Lanes that undo what others did, that a break stops, and that meet a journal which is full.
+use crate::builds::{
+    MANIFEST, Outcome, closed_desk, desk_of, journal_text, run, run_desk, trace_of,
+};
+use crate::gates::{Both, Holding};
+use rev_cells::{Cell, Value};
+use rev_desk::{Command, Desk};
+use rev_paths::Name;
+use std::alloc::Global;
+use std::test::Fail;
+
+const UNDO_OF_THE_OTHERS: &str = "rebug-trace 1\njobs 2\nstamp a.c 10\nstamp b.c 20\n\
+lane 0\ntouch a.c 11\nundo 1:1\nlane 1\ntouch b.c 21\nundo 0:1\n";
+
+// The stamp of a path, 0 where it has none.
+fn stamp_of(alloc: Global, desk: &Desk, path: &[u8]) -> Result<u64, Fail> {
+    let cell = Cell::Stamp(Name::new(alloc, path)?);
+    match desk.history().cells().get(&cell) {
+        Some(Value::Stamp(stamp)) => Ok(*stamp),
+        _ => Ok(0),
+    }
+}
+
+#[test]
+fn each_undoes_what_the_other_did(rt: HostRuntime) -> Result<(), Fail> {
+    let alloc = rt.alloc();
+    // Each lane goes on once the other one's first call is answered.
+    let gate = Both {
+        first: Holding::new((0, 2), (1, 1), 1_000_000),
+        second: Holding::new((1, 2), (0, 1), 1_000_000),
+    };
+    let desk = closed_desk(run(&rt, alloc, MANIFEST, UNDO_OF_THE_OTHERS, &gate)?)?;
+    let told = journal_text(alloc, &desk)?;
+    assert_eq!(rt; told.as_str().matches("0 ok; ").count(), 2);
+    assert_eq!(rt; told.as_str().matches("1 ok; ").count(), 2);
+    assert_eq!(rt; desk.journal().len(), 4);
+    assert!(rt; desk.history().kept().is_empty());
+    let stamps = (
+        stamp_of(alloc, &desk, b"a.c")?,
+        stamp_of(alloc, &desk, b"b.c")?,
+    );
+    assert_eq!(rt; stamps, (10, 20));
+    Ok(())
+}
+
+const PAUSED: &str = "rebug-trace 1\njobs 2\nstamp a.c 10\nstamp b.c 20\n\
+lane 0\nbreak touch a.c\ntouch a.c 11\ncontinue\nlane 1\ntouch b.c 21\n";
+
+#[test]
+fn a_break_stops_the_other_lane(rt: HostRuntime) -> Result<(), Fail> {
+    let alloc = rt.alloc();
+    // Lane 1 is let in once lane 0 has met the break, and lane 0 goes on once lane 1 is answered.
+    let gate = Both {
+        first: Holding::new((1, 1), (0, 2), 1_000_000),
+        second: Holding::new((0, 3), (1, 1), 1_000_000),
+    };
+    let desk = closed_desk(run(&rt, alloc, MANIFEST, PAUSED, &gate)?)?;
+    let told = journal_text(alloc, &desk)?;
+    assert_eq!(rt; told.as_str(), "0 ok; 0 ok break 1; 1 refused 92; 0 ok; ");
+    assert_eq!(rt; desk.history().kept(), [2].as_slice());
+    Ok(())
+}
+
+const LAST_ENTRIES: &str = "rebug-trace 1\nlane 0\ncontinue\nlane 1\ncontinue\n";
+
+// Lane 0 says so many times that the desk is to go on: whether each was answered.
+fn fill(desk: &mut Desk, entries: usize) -> bool {
+    for _ in 0..entries {
+        if desk.lanes() == 0 || desk.apply(0, Command::Continue).is_err() {
+            return false;
+        }
+    }
+    true
+}
+
+// A fault with its lane, and how many entries the journal has.
+fn fault_of(outcome: Outcome) -> (u16, u32, usize) {
+    match outcome {
+        Outcome::Closed(desk) => (0, 0, desk.journal().len()),
+        Outcome::Fault(fault) => (fault.code.number(), fault.lane, fault.desk.journal().len()),
+        Outcome::Memory | Outcome::TooManyLanes => (0, 0, 0),
+    }
+}
+
+#[test]
+fn a_full_journal_stops_a_lane(rt: HostRuntime) -> Result<(), Fail> {
+    let alloc = rt.alloc();
+    let trace = trace_of(alloc, LAST_ENTRIES)?;
+    let mut desk = desk_of(alloc, MANIFEST, &trace)?;
+    assert!(rt; fill(&mut desk, Desk::MAX_ENTRIES - 1));
+    let gate = Holding::new((1, 1), (0, 1), 1_000_000);
+    let fault = fault_of(run_desk(&rt, alloc, desk, trace, &gate));
+    assert_eq!(rt; fault, (112, 1, 1_048_576));
+    Ok(())
+}
