@@ -20,6 +20,12 @@ returns-in_default-clause-said g c =
     (λ desk h. nobody_said c.args.lanes.items (map (λ v. v.items) c.args.lists.items) desk.journal (sym c.deref.ensures.value ∙ c.in_default.ensures.none))
     c.close.ensures.ok
 
+pub returns-in_default-clause-mismatch : goal.returns-in_default-clause-mismatch
+returns-in_default-clause-mismatch g c = IfErr-weaker c.close.result _ _ (λ fault h is. (h is).0) c.close.ensures.mismatch
+
+pub returns-in_default-clause-each : goal.returns-in_default-clause-each
+returns-in_default-clause-each g c = IfOk-weaker c.close.result _ _ (λ desk h. h.0) c.close.ensures.ok
+
 pub returns-in-Ok-run_halves-clause-said : goal.returns-in-Ok-run_halves-clause-said
 returns-in-Ok-run_halves-clause-said g c =
     let ts = c.args.lanes.items in
