@@ -35,6 +35,20 @@ pub struct CloseFault {
     pub desk: Desk,
 }
 
+impl CloseFault {
+    /// The desk, to go on with or to look at.
+    pub fn into_desk(self) -> Desk
+        ensures { result ≡ self.desk }
+    {
+        let CloseFault {
+            code: _code,
+            lane: _lane,
+            desk,
+        } = self;
+        desk
+    }
+}
+
 // Written, since a derived drop is proved again at each exit of each caller.
 impl Drop for CloseFault {
     fn drop(self) {
