@@ -88,10 +88,14 @@ fn run_at<L: Ledger, R: Print + Wait>(rt: &R, alloc: Global, blank: Blank, desk:
     }
 }
 
+fn run_desk<R: Print + Wait>(rt: &R, alloc: Global, desk: Desk) -> Said {
+    let blank = Blank::new(u64::from(desk.lanes()));
+    run_at::<Brand, R>(rt, alloc, blank, desk)
+}
+
 /// Sends all lines from one lane, and closes.
 pub(crate) fn run<R: Print + Wait>(rt: &R, alloc: Global) -> Said {
     let trace = trace(alloc, OPENING)?;
     let desk = desk(alloc, &trace, 1)?;
-    let blank = Blank::new(u64::from(desk.lanes()));
-    run_at::<Brand, R>(rt, alloc, blank, desk)
+    run_desk(rt, alloc, desk)
 }

@@ -86,15 +86,25 @@ fn run_at<L: Ledger + Send + Sync, R: Print + Threads + Wait + Sync>(
     }
 }
 
+fn run_desk<R: Print + Threads + Wait + Sync>(
+    rt: &R,
+    alloc: Global,
+    desk: Desk,
+    trace: Trace,
+    other: &mut Desk,
+) -> Said {
+    if trace.lanes.len() > desk.lanes() as usize {
+        return Err(Stop::Build);
+    }
+    let blank = Blank::new(u64::from(desk.lanes()));
+    run_at::<Brand, R>(rt, alloc, blank, desk, trace, other)
+}
+
 /// Runs two lanes on threads, and what they said once more on a new desk.
 pub(crate) fn run<R: Print + Threads + Wait + Sync>(rt: &R, alloc: Global) -> Said {
     let trace = trace(alloc, TRACE)?;
     let mut other = desk(alloc, &trace, 2)?;
     let desk = desk(alloc, &trace, 2)?;
-    if trace.lanes.len() > desk.lanes() as usize {
-        return Err(Stop::Build);
-    }
     println!(rt; "made")?;
-    let blank = Blank::new(u64::from(desk.lanes()));
-    run_at::<Brand, R>(rt, alloc, blank, desk, trace, &mut other)
+    run_desk(rt, alloc, desk, trace, &mut other)
 }
