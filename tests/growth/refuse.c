@@ -1,5 +1,5 @@
 // Refuses one allocation of the program into which it is loaded (LD_PRELOAD): the one whose number, from 1, stands in
-// REFUSE, counted from the first write to standard output on. It tells a refusal by a byte on descriptor 3.
+// REFUSE, counted from the first write to standard output on. It tells a refusal by a byte on the descriptor REFUSE_TOLD.
 #define _GNU_SOURCE
 #include <errno.h>
 #include <stdatomic.h>
@@ -15,15 +15,17 @@ extern void *__libc_realloc(void *, size_t);
 static atomic_int is_counting;
 static atomic_long count;
 static long refused = -1;
+static int told = 2;
 
 __attribute__((constructor)) static void begin(void) {
-  const char *number = getenv("REFUSE");
+  const char *number = getenv("REFUSE"), *descriptor = getenv("REFUSE_TOLD");
   if (number) refused = atol(number);
+  if (descriptor) told = atoi(descriptor);
 }
 
 static int is_refused(void) {
   if (!atomic_load(&is_counting) || atomic_fetch_add(&count, 1) + 1 != refused) return 0;
-  syscall(SYS_write, 3, "x", 1);
+  syscall(SYS_write, told, "x", 1);
   errno = ENOMEM;
   return 1;
 }
