@@ -5,7 +5,7 @@ use Rattle.rev_cells.specs.declared.cell.Cell.{Cell}
 use Rattle.rev_cells.specs.declared.cell.Cell.TheVariants as cell
 use Rattle.rev_cells.specs.declared.value.Value.{Value}
 use Rattle.rev_cells.specs.Keys.{cell_cmp}
-use Rattle.rev_cells.specs.State.{State, set, default_or, mark_in, job_in, slot_in}
+use Rattle.rev_cells.specs.State.{State, set, default_or, mark_in, job_in, slot_in, depth_in}
 use Rattle.rev_cells.specs.Table.{Records, Table, no_records, opened, written}
 use Rattle.rev_cells.specs.Values.{unless_default}
 use Rattle.rev_cells.specs.Opened.{is_of_record, HasRecordsAlone, IsOpened, IsOpening}
@@ -27,6 +27,7 @@ opened_of s alone = record {
   marks = λ edge. ap (λ v. mark_in (default_or (cell.Mark edge) v)) (alone (cell.Mark edge) refl);
   jobs = λ job. ap (λ v. job_in (default_or (cell.Job job) v)) (alone (cell.Job job) refl);
   slots = λ pool place. ap (λ v. slot_in (default_or (cell.Slot pool place) v)) (alone (cell.Slot pool place) refl);
+  depths = λ pool. ap (λ v. depth_in (default_or (cell.Depth pool) v)) (alone (cell.Depth pool) refl);
 }
 
 -- what is shown of cells

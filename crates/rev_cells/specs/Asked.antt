@@ -10,6 +10,7 @@ asked_cell (asked.Stamp path) = cell.Stamp path.now
 asked_cell (asked.Mark edge) = cell.Mark edge
 asked_cell (asked.Job job) = cell.Job job
 asked_cell (asked.Slot pool place) = cell.Slot pool place
+asked_cell (asked.Depth pool) = cell.Depth pool
 asked_cell (asked.Built path) = cell.Built path.now
 asked_cell (asked.Deps path) = cell.Deps path.now
 asked_cell asked.Halted = cell.Halted

@@ -58,31 +58,34 @@ coded_deps = code_by (ℕ × List (List ℕ)) (coded× coded_ℕ (coded_list (co
 
 -- what a value carries, by its kind
 abbrev pub ValueParts : Type 0
-ValueParts = ℕ ⊎ (Mark ⊎ (Option ℕ ⊎ (Option ℕ ⊎ (Option BuiltRecord ⊎ (Option DepsRecord ⊎ Bool)))))
+ValueParts = ℕ ⊎ (Mark ⊎ (Option ℕ ⊎ (Option ℕ ⊎ (Option ℕ ⊎ (Option BuiltRecord ⊎ (Option DepsRecord ⊎ Bool))))))
 
 abbrev pub value_parts : Value → ValueParts
 value_parts (value.Stamp stamp) = inl stamp
 value_parts (value.Mark m) = inr (inl m)
 value_parts (value.Job holder) = inr (inr (inl holder))
 value_parts (value.Slot holder) = inr (inr (inr (inl holder)))
-value_parts (value.Built built) = inr (inr (inr (inr (inl built))))
-value_parts (value.Deps deps) = inr (inr (inr (inr (inr (inl deps)))))
-value_parts (value.Halted halted) = inr (inr (inr (inr (inr (inr halted)))))
+value_parts (value.Depth depth) = inr (inr (inr (inr (inl depth))))
+value_parts (value.Built built) = inr (inr (inr (inr (inr (inl built)))))
+value_parts (value.Deps deps) = inr (inr (inr (inr (inr (inr (inl deps))))))
+value_parts (value.Halted halted) = inr (inr (inr (inr (inr (inr (inr halted))))))
 
 abbrev pub value_of_parts : ValueParts → Value
 value_of_parts (inl stamp) = value.Stamp stamp
 value_of_parts (inr (inl m)) = value.Mark m
 value_of_parts (inr (inr (inl holder))) = value.Job holder
 value_of_parts (inr (inr (inr (inl holder)))) = value.Slot holder
-value_of_parts (inr (inr (inr (inr (inl built))))) = value.Built built
-value_of_parts (inr (inr (inr (inr (inr (inl deps)))))) = value.Deps deps
-value_of_parts (inr (inr (inr (inr (inr (inr halted)))))) = value.Halted halted
+value_of_parts (inr (inr (inr (inr (inl depth))))) = value.Depth depth
+value_of_parts (inr (inr (inr (inr (inr (inl built)))))) = value.Built built
+value_of_parts (inr (inr (inr (inr (inr (inr (inl deps))))))) = value.Deps deps
+value_of_parts (inr (inr (inr (inr (inr (inr (inr halted))))))) = value.Halted halted
 
 pub value_of_parts-value_parts : (v : Value) → value_of_parts (value_parts v) ≡ v
 value_of_parts-value_parts (value.Stamp stamp) = refl
 value_of_parts-value_parts (value.Mark m) = refl
 value_of_parts-value_parts (value.Job holder) = refl
 value_of_parts-value_parts (value.Slot holder) = refl
+value_of_parts-value_parts (value.Depth depth) = refl
 value_of_parts-value_parts (value.Built built) = refl
 value_of_parts-value_parts (value.Deps deps) = refl
 value_of_parts-value_parts (value.Halted halted) = refl
@@ -93,5 +96,6 @@ coded_value =
     (coded⊎ coded_ℕ (coded⊎ coded_mark
     (coded⊎ (coded_option coded_ℕ)
     (coded⊎ (coded_option coded_ℕ)
-    (coded⊎ (coded_option coded_built) (coded⊎ (coded_option coded_deps) coded_bool))))))
+    (coded⊎ (coded_option coded_ℕ)
+    (coded⊎ (coded_option coded_built) (coded⊎ (coded_option coded_deps) coded_bool)))))))
     value_parts value_of_parts value_of_parts-value_parts

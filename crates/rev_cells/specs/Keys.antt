@@ -13,9 +13,10 @@ cell_key (cell.Stamp path) = 0 ∷ path
 cell_key (cell.Mark edge) = 1 ∷ edge ∷ []
 cell_key (cell.Job job) = 2 ∷ job ∷ []
 cell_key (cell.Slot pool place) = 3 ∷ pool ∷ place ∷ []
-cell_key (cell.Built path) = 4 ∷ path
-cell_key (cell.Deps path) = 5 ∷ path
-cell_key cell.Halted = 6 ∷ []
+cell_key (cell.Depth pool) = 4 ∷ pool ∷ []
+cell_key (cell.Built path) = 5 ∷ path
+cell_key (cell.Deps path) = 6 ∷ path
+cell_key cell.Halted = 7 ∷ []
 
 abbrev pub first_of : List ℕ → ℕ
 first_of [] = 0
@@ -30,8 +31,9 @@ abbrev pub cell_naming : ℕ → List ℕ → Cell
 cell_naming kind names =
     if kind == 0 then cell.Stamp names else if kind == 1 then cell.Mark (first_of names) else if kind == 2
     then cell.Job (first_of names)
-    else if kind == 3 then cell.Slot (first_of names) (second_of names) else if kind == 4 then cell.Built names
-    else if kind == 5 then cell.Deps names else cell.Halted
+    else if kind == 3 then cell.Slot (first_of names) (second_of names) else if kind == 4
+    then cell.Depth (first_of names)
+    else if kind == 5 then cell.Built names else if kind == 6 then cell.Deps names else cell.Halted
 
 -- the cell of such numbers
 abbrev pub cell_of : List ℕ → Cell
@@ -43,6 +45,7 @@ cell_of-cell_key (cell.Stamp path) = refl
 cell_of-cell_key (cell.Mark edge) = refl
 cell_of-cell_key (cell.Job job) = refl
 cell_of-cell_key (cell.Slot pool place) = refl
+cell_of-cell_key (cell.Depth pool) = refl
 cell_of-cell_key (cell.Built path) = refl
 cell_of-cell_key (cell.Deps path) = refl
 cell_of-cell_key cell.Halted = refl

@@ -8,7 +8,7 @@ use Rattle.rev_cells.specs.declared.value.BuiltRecord.{BuiltRecord}
 use Rattle.rev_cells.specs.declared.value.DepsRecord.{DepsRecord}
 use Rattle.rev_cells.specs.declared.value.Value.{Value}
 use Rattle.rev_cells.specs.declared.value.Value.TheVariants as value
-use Rattle.rev_cells.specs.State.{State, set, value_at, stamp_of, mark_of, job_of, slot_of, built_of, deps_of, is_halted}
+use Rattle.rev_cells.specs.State.{State, set, value_at, stamp_of, mark_of, job_of, slot_of, given_depth_of, built_of, deps_of, is_halted}
 use Rattle.rev_cells.specs.Values.{default_of}
 
 -- each word reads what was written to its cell
@@ -19,6 +19,8 @@ pub record WrittenIsRead : Type 0 where
   pub jobs : (s : State) (job : ℕ) (holder : Option ℕ) → job_of (set s (cell.Job job) (value.Job holder)) job ≡ holder
   pub slots : (s : State) (pool place : ℕ) (holder : Option ℕ)
       → slot_of (set s (cell.Slot pool place) (value.Slot holder)) pool place ≡ holder
+  pub depths : (s : State) (pool : ℕ) (depth : Option ℕ)
+      → given_depth_of (set s (cell.Depth pool) (value.Depth depth)) pool ≡ depth
   pub built : (s : State) (path : List ℕ) (log : Option BuiltRecord)
       → built_of (set s (cell.Built path) (value.Built log)) path ≡ log
   pub deps : (s : State) (path : List ℕ) (log : Option DepsRecord)

@@ -5,7 +5,7 @@ use Rattle.rev_cells.specs.declared.cell.Cell.{Cell}
 use Rattle.rev_cells.specs.declared.cell.Cell.TheVariants as cell
 use Rattle.rev_cells.specs.declared.mark.Mark.TheVariants as mark
 use Rattle.rev_cells.specs.declared.opening.Opening.TheInside.{Inside}
-use Rattle.rev_cells.specs.State.{State, mark_of, job_of, slot_of}
+use Rattle.rev_cells.specs.State.{State, mark_of, job_of, slot_of, given_depth_of}
 use Rattle.rev_cells.specs.Table.{Records}
 use Rattle.rev_cells.specs.declared.opening.TheConstants.Opening.{MAX_JOBS}
 
@@ -30,8 +30,9 @@ pub record IsOpening (r : Records) : Type 0 where
   pub few_jobs : r.jobs ≤ MAX_JOBS
   pub records : HasRecordsAlone r.state
 
--- nothing is marked, and no job and no slot is held
+-- nothing is marked, no job and no slot is held, and each pool has its depth as in the manifest
 pub record IsOpened (s : State) : Type 0 where
   pub marks : (edge : ℕ) → mark_of s edge ≡ mark.Idle
   pub jobs : (job : ℕ) → job_of s job ≡ None
   pub slots : (pool place : ℕ) → slot_of s pool place ≡ None
+  pub depths : (pool : ℕ) → given_depth_of s pool ≡ None

@@ -40,6 +40,7 @@ cell_eq-cmp (cell.Stamp p) (cell.Stamp q) = texts_ties p q
 cell_eq-cmp (cell.Mark p) (cell.Mark q) = one_tie p q
 cell_eq-cmp (cell.Job p) (cell.Job q) = one_tie p q
 cell_eq-cmp (cell.Slot p i) (cell.Slot q j) = two_tie p i q j
+cell_eq-cmp (cell.Depth p) (cell.Depth q) = one_tie p q
 cell_eq-cmp (cell.Built p) (cell.Built q) = texts_ties p q
 cell_eq-cmp (cell.Deps p) (cell.Deps q) = texts_ties p q
 cell_eq-cmp cell.Halted cell.Halted = refl

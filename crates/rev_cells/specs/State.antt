@@ -47,6 +47,10 @@ abbrev pub slot_in : Value → Option ℕ
 slot_in (value.Slot holder) = holder
 slot_in _ = None
 
+abbrev pub depth_in : Value → Option ℕ
+depth_in (value.Depth depth) = depth
+depth_in _ = None
+
 abbrev pub built_in : Value → Option BuiltRecord
 built_in (value.Built built) = built
 built_in _ = None
@@ -74,6 +78,10 @@ job_of state job = job_in (value_at state (cell.Job job))
 -- the edge that has a place in a pool
 abbrev pub slot_of : State → ℕ → ℕ → Option ℕ
 slot_of state pool place = slot_in (value_at state (cell.Slot pool place))
+
+-- the depth that a pool was given, none where it is as in the manifest
+abbrev pub given_depth_of : State → ℕ → Option ℕ
+given_depth_of state pool = depth_in (value_at state (cell.Depth pool))
 
 -- the build log's record of a path
 abbrev pub built_of : State → List ℕ → Option BuiltRecord

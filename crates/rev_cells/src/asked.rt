@@ -21,6 +21,8 @@ pub(crate) enum Asked<'a> {
     Job(u32),
     /// As [`Cell::Slot`].
     Slot(u32, u32),
+    /// As [`Cell::Depth`].
+    Depth(u32),
     /// As [`Cell::Built`].
     Built(&'a Name),
     /// As [`Cell::Deps`].
@@ -38,6 +40,7 @@ impl Equivalent<Cell> for Asked<'_> {
       | asked.Mark edge ↦ λ other same. ap ⟦<Cell as Hash>⟧.hash_input (cell_eq-exact (cell.Mark edge) other same)
       | asked.Job job ↦ λ other same. ap ⟦<Cell as Hash>⟧.hash_input (cell_eq-exact (cell.Job job) other same)
       | asked.Slot pool place ↦ λ other same. ap ⟦<Cell as Hash>⟧.hash_input (cell_eq-exact (cell.Slot pool place) other same)
+      | asked.Depth pool ↦ λ other same. ap ⟦<Cell as Hash>⟧.hash_input (cell_eq-exact (cell.Depth pool) other same)
       | asked.Built path ↦ λ other same. ap ⟦<Cell as Hash>⟧.hash_input (cell_eq-exact (cell.Built path.now) other same)
       | asked.Deps path ↦ λ other same. ap ⟦<Cell as Hash>⟧.hash_input (cell_eq-exact (cell.Deps path.now) other same)
       | asked.Halted ↦ λ other same. ap ⟦<Cell as Hash>⟧.hash_input (cell_eq-exact cell.Halted other same)
@@ -51,6 +54,7 @@ impl Equivalent<Cell> for Asked<'_> {
             (Asked::Mark(edge), Cell::Mark(other)) => edge == *other,
             (Asked::Job(job), Cell::Job(other)) => job == *other,
             (Asked::Slot(pool, place), Cell::Slot(other, at)) => pool == *other && place == *at,
+            (Asked::Depth(pool), Cell::Depth(other)) => pool == *other,
             (Asked::Built(path), Cell::Built(other)) => *path == *other,
             (Asked::Deps(path), Cell::Deps(other)) => *path == *other,
             (Asked::Halted, Cell::Halted) => true,

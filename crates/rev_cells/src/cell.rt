@@ -18,6 +18,8 @@ pub enum Cell {
     Job(u32),
     /// The edge that has a place in a pool, by the pool's number and the place, at first none.
     Slot(u32, u32),
+    /// The depth that a pool was given, by the pool's number, at first none: then it is as in the manifest.
+    Depth(u32),
     /// The build log's record of an output, at first none.
     Built(Name),
     /// The deps log's record of an output, at first none.
@@ -34,6 +36,7 @@ impl Drop for Cell {
             Cell::Mark(_part) => {}
             Cell::Job(_part) => {}
             Cell::Slot(_part0, _part1) => {}
+            Cell::Depth(_part) => {}
             Cell::Built(_part) => {}
             Cell::Deps(_part) => {}
             Cell::Halted => {}
@@ -51,6 +54,7 @@ impl Cell {
             Cell::Mark(_) => Value::Mark(Mark::Idle),
             Cell::Job(_) => Value::Job(None),
             Cell::Slot(_, _) => Value::Slot(None),
+            Cell::Depth(_) => Value::Depth(None),
             Cell::Built(_) => Value::Built(None),
             Cell::Deps(_) => Value::Deps(None),
             Cell::Halted => Value::Halted(false),
@@ -74,6 +78,7 @@ impl Clone for Cell {
             Cell::Mark(edge) => Ok(Cell::Mark(*edge)),
             Cell::Job(job) => Ok(Cell::Job(*job)),
             Cell::Slot(pool, place) => Ok(Cell::Slot(*pool, *place)),
+            Cell::Depth(pool) => Ok(Cell::Depth(*pool)),
             Cell::Built(path) => Ok(Cell::Built(path.copy()?)),
             Cell::Deps(path) => Ok(Cell::Deps(path.copy()?)),
             Cell::Halted => Ok(Cell::Halted),

@@ -94,6 +94,8 @@ pub enum Value {
     Job(Option<u32>),
     /// The edge that has a place in a pool.
     Slot(Option<u32>),
+    /// The depth that a pool was given, none where it is as in the manifest.
+    Depth(Option<u32>),
     /// What the build log has of an output.
     Built(Option<BuiltRecord>),
     /// What the deps log has of an output.
@@ -110,6 +112,7 @@ impl Drop for Value {
             Value::Mark(_part) => {}
             Value::Job(_part) => {}
             Value::Slot(_part) => {}
+            Value::Depth(_part) => {}
             Value::Built(_part) => {}
             Value::Deps(_part) => {}
             Value::Halted(_part) => {}
@@ -135,6 +138,7 @@ impl Clone for Value {
             Value::Mark(mark) => Ok(Value::Mark(mark.copy()?)),
             Value::Job(holder) => Ok(Value::Job(*holder)),
             Value::Slot(holder) => Ok(Value::Slot(*holder)),
+            Value::Depth(depth) => Ok(Value::Depth(*depth)),
             Value::Built(None) => Ok(Value::Built(None)),
             Value::Built(Some(built)) => Ok(Value::Built(Some(built.copy()?))),
             Value::Deps(None) => Ok(Value::Deps(None)),
