@@ -15,7 +15,7 @@ use Rattle.rev_plan.specs.Plan.{PlanRefusal.StillRunning as Running, PlanRefusal
 use Rattle.rev_events.specs.declared.event.Listing.{Listing}
 use Rattle.rev_events.specs.declared.event.Listing.TheVariants as listing
 use Rattle.rev_events.specs.declared.refusal.Refusal.{Refusal}
-use Rattle.rev_events.specs.declared.refusal.Refusal.TheVariants.{StillRunning, UnknownTarget, MissingInput, DepsCycle, NoSuchEdge, Phony, NotPhony, Halted, NotHalted, AlreadyHalted, NotWanted, NotRunning, Blocked, NotDirty, Dirty, NoSuchJob, JobBusy, PoolSlot, SlotBusy, WrongOutputs, UnexpectedDepfile, Depfile, NoSuchEvent, NotKept, DependedOn, AlreadyKept, NotNow, Overtaken, NothingKept, Paused, NoSuchBreak}
+use Rattle.rev_events.specs.declared.refusal.Refusal.TheVariants.{StillRunning, UnknownTarget, MissingInput, DepsCycle, NoSuchEdge, Phony, NotPhony, Halted, NotHalted, AlreadyHalted, NotWanted, NotRunning, Blocked, NotDirty, Dirty, NoSuchJob, JobBusy, PoolSlot, SlotBusy, WrongOutputs, UnexpectedDepfile, Depfile, DepthInUse, BadResize, NoSuchEvent, NotKept, DependedOn, AlreadyKept, NotNow, Overtaken, NothingKept, Paused, NoSuchBreak}
 
 -- the number of a refusal
 abbrev pub code_of : Refusal → ℕ
@@ -41,6 +41,8 @@ code_of (SlotBusy edge) = 74
 code_of (WrongOutputs count) = 75
 code_of UnexpectedDepfile = 76
 code_of (Depfile fault at) = 77
+code_of (DepthInUse slot edge) = 78
+code_of BadResize = 79
 code_of NoSuchEvent = 80
 code_of NotKept = 81
 code_of (DependedOn number) = 82
@@ -63,6 +65,7 @@ first_number (JobBusy edge) = Some edge
 first_number (SlotBusy edge) = Some edge
 first_number (WrongOutputs count) = Some count
 first_number (Depfile fault at) = Some fault
+first_number (DepthInUse slot edge) = Some slot
 first_number (DependedOn number) = Some number
 first_number (NotNow refusal first) = Some refusal
 first_number (Overtaken number) = Some number
@@ -72,6 +75,7 @@ first_number _ = None
 abbrev pub second_number : Refusal → Option ℕ
 second_number (MissingInput position edge) = Some edge
 second_number (Depfile fault at) = Some at
+second_number (DepthInUse slot edge) = Some edge
 second_number (NotNow refusal first) = first
 second_number _ = None
 
@@ -163,6 +167,18 @@ pool_slot (Some pool) (Some slot) = refuse_if (not (nat_lt slot pool.1)) PoolSlo
 -- the slot is taken
 abbrev pub slot_busy : Option ℕ → Option Refusal
 slot_busy holder = option_map SlotBusy holder
+
+-- there is no such pool, or its present depth or the new one is not from 1 to 1,024
+abbrev pub is_depth : ℕ → Bool
+is_depth depth = nat_lt 0 depth && not (nat_lt 1024 depth)
+
+abbrev pub bad_resize : Option ℕ → ℕ → Option Refusal
+bad_resize None depth = Some BadResize
+bad_resize (Some present) depth = refuse_if (not (is_depth present && is_depth depth)) BadResize
+
+-- a slot is held that the pool would lose: the least one, and its holder
+abbrev pub depth_in_use : Option (ℕ × ℕ) → Option Refusal
+depth_in_use held = option_map (λ (at : ℕ × ℕ). DepthInUse at.0 at.1) held
 
 -- not one stamp for each output
 abbrev pub wrong_outputs : BuildValue → List ℕ → Option Refusal

@@ -92,6 +92,12 @@ pub enum Event {
     },
     /// The build was interrupted.
     Interrupt,
+    /// A pool was given another depth (Ninja manual, pools; there a pool keeps its depth). Pools are named by their
+    /// numbers; the depth is from 1 to 1,024.
+    Resize {
+        pool: u32,
+        depth: u32,
+    },
 }
 
 // Written, since a derived drop is proved again at each exit of each caller.
@@ -124,6 +130,10 @@ impl Drop for Event {
                 stamp: _stamp,
             } => {}
             Event::Interrupt => {}
+            Event::Resize {
+                pool: _pool,
+                depth: _depth,
+            } => {}
         }
     }
 }
@@ -172,6 +182,10 @@ impl Clone for Event {
                 stamp: *stamp,
             }),
             Event::Interrupt => Ok(Event::Interrupt),
+            Event::Resize { pool, depth } => Ok(Event::Resize {
+                pool: *pool,
+                depth: *depth,
+            }),
         }
     }
 }

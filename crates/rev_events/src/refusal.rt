@@ -41,7 +41,7 @@ pub enum Refusal {
     /// The job runs another command. It carries the edge of that command.
     JobBusy(u32),
     /// A slot is named and the edge has no pool with slots, or it has one and no slot is named, or the pool has fewer
-    /// slots.
+    /// slots at present.
     PoolSlot,
     /// The slot is taken. It carries the edge that has it.
     SlotBusy(u32),
@@ -51,6 +51,10 @@ pub enum Refusal {
     UnexpectedDepfile,
     /// The depfile has a fault. It carries the fault's number and its offset in the depfile.
     Depfile(u16, u64),
+    /// A slot is held that the pool would lose. It carries the least such slot and the edge that has it.
+    DepthInUse(u32, u32),
+    /// There is no such pool, or its present depth or the new one is not from 1 to 1,024.
+    BadResize,
     /// No event was accepted under the number.
     NoSuchEvent,
     /// The event is not kept, so it cannot be undone.
@@ -101,6 +105,8 @@ impl Refusal {
             Refusal::WrongOutputs(_) => 75,
             Refusal::UnexpectedDepfile => 76,
             Refusal::Depfile(_, _) => 77,
+            Refusal::DepthInUse(_, _) => 78,
+            Refusal::BadResize => 79,
             Refusal::NoSuchEvent => 80,
             Refusal::NotKept => 81,
             Refusal::DependedOn(_) => 82,
@@ -131,6 +137,7 @@ impl Refusal {
             Refusal::Dirty(kind) => [Some(u64::from(kind)), None],
             Refusal::MissingInput(at, edge) => [Some(at), Some(u64::from(edge))],
             Refusal::Depfile(fault, at) => [Some(u64::from(fault)), Some(at)],
+            Refusal::DepthInUse(slot, edge) => [Some(u64::from(slot)), Some(u64::from(edge))],
             Refusal::NotNow { refusal, first } => [Some(u64::from(refusal)), first],
             _ => [None, None],
         }
