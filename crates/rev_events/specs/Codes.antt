@@ -5,7 +5,7 @@ use Rattle.std.specs.Coded.{Coded, code_by, coded×, coded⊎, coded_list, coded
 use Rattle.rev_events.specs.declared.event.Listing.{Listing}
 use Rattle.rev_events.specs.declared.event.Listing.TheVariants.{Nothing, Depfile, Paths}
 use Rattle.rev_events.specs.declared.event.Event.{Event}
-use Rattle.rev_events.specs.declared.event.Event.TheVariants.{Plan, Start, Finish, Fail, Abort, Clean, Pass, Touch, Interrupt}
+use Rattle.rev_events.specs.declared.event.Event.TheVariants.{Plan, Start, Finish, Fail, Abort, Clean, Pass, Touch, Interrupt, Resize}
 
 abbrev pub ListingParts : Type 0
 ListingParts = ℕ ⊎ (List ℕ ⊎ List (List ℕ))
@@ -35,7 +35,7 @@ abbrev pub EventParts : Type 0
 EventParts =
     List (List ℕ) ⊎ ((List ℕ × (ℕ × Option ℕ))
     ⊎ ((List ℕ × (List ℕ × Listing))
-    ⊎ ((List ℕ × List ℕ) ⊎ ((List ℕ × List ℕ) ⊎ (List ℕ ⊎ (List ℕ ⊎ ((List ℕ × ℕ) ⊎ ℕ)))))))
+    ⊎ ((List ℕ × List ℕ) ⊎ ((List ℕ × List ℕ) ⊎ (List ℕ ⊎ (List ℕ ⊎ ((List ℕ × ℕ) ⊎ (ℕ ⊎ (ℕ × ℕ)))))))))
 
 abbrev pub event_parts : Event → EventParts
 event_parts (Plan targets) = inl targets
@@ -46,7 +46,8 @@ event_parts (Abort out stamps) = inr (inr (inr (inr (inl (out, stamps)))))
 event_parts (Clean out) = inr (inr (inr (inr (inr (inl out)))))
 event_parts (Pass out) = inr (inr (inr (inr (inr (inr (inl out))))))
 event_parts (Touch path stamp) = inr (inr (inr (inr (inr (inr (inr (inl (path, stamp))))))))
-event_parts Interrupt = inr (inr (inr (inr (inr (inr (inr (inr 0)))))))
+event_parts Interrupt = inr (inr (inr (inr (inr (inr (inr (inr (inl 0))))))))
+event_parts (Resize pool depth) = inr (inr (inr (inr (inr (inr (inr (inr (inr (pool, depth)))))))))
 
 abbrev pub event_of : EventParts → Event
 event_of (inl targets) = Plan targets
@@ -57,7 +58,8 @@ event_of (inr (inr (inr (inr (inl p))))) = Abort p.0 p.1
 event_of (inr (inr (inr (inr (inr (inl out)))))) = Clean out
 event_of (inr (inr (inr (inr (inr (inr (inl out))))))) = Pass out
 event_of (inr (inr (inr (inr (inr (inr (inr (inl p)))))))) = Touch p.0 p.1
-event_of (inr (inr (inr (inr (inr (inr (inr (inr n)))))))) = Interrupt
+event_of (inr (inr (inr (inr (inr (inr (inr (inr (inl n))))))))) = Interrupt
+event_of (inr (inr (inr (inr (inr (inr (inr (inr (inr p))))))))) = Resize p.0 p.1
 
 pub event_of-event_parts : (e : Event) → event_of (event_parts e) ≡ e
 event_of-event_parts (Plan targets) = refl
@@ -69,6 +71,7 @@ event_of-event_parts (Clean out) = refl
 event_of-event_parts (Pass out) = refl
 event_of-event_parts (Touch path stamp) = refl
 event_of-event_parts Interrupt = refl
+event_of-event_parts (Resize pool depth) = refl
 
 abbrev pub coded_event : Coded Event
 coded_event =
@@ -79,5 +82,5 @@ coded_event =
     (coded⊎ (coded× (coded_list coded_ℕ) (coded_list coded_ℕ))
     (coded⊎ (coded× (coded_list coded_ℕ) (coded_list coded_ℕ))
     (coded⊎ (coded_list coded_ℕ) (coded⊎ (coded_list coded_ℕ)
-    (coded⊎ (coded× (coded_list coded_ℕ) coded_ℕ) coded_ℕ))))))))
+    (coded⊎ (coded× (coded_list coded_ℕ) coded_ℕ) (coded⊎ coded_ℕ (coded× coded_ℕ coded_ℕ))))))))))
     event_parts event_of event_of-event_parts

@@ -4,7 +4,8 @@ use Rattle.rev_manifest.specs.Manifest.{ManifestValue}
 use Rattle.rev_graph.specs.Graph.{pool_of}
 use Rattle.rev_cells.specs.declared.mark.Mark.{Mark}
 use Rattle.rev_cells.specs.declared.mark.Mark.TheVariants as mark
-use Rattle.rev_cells.specs.State.{State, mark_of, job_of, slot_of}
+use Rattle.rev_cells.specs.State.{State, mark_of, job_of, slot_of, given_depth_of}
+use Rattle.rev_events.specs.Pools.{present_pool}
 use Rattle.rev_events.specs.Refusal.{pool_slot}
 
 -- the words of a state that say what runs and what is held
@@ -31,19 +32,21 @@ pub record RunsIn (pools : ℕ → Option (ℕ × ℕ)) (w : Words) (edge pool p
   pub of_pool : pools edge ≡ Some (pool, depth)
 
 -- The jobs and the slots that are held are exactly those of the edges that run; these are edges of the manifest, and
--- each has a slot below the depth of its pool, and none where its pool has none.
-pub record IsHeld (pools : ℕ → Option (ℕ × ℕ)) (count : ℕ) (w : Words) : Type 0 where
+-- each has a slot below the present depth of its pool, and none where its pool has none.
+pub record IsHeld (pools present : ℕ → Option (ℕ × ℕ)) (count : ℕ) (w : Words) : Type 0 where
   pub jobs : (job edge : ℕ) → (w.job job ≡ Some edge) ↔ RunsOn w edge job
   pub slots : (pool place edge : ℕ) → (w.slot pool place ≡ Some edge) ↔ RunsIn pools w edge pool place
   pub placed : (edge job : ℕ) (slot : Option ℕ) (seen : ℕ) → w.mark edge ≡ mark.Running job slot seen
-      → pool_slot (pools edge) slot ≡ None
+      → pool_slot (present edge) slot ≡ None
   pub edges : (edge job : ℕ) → RunsOn w edge job → edge < count
 
 abbrev pub IsHeldExactly : ManifestValue → State → Type 0
-IsHeldExactly manifest s = IsHeld (pool_of manifest) (length manifest.builds) (words_of s)
+IsHeldExactly manifest s =
+    IsHeld (pool_of manifest) (present_pool manifest s) (length manifest.builds) (words_of s)
 
--- at an opening nothing is marked and nothing is held
+-- at an opening nothing is marked, nothing is held, and pools have the depths of the manifest
 pub record IsOpened (s : State) : Type 0 where
   pub marks : (edge : ℕ) → mark_of s edge ≡ mark.Idle
   pub jobs : (job : ℕ) → job_of s job ≡ None
   pub slots : (pool place : ℕ) → slot_of s pool place ≡ None
+  pub depths : (pool : ℕ) → given_depth_of s pool ≡ None

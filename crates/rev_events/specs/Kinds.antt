@@ -14,7 +14,8 @@ use Rattle.rev_dirty.specs.Reasons.{reasons_of, newest_stamp, is_rebuilt, is_mis
 use Rattle.rev_plan.specs.Options.{first_some}
 use Rattle.rev_events.specs.declared.event.Listing.{Listing}
 use Rattle.rev_events.specs.declared.refusal.Refusal.{Refusal}
-use Rattle.rev_events.specs.Refusal.{phony_edge, not_phony, halted, not_halted, not_wanted, not_marked, not_running, blocked, not_dirty, dirty, no_such_job, job_busy, pool_slot, slot_busy, wrong_outputs, unexpected_listing, bad_depfile}
+use Rattle.rev_events.specs.Refusal.{phony_edge, not_phony, halted, not_halted, not_wanted, not_marked, not_running, blocked, not_dirty, dirty, no_such_job, job_busy, pool_slot, slot_busy, wrong_outputs, unexpected_listing, bad_depfile, bad_resize, depth_in_use}
+use Rattle.rev_events.specs.Pools.{present_depth, present_pool, slots_lost, first_held}
 use Rattle.rev_events.specs.Edge.{Effect, write, first_blocking, slot_holder, write_slot, free_held, seen_by, write_stamps, changes, where_true, write_built, write_deps, pass_changes}
 
 -- THE TESTS OF EACH KIND, in their order, by the values that they ask for
@@ -43,6 +44,9 @@ abbrev pub abort_tests : BuildValue → List ℕ → Bool → Mark → Option Re
 abort_tests build stamps is m =
     first_some (phony_edge build ∷ not_halted is ∷ not_running m ∷ wrong_outputs build stamps ∷ [])
 
+abbrev pub resize_tests : Option ℕ → ℕ → Option (ℕ × ℕ) → Option Refusal
+resize_tests present depth held = first_some (bad_resize present depth ∷ depth_in_use held ∷ [])
+
 module _ (manifest : ManifestValue) where
   abbrev pub build_of : ℕ → BuildValue
   build_of edge = build_at manifest.builds edge
@@ -53,7 +57,7 @@ module _ (manifest : ManifestValue) where
   -- START: the edge runs in its job and slot, and has seen the greatest visible stamp of the inputs that count
   unfoldable pub start_refusal : ℕ → ℕ → ℕ → Option ℕ → State → Option Refusal
   start_refusal jobs edge job slot state =
-      start_tests (build_of edge) (pool_of manifest edge) jobs job slot (is_halted state) (mark_of state edge)
+      start_tests (build_of edge) (present_pool manifest state edge) jobs job slot (is_halted state) (mark_of state edge)
       (first_blocking manifest.builds state (inputs state (build_of edge)))
       (reasons_of manifest.builds state edge) (job_of state job) (slot_holder state (pool_of manifest edge) slot)
 
@@ -111,3 +115,12 @@ module _ (manifest : ManifestValue) where
   end_effect edge stamps ended state =
       write (cell.Mark edge) (value.Mark ended) ∷ free_held (pool_of manifest edge) (mark_of state edge)
       ++ write_stamps (outputs edge) stamps
+
+  -- RESIZE: the pool gets the depth
+  unfoldable pub resize_refusal : ℕ → ℕ → State → Option Refusal
+  resize_refusal pool depth state =
+      resize_tests (present_depth manifest state pool) depth
+      (first_held state pool (slots_lost depth (present_depth manifest state pool)))
+
+  abbrev pub resize_effect : ℕ → ℕ → Effect
+  resize_effect pool depth = write (cell.Depth pool) (value.Depth (Some depth)) ∷ []

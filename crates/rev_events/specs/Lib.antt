@@ -4,5 +4,6 @@ pub mod Held
 pub mod Kinds
 pub mod Laws
 pub mod Machine
+pub mod Pools
 pub mod Refusal
 pub mod Written

@@ -12,12 +12,12 @@ use Rattle.rev_manifest.specs.Manifest.{ManifestValue}
 use Rattle.rev_graph.specs.Graph.{producer_of}
 use Rattle.rev_plan.specs.Plan.{plan_refusal, marks_of, edge_numbers}
 use Rattle.rev_events.specs.declared.event.Event.{Event}
-use Rattle.rev_events.specs.declared.event.Event.TheVariants.{Plan, Start, Finish, Fail, Abort, Clean, Pass, Touch, Interrupt}
+use Rattle.rev_events.specs.declared.event.Event.TheVariants.{Plan, Start, Finish, Fail, Abort, Clean, Pass, Touch, Interrupt, Resize}
 use Rattle.rev_events.specs.declared.refusal.Refusal.{Refusal}
 use Rattle.rev_events.specs.declared.refusal.Refusal.TheVariants.{NoSuchEdge}
 use Rattle.rev_events.specs.Refusal.{of_plan, already_halted}
 use Rattle.rev_events.specs.Edge.{Effect, write}
-use Rattle.rev_events.specs.Kinds.{start_refusal, start_effect, clean_refusal, clean_effect, pass_refusal, pass_effect, finish_refusal, finish_effect, fail_refusal, abort_refusal, end_effect}
+use Rattle.rev_events.specs.Kinds.{start_refusal, start_effect, clean_refusal, clean_effect, pass_refusal, pass_effect, finish_refusal, finish_effect, fail_refusal, abort_refusal, end_effect, resize_refusal, resize_effect}
 
 -- what is said of an edge, where there is one
 abbrev pub of_edge : {A : Type 0} → A → (ℕ → A) → Option ℕ → A
@@ -49,6 +49,7 @@ module _ (manifest : ManifestValue) where
   refusal jobs s (Pass out) = of_edge (Some NoSuchEdge) (λ edge. pass_refusal manifest edge s) (edge_of out)
   refusal jobs s (Touch path stamp) = None
   refusal jobs s Interrupt = already_halted (is_halted s)
+  refusal jobs s (Resize pool depth) = resize_refusal manifest pool depth s
 
   -- the cells that it writes, with what they then hold
   unfoldable pub effect : State → Event → Effect
@@ -63,6 +64,7 @@ module _ (manifest : ManifestValue) where
   effect s (Pass out) = of_edge [] (λ edge. pass_effect manifest edge s) (edge_of out)
   effect s (Touch path stamp) = write (cell.Stamp path) (value.Stamp stamp) ∷ []
   effect s Interrupt = write cell.Halted (value.Halted true) ∷ []
+  effect s (Resize pool depth) = resize_effect manifest pool depth
 
 -- the state after an event: every cell that it does not write keeps its value
 abbrev pub after : ManifestValue → State → Event → State

@@ -1,10 +1,11 @@
 -- The depths of pools, which can change while a build runs.
 use Rattle.std.specs.Prelude.{ℕ, ◌-◌, ◌&&◌, Bool, List, [], map, Option, Some, None, unwrap_or, if◌then◌else◌}
-use Rattle.std.specs.List.{filter_map, range_with_len}
+use Rattle.std.specs.List.{range_with_len}
 use Rattle.std.specs.Option.{option_map}
 use Rattle.rev_cells.specs.State.{State, given_depth_of, slot_of}
 use Rattle.rev_manifest.specs.Manifest.{ManifestValue}
 use Rattle.rev_graph.specs.Graph.{depth_of, pool_of}
+use Rattle.rev_plan.specs.Options.{first_some}
 use Rattle.rev_events.specs.Refusal.{is_depth}
 
 -- the depth that a pool was given, or else that of the manifest
@@ -34,9 +35,6 @@ slots_lost depth None = []
 slots_lost depth (Some present) =
     if is_depth present && is_depth depth then slots_between depth present else []
 
--- those of these slots that are held, each with its holder
-abbrev pub held_among : State → ℕ → List ℕ → List (ℕ × ℕ)
-held_among state pool slots = filter_map (λ slot. option_map (λ edge. (slot, edge)) (slot_of state pool slot)) slots
-
-abbrev pub first_of_list : {A : Type 0} → List A → Option A
-first_of_list xs = xs as (λ _. Option A) [ [] ↦ None | x ∷ _ ↦ Some x ]
+-- the first of these slots that is held, with its holder
+abbrev pub first_held : State → ℕ → List ℕ → Option (ℕ × ℕ)
+first_held state pool slots = first_some (map (λ slot. option_map (λ edge. (slot, edge)) (slot_of state pool slot)) slots)

@@ -7,7 +7,7 @@ use Rattle.rev_cells.specs.declared.cell.Cell.TheVariants as cell
 use Rattle.rev_cells.specs.State.{State, mark_of}
 use Rattle.rev_plan.specs.Plan.{edge_numbers}
 use Rattle.rev_events.specs.declared.event.Event.{Event}
-use Rattle.rev_events.specs.declared.event.Event.TheVariants.{Plan, Start, Finish, Fail, Abort, Clean, Pass, Touch, Interrupt}
+use Rattle.rev_events.specs.declared.event.Event.TheVariants.{Plan, Start, Finish, Fail, Abort, Clean, Pass, Touch, Interrupt, Resize}
 use Rattle.rev_dirty.specs.Seen.{stamp_cells, built_cells, deps_cells}
 use Rattle.rev_events.specs.Edge.{slot_cells, held_cells}
 use Rattle.rev_events.specs.Machine.{edge_of, of_edge}
@@ -43,3 +43,4 @@ module _ (manifest : ManifestValue) where
   written s (Pass out) = of_edge [] (λ edge. mark_writes edge s) (edge_of manifest out)
   written s (Touch path stamp) = cell.Stamp path ∷ []
   written s Interrupt = cell.Halted ∷ []
+  written s (Resize pool depth) = cell.Depth pool ∷ []

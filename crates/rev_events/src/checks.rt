@@ -8,12 +8,14 @@ ghost use Rattle.rev_events.specs.Edge.{slot_holder as slot_holder_in};
 ghost use Rattle.rev_events.specs.Kinds.{abort_refusal as abort_refusal_in, clean_refusal as clean_refusal_in, fail_refusal as fail_refusal_in, finish_refusal as finish_refusal_in, pass_refusal as pass_refusal_in, start_refusal as start_refusal_in};
 ghost use Rattle.rev_events.specs.Machine.{refusal as refusal_in};
 ghost use Rattle.rev_events.specs.Refusal.{already_halted, bad_depfile as bad_depfile_in, of_plan, pool_slot as pool_slot_in, unexpected_listing as unexpected_listing_in, wrong_outputs as wrong_outputs_in};
+ghost use Rattle.rev_events.specs.Pools.{present_pool as present_pool_in};
 ghost use Rattle.rev_plan.specs.Plan.{plan_refusal as plan_refusal_in};
 ghost use Rattle.std.specs.Option.{option_map};
 
 use crate::edge::{all_outputs, blocking_input, named};
 use crate::event::{Event, Listing};
 use crate::fault::Fault;
+use crate::pools::{present_pool, resize_refusal};
 use crate::refusal::Refusal;
 use crate::words::{is_halted, is_through, is_wanted, job_holder, running, slot_holder};
 use rev_cells::Cells;
@@ -24,13 +26,13 @@ use rev_paths::Name;
 use rev_plan::{PlanFault, plan};
 use std::alloc::{AllocError, Global};
 
-// Whether a slot is named wrongly: where the edge has no pool with slots, or none is named where it has one, or past
-// the last.
-fn pool_slot(graph: &Graph, edge: u32, slot: Option<u32>) -> Option<Refusal>
+// Whether a slot is named wrongly: where the edge has no pool with slots, or none is named where it has one, or one is
+// that is not below the pool's present depth.
+fn pool_slot(graph: &Graph, cells: &Cells, edge: u32, slot: Option<u32>) -> Option<Refusal>
     requires { edge < length graph.now.manifest.builds }
-    ensures { result ≡ pool_slot_in (pool_of graph.now.manifest edge) slot }
+    ensures { result ≡ pool_slot_in (present_pool_in graph.now.manifest cells.now.state edge) slot }
 {
-    match (graph.pool(edge), slot) {
+    match (present_pool(graph, cells, edge), slot) {
         (None, None) => None,
         (Some((_, depth)), Some(slot)) => {
             if slot < depth {
@@ -103,7 +105,7 @@ fn start_refusal(
     if let Some(other) = job_holder(cells, job) {
         return Ok(Some(Refusal::JobBusy(other)));
     }
-    if let Some(refusal) = pool_slot(graph, edge, slot) {
+    if let Some(refusal) = pool_slot(graph, cells, edge, slot) {
         return Ok(Some(refusal));
     }
     match holder_of(graph, cells, edge, slot) {
@@ -370,6 +372,7 @@ fn refusal(
         },
         Event::Touch { .. } => Ok(None),
         Event::Interrupt => Ok(interrupt_refusal(cells)),
+        Event::Resize { pool, depth } => Ok(resize_refusal(graph, cells, *pool, *depth)),
     }
 }
 

@@ -273,6 +273,11 @@ fn writes(alloc: Global, graph: &Graph, cells: &Cells, event: &Event) -> Result<
             Value::Stamp(*stamp),
         ),
         Event::Interrupt => one_write(alloc, Cell::Halted, Value::Halted(true)),
+        Event::Resize { pool, depth } => one_write(
+            alloc,
+            Cell::Depth(*pool),
+            Value::Depth(Some(*depth)),
+        ),
     }
 }
 

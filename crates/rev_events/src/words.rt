@@ -1,6 +1,6 @@
 //! What cells hold of edges, jobs and slots.
 ghost use Rattle.std.specs.Prelude.{◌≡◌};
-ghost use Rattle.rev_cells.specs.State.{mark_of, job_of, slot_of, is_halted as is_halted_in};
+ghost use Rattle.rev_cells.specs.State.{mark_of, job_of, slot_of, given_depth_of, is_halted as is_halted_in};
 ghost use Rattle.rev_events.specs.Edge.{run_of};
 ghost use Rattle.rev_events.specs.Refusal.{is_wanted_mark, is_through_mark, is_settled as is_settled_mark};
 
@@ -76,6 +76,16 @@ pub(crate) fn slot_holder(cells: &Cells, pool: u32, place: u32) -> Option<u32>
 {
     match cells.get(&Cell::Slot(pool, place)) {
         Some(Value::Slot(holder)) => *holder,
+        _ => None,
+    }
+}
+
+/// The depth that a pool was given, none where it is as in the manifest.
+pub(crate) fn given_depth(cells: &Cells, pool: u32) -> Option<u32>
+    ensures { result ≡ given_depth_of cells.now.state pool }
+{
+    match cells.get(&Cell::Depth(pool)) {
+        Some(Value::Depth(depth)) => *depth,
         _ => None,
     }
 }

@@ -1,6 +1,6 @@
 -- What the build lines of a manifest say of its edges. An edge's number is its place among the builds, from 0.
 use Rattle.std.specs.Prelude.{◌≡◌, ℕ, ◌+◌, ◌<◌, ◌≤◌, Bool, false, ◌||◌, ◌==◌, List, [], ◌∷◌, ◌++◌, map, length, find, Option, Some, None, is_some, slice_get, slice_index_or, bytes_eq, if◌then◌else◌}
-use Rattle.std.specs.Option.{option_or}
+use Rattle.std.specs.Option.{option_map, option_or}
 use Rattle.std.specs.List.{Contains, list_any, filter_map}
 use Rattle.rev_manifest.specs.Builds.{BuildValue, ManifestValue, IsManifest}
 pub use Rattle.rev_manifest.specs.Builds.{outputs_of, inputs_of}
@@ -124,6 +124,10 @@ numbered_pool pools (Some number) = slots_of number (slice_get pools number)
 -- the number and the depth of an edge's pool, unless it has none or its depth is 0
 abbrev pub pool_of : ManifestValue → ℕ → Option (ℕ × ℕ)
 pool_of manifest edge = numbered_pool manifest.pools (build_at manifest.builds edge).pool
+
+-- the depth of a pool by its number, also where it is 0 or no edge uses the pool; none where there is no such pool
+abbrev pub depth_of : ManifestValue → ℕ → Option ℕ
+depth_of manifest number = option_map (λ (pool : List ℕ × ℕ). pool.1) (slice_get manifest.pools number)
 
 -- for each input of an edge's build line, in order, the edge that produces it
 abbrev pub input_producers : List BuildValue → BuildValue → List (Option ℕ)

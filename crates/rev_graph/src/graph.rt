@@ -2,7 +2,7 @@
 ghost use Rattle.std.specs.Prelude.{◌≡◌, ℕ, ◌<◌, ◌++◌, ◌↔◌, length, map, Some, IfSome, IfOk, IfErr, IsErrOf, OnOk};
 ghost use Rattle.rev_manifest.specs.Seen.{seen_pools};
 ghost use Rattle.rev_graph.specs.Fault.{Explains, IsFaultless};
-ghost use Rattle.rev_graph.specs.Graph.{build_at, is_known, producer_of, pool_of, input_producers, rank_at, IsGraph, Produces};
+ghost use Rattle.rev_graph.specs.Graph.{build_at, is_known, producer_of, pool_of, depth_of, input_producers, rank_at, IsGraph, Produces};
 
 use crate::fault::GraphFault;
 use crate::steps::{all_producers, ranks_of};
@@ -245,6 +245,15 @@ impl Graph {
             return None;
         }
         Some((number, *depth))
+    }
+
+    /// The depth of a pool by its number, as the manifest has it, also where it is 0 or no edge uses the pool; none
+    /// where there is no such pool (Ninja manual, pools).
+    pub fn depth(&self, pool: u32) -> Option<u32>
+        ensures { result ≡ depth_of self.now.manifest pool }
+    {
+        let (_, depth) = self.manifest.pools().get(pool as usize)?;
+        Some(*depth)
     }
 
     /// The outputs that are built where no target is named.
