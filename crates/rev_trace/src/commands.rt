@@ -5,8 +5,8 @@ ghost use Rattle.rev_fields.specs.Parts.{vectors_of};
 ghost use Rattle.rev_trace.specs.Commands.{bare_of, command_line, command_of, taken_by};
 
 use crate::events::{
-    BAD_LINE, abort, break_number, clean, event_name, fail, finish, nothing, pass, plan, start,
-    touch,
+    BAD_LINE, abort, break_number, clean, event_name, fail, finish, nothing, pass, plan,
+    resize, start, touch,
 };
 use crate::points::point;
 use crate::verb::Verb;
@@ -43,6 +43,7 @@ fn taken_by(
         Verb::Pass => pass(alloc, texts),
         Verb::Touch => touch(alloc, texts),
         Verb::Interrupt => bare(Command::Event(Event::Interrupt), texts),
+        Verb::Resize => resize(texts),
         Verb::Undo => Ok(Command::Undo(event_name(alloc, texts)?)),
         Verb::Redo => Ok(Command::Redo(event_name(alloc, texts)?)),
         Verb::Cone => Ok(Command::Cone(event_name(alloc, texts)?)),
