@@ -131,7 +131,8 @@ fn push_held(lanes: &mut Lanes, command: Command) -> Result<(), AllocError>
     ensures { OnOk result (shown lanes.new ≡ with_command (shown lanes.old) command) }
 {
     let open = lanes.open;
-    lanes.lists[open].push(command)
+    lanes.lists[open].push(command)?;
+    Ok(())
 }
 
 /// Adds what a line of lanes says, where `plan` without a path means these targets.
