@@ -1,5 +1,5 @@
 -- The lines `lane N` that name lanes.
-use Rattle.std.specs.Prelude.{ℕ, suc, ◌==◌, Bool, false, ◌&&◌, nat_eq, nat_lt, if◌then◌else◌, codes, List, [], ◌∷◌, Option, Some, None, Result, Ok, Err, fold}
+use Rattle.std.specs.Prelude.{ℕ, suc, ◌==◌, Bool, false, ◌&&◌, not, nat_eq, nat_lt, if◌then◌else◌, codes, List, [], ◌∷◌, ◌++◌, Option, Some, None, Result, Ok, Err, fold}
 use Rattle.std.specs.List.{starts_with}
 use Rattle.std.specs.Result.{result_ok}
 use Rattle.rev_fields.specs.declared.faults.FaultKind.{FaultKind}
@@ -59,10 +59,12 @@ abbrev pub is_lane : ℕ → Option ℕ → Bool
 is_lane n None = false
 is_lane n (Some m) = m == n
 
--- the lines of a lane among these, of which the first stands in that lane, if in any: those behind a line that names
+-- a line, where it is one of the lines of a lane: it stands in that lane, and names none
+abbrev pub line_of_lane : ℕ → Option ℕ → List ℕ → List (List ℕ)
+line_of_lane n lane line = if is_lane n lane && not (opens_lane line) then line ∷ [] else []
+
+-- the lines of a lane among these, of which the first stands in this lane, if in any: those behind a line that names
 -- it, up to the next that names one
 abbrev pub lines_of_lane : ℕ → Option ℕ → List (List ℕ) → List (List ℕ)
 lines_of_lane n lane [] = []
-lines_of_lane n lane (line ∷ lines) =
-    if opens_lane line then lines_of_lane n (lane_behind lane line) lines
-    else (if is_lane n lane then line ∷ lines_of_lane n lane lines else lines_of_lane n lane lines)
+lines_of_lane n lane (line ∷ lines) = line_of_lane n lane line ++ lines_of_lane n (lane_behind lane line) lines

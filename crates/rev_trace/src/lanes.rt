@@ -82,7 +82,7 @@ pub(crate) struct Lanes {
     /// The commands of each lane, in their order.
     pub(crate) lists: Vec<Vec<Command>>,
     /// The lane whose commands come next.
-    pub(crate) open: usize,
+    pub(crate) named: usize,
 }
 
 // Written, since a derived drop is proved again at each exit of each caller.
@@ -90,7 +90,7 @@ impl Drop for Lanes {
     fn drop(self) {
         let Lanes {
             lists: _lists,
-            open: _open,
+            named: _named,
         } = self;
     }
 }
@@ -102,14 +102,17 @@ impl Lanes {
     {
         let mut lists = Vec::new(alloc);
         lists.push(Vec::new(alloc))?;
-        Ok(Lanes { lists, open: 0 })
+        Ok(Lanes { lists, named: 0 })
     }
 
     /// The commands of each lane alone.
     pub(crate) fn into_lists(self) -> Vec<Vec<Command>>
         ensures { result.items ≡ self.lists.items }
     {
-        let Lanes { lists, open: _open } = self;
+        let Lanes {
+            lists,
+            named: _named,
+        } = self;
         lists
     }
 }
@@ -121,17 +124,17 @@ fn open_lane(alloc: Global, lanes: &mut Lanes, number: u32) -> Result<(), AllocE
     if number as usize == lanes.lists.len() {
         lanes.lists.push(Vec::new(alloc))?;
     }
-    lanes.open = number as usize;
+    lanes.named = number as usize;
     Ok(())
 }
 
 // Adds a command to the lane whose commands come next.
 fn push_held(lanes: &mut Lanes, command: Command) -> Result<(), AllocError>
-    requires { lanes.old.open < length lanes.old.lists.items }
+    requires { lanes.old.named < length lanes.old.lists.items }
     ensures { OnOk result (shown lanes.new ≡ with_command (shown lanes.old) command) }
 {
-    let open = lanes.open;
-    lanes.lists[open].push(command)?;
+    let named = lanes.named;
+    lanes.lists[named].push(command)?;
     Ok(())
 }
 
@@ -143,7 +146,7 @@ pub(crate) fn add_held(
     lanes: &mut Lanes,
     line: &[u8],
 ) -> Result<(), LineFault>
-    requires { lanes.old.open < length lanes.old.lists.items }
+    requires { lanes.old.named < length lanes.old.lists.items }
     ensures ok { OnOk result (IsHeld version targets.now (shown lanes.old) line.now (shown lanes.new)) }
     ensures fault { (kind : FaultKind) → IsErrOf result (LineFault.Kind kind)
         → wrong_in_lane version targets.now (length lanes.old.lists.items) line.now ≡ Some kind }

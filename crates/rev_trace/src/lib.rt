@@ -7,7 +7,7 @@ mod head;
 mod labels;
 mod lanes;
 pub mod laws;
-mod migrate;
+mod migration;
 mod points;
 mod record;
 mod records;
@@ -18,6 +18,6 @@ mod version;
 
 pub use commands::{command_of_texts, read_line};
 pub use labels::{push_which, which_of};
-pub use migrate::migrate;
+pub use migration::migrate;
 pub use texts::{push_command, push_event, text};
 pub use traces::{Trace, TraceFault, read};
