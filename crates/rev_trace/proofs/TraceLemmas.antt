@@ -20,7 +20,7 @@ use Rattle.rev_trace.specs.declared.version.Version.{Version}
 use Rattle.rev_trace.specs.Lanes.{lane_behind, lane_line, lane_number, line_of_lane, lines_of_lane, opened_by, opened_in, opens_lane}
 use Rattle.rev_trace.specs.Traces.{IsOpened, commands_in, has_lane, head_in, lane_count, lane_wrong, lanes_from, opening_lines, records_in, targets_in, trace_wrong, value_of, wrong_after, wrong_at, wrong_in_lane}
 use Rattle.rev_trace.specs.Versions.{held_line, is_first, version_of}
-use Rattle.rev_trace.proofs.LaneLemmas.{lane_behind-closed, lane_behind-named, line_of_lane-closed, line_of_lane-named, named-first, opened_by-named, opened_closed, opened_more}
+use Rattle.rev_trace.proofs.LaneLemmas.{filled_from_lane, lane_behind-closed, lane_behind-named, line_of_lane-closed, line_of_lane-named, named-first, opened_by-named, opened_closed, opened_more}
 use Rattle.std.proofs.lemmas.Grind.{fold-append}
 use Rattle.rev_trace.specs.declared.record.Record.{Record}
 
@@ -33,10 +33,6 @@ pub record ReadsHead (version : Version) (lines : List (List ℕ)) (head : HeadV
 opens_lane-blank : (line : List ℕ) → is_blank line ≡ true → opens_lane line ≡ false
 opens_lane-blank [] blank = refl
 opens_lane-blank (b ∷ bs) blank = absurd (false≢true blank)
-
-pub filled_from_lane : (line : List ℕ) → opens_lane line ≡ true → is_blank line ≡ false
-filled_from_lane [] h = absurd (false≢true h)
-filled_from_lane (b ∷ bs) h = refl
 
 no_lane_before : (lines : List (List ℕ)) (i : ℕ) → i ≤ length lines → ((k : ℕ) → k < i → opens_lane (get_or lines k []) ≡ false) → has_lane (take i lines) ≡ false
 no_lane_before lines i h none =
