@@ -209,7 +209,7 @@ command-alone look version records parts line texts filled closed some t (AComma
     (h.1, subst (λ (x : List (List ℕ)). SaysCommand look (head_of records).targets x h.1) same h.2.2, h.3)
 
 -- the word of a line tells whether the lane may hold its command
-begins-holds : (version : Version) (look : Look) (targets texts : List (List ℕ)) (c : Command) → SaysCommand look targets texts c → may_begin version texts ≡ may_hold version c
+pub begins-holds : (version : Version) (look : Look) (targets texts : List (List ℕ)) (c : Command) → SaysCommand look targets texts c → may_begin version texts ≡ may_hold version c
 begins-holds Two look targets texts c h = refl
 begins-holds One look targets texts (command.Event (event.Plan paths)) h = ap (may_begin One) h.1
 begins-holds One look targets texts (command.Event (event.Start out job None)) h = ap (may_begin One) h.2

@@ -176,7 +176,7 @@ count_behind : (end count : ℕ) (lines : List (List ℕ)) → opened_in 0 (take
 count_behind end count lines e =
     ap (opened_in 0) (sym (take-append-drop end lines)) ∙ fold-append opened_by 0 (take end lines) (drop end lines) ∙ ap (λ c. opened_in c (drop end lines)) e
 
-same-map : {X Y : Type 0} (f g : X → Y) → ((x : X) → f x ≡ g x) → (xs : List X) → map f xs ≡ map g xs
+pub same-map : {X Y : Type 0} (f g : X → Y) → ((x : X) → f x ≡ g x) → (xs : List X) → map f xs ≡ map g xs
 same-map f g same [] = refl
 same-map f g same (x ∷ xs) = ap (λ y. y ∷ map f xs) (same x) ∙ ap (λ ys. g x ∷ ys) (same-map f g same xs)
 
