@@ -1,5 +1,5 @@
 -- The opening lines of a trace, and the lanes behind these.
-use Rattle.std.proofs.Common.{◌≡◌, ℕ, zero, suc, ◌<◌, ◌≤◌, ◌+◌, ◌-◌, true, false, cond, List, [], ◌∷◌, ◌++◌, length, get_or, take, drop, refl, sym, ap, ◌∙◌, arith, inl, inr, subst, map, Option, Some, None, Ok, Err}
+use Rattle.std.proofs.Common.{◌≡◌, ℕ, zero, suc, ◌<◌, ◌≤◌, ◌+◌, ◌-◌, Bool, true, false, cond, List, [], ◌∷◌, ◌++◌, length, get_or, take, drop, refl, sym, ap, ◌∙◌, arith, inl, inr, subst, map, Option, Some, None, Ok, Err}
 use Rattle.std.proofs.lemmas.Bool.{false≢true, cases_eq, cases_lt}
 use Rattle.std.proofs.lemmas.List.{get_or-take, get_or-drop, length-take-le, length-drop, take-append-drop, take_all}
 use Rattle.std.proofs.lemmas.List.Sums.{position_or_len_is}
@@ -256,6 +256,14 @@ whole_wrong lines place = trace_wrong (targets_in (drop 1 lines)) (take place li
 whole_sound : (first : List ℕ) (rest : List (List ℕ)) (n : ℕ) → is_first first ≡ true → ((k : ℕ) → k < n → wrong_at (version_of first) rest k ≡ None) → (k : ℕ) → k < suc n → whole_wrong (first ∷ rest) k ≡ None
 whole_sound first rest n head sound zero lt = ap (λ b. cond b None (Some Header)) head
 whole_sound first rest n head sound (suc k) lt = sound k (omega arith)
+
+-- the version that a first line names
+pub version-read : (line : List ℕ) (version : Version) → Some version ≡ cond (is_first line) (Some (version_of line)) None → (is_first line ≡ true) × (version ≡ version_of line)
+version-read line version h = by (is_first line) h
+  where
+    by : (b : Bool) → Some version ≡ cond b (Some (version_of line)) None → (b ≡ true) × (version ≡ version_of line)
+    by true h = (refl, let same : Some version ≡ Some (version_of line) = h in cc)
+    by false h = absurd (let no : Some version ≡ None = h in cc)
 
 pub trace_sound : (first : List ℕ) (rest : List (List ℕ)) → is_first first ≡ true → ((k : ℕ) → k < length rest → wrong_at (version_of first) rest k ≡ None) → first_fault (whole_wrong (first ∷ rest)) (length (first ∷ rest)) ≡ None
 trace_sound first rest head sound = first_fault-none (whole_wrong (first ∷ rest)) (length (first ∷ rest)) (λ k lt. whole_sound first rest (length rest) head sound k (omega arith))
