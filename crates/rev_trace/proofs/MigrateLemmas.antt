@@ -1,5 +1,5 @@
 -- Traces of version 1 are the same ones in version 2.
-use Rattle.std.proofs.Common.{◌≡◌, ℕ, ◌<◌, ◌==◌, true, List, [], ◌∷◌, ◌++◌, length, get_or, drop, refl, sym, ap, ◌∙◌, arith, None, append-nil}
+use Rattle.std.proofs.Common.{◌≡◌, ℕ, ◌<◌, ◌≤◌, ◌==◌, true, List, [], ◌∷◌, ◌++◌, length, get_or, drop, refl, sym, ap, ◌∙◌, arith, None, append-nil, length-append}
 use Rattle.std.proofs.lemmas.Bool.{eqb-true, le-leb}
 use Rattle.std.proofs.lemmas.List.Splits.{join_with_byte-slice_split, length-slice_split}
 use Rattle.std.specs.List.{join_with_byte}
@@ -98,3 +98,9 @@ pub first-long : (text : List ℕ) → trace_fault text ≡ None → length (lin
 first-long text sound =
     let s = (traces-are-said text (trace_of text)).0 (sound, refl) in
     ap (λ l. length (get_or l 0 [])) (parts-cut s.are_lines) ∙ first-length s.version
+
+pub text-long : (text : List ℕ) → trace_fault text ≡ None → 13 ≤ length text
+text-long text sound =
+    let rest = behind-first (lines_of text) (some-lines text) in
+    let is : text ≡ line_one text ++ rest.0 = sym (join_with_byte-slice_split 10 text) ∙ rest.1 in
+    omega (arith, ap length is, length-append (line_one text) rest.0, first-long text sound)

@@ -1,5 +1,5 @@
 //! Traces of version 1 in version 2.
-ghost use Rattle.std.specs.Prelude.{◌≡◌, ◌++◌, drop, Some, None, OnOk, IfOk, IsErrOf};
+ghost use Rattle.std.specs.Prelude.{◌≡◌, ◌≤◌, ◌++◌, drop, length, Some, None, OnOk, IfOk, IsErrOf};
 ghost use Rattle.rev_fields.specs.declared.faults.TextFault.{TextFault};
 ghost use Rattle.rev_trace.specs.declared.version.Version.TheVariants.{Two};
 ghost use Rattle.rev_trace.specs.Migrated.{migrated};
@@ -10,17 +10,17 @@ use crate::traces::{TraceFault, read};
 use rev_fields::ReadFault;
 use std::alloc::{AllocError, Global};
 
-const FIRST: &[u8] = b"rebug-trace 2";
+// How many bytes a first line has.
+const FIRST: usize = 13;
 
 // The first line of version 2, and the bytes that stand behind as many of a text.
 fn with_first(alloc: Global, text: &[u8]) -> Result<Vec<u8>, AllocError>
+    requires { 13 ≤ length text.now }
     ensures { IfOk result (λ migrated. migrated.items ≡ first_line Two ++ drop 13 text.now) }
 {
     let mut migrated = Vec::with_capacity(alloc, text.len())?;
-    migrated.extend_from_slice(FIRST)?;
-    if let Some(behind) = text.get(FIRST.len()..) {
-        migrated.extend_from_slice(behind)?;
-    }
+    migrated.extend_from_slice(b"rebug-trace 2")?;
+    migrated.extend_from_slice(&text[FIRST..])?;
     Ok(migrated)
 }
 
