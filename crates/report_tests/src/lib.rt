@@ -4,3 +4,6 @@
 
 #[cfg(test)]
 mod reports;
+
+#[cfg(test)]
+mod versions;
