@@ -4,6 +4,5 @@
 
 #[cfg(test)]
 mod reports;
-
 #[cfg(test)]
 mod versions;
