@@ -6,7 +6,7 @@ import tempfile
 import unittest
 
 from builds import read_deps
-from recorder.checking import check
+from recorder.checking import check, read_commands
 from recorder.depfiles import read_depfile
 from recorder.disk import Snapshot, built_records
 from recorder.fields import canonical, field, line, quoted
@@ -371,10 +371,20 @@ class Whole(unittest.TestCase):
         with tempfile.TemporaryDirectory() as folder:
             write_recording(self.found, folder, True, "/nowhere/rebug")
             room = pathlib.Path(folder)
-            lanes = (room / "trace").read_text().split("lane ")[1:]
-            self.assertEqual([it.split("\n")[1].split(" ")[:2] for it in lanes], [["start", "a.o"], ["start", "b.o"]])
+            lanes = read_commands(folder)
+            self.assertEqual([lanes[it][0][1] for it in (0, 1)], [b"start a.o 0", b"start b.o 1"])
             self.assertEqual((room / "script").read_text(), "plan\nrun\nkept\nmarks\n")
             self.assertIn("--workers", (room / "replay").read_text())
+
+    def test_lanes_follow_the_order_of_time(self):
+        with tempfile.TemporaryDirectory() as folder:
+            write_recording(self.found, folder, True, "/nowhere/rebug")
+            first, *lines = (pathlib.Path(folder) / "trace").read_bytes().splitlines()
+            self.assertEqual(first, b"rebug-trace 2")
+            begin = lines.index(b"lane 0")
+            self.assertEqual(lines[begin:begin + 3], [b"lane 0", b"lane 1", b"lane 0"])
+            self.assertEqual([it for it in lines[begin:] if not it.startswith(b"lane ")],
+                             [command(it) for it in self.found.found.events[1:]])
 
     def test_files_from_outside_get_a_name_inside(self):
         with tempfile.TemporaryDirectory() as folder:
