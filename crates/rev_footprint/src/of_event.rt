@@ -223,7 +223,7 @@ fn add_slots(reads: &mut IndexSet<Cell>, pool: u32, slots: Range<u32>) -> Result
     ensures { OnOk result (Adds reads.old.keys reads.new.keys
         (map (SlotCell pool) (slots_between slots.start slots.end))) }
 {
-    for slot in slots {
+    for slot in slots.start..slots.end {
         add(reads, Cell::Slot(pool, slot))?;
     }
     Ok(())
