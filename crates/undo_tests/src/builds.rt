@@ -13,7 +13,8 @@ pub(crate) const OBJECTS: &str =
 build a.o: cc a.c\nbuild b.o: cc b.c\nbuild app: ld a.o b.o\n";
 
 // Two commands of a pool of one slot, which has the number 1.
-pub(crate) const LINKS: &str = "pool link\n  depth = 1\nrule ld\n  command = ld $out\n  pool = link\n\
+pub(crate) const LINKS: &str =
+    "pool link\n  depth = 1\nrule ld\n  command = ld $out\n  pool = link\n\
 build a: ld\nbuild b: ld\n";
 
 fn manifest_of(alloc: Global, text: &[u8]) -> Result<Manifest, AllocError> {

@@ -23,10 +23,9 @@ pub loop-slot-preserved : goal.loop-slot-preserved
 unfolding from
 loop-slot-preserved c =
     let start = c.args.slots.start in
-    let slot = c.loop-slot.slot in
-    (
+    let slot = c.loop-slot.slot in (
       adds-next c.args.reads.now.keys c.loop-slot.reads.keys c.add.new.reads.keys (from c.args.pool start (slot - start)) (cell.Slot c.args.pool slot ∷ []) (from c.args.pool start (slot + 1 - start))
-      c.loop-slot.invariant.0 c.in_ok-add.ensures (slots-next (cell.Slot c.args.pool) start slot c.loop-slot.auto.slot),
+          c.loop-slot.invariant.0 c.in_ok-add.ensures (slots-next (cell.Slot c.args.pool) start slot c.loop-slot.auto.slot),
       omega (arith, c.loop-slot.auto.slot, c.loop-slot-test.true, c.loop-slot.invariant.1),
     )
 
