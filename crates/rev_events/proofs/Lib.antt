@@ -5,5 +5,7 @@ pub mod HeldEvents
 pub mod HeldLemmas
 pub mod HeldSteps
 pub mod PlannedState
+pub mod PoolLemmas
+pub mod TestLemmas
 pub mod WriteLemmas
 pub mod WrittenLemmas
