@@ -1,5 +1,5 @@
 -- The depths of pools, and the slots that are lost where one falls.
-use Rattle.std.proofs.Common.{◌≡◌, ℕ, ◌+◌, ◌-◌, ◌<◌, ◌≤◌, ◌&&◌, suc, zero, Bool, true, false, not, nat_lt, List, [], ◌∷◌, Option, Some, None, inl, inr, refl, sym, ap, subst, ◌∙◌, arith, if◌then◌else◌}
+use Rattle.std.proofs.Common.{◌≡◌, ℕ, ◌+◌, ◌-◌, ◌<◌, ◌≤◌, ◌&&◌, Bool, true, false, not, nat_lt, List, [], ◌∷◌, Option, Some, None, inl, inr, refl, sym, ap, subst, ◌∙◌, arith, if◌then◌else◌}
 use Rattle.std.specs.Prelude.{◌==◌, slice_get, unwrap_or}
 use Rattle.std.specs.List.{range_with_len}
 use Rattle.std.specs.Option.{option_map}
@@ -15,6 +15,7 @@ use Rattle.rev_events.specs.Pools.{present_or, present_depth, present_pool, at_p
 use Rattle.rev_events.specs.Refusal.{refuse_if, pool_slot, is_depth, bad_resize, depth_in_use}
 use Rattle.rev_events.proofs.HeldLemmas.{not-none}
 use Rattle.rev_events.proofs.HeldSteps.{After, KeepsDepths, depth-given, depth-of-others}
+use Rattle.rev_events.proofs.SlotLemmas.{free-between}
 use Rattle.rev_events.proofs.TestLemmas.{first-none, none-mapped, not-false, not-refused}
 
 -- pools that keep their depths
@@ -54,15 +55,6 @@ own-depth manifest edge number depth own = named (build_at manifest.builds edge)
     named (Some n) h = listed n (slice_get manifest.pools n) refl h
 
 -- THE SLOTS THAT ARE LOST ARE FREE
-free-between : (s : State) (pool n a : ℕ) → first_held s pool (range_with_len a n) ≡ None → (place : ℕ) → a ≤ place → place < a + n → slot_of s pool place ≡ None
-free-between s pool zero a h place low high = absurd (omega arith)
-free-between s pool (suc n) a h place low high =
-    let tests = first-none (option_map (λ (edge : ℕ). (a, edge)) (slot_of s pool a)) _ h in
-    elim (cases_eq a place) [
-      | inl same ↦ ap (slot_of s pool) (sym same) ∙ none-mapped _ (slot_of s pool a) tests.0
-      | inr other ↦ free-between s pool n (a + 1) tests.1 place (omega arith) (omega arith)
-    ]
-
 lost-some : (present depth : ℕ) → bad_resize (Some present) depth ≡ None → slots_lost depth (Some present) ≡ slots_between depth present
 lost-some present depth h = by (is_depth present && is_depth depth) h
   where
