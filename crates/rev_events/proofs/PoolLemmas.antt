@@ -26,23 +26,21 @@ same-present manifest s t keeps edge = by (pool_of manifest edge)
     by None = refl
     by (Some own) = ap (λ (given : Option ℕ). Some (own.0, unwrap_or given own.1)) (keeps own.0)
 
+no-pool : (own : ℕ × ℕ) → None ≡ Some own → ⊥
+no-pool own h = cc
+
 -- an edge's pool has in the manifest the depth that stands with its number
 own-depth : (manifest : ManifestValue) (edge number depth : ℕ) → pool_of manifest edge ≡ Some (number, depth) → depth_of manifest number ≡ Some depth
 own-depth manifest edge number depth own = named (build_at manifest.builds edge).pool own
   where
-    pair : (b : Bool) (n d : ℕ) → (if b then None else Some (n, d)) ≡ Some (number, depth) → (n ≡ number) × (d ≡ depth)
+    pair : (b : Bool) (n d : ℕ) → if◌then◌else◌ {A = Option (ℕ × ℕ)} b None (Some (n, d)) ≡ Some (number, depth) → (n ≡ number) × (d ≡ depth)
     pair true n d h =
-        let no : None ≡ Some (number, depth) = h in
-        cc
-    pair false n d h =
-        let one : n ≡ number = cc in
-        let two : d ≡ depth = cc in
-        (one, two)
+        absurd (no-pool (number, depth) h)
+    pair false n d h = (ap (λ (o : Option (ℕ × ℕ)). (unwrap_or {T = ℕ × ℕ} o (0, 0)).0) h, ap (λ (o : Option (ℕ × ℕ)). (unwrap_or {T = ℕ × ℕ} o (0, 0)).1) h)
 
     listed : (n : ℕ) (pool : Option (List ℕ × ℕ)) → slice_get manifest.pools n ≡ pool → slots_of n pool ≡ Some (number, depth) → depth_of manifest number ≡ Some depth
     listed n None at h =
-        let no : None ≡ Some (number, depth) = h in
-        cc
+        absurd (no-pool (number, depth) h)
     listed n (Some pool) at h =
         let same = pair (pool.1 == 0) n pool.1 h in
         subst (λ k. depth_of manifest k ≡ Some depth) same.0
@@ -50,8 +48,7 @@ own-depth manifest edge number depth own = named (build_at manifest.builds edge)
 
     named : (pool : Option ℕ) → numbered_pool manifest.pools pool ≡ Some (number, depth) → depth_of manifest number ≡ Some depth
     named None h =
-        let no : None ≡ Some (number, depth) = h in
-        cc
+        absurd (no-pool (number, depth) h)
     named (Some n) h = listed n (slice_get manifest.pools n) refl h
 
 -- THE SLOTS THAT ARE LOST ARE FREE
