@@ -23,7 +23,7 @@ use Rattle.rev_events.specs.Laws.{PlansAreExplained}
 use Rattle.rev_events.specs.Machine.{refusal, effect, after, write_marks}
 use Rattle.rev_events.specs.Refusal.{of_plan}
 use Rattle.rev_events.specs.Written.{written}
-use Rattle.rev_events.proofs.HeldEvents.{none-mapped}
+use Rattle.rev_events.proofs.TestLemmas.{none-mapped}
 use Rattle.rev_events.proofs.WriteLemmas.{unwritten, written-first, read-mark}
 use Rattle.rev_events.proofs.WrittenLemmas.{written-same, plan-once}
 
@@ -46,6 +46,7 @@ is_planned (cell.Stamp path) = false
 is_planned (cell.Mark edge) = true
 is_planned (cell.Job job) = false
 is_planned (cell.Slot pool place) = false
+is_planned (cell.Depth pool) = false
 is_planned (cell.Built path) = false
 is_planned (cell.Deps path) = false
 is_planned cell.Halted = true

@@ -77,7 +77,7 @@ pub fn slots_lost(graph: &Graph, cells: &Cells, pool: u32, depth: u32) -> Range<
 fn first_held(cells: &Cells, pool: u32, slots: Range<u32>) -> Option<(u32, u32)>
     ensures { result ≡ first_held_in cells.now.state pool (slots_between slots.start slots.end) }
 {
-    for slot in slots {
+    for slot in slots.start..slots.end {
         if let Some(edge) = slot_holder(cells, pool, slot) {
             return Some((slot, edge));
         }
