@@ -25,7 +25,10 @@ fn a_given_depth_is_another_value_than_none(rt: HostRuntime) -> Result<(), Fail>
     let mut cells = Cells::new(alloc, &Opening::new(alloc, 1)?)?;
     let cell = Cell::Depth(1);
     cells.reserve(&cell)?;
-    assert_eq!(rt; cells.swap(&cell, Value::Depth(Some(1))), Value::Depth(None));
+    assert_eq!(rt;
+        cells.swap(&cell, Value::Depth(Some(1))),
+        Value::Depth(None)
+    );
     assert_eq!(rt; cells.get(&cell), Some(&Value::Depth(Some(1))));
     Ok(())
 }

@@ -44,7 +44,12 @@ impl Build {
     }
 
     // The refusal where a pool is given a depth, or none where it gets it.
-    fn resize(&mut self, alloc: Global, pool: u32, depth: u32) -> Result<Option<Refusal>, AllocError> {
+    fn resize(
+        &mut self,
+        alloc: Global,
+        pool: u32,
+        depth: u32,
+    ) -> Result<Option<Refusal>, AllocError> {
         self.happen(alloc, &Event::Resize { pool, depth })
     }
 
@@ -335,7 +340,9 @@ fn push_value(text: &mut Vec<u8>, value: &Value) -> Result<(), AllocError> {
     match value {
         Value::Stamp(stamp) => push_number(text, *stamp),
         Value::Mark(mark) => push_mark(text, mark),
-        Value::Job(number) | Value::Slot(number) | Value::Depth(number) => push_holder(text, *number),
+        Value::Job(number) | Value::Slot(number) | Value::Depth(number) => push_holder(
+            text, *number,
+        ),
         Value::Built(Some(record)) => {
             push_number(text, record.stamp)?;
             text.push(b' ')?;
@@ -484,14 +491,8 @@ fn the_least_slot_that_is_lost_and_held_is_named(rt: HostRuntime) -> Result<(), 
     assert_eq!(rt; build.resize(alloc, 1, 5)?, None);
     assert_eq!(rt; build.step(alloc, b"start x 0 3")?, None);
     assert_eq!(rt; build.step(alloc, b"start y 1 1")?, None);
-    assert_eq!(rt;
-        build.resize(alloc, 1, 1)?,
-        Some(Refusal::DepthInUse(1, 1))
-    );
-    assert_eq!(rt;
-        build.resize(alloc, 1, 2)?,
-        Some(Refusal::DepthInUse(3, 0))
-    );
+    assert_eq!(rt; build.resize(alloc, 1, 1)?, Some(Refusal::DepthInUse(1, 1)));
+    assert_eq!(rt; build.resize(alloc, 1, 2)?, Some(Refusal::DepthInUse(3, 0)));
     Ok(())
 }
 

@@ -178,8 +178,11 @@ const THROUGH_PHONY: Row = Row {
     status: Status::Success,
 };
 
+const POOLS_MANIFEST: &str =
+    "pool one\n  depth = 1\npool any\n  depth = 0\nrule r\n  command = r $out\n  pool = one\nbuild x: r\nbuild y: r\nbuild z: r\n  pool = any\nbuild t: r\n  pool = console\n";
+
 const POOLS: Row = Row {
-    manifest: "pool one\n  depth = 1\npool any\n  depth = 0\nrule r\n  command = r $out\n  pool = one\nbuild x: r\nbuild y: r\nbuild z: r\n  pool = any\nbuild t: r\n  pool = console\n",
+    manifest: POOLS_MANIFEST,
     trace: "rebug-trace 1\njobs 2\nlane 0\nplan x y z t\nstart x 0 0\nstart y 1 0\nstart y 1 1\nstart y 1\nstart z 1 0\nstart z 2\nstart z 0\nstart z 1\nfinish x 5\nstart t 0 0\nstart y 0 0\n",
     script: "run\n",
     report: "1 0 ok\n2 0 ok\n3 0 refused 74 0\n4 0 refused 73\n5 0 refused 73\n6 0 refused 73\n7 0 refused 71\n8 0 refused 72 0\n9 0 ok\n10 0 ok\n11 0 ok\n12 0 refused 72 3\n",
@@ -348,9 +351,6 @@ const NAME_OF_NO_EVENT: Row = Row {
     report: "fault script 1 101\n",
     status: Status::Fault,
 };
-
-const POOLS_MANIFEST: &str =
-    "pool one\n  depth = 1\npool any\n  depth = 0\nrule r\n  command = r $out\n  pool = one\nbuild x: r\nbuild y: r\nbuild z: r\n  pool = any\nbuild t: r\n  pool = console\n";
 
 const RESIZE: Row = Row {
     manifest: POOLS_MANIFEST,
