@@ -10,9 +10,14 @@ use std::test::Fail;
 use std::thread::Threads;
 
 const MANIFEST: &[u8] = b"rule r\n  command = r $in\nbuild o: r a\n";
-const TRACE: &[u8] = b"rebug-trace 1\nstamp a.c 10\nlane 0\ntouch a.c 11\ntouch b.c 21\ntouch a.c 12\n";
+
+const TRACE: &[u8] =
+    b"rebug-trace 1\nstamp a.c 10\nlane 0\ntouch a.c 11\ntouch b.c 21\ntouch a.c 12\n";
+
 const SCRIPT: &[u8] = b"run\nundo 1\nundo 2\nstamps\nredo 2\nback\nstamps\n";
-const REPORT: &[u8] = b"1 0 ok\n2 0 ok\n3 0 ok\n4 1 refused 82 3\n5 1 ok\nstamp a.c 12\n6 1 ok\n7 1 ok\n\
+
+const REPORT: &[u8] =
+    b"1 0 ok\n2 0 ok\n3 0 ok\n4 1 refused 82 3\n5 1 ok\nstamp a.c 12\n6 1 ok\n7 1 ok\n\
 stamp a.c 11\nstamp b.c 21\n";
 // So many writes the report takes.
 const WRITES: u32 = 9;
@@ -44,7 +49,9 @@ impl Write for Device {
         self.calls = call.wrapping_add(1);
         match self.trouble {
             Trouble::OneByte => self.taken.write(buf.get(..1).unwrap_or(buf)),
-            Trouble::FailsFrom(first) if call >= first => Err(io::Error::from(io::ErrorKind::BrokenPipe)),
+            Trouble::FailsFrom(first) if call >= first => Err(io::Error::from(
+                io::ErrorKind::BrokenPipe,
+            )),
             Trouble::FailsOnce(at) if call == at => Err(io::Error::from(io::ErrorKind::BrokenPipe)),
             Trouble::TakesNoneFrom(first) if call >= first => Ok(0),
             _ => self.taken.write(buf),
@@ -56,7 +63,7 @@ impl Write for Device {
     }
 }
 
-fn device(alloc: Global, trouble: Trouble) -> Device {
+fn device_with(alloc: Global, trouble: Trouble) -> Device {
     Device {
         trouble,
         calls: 0,
@@ -66,13 +73,23 @@ fn device(alloc: Global, trouble: Trouble) -> Device {
 
 // The run of the touches, in turn, to a writer.
 fn in_turn(alloc: Global, writer: &mut Device) -> Result<Status, RunFault> {
-    let files = [(Vec::from_slice(alloc, b"build.ninja")?, Vec::from_slice(alloc, MANIFEST)?)];
+    let files = [(
+        Vec::from_slice(alloc, b"build.ninja")?,
+        Vec::from_slice(alloc, MANIFEST)?,
+    )];
     run_serial(alloc, &files, TRACE, SCRIPT, writer)
 }
 
 // The same run with its lanes on threads.
-fn on_threads<R: Threads + Wait + Sync>(rt: &R, alloc: Global, writer: &mut Device) -> Result<Status, RunFault> {
-    let files = [(Vec::from_slice(alloc, b"build.ninja")?, Vec::from_slice(alloc, MANIFEST)?)];
+fn on_threads<R: Threads + Wait + Sync>(
+    rt: &R,
+    alloc: Global,
+    writer: &mut Device,
+) -> Result<Status, RunFault> {
+    let files = [(
+        Vec::from_slice(alloc, b"build.ninja")?,
+        Vec::from_slice(alloc, MANIFEST)?,
+    )];
     run_parallel(rt, alloc, &files, TRACE, SCRIPT, writer)
 }
 
@@ -90,7 +107,7 @@ fn troubles(write: u32) -> [Trouble; 3] {
 fn each_write_fails(rt: HostRuntime) {
     for write in 0..WRITES {
         for trouble in troubles(write) {
-            let mut writer = device(rt.alloc(), trouble);
+            let mut writer = device_with(rt.alloc(), trouble);
             let result = in_turn(rt.alloc(), &mut writer);
             assert!(rt; result == Err(RunFault::Write));
             assert!(rt; REPORT.starts_with(&writer.taken));
@@ -103,7 +120,7 @@ fn each_write_fails(rt: HostRuntime) {
 fn each_write_fails_on_threads(rt: HostRuntime) {
     for write in 0..WRITES {
         for trouble in troubles(write) {
-            let mut writer = device(rt.alloc(), trouble);
+            let mut writer = device_with(rt.alloc(), trouble);
             let result = on_threads(&rt, rt.alloc(), &mut writer);
             assert!(rt; result == Err(RunFault::Write));
             assert!(rt; REPORT.starts_with(&writer.taken));
@@ -114,11 +131,11 @@ fn each_write_fails_on_threads(rt: HostRuntime) {
 
 #[test]
 fn one_byte_at_a_time(rt: HostRuntime) -> Result<(), Fail> {
-    let mut writer = device(rt.alloc(), Trouble::OneByte);
+    let mut writer = device_with(rt.alloc(), Trouble::OneByte);
     let status = in_turn(rt.alloc(), &mut writer)?;
     assert!(rt; status == Status::Success);
     assert_eq!(rt; writer.taken.as_slice(), REPORT);
-    let mut other = device(rt.alloc(), Trouble::OneByte);
+    let mut other = device_with(rt.alloc(), Trouble::OneByte);
     let status = on_threads(&rt, rt.alloc(), &mut other)?;
     assert!(rt; status == Status::Success);
     assert_eq!(rt; other.taken.as_slice(), REPORT);
