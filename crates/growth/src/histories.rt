@@ -1,10 +1,24 @@
 //! The calls of a history.
 
-use crate::said::{LINES, OPENING, Said, Stop, command, graph, print_kept, shown, trace};
+use crate::said::{LINES, OPENING, Said, Stop, command, graph, graph_of, print_kept, shown, trace};
 use rev_commands::{Command, Which};
 use rev_events::Fault;
 use rev_history::History;
 use std::alloc::Global;
+
+// Two commands of one pool, whose depth is 1.
+const POOL: &[u8] = b"pool one\n  depth = 1\nrule r\n  command = r $out\n  pool = one\nbuild x: r\nbuild y: r\n";
+
+const RESIZED: [&str; 8] = [
+    "plan x y",
+    "start x 0 0",
+    "resize 1 2",
+    "start y 1 1",
+    "touch a.c 11",
+    "undo 4",
+    "redo 4",
+    "cone 3",
+];
 
 // Does a command, as the event of this number where it is one.
 fn act(history: &mut History, number: u32, command: &Command) -> Result<(), Fault> {
@@ -47,15 +61,32 @@ fn say<R: Print>(
     }
 }
 
+// Says all lines.
+fn say_all<R: Print>(
+    rt: &R,
+    alloc: Global,
+    history: &mut History,
+    lines: &[&'static str],
+) -> Said {
+    println!(rt; "made")?;
+    let mut number = 0u32;
+    for line in lines {
+        number = number.saturating_add(1);
+        say(rt, alloc, history, number, *line)?;
+    }
+    print_kept(rt, history)
+}
+
 /// Accepts five events, and takes the fourth back, puts it again, and takes out what stands on the third.
 pub(crate) fn run<R: Print>(rt: &R, alloc: Global) -> Said {
     let trace = trace(alloc, OPENING)?;
     let mut history = History::new(alloc, graph(alloc)?, &trace.opening)?;
-    println!(rt; "made")?;
-    let mut number = 0u32;
-    for line in LINES {
-        number = number.saturating_add(1);
-        say(rt, alloc, &mut history, number, line)?;
-    }
-    print_kept(rt, &history)
+    say_all(rt, alloc, &mut history, &LINES)
+}
+
+/// Gives a pool another depth, and takes out what stands on that.
+pub(crate) fn run_resized<R: Print>(rt: &R, alloc: Global) -> Said {
+    let trace = trace(alloc, OPENING)?;
+    let mut history = History::new(alloc, graph_of(alloc, POOL)?, &trace.opening)?;
+    say_all(rt, alloc, &mut history, &RESIZED)
 }

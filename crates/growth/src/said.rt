@@ -67,8 +67,13 @@ impl From<io::Error> for Stop {
 
 /// The graph of the build.
 pub(crate) fn graph(alloc: Global) -> Result<Graph, Stop> {
+    graph_of(alloc, MANIFEST)
+}
+
+/// The graph of a manifest of one file.
+pub(crate) fn graph_of(alloc: Global, manifest: &[u8]) -> Result<Graph, Stop> {
     let name = Vec::from_slice(alloc, b"build.ninja")?;
-    let content = Vec::from_slice(alloc, MANIFEST)?;
+    let content = Vec::from_slice(alloc, manifest)?;
     let files = vec![in alloc; (name, content)]?;
     let Ok(manifest) = rev_manifest::read(alloc, &files) else {
         return Err(Stop::Build);
