@@ -141,6 +141,44 @@ fn many_files(rt: HostRuntime) -> Result<(), Fail> {
     Ok(())
 }
 
+const MEBIBYTE: usize = 1_048_576;
+
+// A comment of at least as many mebibytes, and of so many bytes more.
+fn comment(alloc: Global, mebibytes: u32, more: usize) -> Result<Vec<u8>, AllocError> {
+    let mut block = Vec::new(alloc);
+    for _ in 0..MEBIBYTE {
+        block.push(b'#')?;
+    }
+    let mut text = Vec::new(alloc);
+    for _ in 0..mebibytes {
+        text.extend_from_slice(&block)?;
+    }
+    text.extend_from_slice(block.get(..more).unwrap_or(&block))?;
+    Ok(text)
+}
+
+// What is reported where `build.ninja` includes a comment once, which is so counted twice.
+fn of_comment(alloc: Global, more: usize) -> Result<Vec<u8>, RunFault> {
+    let mut files = Vec::new(alloc);
+    push_file(&mut files, alloc, b"build.ninja", b"include c\n")?;
+    let content = comment(alloc, 127, more)?;
+    files.push((Vec::from_slice(alloc, b"c")?, content))?;
+    report_of(alloc, &files, b"rebug-trace 1\n", b"")
+}
+
+// Ten bytes are those of `build.ninja`, which leaves 134,217,723 for each time that the comment is counted.
+#[test]
+fn bytes_count_each_time(rt: HostRuntime) -> Result<(), Fail> {
+    let met = of_comment(rt.alloc(), MEBIBYTE - 5)?;
+    assert_eq!(rt; met.as_slice(), b"".as_slice());
+    let passed = of_comment(rt.alloc(), MEBIBYTE - 4)?;
+    assert_eq!(rt;
+        passed.as_slice(),
+        b"fault manifest build.ninja 1 23\n".as_slice()
+    );
+    Ok(())
+}
+
 #[test]
 fn deep_pools(rt: HostRuntime) -> Result<(), Fail> {
     let alloc = rt.alloc();
