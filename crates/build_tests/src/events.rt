@@ -187,13 +187,6 @@ fn event_of(alloc: Global, line: &[u8]) -> Result<Event, Fail> {
     let (word, said) = cut(line, b' ');
     match word {
         b"interrupt" => Ok(Event::Interrupt),
-        b"resize" => {
-            let (pool, depth) = cut(said, b' ');
-            Ok(Event::Resize {
-                pool: number(pool),
-                depth: number(depth),
-            })
-        }
         b"plan" => Ok(Event::Plan(paths(alloc, said)?)),
         _ => event_of_output(alloc, word, said),
     }
@@ -268,10 +261,6 @@ fn push_cell(text: &mut Vec<u8>, cell: &Cell) -> Result<(), AllocError> {
             push_number(text, u64::from(*pool))?;
             push_number(text, u64::from(*slot))
         }
-        Cell::Depth(pool) => {
-            text.extend_from_slice(b"depth")?;
-            push_number(text, u64::from(*pool))
-        }
         Cell::Built(path) => push_name(text, b"built ", path),
         Cell::Deps(path) => push_name(text, b"deps ", path),
         Cell::Halted => text.extend_from_slice(b"halted"),
@@ -313,9 +302,7 @@ fn push_value(text: &mut Vec<u8>, value: &Value) -> Result<(), AllocError> {
     match value {
         Value::Stamp(stamp) => push_number(text, *stamp),
         Value::Mark(mark) => push_mark(text, mark),
-        Value::Job(number) | Value::Slot(number) | Value::Depth(number) => {
-            push_holder(text, *number)
-        }
+        Value::Job(holder) | Value::Slot(holder) => push_holder(text, *holder),
         Value::Built(Some(record)) => {
             push_number(text, record.stamp)?;
             text.push(b' ')?;
@@ -629,48 +616,5 @@ fn a_pass_hands_on_what_was_rebuilt(rt: HostRuntime) -> Result<(), Fail> {
     assert_eq!(rt; build.step(alloc, b"start b.o 0")?, None);
     assert_eq!(rt; build.step(alloc, b"finish b.o 40")?, None);
     assert!(rt; build.writes(alloc, b"pass w", b"mark 9 done 0\n")?);
-    Ok(())
-}
-
-#[test]
-fn depths_that_no_pool_can_have(rt: HostRuntime) -> Result<(), Fail> {
-    let alloc = rt.alloc();
-    let mut build = sources(alloc)?;
-    // The console pool is 0 and the declared one is 1, so there is no pool 2.
-    assert_eq!(rt; build.step(alloc, b"resize 2 3")?, Some(Refusal::BadResize));
-    assert_eq!(rt; build.step(alloc, b"resize 1 0")?, Some(Refusal::BadResize));
-    Ok(())
-}
-
-#[test]
-fn a_pool_with_more_slots_has_them(rt: HostRuntime) -> Result<(), Fail> {
-    let alloc = rt.alloc();
-    let mut build = sources(alloc)?;
-    assert_eq!(rt; build.step(alloc, b"plan x z")?, None);
-    assert!(rt; build.writes(alloc, b"resize 1 3", b"depth 1 3\n")?);
-    assert_eq!(rt; build.step(alloc, b"resize 1 3")?, None);
-    assert_eq!(rt; build.step(alloc, b"start x 0 3")?, Some(Refusal::PoolSlot));
-    assert_eq!(rt; build.step(alloc, b"start x 0 2")?, None);
-    assert_eq!(rt; build.step(alloc, b"start z 1 1")?, None);
-    Ok(())
-}
-
-#[test]
-fn a_slot_that_is_held_stays(rt: HostRuntime) -> Result<(), Fail> {
-    let alloc = rt.alloc();
-    let mut build = sources(alloc)?;
-    assert_eq!(rt; build.step(alloc, b"plan x z")?, None);
-    assert_eq!(rt; build.step(alloc, b"resize 1 4")?, None);
-    assert_eq!(rt; build.step(alloc, b"start x 0 2")?, None);
-    assert_eq!(rt; build.step(alloc, b"start z 1 1")?, None);
-    assert_eq!(rt; build.step(alloc, b"resize 1 3")?, None);
-    assert_eq!(rt;
-        build.step(alloc, b"resize 1 1")?,
-        Some(Refusal::DepthInUse(1, 6))
-    );
-    assert_eq!(rt;
-        build.step(alloc, b"resize 1 2")?,
-        Some(Refusal::DepthInUse(2, 5))
-    );
     Ok(())
 }
