@@ -10,11 +10,10 @@ use Rattle.rev_cells.specs.declared.cell.Cell.TheVariants as cell
 use Rattle.rev_cells.specs.declared.mark.Mark.{Mark}
 use Rattle.rev_cells.specs.declared.mark.Mark.TheVariants as mark
 use Rattle.rev_cells.specs.declared.value.Value.TheVariants as value
-use Rattle.rev_cells.specs.State.{State, stamp_of, mark_of, job_of, slot_of, given_depth_of, is_halted}
+use Rattle.rev_cells.specs.State.{State, stamp_of, mark_of, job_of, slot_of, is_halted}
 use Rattle.rev_causal.specs.Store.{keys_of}
 use Rattle.rev_dirty.specs.Inputs.{inputs, producers_in}
 use Rattle.rev_dirty.specs.Reasons.{newest_stamp, reasons_of, is_rebuilt, is_missing}
-use Rattle.rev_plan.specs.Options.{first_some}
 use Rattle.rev_plan.specs.Plan.{is_running_mark, is_running, plan_refusal, marks_of, edge_numbers, targets_or, still_running, mark_for, is_wanted, is_through}
 use Rattle.rev_events.specs.Edge.{Effect, write, slot_holder, write_slot, free_held, write_stamps, write_built, write_deps, write_first_deps, changes, where_true, seen_by, first_blocking, pass_changes}
 use Rattle.rev_events.specs.declared.event.Listing.{Listing}
@@ -26,7 +25,7 @@ use Rattle.rev_events.specs.Kinds.{start_refusal, start_effect, clean_refusal, c
 use Rattle.rev_events.specs.Machine.{of_edge, refusal, effect, write_marks}
 use Rattle.rev_events.specs.declared.refusal.Refusal.{Refusal}
 use Rattle.rev_events.specs.declared.refusal.Refusal.TheVariants.{NoSuchEdge}
-use Rattle.rev_events.specs.Refusal.{refuse_if, of_plan, pool_slot, phony_edge, not_phony, halted, not_halted, not_wanted, not_marked, not_running, blocked, not_dirty, no_such_job, job_busy, slot_busy, is_wanted_mark, is_through_mark}
+use Rattle.rev_events.specs.Refusal.{of_plan, pool_slot, phony_edge, not_phony, halted, not_halted, not_wanted, not_marked, not_running, blocked, not_dirty, no_such_job, job_busy, slot_busy, is_wanted_mark, is_through_mark}
 use Rattle.rev_events.specs.Pools.{present_pool}
 use Rattle.rev_events.proofs.HeldLemmas.{IsQuiet, quiet-held, replaced-held}
 use Rattle.rev_events.proofs.HeldSteps.{After, KeepsDepths, holding, files-quiet, files-depths, mark-quiet, mark-depths, depth-quiet, holding-depths, begins, ends}

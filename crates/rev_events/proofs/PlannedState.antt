@@ -1,6 +1,5 @@
 -- The state that an accepted plan leaves.
-use Rattle.std.proofs.Common.{◌≡◌, ℕ, ◌<◌, Bool, true, false, List, [], ◌∷◌, ◌++◌, map, length, Option, None, inl, inr, refl, sym, ap, subst, ◌∙◌, true≢false}
-use Rattle.std.specs.List.{range_with_len}
+use Rattle.std.proofs.Common.{◌≡◌, ℕ, Bool, true, false, List, [], ◌∷◌, ◌++◌, map, length, Option, None, inl, inr, refl, sym, ap, subst, ◌∙◌, true≢false}
 use Rattle.std.specs.FinMap.{get}
 use Rattle.rev_manifest.specs.Manifest.{ManifestValue}
 use Rattle.rev_cells.specs.declared.cell.Cell.{Cell}
@@ -9,7 +8,7 @@ use Rattle.rev_cells.specs.declared.mark.Mark.{Mark}
 use Rattle.rev_cells.specs.declared.value.Value.{Value}
 use Rattle.rev_cells.specs.declared.value.Value.TheVariants as value
 use Rattle.rev_cells.specs.Keys.{cell_cmp}
-use Rattle.rev_cells.specs.State.{State, stamp_of, mark_of, built_of, deps_of, default_or, stamp_in, mark_in, built_in, deps_in}
+use Rattle.rev_cells.specs.State.{State, mark_of, default_or, stamp_in, mark_in, built_in, deps_in}
 use Rattle.rev_cells.specs.Values.{unless_default}
 use Rattle.rev_causal.specs.Order.{Has, Distinct}
 use Rattle.rev_causal.specs.Store.{keys_of, set_cell, set_cells}

@@ -1,11 +1,15 @@
 -- The first of slots that is held.
-use Rattle.std.proofs.Common.{◌≡◌, ℕ, ◌+◌, ◌-◌, ◌<◌, ◌≤◌, suc, zero, List, [], ◌∷◌, map, Option, Some, None, inl, inr, sym, ap, ◌∙◌, arith}
+use Rattle.std.proofs.Common.{◌≡◌, ℕ, ◌+◌, ◌-◌, ◌<◌, ◌≤◌, suc, zero, Bool, true, false, not, List, [], ◌∷◌, map, Option, Some, None, inl, inr, refl, sym, ap, ◌∙◌, arith}
 use Rattle.std.specs.List.{range_with_len}
 use Rattle.std.specs.Option.{option_map}
 use Rattle.std.proofs.lemmas.Bool.{cases_eq}
 use Rattle.rev_cells.specs.State.{State, slot_of}
 use Rattle.rev_plan.specs.Options.{first_some}
-use Rattle.rev_events.specs.Pools.{slots_between, first_held}
+use Rattle.rev_manifest.specs.Manifest.{ManifestValue}
+use Rattle.rev_events.specs.declared.refusal.Refusal.TheVariants.{BadResize}
+use Rattle.rev_events.specs.Kinds.{resize_refusal}
+use Rattle.rev_events.specs.Pools.{slots_between, slots_lost, first_held, present_depth}
+use Rattle.rev_events.specs.Refusal.{refuse_if, bad_resize, depth_in_use}
 use Rattle.rev_events.proofs.TestLemmas.{first-none, none-mapped}
 
 -- where none is held, each is free
@@ -37,3 +41,25 @@ pub held-none : (s : State) (pool a b : ℕ) → b ≤ a → first_held s pool (
 held-none s pool a b out =
     let count : b - a ≡ zero = omega arith in
     ap (λ n. first_held s pool (range_with_len a n)) count
+
+-- WHY A POOL IS NOT GIVEN A DEPTH
+alone : {A : Type 0} (o : Option A) → first_some (o ∷ []) ≡ o
+alone None = refl
+alone (Some x) = refl
+
+pub resize-bad : (manifest : ManifestValue) (pool depth : ℕ) (s : State) (present : Option ℕ) (can : Bool) → present ≡ present_depth manifest s pool → bad_resize present depth ≡ refuse_if (not can) BadResize → can ≡ false
+    → resize_refusal manifest pool depth s ≡ Some BadResize
+unfolding resize_refusal
+resize-bad manifest pool depth s present can now is cannot =
+    let held : Option (ℕ × ℕ) = first_held s pool (slots_lost depth (present_depth manifest s pool)) in
+    ap (λ o. first_some (o ∷ depth_in_use held ∷ [])) (ap (λ o. bad_resize o depth) (sym now) ∙ is ∙ ap (λ b. refuse_if (not b) BadResize) cannot)
+
+pub resize-lost : (manifest : ManifestValue) (pool depth a b : ℕ) (s : State) (present : Option ℕ) (can : Bool) (held : Option (ℕ × ℕ)) → present ≡ present_depth manifest s pool
+    → bad_resize present depth ≡ refuse_if (not can) BadResize → can ≡ true → slots_between a b ≡ slots_lost depth (present_depth manifest s pool) → held ≡ first_held s pool (slots_between a b)
+    → resize_refusal manifest pool depth s ≡ depth_in_use held
+unfolding resize_refusal
+resize-lost manifest pool depth a b s present can held now is is-can lost at =
+    let fine : bad_resize (present_depth manifest s pool) depth ≡ None = ap (λ o. bad_resize o depth) (sym now) ∙ is ∙ ap (λ b. refuse_if (not b) BadResize) is-can in
+    (λ k. first_some (fine k ∷ depth_in_use (first_held s pool (sym lost k)) ∷ []))
+    ∙ alone (depth_in_use (first_held s pool (slots_between a b)))
+    ∙ ap depth_in_use (sym at)
