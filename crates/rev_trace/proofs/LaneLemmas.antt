@@ -1,12 +1,12 @@
 -- Lines of lanes, one more line of them.
-use Rattle.std.proofs.Common.{◌≡◌, ℕ, zero, suc, ◌<◌, ◌≤◌, ◌+◌, ◌&&◌, Bool, true, false, not, cond, List, [], ◌∷◌, ◌++◌, length, get_or, set, take, drop, map, fold, refl, sym, ap, ◌∙◌, subst, arith, ◌==◌, ◌⊎◌, inl, inr, append_assoc, length-append, Option, Some, None, Result, Ok, Err}
+use Rattle.std.proofs.Common.{◌≡◌, ℕ, zero, suc, ◌<◌, ◌≤◌, ◌+◌, ◌&&◌, Bool, true, false, not, cond, List, [], ◌∷◌, ◌++◌, length, get_or, take, fold, refl, sym, ap, ◌∙◌, subst, arith, ◌==◌, inl, inr, append_assoc, length-append, Option, Some, None, Result, Ok, Err}
 use Rattle.std.proofs.lemmas.Bool.{cases_Bool, cases_eq, eqb-true, eq-eqb, false≢true, leb-true, ltb-true}
-use Rattle.std.proofs.lemmas.List.{append-nil, ext_get_or, get_or-set_other, length-set, take_more}
+use Rattle.std.proofs.lemmas.List.{append-nil, ext_get_or, take_more}
 use Rattle.std.proofs.lemmas.List.Elements.{filter_map-append}
 use Rattle.std.proofs.lemmas.List.FromFn.{get_or-map-range_with_len, length-map-range_with_len}
-use Rattle.std.proofs.lemmas.Grind.{fold-append, get_or-set_at}
+use Rattle.std.proofs.lemmas.Grind.{fold-append}
 use borrow.Author.Count.{below_more}
-use Rattle.std.specs.List.{AllByRecursion, cons_option, range_with_len}
+use Rattle.std.specs.List.{AllByRecursion}
 use Rattle.std.specs.Prelude.{nat_lt}
 use Rattle.std.specs.Result.{result_err, result_ok}
 use Rattle.rev_commands.specs.declared.command.Command.{Command}
@@ -16,7 +16,7 @@ use Rattle.rev_fields.specs.Lines.{is_blank}
 use Rattle.rev_trace.specs.declared.version.Version.{Version}
 use Rattle.rev_trace.specs.declared.version.Version.TheVariants.{One, Two}
 use Rattle.rev_trace.specs.Lanes.{is_lane, lane_behind, lane_in_turn, lane_line, lane_number, line_of_lane, lines_of_lane, opened, opened_by, opened_in, opened_of, opens_lane}
-use Rattle.rev_trace.specs.Lists.{IsHeld, LanesValue, one_lane, with_command, with_lane}
+use Rattle.rev_trace.specs.Lists.{IsHeld, LanesValue, one_lane, with_lane}
 use Rattle.rev_trace.specs.Traces.{commands_in, lane_wrong, lanes_from, wrong_in_lane}
 use Rattle.rev_trace.specs.Versions.{held_line, may_name}
 use Rattle.rev_trace.proofs.GrammarLemmas.{bind_ok}
@@ -159,22 +159,6 @@ pub filled_from_lane : (line : List ℕ) → opens_lane line ≡ true → is_bla
 filled_from_lane [] h = absurd (false≢true h)
 filled_from_lane (b ∷ bs) h = refl
 
-pub held_blank : (version : Version) (targets : List (List ℕ)) (lanes : LanesValue) (line : List ℕ) → lanes.named < length lanes.lists → is_blank line ≡ true → IsHeld version targets lanes line lanes
-held_blank version targets lanes (b ∷ bs) lt blank = absurd (false≢true blank)
-held_blank version targets lanes [] lt blank =
-    record {
-      sound = refl;
-      named_is = refl;
-      named_in = lt;
-      many = refl;
-      few = λ h. h;
-      lists_are = λ n. sym (ap (λ l. get_or lanes.lists n [] ++ l) (by (lanes.named == n)) ∙ append-nil (get_or lanes.lists n []));
-    }
-  where
-    by : (b : Bool) → commands_in version targets (cond (b && true) ([] ∷ []) [] ++ []) ≡ []
-    by true = refl
-    by false = refl
-
 push-nothing : {X : Type 0} (xs : List (List X)) (k : ℕ) → get_or (xs ++ [] ∷ []) k [] ≡ get_or xs k []
 push-nothing [] zero = refl
 push-nothing [] (suc k) = refl
@@ -212,46 +196,6 @@ held_lane version targets old line n opens said =
           grown-at (n == count) old.lists k ∙ sym (append-nil (get_or old.lists k []))
           ∙ ap (λ l. get_or old.lists k [] ++ commands_in version targets (l ++ [])) (sym (line_of_lane-named k (Some old.named) line opens));
     }
-
-pub held_command : (version : Version) (targets : List (List ℕ)) (old : LanesValue) (line : List ℕ) (c : Command) → old.named < length old.lists → is_blank line ≡ false → opens_lane line ≡ false → held_line version targets line ≡ Ok c
-    → IsHeld version targets old line (with_command old c)
-held_command version targets old line c lt filled closed said =
-    let count = length old.lists in
-    let more = get_or old.lists old.named [] ++ c ∷ [] in
-    let many : length (set old.lists old.named more) ≡ count = length-set old.lists old.named more in
-    record {
-      sound = ap (λ b. cond b None (cond (opens_lane line) (result_err (lane_line version count line)) (result_err (held_line version targets line)))) filled
-          ∙ ap (λ b. cond b (result_err (lane_line version count line)) (result_err (held_line version targets line))) closed ∙ ap result_err said;
-      named_is = lane_behind-closed (Some old.named) line closed;
-      named_in = omega (arith, many, lt);
-      many = many ∙ sym (opened_by-closed count line closed);
-      few = λ h. omega (arith, many, h);
-      lists_are = λ k.
-          at k (cases_Bool (old.named == k))
-          ∙ ap (λ l. get_or old.lists k [] ++ commands_in version targets (l ++ [])) (sym (line_of_lane-closed k (Some old.named) line closed));
-    }
-  where
-    at : (k : ℕ) → ((old.named == k) ≡ true) ⊎ ((old.named == k) ≡ false)
-        → get_or (set old.lists old.named (get_or old.lists old.named [] ++ c ∷ [])) k [] ≡ get_or old.lists k [] ++ commands_in version targets (cond (old.named == k) (line ∷ []) [] ++ [])
-    at k (inl same) =
-        let e : old.named ≡ k = eqb-true old.named k same in
-        get_or-set_at old.lists old.named k (get_or old.lists old.named [] ++ c ∷ []) [] (sym e) lt ∙ ap (λ m. get_or old.lists m [] ++ c ∷ []) e
-        ∙ ap (λ o. get_or old.lists k [] ++ cons_option (result_ok o) []) (sym said)
-        ∙ ap (λ b. get_or old.lists k [] ++ commands_in version targets (cond b (line ∷ []) [] ++ [])) (sym same)
-    at k (inr other) =
-        get_or-set_other old.lists old.named k (get_or old.lists old.named [] ++ c ∷ []) [] (λ e. false≢true (sym other ∙ eq-eqb old.named k (sym e)))
-        ∙ sym (append-nil (get_or old.lists k []))
-        ∙ ap (λ b. get_or old.lists k [] ++ commands_in version targets (cond b (line ∷ []) [] ++ [])) (sym other)
-
-pub fault_lane : (version : Version) (targets : List (List ℕ)) (count : ℕ) (line : List ℕ) (kind : FaultKind) → opens_lane line ≡ true → lane_line version count line ≡ Err kind → wrong_in_lane version targets count line ≡ Some kind
-fault_lane version targets count line kind opens said =
-    ap (λ b. cond b None (cond (opens_lane line) (result_err (lane_line version count line)) (result_err (held_line version targets line)))) (filled_from_lane line opens)
-    ∙ ap (λ b. cond b (result_err (lane_line version count line)) (result_err (held_line version targets line))) opens ∙ ap result_err said
-
-pub fault_command : (version : Version) (targets : List (List ℕ)) (count : ℕ) (line : List ℕ) (kind : FaultKind) → is_blank line ≡ false → opens_lane line ≡ false → held_line version targets line ≡ Err kind → wrong_in_lane version targets count line ≡ Some kind
-fault_command version targets count line kind filled closed said =
-    ap (λ b. cond b None (cond (opens_lane line) (result_err (lane_line version count line)) (result_err (held_line version targets line)))) filled
-    ∙ ap (λ b. cond b (result_err (lane_line version count line)) (result_err (held_line version targets line))) closed ∙ ap result_err said
 
 -- lanes of which so many lines are read
 pub record ReadsLanes (version : Version) (targets lines : List (List ℕ)) (lanes : LanesValue) (count : ℕ) : Type 0 where
