@@ -24,6 +24,12 @@ returns-clause-workers c =
     ∙ ap (first_of (codes "workers")) c.in_ok-matches.ensures.rows in
     ((λ on. sym same ∙ c.is_on.ensures.0 on), (λ e. c.is_on.ensures.1 (same ∙ e)))
 
+pub returns-clause-migrate : goal.returns-clause-migrate
+returns-clause-migrate c =
+    let same = first_value-rows (found_of c.in_ok-matches.matches) (codes "migrate")
+    ∙ ap (first_of (codes "migrate")) c.in_ok-matches.ensures.rows in
+    ((λ on. sym same ∙ c.is_on-2.ensures.0 on), (λ e. c.is_on-2.ensures.1 (same ∙ e)))
+
 pub returns-clause-files : goal.returns-clause-files
 returns-clause-files c =
     c.in_ok-files.ensures
