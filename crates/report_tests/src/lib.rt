@@ -9,4 +9,6 @@ mod devices;
 #[cfg(test)]
 mod limits;
 #[cfg(test)]
+mod migrations;
+#[cfg(test)]
 mod reports;
