@@ -39,11 +39,11 @@ def _story_test(folder):
     return test
 
 
-def _plain_test(folder, trace):
+def _plain_test(folder):
     """An example whose script lies beside its trace is answered as its report has it."""
 
     def test(self):
-        words = ["--manifest", "build.ninja", "--trace", trace, "--script", "script"]
+        words = ["--manifest", "build.ninja", "--trace", "trace", "--script", "script"]
         done = subprocess.run([self.program(), *words], cwd=folder, stdin=subprocess.DEVNULL, capture_output=True)
         self.assertEqual(done.stdout, (folder / "report").read_bytes())
         self.assertEqual(done.returncode, 0)
@@ -87,8 +87,5 @@ for _story in sorted(EXAMPLES.glob("*/*/story")):
 for _example in sorted({it.parents[1] for it in EXAMPLES.glob("*/*/story")}):
     setattr(ReplaysOfExamples, f"test_{_example.name}_quotes_what_is_there", _quote_test(_example / "README.md"))
 for _plain in sorted(EXAMPLES.glob("*/script")):
-    setattr(ReplaysOfExamples, f"test_{_plain.parent.name}_is_answered", _plain_test(_plain.parent, "trace"))
-    if (_plain.parent / "trace.2").exists():
-        # the same lanes in version 2
-        setattr(ReplaysOfExamples, f"test_{_plain.parent.name}_in_version_2", _plain_test(_plain.parent, "trace.2"))
+    setattr(ReplaysOfExamples, f"test_{_plain.parent.name}_is_answered", _plain_test(_plain.parent))
     setattr(ReplaysOfExamples, f"test_{_plain.parent.name}_quotes_its_report", _plain_quote_test(_plain.parent))

@@ -9,6 +9,4 @@ mod devices;
 #[cfg(test)]
 mod limits;
 #[cfg(test)]
-mod migrations;
-#[cfg(test)]
 mod reports;

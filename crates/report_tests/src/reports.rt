@@ -408,62 +408,6 @@ const RESIZE_TO_NO_NUMBER: Row = Row {
     status: Status::Fault,
 };
 
-const LANES_NAMED_AGAIN: Row = Row {
-    manifest: POOLS_MANIFEST,
-    trace: "rebug-trace 2\njobs 2\nlane 0\nplan x y z t\nlane 1\nstart x 0 0\nlane 0\nresize 1 2\nlane 1\nstart y 1 1\n",
-    script: "run\n",
-    report: "1 0 ok\n2 1 ok\n3 0 ok\n4 1 ok\n",
-    status: Status::Success,
-};
-
-const LANES_NAMED_AGAIN_IN_A_FIRST_TRACE: Row = Row {
-    manifest: POOLS_MANIFEST,
-    trace: "rebug-trace 1\njobs 2\nlane 0\nplan x y z t\nlane 1\nstart x 0 0\nlane 0\nresize 1 2\nlane 1\nstart y 1 1\n",
-    script: "run\n",
-    report: "fault trace 7 102\n",
-    status: Status::Fault,
-};
-
-const THIRD_VERSION: Row = Row {
-    manifest: POOLS_MANIFEST,
-    trace: "rebug-trace 3\njobs 2\nlane 0\nplan x y z t\nlane 1\nstart x 0 0\nlane 0\nresize 1 2\nlane 1\nstart y 1 1\n",
-    script: "run\n",
-    report: "fault trace 1 104\n",
-    status: Status::Fault,
-};
-
-const SECOND_VERSION_WITH_ZEROS: Row = Row {
-    manifest: "",
-    trace: "rebug-trace 02\n",
-    script: "run\n",
-    report: "fault trace 1 104\n",
-    status: Status::Fault,
-};
-
-const PLACES_OF_A_LANE_NAMED_AGAIN: Row = Row {
-    manifest: "",
-    trace: "rebug-trace 2\nlane 0\ntouch a 1\nlane 1\ntouch b 2\nlane 0\ntouch a 3\nlane 1\nundo 0:2\n",
-    script: "run\nstamps\n",
-    report: "1 0 ok\n2 1 ok\n3 0 ok\n4 1 ok\nstamp a 1\nstamp b 2\n",
-    status: Status::Success,
-};
-
-const LANE_LEFT_OUT: Row = Row {
-    manifest: "",
-    trace: "rebug-trace 2\nlane 0\nback\nlane 2\nback\nlane 1\n",
-    script: "run\n",
-    report: "fault trace 4 102\n",
-    status: Status::Fault,
-};
-
-const OPENING_BEHIND_A_LANE: Row = Row {
-    manifest: "",
-    trace: "rebug-trace 2\nlane 0\nlane 0\nstamp a 1\n",
-    script: "run\n",
-    report: "fault trace 4 100\n",
-    status: Status::Fault,
-};
-
 // A writer that takes some writes, and then fails or takes no byte.
 #[derive(Drop)]
 struct Failing {
@@ -540,13 +484,6 @@ fn rows(rt: HostRuntime) -> Result<(), Fail> {
         RESIZE_IN_A_FIRST_TRACE,
         RESIZE_WITHOUT_A_DEPTH,
         RESIZE_TO_NO_NUMBER,
-        LANES_NAMED_AGAIN,
-        LANES_NAMED_AGAIN_IN_A_FIRST_TRACE,
-        THIRD_VERSION,
-        SECOND_VERSION_WITH_ZEROS,
-        PLACES_OF_A_LANE_NAMED_AGAIN,
-        LANE_LEFT_OUT,
-        OPENING_BEHIND_A_LANE,
     ];
     for row in &rows {
         let name = Vec::from_slice(alloc, b"build.ninja")?;
