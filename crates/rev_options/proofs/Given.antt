@@ -1,12 +1,11 @@
 -- That a command line whose options have to be given gives them values.
-use Rattle.std.proofs.Common.{zero, suc, ◌≡◌, ◌∙◌, ◌==◌, ◌<◌, ap, arith, codes, false, if◌then◌else◌, inl, inr, length, List, [], ◌∷◌, ℕ, slice_index, subst, sym, refl}
+use Rattle.std.proofs.Common.{zero, suc, ◌≡◌, ◌∙◌, ◌==◌, ◌<◌, ap, arith, false, if◌then◌else◌, inl, inr, length, List, [], ◌∷◌, ℕ, slice_index, sym}
 use Rattle.std.specs.List.{All, slice_index_or}
-use Rattle.std.specs.Str.{bytes_eq}
 use Rattle.std.proofs.lemmas.List.Elements.{All-cons, All-nil}
 use Rattle.std.proofs.lemmas.Slice.Eq.{bytes_eq-Decides}
 use Rattle.clap.specs.Facts.{args_of, groups_of}
-use Rattle.clap.specs.Built.{AddsArg, AddsInTurn, FitsChain, HasDistinctIds, IsAuto, IsPlainArg, TakesValue}
-use Rattle.clap.specs.Words.{Rule, Text, found_of, first_value, rule_of}
+use Rattle.clap.specs.Built.{AddsArg, AddsInTurn, FitsChain, HasDistinctIds, IsPlainArg, TakesValue}
+use Rattle.clap.specs.Words.{Text}
 use Rattle.clap.specs.declared.builder.arg.Arg.{Arg}
 use Rattle.clap.specs.declared.builder.command.Command.{Command}
 use Rattle.clap.specs.declared.builder.command.Command.TheViews.{out-Command}

@@ -12,7 +12,6 @@ use Rattle.std.specs.List.{AllByRecursion, cons_option, filter, flat_map, range_
 use Rattle.std.specs.Fmt.{decimal}
 use Rattle.std.specs.Prelude.{codes}
 use Rattle.std.specs.Result.{result_err, result_ok}
-use Rattle.std.specs.Str.{bytes_eq}
 use Rattle.rev_commands.specs.declared.command.Command.{Command}
 use Rattle.rev_fields.specs.declared.faults.FaultKind.{FaultKind}
 use Rattle.rev_fields.specs.declared.faults.FaultKind.TheVariants.{Header, Syntax}
@@ -27,11 +26,11 @@ use Rattle.rev_trace.specs.declared.version.Version.{Version}
 use Rattle.rev_trace.specs.declared.version.Version.TheVariants.{One, Two}
 use Rattle.rev_trace.specs.Commands.{command_of}
 use Rattle.rev_trace.specs.Grammar.{Exact, LineSays, SaysRecord}
-use Rattle.rev_trace.specs.Lanes.{lane_behind, lane_line, lane_named, lane_number, line_of_lane, lines_of_lane, opened, opened_in, opens_lane}
+use Rattle.rev_trace.specs.Lanes.{lane_behind, lane_line, lane_named, lane_number, lines_of_lane, opened, opened_in, opens_lane}
 use Rattle.rev_trace.specs.Records.{HeadValue, head_of, opening_wrong, record_line, record_of}
 use Rattle.rev_trace.specs.Says.{AreCommands, AreOnce, ArePartsOfLanes, AreRecords, EmptyInLane, EmptyInOpening, FaultsAreFirst, IsFirstFault, IsLaneLine, IsWrongBehind, NoCommand, NoHeader, NoPart, NoRecord, OneCommand, OneOrTheOther, OnePart, OneRecord, Part, SaysLines, SaysTrace, TracesAreSaid, WrongLine, commands_of_lane, is_double, is_second, lanes_of_parts, opened_behind}
 use Rattle.rev_trace.specs.Traces.{TraceValue, commands_in, has_lane, head_in, lane_count, lanes_in, opening_lines, records_in, said_by_lines, targets_in, trace_fault, trace_of, trace_wrong, value_of, wrong_in}
-use Rattle.rev_trace.specs.Versions.{first_line, held_line, held_of, is_first, may_begin, may_hold, may_name, version_of}
+use Rattle.rev_trace.specs.Versions.{first_line, held_line, held_of, is_first, may_hold, may_name, version_of}
 use Rattle.rev_trace.proofs.GrammarLemmas.{said_read}
 use Rattle.rev_trace.proofs.JudgeLemmas.{Continues, Judged, MoreCommand, MoreEmpty, MoreLane, MoreRecord, begins-holds, command-closed, continues-judge, is_empty, judge, judged, lane-opens, record-closed, wrong-judge}
 use Rattle.rev_trace.proofs.LaneLemmas.{commands_in-append, lane_behind-named, line_of_lane-named, lines_of_lane-closed, opened_by-named, opened_in-closed}

@@ -1,5 +1,5 @@
 -- Which texts say which traces, and where a text that says none first goes wrong.
-use Rattle.std.specs.Prelude.{◌≡◌, ◌↔◌, ℕ, suc, ◌+◌, ◌<◌, ◌^◌, ◌⊎◌, ◌==◌, Bool, true, false, ◌&&◌, bytes_eq, codes, decimal, fold, length, map, List, [], ◌∷◌, ◌++◌, Some, None}
+use Rattle.std.specs.Prelude.{◌≡◌, ◌↔◌, ℕ, ◌+◌, ◌<◌, ◌^◌, ◌⊎◌, ◌==◌, Bool, true, false, ◌&&◌, bytes_eq, codes, decimal, fold, length, map, List, [], ◌∷◌, ◌++◌, Some, None}
 use Rattle.std.specs.List.{filter, flat_map, list_any, range_with_len}
 use Rattle.rev_commands.specs.declared.command.Command.{Command}
 use Rattle.rev_fields.specs.declared.faults.FaultKind.{FaultKind}

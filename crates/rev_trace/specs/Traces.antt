@@ -1,6 +1,6 @@
 -- Traces: a first line that names the format and its version, then opening lines, then lines of lanes, each part of
 -- them after the line that names its lane.
-use Rattle.std.specs.Prelude.{◌≡◌, ℕ, ◌<◌, ◌≤◌, ◌+◌, Bool, true, false, if◌then◌else◌, List, [], ◌∷◌, map, take, drop, length, Option, Some, None}
+use Rattle.std.specs.Prelude.{◌≡◌, ℕ, ◌<◌, ◌≤◌, Bool, true, false, if◌then◌else◌, List, [], ◌∷◌, map, take, drop, length, Option, Some, None}
 use Rattle.std.specs.Result.{result_err}
 use Rattle.std.specs.List.{list_any, range_with_len, slice_index_or, before_first}
 use Rattle.std.specs.Global.{Vec}

@@ -1,6 +1,6 @@
 -- The two versions of the format. They have the same lines but for the first; they differ in which lanes may be named,
 -- and in what a lane may hold.
-use Rattle.std.specs.Prelude.{ℕ, ◌==◌, Bool, true, false, not, nat_le, if◌then◌else◌, bytes_eq, codes, List, [], ◌∷◌, Result, Ok, Err}
+use Rattle.std.specs.Prelude.{ℕ, ◌==◌, Bool, true, false, not, nat_le, if◌then◌else◌, bytes_eq, codes, List, [], ◌∷◌, Result, Err}
 use Rattle.rev_commands.specs.declared.command.Command.{Command}
 use Rattle.rev_commands.specs.declared.command.Command.TheVariants as command
 use Rattle.rev_events.specs.declared.event.Event.TheVariants as event

@@ -1,10 +1,9 @@
-use Rattle.std.proofs.Common.{rules, ap, ap₂, ◌≡◌, ◌∙◌, ◌∷◌, ◌++◌, [], codes, IfOk, refl, slice_index}
+use Rattle.std.proofs.Common.{ap, ap₂, ◌≡◌, ◌∙◌, codes, IfOk, refl, slice_index}
 use Rattle.std.proofs.lemmas.Result.{IfOk-weaker}
 use Rattle.clap.specs.Built.{AddsArg}
-use Rattle.clap.specs.Facts.{args_of, groups_of}
-use Rattle.clap.specs.Words.{Rule, Text, app_of, rule_of, new_app, with_rule}
+use Rattle.clap.specs.Words.{Rule, Text, app_of, with_rule}
 use Rattle.clap.specs.declared.builder.command.Command.{Command}
-use Rattle.rev_options.specs.CommandLine.{Gives, file_rule, flag_rule, others_rule, program}
+use Rattle.rev_options.specs.CommandLine.{Gives, program}
 use Rattle.rev_options.proofs.Given.{IsAt, given}
 use Rattle.rev_options.proofs.command.command.Goals as goal
 

@@ -1,4 +1,4 @@
-use Rattle.std.proofs.Common.{◌≡◌, ap, codes, IfOk, map, refl, string_bytes, subst, true}
+use Rattle.std.proofs.Common.{◌≡◌, ap, IfOk, map, refl, string_bytes, subst}
 use Rattle.std.proofs.lemmas.Result.{IfOk-weaker}
 use Rattle.clap.specs.Words.{App, FailsBy, HasMatchesOf, fault_of, found_of, is_simple_and_free, matches_of, rows_of}
 use Rattle.rev_options.specs.CommandLine.{program}

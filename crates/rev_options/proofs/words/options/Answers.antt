@@ -1,4 +1,4 @@
-use Rattle.std.proofs.Common.{◌≡◌, ◌∙◌, [], List, Option, ap, codes, map, string_bytes, sym, unwrap_or}
+use Rattle.std.proofs.Common.{◌∙◌, [], List, Option, ap, codes, sym, unwrap_or}
 use Rattle.clap.specs.Words.{Text, all_of, first_of, found_of}
 use Rattle.clap.proofs.WalkLemmas.{first_value-rows, raw_values-rows}
 use Rattle.rev_options.proofs.words.options.Goals as goal

@@ -1,10 +1,8 @@
-use Rattle.std.proofs.Common.{◌≡◌, arith, true, false, length, sym, ap, ◌∙◌, subst}
+use Rattle.std.proofs.Common.{◌≡◌, arith, true, length, sym, ap, ◌∙◌, subst}
 use Rattle.std.proofs.lemmas.List.{length-map}
-use Rattle.rev_fields.specs.Lines.{is_blank}
-use Rattle.rev_fields.proofs.SaidLemmas.{is_blank-length}
 use Rattle.rev_trace.specs.Lanes.{lane_line, opens_lane}
 use Rattle.rev_trace.specs.Lists.{IsHeld, LanesValue, shown}
-use Rattle.rev_trace.proofs.LaneLemmas.{held_blank, held_command, held_lane}
+use Rattle.rev_trace.proofs.LaneLemmas.{held_lane}
 use Rattle.rev_trace.proofs.lanes.add_held.Goals as goal
 
 pub returns-then-opens_lane-clause-ok : goal.returns-then-opens_lane-clause-ok

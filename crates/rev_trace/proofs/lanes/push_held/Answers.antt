@@ -1,4 +1,4 @@
-use Rattle.std.proofs.Common.{◌≡◌, ℕ, ◌++◌, List, [], ◌∷◌, get_or, set, sym, ap, ◌∙◌}
+use Rattle.std.proofs.Common.{◌≡◌, ◌++◌, List, [], ◌∷◌, get_or, set, sym, ap, ◌∙◌}
 use Rattle.std.proofs.lemmas.List.{get_or-map, map-set}
 use Rattle.rev_commands.specs.declared.command.Command.{Command}
 use Rattle.rev_trace.specs.Lists.{LanesValue}
