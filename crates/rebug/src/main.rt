@@ -87,8 +87,8 @@ fn read_manifest<'a, R: Files + AllocGlobal>(
     Ok(files)
 }
 
-// Writes what is left of a report, and says a sentence beside its fault line. Such a line is short and the last, so it is
-// still in the buffer.
+// Writes what is left of a report, and says a sentence beside its fault line. Such a line is short and the last, so it
+// is still in the buffer.
 fn end<'a, R: Eprint + AllocGlobal, W: Write + Drop>(
     rt: &R,
     writer: &mut BufWriter<W>,

@@ -16,7 +16,8 @@ struct Row {
 }
 
 const POOLS: &str = "pool one\n  depth = 1\npool any\n  depth = 0\n\
-rule r\n  command = r $out\n  pool = one\nbuild x: r\nbuild y: r\nbuild z: r\n  pool = any\nbuild t: r\n  pool = console\n";
+rule r\n  command = r $out\n  pool = one\n\
+build x: r\nbuild y: r\nbuild z: r\n  pool = any\nbuild t: r\n  pool = console\n";
 
 const POOL_LINES: &str =
     "jobs 2\nlane 0\nplan x y z t\nlane 1\nstart x 0 0\nlane 0\nresize 1 2\nlane 1\nstart y 1 1\n";
@@ -140,15 +141,18 @@ const COMPILES: &str =
 const LANE_BY_LANE: Row = Row {
     manifest: COMPILES,
     first: "rebug-trace 1\n",
-    lines: "jobs 2\nstamp a.c 1\nstamp b.c 1\nlane 0\nplan\nstart a.o 0\nfinish a.o 2\nlane 1\nbreak finish a.o\nstart b.o 1\nundo 0:2\n",
+    lines: "jobs 2\nstamp a.c 1\nstamp b.c 1\n\
+lane 0\nplan\nstart a.o 0\nfinish a.o 2\nlane 1\nbreak finish a.o\nstart b.o 1\nundo 0:2\n",
     script: "run\ncontinue\nrun\nundo 1:2\nkept\n",
-    report: "1 0 ok\n2 1 ok\n3 0 ok\n4 1 ok\n5 0 ok break 2\n6 2 ok\n7 1 refused 82 5\n8 2 ok\nkept 1 plan\nkept 3 start a.o 0\nkept 5 finish a.o 2\n",
+    report: "1 0 ok\n2 1 ok\n3 0 ok\n4 1 ok\n5 0 ok break 2\n6 2 ok\n\
+7 1 refused 82 5\n8 2 ok\nkept 1 plan\nkept 3 start a.o 0\nkept 5 finish a.o 2\n",
     status: Status::Success,
 };
 
 const IN_THE_ORDER_OF_TIME: Row = Row {
     first: "rebug-trace 2\n",
-    lines: "jobs 2\nstamp a.c 1\nstamp b.c 1\nlane 0\nplan\nlane 1\nbreak finish a.o\nlane 0\nstart a.o 0\n\nlane 1\nstart b.o 1\nlane 0\nfinish a.o 2\nlane 1\nundo 0:2\n",
+    lines: "jobs 2\nstamp a.c 1\nstamp b.c 1\n\
+lane 0\nplan\nlane 1\nbreak finish a.o\nlane 0\nstart a.o 0\n\nlane 1\nstart b.o 1\nlane 0\nfinish a.o 2\nlane 1\nundo 0:2\n",
     ..LANE_BY_LANE
 };
 

@@ -31,8 +31,8 @@ bare_program = on_top (λ s. record s { has_version = true }) (new_app (codes "r
 abbrev pub program : App
 program =
     with_rule (with_rule (with_rule (with_rule (with_rule (with_rule bare_program
-    (file_rule (codes "manifest"))) (file_rule (codes "trace"))) (file_rule (codes "script"))) (flag_rule (codes "workers")))
-    (flag_rule (codes "migrate"))) others_rule
+    (file_rule (codes "manifest"))) (file_rule (codes "trace"))) (file_rule (codes "script")))
+    (flag_rule (codes "workers"))) (flag_rule (codes "migrate"))) others_rule
 
 -- the value of an option, if the words give it one
 abbrev pub value_in : List Text → Text → Option Text

@@ -282,4 +282,3 @@ pub IsFirstWrong-length : (version : Version) (lines : List (List ℕ)) (n : ℕ
 IsFirstWrong-length version lines n f e h =
     let P : ℕ → Type 0 = λ m. IsFirstWrong (wrong_at version lines) m 1 f in
     subst P e h
-

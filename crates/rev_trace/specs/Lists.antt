@@ -34,7 +34,9 @@ with_command lanes c =
     }
 
 -- lanes to which a line has added what it says
-pub record IsHeld (version : Version) (targets : List (List ℕ)) (old : LanesValue) (line : List ℕ) (new : LanesValue) : Type 0 where
+pub record IsHeld
+    (version : Version) (targets : List (List ℕ)) (old : LanesValue) (line : List ℕ) (new : LanesValue)
+    : Type 0 where
   pub sound : wrong_in_lane version targets (length old.lists) line ≡ None
   pub named_is : lane_behind (Some old.named) line ≡ Some new.named
   pub named_in : new.named < length new.lists

@@ -93,7 +93,9 @@ pub data ArePartsOfLanes : Version → List (List ℕ) → ℕ → List (List �
       → ArePartsOfLanes version targets n (line ∷ (lines ++ rest)) (part ∷ parts)
 
 -- the lines after the first say these records, and then these parts of lanes
-pub record SaysLines (version : Version) (lines : List (List ℕ)) (records : List Record) (parts : List Part) : Type 0 where
+pub record SaysLines
+    (version : Version) (lines : List (List ℕ)) (records : List Record) (parts : List Part)
+    : Type 0 where
   pub opening : List (List ℕ)
   pub behind : List (List ℕ)
   pub whole : lines ≡ opening ++ behind
@@ -101,8 +103,8 @@ pub record SaysLines (version : Version) (lines : List (List ℕ)) (records : Li
   pub once : AreOnce records
   pub are_parts : ArePartsOfLanes version (head_of records).targets 0 behind parts
 
--- A text says a trace: its first line names the format and a version, the others say records and parts of lanes, and the
--- trace has what the records make and the lanes of these parts.
+-- A text says a trace: its first line names the format and a version, the others say records and parts of lanes, and
+-- the trace has what the records make and the lanes of these parts.
 pub record SaysTrace (text : List ℕ) (trace : TraceValue) : Type 0 where
   pub version : Version
   pub lines : List (List ℕ)

@@ -125,7 +125,8 @@ pub record IsOpened (version : Version) (lines : List (List ℕ)) (head : HeadVa
 abbrev pub wrong_in_lane : Version → List (List ℕ) → ℕ → List ℕ → Option FaultKind
 wrong_in_lane version targets count line =
     if is_blank line then None
-    else (if opens_lane line then result_err (lane_line version count line) else result_err (held_line version targets line))
+    else (if opens_lane line then result_err (lane_line version count line)
+    else result_err (held_line version targets line))
 
 -- what is wrong with the line at a place of those after the one that opens the first lane
 abbrev pub lane_wrong : Version → List (List ℕ) → List (List ℕ) → ℕ → Option FaultKind

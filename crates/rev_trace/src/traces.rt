@@ -149,10 +149,10 @@ fn read_lines(alloc: Global, version: Version, lines: &[&[u8]]) -> Result<Trace,
     })
 }
 
-/// Reads a trace: the line `rebug-trace 1` or `rebug-trace 2`, then opening lines (`jobs N` at most once,
-/// `stamp PATH N`, `built PATH N COMMAND`, `deps PATH N PATH...`, `target PATH`), and then lanes, each a line `lane N`
-/// and the commands after it, where N counts them from 0. Empty lines are skipped. In version 2 a line `lane N` may also
-/// name a lane that was opened before, whose commands go on behind it, and lanes may hold lines `resize POOL DEPTH`.
+/// Reads a trace: the line `rebug-trace 1` or `rebug-trace 2`, then opening lines (`jobs N` at most once, `stamp PATH
+/// N`, `built PATH N COMMAND`, `deps PATH N PATH...`, `target PATH`), and then lanes, each a line `lane N` and the
+/// commands after it, where N counts them from 0. Empty lines are skipped. In version 2 a line `lane N` may also name a
+/// lane that was opened before, whose commands go on behind it, and lanes may hold lines `resize POOL DEPTH`.
 pub fn read(alloc: Global, text: &[u8]) -> Result<Trace, TraceFault>
     ensures opening { IfOk result (λ trace. trace.opening ≡ (trace_of text.now).opening) }
     ensures targets { IfOk result (λ trace. trace.targets ≡ (trace_of text.now).targets) }
