@@ -10,3 +10,6 @@ mod devices;
 mod limits;
 #[cfg(test)]
 mod reports;
+
+#[cfg(test)]
+mod versions;
