@@ -18,7 +18,8 @@ struct Row {
 const POOLS: &str = "pool one\n  depth = 1\npool any\n  depth = 0\n\
 rule r\n  command = r $out\n  pool = one\nbuild x: r\nbuild y: r\nbuild z: r\n  pool = any\nbuild t: r\n  pool = console\n";
 
-const POOL_LINES: &str = "jobs 2\nlane 0\nplan x y z t\nlane 1\nstart x 0 0\nlane 0\nresize 1 2\nlane 1\nstart y 1 1\n";
+const POOL_LINES: &str =
+    "jobs 2\nlane 0\nplan x y z t\nlane 1\nstart x 0 0\nlane 0\nresize 1 2\nlane 1\nstart y 1 1\n";
 
 const NAMED_AGAIN: Row = Row {
     manifest: POOLS,
@@ -108,13 +109,7 @@ fn report_of(alloc: Global, row: &Row) -> Result<(Vec<u8>, Status), RunFault> {
     let name = Vec::from_slice(alloc, b"build.ninja")?;
     let files = [(name, Vec::from_slice(alloc, row.manifest.as_bytes())?)];
     let mut report = Vec::new(alloc);
-    let status = run_serial(
-        alloc,
-        &files,
-        &trace,
-        row.script.as_bytes(),
-        &mut report,
-    )?;
+    let status = run_serial(alloc, &files, &trace, row.script.as_bytes(), &mut report)?;
     Ok((report, status))
 }
 
@@ -186,9 +181,21 @@ fn migrated(rt: HostRuntime) -> Result<(), Fail> {
         ),
         ("", "fault trace 1 104\n", Status::Fault),
         ("rebug-trace 1\r\n", "fault trace 1 104\n", Status::Fault),
-        ("rebug-trace 1\nlane 0\nlane 0\n", "fault trace 3 102\n", Status::Fault),
-        ("rebug-trace 1\nstamp a 1\nstamp a 1\n", "fault trace 3 103\n", Status::Fault),
-        ("rebug-trace 1\nlane 0\ntouch a\r 1\n", "fault trace 3 100\n", Status::Fault),
+        (
+            "rebug-trace 1\nlane 0\nlane 0\n",
+            "fault trace 3 102\n",
+            Status::Fault,
+        ),
+        (
+            "rebug-trace 1\nstamp a 1\nstamp a 1\n",
+            "fault trace 3 103\n",
+            Status::Fault,
+        ),
+        (
+            "rebug-trace 1\nlane 0\ntouch a\r 1\n",
+            "fault trace 3 100\n",
+            Status::Fault,
+        ),
     ];
     for (text, wanted, due) in &texts {
         let mut written = Vec::new(rt.alloc());
