@@ -32,6 +32,8 @@ MEANINGS = {
     75: "the number of stamps is not that of the edge's outputs",
     76: "a list of headers came for an edge that keeps none",
     77: "the depfile has a fault: the second number is its number in docs/CODES.md, the third the byte",
+    78: "the pool was to lose a slot that was still held: the second number is the slot, the third the edge",
+    79: "no such pool, or the depth that it had or was to get is not from 1 to 1,024",
 }
 REASONS = {1: "an output is missing", 2: "there is no deps record", 3: "the deps record is older than the output",
            4: "an input was rebuilt",

@@ -1,8 +1,5 @@
 """Writes a recording: the manifest's files, the trace, its times, the script, and a script that replays them."""
 
-import heapq
-import itertools
-import operator
 import os
 import stat
 
@@ -24,12 +21,9 @@ def write_recording(it, folder, with_lanes, program, at=None):
     names = write_manifest(it, folder)
     lanes, script = _lanes(it) if with_lanes else _one_lane(it)
     with _open(folder, b"trace") as file:
-        version, parts = _parts(lanes)
-        file.write(b"rebug-trace %d\n" % version)
+        file.write(b"rebug-trace %d\n" % (1 if len(lanes) == 1 else 2))
         file.writelines(text + b"\n" for text in opening(it))
-        for number, places in parts:
-            file.write(b"lane %d\n" % number)
-            file.writelines(command(it.found.events[place]) + b"\n" for place in places)
+        file.writelines(text + b"\n" for text in commands(it.found.events, lanes))
     with _open(folder, b"times") as file:
         file.write(b"rebug-times 1\n")
         file.writelines(times(it.found.times, lanes))
@@ -39,24 +33,6 @@ def write_recording(it, folder, with_lanes, program, at=None):
     _write_replay(folder, replay_text(words, [os.fsdecode(name) for name in names[1:]], script, with_lanes,
                                       _beside(program, at or folder)))
     return names
-
-
-def _parts(lanes):
-    """The version of the trace, and for each of its lane lines the lane and the places of the events behind it.
-
-    Version 1 has one lane after the other. Where that is not the order of time, version 2 opens all lanes in turn, and
-    then names the lane of each event in that order.
-    """
-    ends = [(places[0], places[-1]) for places in lanes if places]
-    if all(before[1] < after[0] for before, after in zip(ends, ends[1:])):
-        return 1, enumerate(lanes)
-    return 2, itertools.chain(((number, ()) for number in range(len(lanes))), _in_time(lanes))
-
-
-def _in_time(lanes):
-    events = heapq.merge(*(zip(places, itertools.repeat(number)) for number, places in enumerate(lanes)))
-    for number, part in itertools.groupby(events, operator.itemgetter(1)):
-        yield number, [place for place, _ in part]
 
 
 def _open(folder, name):
@@ -130,6 +106,23 @@ def command(event):
     if word in ("finish", "fail", "abort"):
         return line(word, rest[0], ",".join(map(str, rest[1])))
     return line(word, *rest)
+
+
+def commands(events, lanes):
+    """The lines of the lanes, each command where it came: a lane is named again where its next commands come.
+
+    A lane that is named for the first time has the next number, so those before it are opened first.
+    """
+    lane_of = {place: number for number, places in enumerate(lanes) for place in places}
+    opened, last = 0, None
+    for place in sorted(lane_of):
+        if lane_of[place] != last:
+            last = lane_of[place]
+            yield from (b"lane %d" % number for number in range(opened, last))
+            yield b"lane %d" % last
+            opened = max(opened, last + 1)
+        yield command(events[place])
+    yield from (b"lane %d" % number for number in range(opened, len(lanes)))
 
 
 def times(known, lanes):

@@ -6,11 +6,11 @@ import tempfile
 import unittest
 
 from builds import read_deps
-from recorder.checking import check, read_commands
+from recorder.checking import check
 from recorder.depfiles import read_depfile
 from recorder.disk import Snapshot, built_records
 from recorder.fields import canonical, field, line, quoted
-from recorder.files import command, opening, write_recording
+from recorder.files import command, commands, opening, write_recording
 from recorder.logs import BuildLog, LogEntry, hash_of, new_entries, read_build_log
 from recorder.manifest import BadManifest, Manifest
 from recorder.recording import record
@@ -371,20 +371,19 @@ class Whole(unittest.TestCase):
         with tempfile.TemporaryDirectory() as folder:
             write_recording(self.found, folder, True, "/nowhere/rebug")
             room = pathlib.Path(folder)
-            lanes = read_commands(folder)
-            self.assertEqual([lanes[it][0][1] for it in (0, 1)], [b"start a.o 0", b"start b.o 1"])
+            version, *lines = (room / "trace").read_text().split("\n")
+            said = [" ".join(it.split(" ")[:2]) for it in lines[lines.index("lane 0"):-1]]
+            # in the order of time: lane 0 is named again where it goes on
+            self.assertEqual((version, said), ("rebug-trace 2", [
+                "lane 0", "start a.o", "lane 1", "start b.o", "touch made.h", "finish b.o", "lane 0", "finish a.o",
+                "start app", "fail app"]))
             self.assertEqual((room / "script").read_text(), "plan\nrun\nkept\nmarks\n")
             self.assertIn("--workers", (room / "replay").read_text())
 
-    def test_lanes_follow_the_order_of_time(self):
-        with tempfile.TemporaryDirectory() as folder:
-            write_recording(self.found, folder, True, "/nowhere/rebug")
-            first, *lines = (pathlib.Path(folder) / "trace").read_bytes().splitlines()
-            self.assertEqual(first, b"rebug-trace 2")
-            begin = lines.index(b"lane 0")
-            self.assertEqual(lines[begin:begin + 3], [b"lane 0", b"lane 1", b"lane 0"])
-            self.assertEqual([it for it in lines[begin:] if not it.startswith(b"lane ")],
-                             [command(it) for it in self.found.found.events[1:]])
+    def test_lanes_are_opened_in_rising_number(self):
+        lines = commands([("start", b"a", 1), ("start", b"b", 3), ("pass", b"c")], [[], [0, 2], [], [1], []])
+        self.assertEqual([it.decode() for it in lines], [
+            "lane 0", "lane 1", "start a 1", "lane 2", "lane 3", "start b 3", "lane 1", "pass c", "lane 4"])
 
     def test_files_from_outside_get_a_name_inside(self):
         with tempfile.TemporaryDirectory() as folder:

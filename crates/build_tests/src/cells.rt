@@ -13,7 +13,23 @@ fn cells_are_told_apart(rt: HostRuntime) -> Result<(), Fail> {
     assert_eq!(rt; built.copy()?, built);
     assert!(rt; built != Cell::Deps(name));
     assert!(rt; Cell::Slot(1, 2) != Cell::Slot(2, 1));
+    assert!(rt; Cell::Depth(1) != Cell::Depth(2));
+    assert!(rt; Cell::Depth(1) != Cell::Job(1));
     assert_eq!(rt; Cell::Halted.default_value(), Value::Halted(false));
+    Ok(())
+}
+
+#[test]
+fn a_given_depth_is_another_value_than_none(rt: HostRuntime) -> Result<(), Fail> {
+    let alloc = rt.alloc();
+    let mut cells = Cells::new(alloc, &Opening::new(alloc, 1)?)?;
+    let cell = Cell::Depth(1);
+    cells.reserve(&cell)?;
+    assert_eq!(rt;
+        cells.swap(&cell, Value::Depth(Some(1))),
+        Value::Depth(None)
+    );
+    assert_eq!(rt; cells.get(&cell), Some(&Value::Depth(Some(1))));
     Ok(())
 }
 

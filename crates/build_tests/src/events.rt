@@ -1,4 +1,4 @@
-// Each refusal once, and what each kind of event writes once, on one small build.
+// Each refusal once, and what each kind of event writes once, on one small build, and on one with pools.
 use rev_cells::{Cell, Cells, Mark, Names, Opening, Text, Value};
 use rev_events::{Event, Fault, Listing, Refusal, Stamps, check, effect, effect_if_accepted};
 use rev_graph::Graph;
@@ -11,6 +11,11 @@ use std::test::Fail;
 // Edges: 0 a.o, 1 b.o, 2 app, 3 all, 4 v.h, 5 x and y, 6 z, 7 lone, 8 n, 9 w.
 const BUILD: &[u8; 354] =
     b"pool one\n  depth = 1\nrule cc\n  command = cc\n  deps = gcc\n  depfile = d\nrule ld\n  command = ld\nrule gen\n  command = gen\n  restat = 1\nrule p\n  command = p\n  pool = one\nbuild a.o: cc a.c || v.h\nbuild b.o: cc b.c\nbuild app: ld a.o b.o\nbuild all: phony app\nbuild v.h: gen v.in\nbuild x y: p\nbuild z: p\nbuild lone: ld none.c\nbuild n: gen v.h\nbuild w: phony b.o\n";
+
+// Pools of depth 1, none, 1,024 and one more, numbered from 1, since `console` is 0. Edges: 0 x, 1 y, 2 z in the first
+// pool, 3 w in the third, 4 t in `console`.
+const POOLS: &[u8; 212] =
+    b"pool one\n  depth = 1\npool any\n  depth = 0\npool most\n  depth = 1024\npool past\n  depth = 1025\nrule p\n  command = p\n  pool = one\nbuild x: p\nbuild y: p\nbuild z: p\nbuild w: p\n  pool = most\nbuild t: p\n  pool = console\n";
 
 // A build on its way.
 #[derive(Drop)]
@@ -36,6 +41,16 @@ impl Build {
     fn step(&mut self, alloc: Global, line: &[u8]) -> Result<Option<Refusal>, Fail> {
         let event = event_of(alloc, line)?;
         Ok(self.happen(alloc, &event)?)
+    }
+
+    // The refusal where a pool is given a depth, or none where it gets it.
+    fn resize(
+        &mut self,
+        alloc: Global,
+        pool: u32,
+        depth: u32,
+    ) -> Result<Option<Refusal>, AllocError> {
+        self.happen(alloc, &Event::Resize { pool, depth })
     }
 
     // What an event that is not refused would write, a line for each cell.
@@ -182,12 +197,22 @@ fn event_of_output(alloc: Global, word: &[u8], said: &[u8]) -> Result<Event, Fai
     }
 }
 
-// The event that a line says, as in a trace.
+// The event that gives a pool a depth.
+fn resize_of(said: &[u8]) -> Event {
+    let (pool, depth) = cut(said, b' ');
+    Event::Resize {
+        pool: number(pool),
+        depth: number(depth),
+    }
+}
+
+// The event that a line says, as in a script.
 fn event_of(alloc: Global, line: &[u8]) -> Result<Event, Fail> {
     let (word, said) = cut(line, b' ');
     match word {
         b"interrupt" => Ok(Event::Interrupt),
         b"plan" => Ok(Event::Plan(paths(alloc, said)?)),
+        b"resize" => Ok(resize_of(said)),
         _ => event_of_output(alloc, word, said),
     }
 }
@@ -206,6 +231,15 @@ fn opened(alloc: Global, stamps: &[(&[u8], u64)]) -> Result<Build, Fail> {
 // The build where only the sources are there.
 fn sources(alloc: Global) -> Result<Build, Fail> {
     opened(alloc, &[(b"a.c", 10), (b"b.c", 20), (b"v.in", 30)])
+}
+
+// The build with pools, all of whose edges are planned, with two jobs.
+fn pooled(alloc: Global) -> Result<Build, Fail> {
+    let graph = graph_of(alloc, POOLS)?;
+    let cells = Cells::new(alloc, &Opening::new(alloc, 2)?)?;
+    let mut build = Build { graph, cells };
+    build.happen(alloc, &Event::Plan(Names::new(Vec::new(alloc))))?;
+    Ok(build)
 }
 
 // The build where v.h is older than its source, and n was built after it.
@@ -261,6 +295,10 @@ fn push_cell(text: &mut Vec<u8>, cell: &Cell) -> Result<(), AllocError> {
             push_number(text, u64::from(*pool))?;
             push_number(text, u64::from(*slot))
         }
+        Cell::Depth(pool) => {
+            text.extend_from_slice(b"depth")?;
+            push_number(text, u64::from(*pool))
+        }
         Cell::Built(path) => push_name(text, b"built ", path),
         Cell::Deps(path) => push_name(text, b"deps ", path),
         Cell::Halted => text.extend_from_slice(b"halted"),
@@ -302,7 +340,9 @@ fn push_value(text: &mut Vec<u8>, value: &Value) -> Result<(), AllocError> {
     match value {
         Value::Stamp(stamp) => push_number(text, *stamp),
         Value::Mark(mark) => push_mark(text, mark),
-        Value::Job(holder) | Value::Slot(holder) => push_holder(text, *holder),
+        Value::Job(number) | Value::Slot(number) | Value::Depth(number) => push_holder(
+            text, *number,
+        ),
         Value::Built(Some(record)) => {
             push_number(text, record.stamp)?;
             text.push(b' ')?;
@@ -416,6 +456,91 @@ fn jobs_and_slots_that_are_taken(rt: HostRuntime) -> Result<(), Fail> {
         build.step(alloc, b"start z 1 0")?,
         Some(Refusal::SlotBusy(5))
     );
+    Ok(())
+}
+
+#[test]
+fn pools_that_cannot_have_another_depth(rt: HostRuntime) -> Result<(), Fail> {
+    let alloc = rt.alloc();
+    let mut build = pooled(alloc)?;
+    // No such pool, one without slots, and one of too many.
+    for pool in [5, 2, 4] {
+        assert_eq!(rt; build.resize(alloc, pool, 1)?, Some(Refusal::BadResize));
+    }
+    Ok(())
+}
+
+#[test]
+fn depths_are_from_1_to_1024(rt: HostRuntime) -> Result<(), Fail> {
+    let alloc = rt.alloc();
+    let mut build = pooled(alloc)?;
+    for depth in [0, 1025] {
+        assert_eq!(rt; build.resize(alloc, 1, depth)?, Some(Refusal::BadResize));
+    }
+    // Of `console`, of the deepest pool that can have another depth, and to the greatest depth.
+    for (pool, depth) in [(0, 2), (3, 1), (1, 1024)] {
+        assert_eq!(rt; build.resize(alloc, pool, depth)?, None);
+    }
+    Ok(())
+}
+
+#[test]
+fn the_least_slot_that_is_lost_and_held_is_named(rt: HostRuntime) -> Result<(), Fail> {
+    let alloc = rt.alloc();
+    let mut build = pooled(alloc)?;
+    assert_eq!(rt; build.resize(alloc, 1, 5)?, None);
+    assert_eq!(rt; build.step(alloc, b"start x 0 3")?, None);
+    assert_eq!(rt; build.step(alloc, b"start y 1 1")?, None);
+    assert_eq!(rt; build.resize(alloc, 1, 1)?, Some(Refusal::DepthInUse(1, 1)));
+    assert_eq!(rt; build.resize(alloc, 1, 2)?, Some(Refusal::DepthInUse(3, 0)));
+    Ok(())
+}
+
+#[test]
+fn a_pool_is_resized_while_its_slots_are_held(rt: HostRuntime) -> Result<(), Fail> {
+    let alloc = rt.alloc();
+    let mut build = pooled(alloc)?;
+    assert_eq!(rt; build.resize(alloc, 1, 2)?, None);
+    assert_eq!(rt; build.step(alloc, b"start x 0 1")?, None);
+    // A depth that is none is told before slots that are held.
+    assert_eq!(rt; build.resize(alloc, 1, 0)?, Some(Refusal::BadResize));
+    // It may stay, grow, and lose slots that are free.
+    for depth in [2, 9, 2] {
+        assert_eq!(rt; build.resize(alloc, 1, depth)?, None);
+    }
+    Ok(())
+}
+
+#[test]
+fn a_start_asks_the_present_depth(rt: HostRuntime) -> Result<(), Fail> {
+    let alloc = rt.alloc();
+    let mut build = pooled(alloc)?;
+    assert_eq!(rt; build.step(alloc, b"start x 0 1")?, Some(Refusal::PoolSlot));
+    assert_eq!(rt; build.resize(alloc, 1, 2)?, None);
+    assert_eq!(rt; build.step(alloc, b"start x 0 2")?, Some(Refusal::PoolSlot));
+    assert_eq!(rt; build.step(alloc, b"start x 0 1")?, None);
+    assert_eq!(rt; build.resize(alloc, 3, 1)?, None);
+    assert_eq!(rt; build.step(alloc, b"start w 1 1")?, Some(Refusal::PoolSlot));
+    Ok(())
+}
+
+#[test]
+fn a_plan_leaves_depths_as_they_are(rt: HostRuntime) -> Result<(), Fail> {
+    let alloc = rt.alloc();
+    let mut build = pooled(alloc)?;
+    assert_eq!(rt; build.resize(alloc, 1, 2)?, None);
+    assert_eq!(rt; build.step(alloc, b"plan x")?, None);
+    assert_eq!(rt; build.step(alloc, b"start x 0 1")?, None);
+    Ok(())
+}
+
+#[test]
+fn a_resize_writes_the_depth(rt: HostRuntime) -> Result<(), Fail> {
+    let alloc = rt.alloc();
+    let build = pooled(alloc)?;
+    assert!(rt; build.writes(alloc, b"resize 1 4", b"depth 1 4\n")?);
+    // Also where the pool has that depth.
+    assert!(rt; build.writes(alloc, b"resize 1 1", b"depth 1 1\n")?);
     Ok(())
 }
 

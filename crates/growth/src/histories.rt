@@ -47,7 +47,8 @@ fn say<R: Print>(
     }
 }
 
-/// Accepts five events, and takes the fourth back, puts it again, and takes out what stands on the third.
+/// Accepts five events, and takes the fourth back, puts it again, and takes out what stands on the third; gives a pool
+/// another depth, and takes that back.
 pub(crate) fn run<R: Print>(rt: &R, alloc: Global) -> Said {
     let trace = trace(alloc, OPENING)?;
     let mut history = History::new(alloc, graph(alloc)?, &trace.opening)?;

@@ -1,10 +1,12 @@
 //! Runs a call of each library while memory is refused once, and says what came of it. `tests/growth/run` refuses the
 //! first allocation behind the line `made`, then the second, and so on, until a run meets no refusal.
 //!
-//! The word is the part to run: `history`, `desk`, `lane`, `workers` or `report`. What changes though memory was asked
+//! The word is the part to run: `history`, `desk`, `lane`, `workers`, `report`, or a call that changes nothing:
+//! `manifest`, `graph`, `trace`, `migrate`, `script`, `depfile`, `plan`, `why`. What changes though memory was asked
 //! for in vain is said on a line of its own; so is a call that is not accepted when it is made again.
 #![tactic(auto)]
 
+mod answers;
 mod desks;
 mod histories;
 mod lanes;
@@ -37,6 +39,14 @@ fn run<R: Env + Print + AllocGlobal + Threads + Wait + Sync>(rt: &R) -> Said {
         "lane" => lanes::run(rt, rt.alloc()),
         "workers" => workers::run(rt, rt.alloc()),
         "report" => reports::run(rt, rt.alloc()),
+        "manifest" => answers::manifest(rt, rt.alloc()),
+        "graph" => answers::graph_of(rt, rt.alloc()),
+        "trace" => answers::trace_of(rt, rt.alloc()),
+        "migrate" => answers::migration(rt, rt.alloc()),
+        "script" => answers::script(rt, rt.alloc()),
+        "depfile" => answers::depfile(rt, rt.alloc()),
+        "plan" => answers::plan(rt, rt.alloc()),
+        "why" => answers::why(rt, rt.alloc()),
         _ => Err(Stop::Usage),
     }
 }

@@ -8,10 +8,10 @@ use std::io::Cursor;
 const TRACE: &[u8] = b"rebug-trace 1\njobs 2\nstamp a.c 10\nstamp b.c 20\n\
 lane 0\nplan app\nstart a.o 0\nstart b.o 1\nfinish a.o 100\nfinish b.o 110\nstart app 0\n";
 
-const SCRIPT: &[u8] = b"run\nmarks\nstamps\nlogs\n";
+const SCRIPT: &[u8] = b"run\nresize 0 2\nmarks\nstamps\nlogs\n";
 
-const REPORT: &str = "1 0 ok\n2 0 ok\n3 0 ok\n4 0 ok\n5 0 ok\n6 0 ok\n\
-mark 0 a.o done 0\nmark 1 b.o done 0\nmark 2 app running 0 - 110\njob 0 2\n\
+const REPORT: &str = "1 0 ok\n2 0 ok\n3 0 ok\n4 0 ok\n5 0 ok\n6 0 ok\n7 1 ok\n\
+mark 0 a.o done 0\nmark 1 b.o done 0\nmark 2 app running 0 - 110\njob 0 2\ndepth 0 2\n\
 stamp a.c 10\nstamp a.o 100\nstamp b.c 20\nstamp b.o 110\n\
 built a.o 100 cc\\s-c\\sa.c\\s-o\\sa.o\nbuilt b.o 110 cc\\s-c\\sb.c\\s-o\\sb.o\n";
 

@@ -18,7 +18,7 @@ build a.o: cc a.c\nbuild b.o: cc b.c\nbuild app: ld a.o b.o\n";
 pub(crate) const OPENING: &[u8] = b"rebug-trace 1\njobs 2\nstamp a.c 10\nstamp b.c 20\nlane 0\n";
 
 /// What is said, a line each.
-pub(crate) const LINES: [&str; 8] = [
+pub(crate) const LINES: [&str; 10] = [
     "plan app",
     "start a.o 0",
     "start b.o 1",
@@ -27,6 +27,8 @@ pub(crate) const LINES: [&str; 8] = [
     "undo 4",
     "redo 4",
     "cone 3",
+    "resize 0 2",
+    "undo 9",
 ];
 
 /// Why a part ends early.

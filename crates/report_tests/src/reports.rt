@@ -178,8 +178,11 @@ const THROUGH_PHONY: Row = Row {
     status: Status::Success,
 };
 
+const POOLS_MANIFEST: &str =
+    "pool one\n  depth = 1\npool any\n  depth = 0\nrule r\n  command = r $out\n  pool = one\nbuild x: r\nbuild y: r\nbuild z: r\n  pool = any\nbuild t: r\n  pool = console\n";
+
 const POOLS: Row = Row {
-    manifest: "pool one\n  depth = 1\npool any\n  depth = 0\nrule r\n  command = r $out\n  pool = one\nbuild x: r\nbuild y: r\nbuild z: r\n  pool = any\nbuild t: r\n  pool = console\n",
+    manifest: POOLS_MANIFEST,
     trace: "rebug-trace 1\njobs 2\nlane 0\nplan x y z t\nstart x 0 0\nstart y 1 0\nstart y 1 1\nstart y 1\nstart z 1 0\nstart z 2\nstart z 0\nstart z 1\nfinish x 5\nstart t 0 0\nstart y 0 0\n",
     script: "run\n",
     report: "1 0 ok\n2 0 ok\n3 0 refused 74 0\n4 0 refused 73\n5 0 refused 73\n6 0 refused 73\n7 0 refused 71\n8 0 refused 72 0\n9 0 ok\n10 0 ok\n11 0 ok\n12 0 refused 72 3\n",
@@ -349,6 +352,62 @@ const NAME_OF_NO_EVENT: Row = Row {
     status: Status::Fault,
 };
 
+const RESIZE: Row = Row {
+    manifest: POOLS_MANIFEST,
+    trace: "rebug-trace 1\njobs 2\nlane 0\nplan x y z t\nstart x 0 0\n",
+    script: "run\nresize 1 2\nstart y 1 1\nresize 1 1\nundo 3\nresize 2 3\nundo 2\nfinish y 6\nresize 1 1\nundo 9\nback\nmarks\n",
+    report: "1 0 ok\n2 0 ok\n3 1 ok\n4 1 ok\n5 1 refused 78 1 1\n6 1 refused 82 4\n7 1 refused 79\n8 1 refused 82 3\n9 1 ok\n10 1 ok\n11 1 refused 82 10\n12 1 ok\nmark 0 x running 0 0 0\nmark 1 y done 0\nmark 2 z wanted\nmark 3 t wanted\njob 0 0\nslot 1 0 0\ndepth 1 2\n",
+    status: Status::Success,
+};
+
+const RESIZES_OF_TWO_POOLS: Row = Row {
+    manifest: POOLS_MANIFEST,
+    trace: "rebug-trace 1\nlane 0\nplan x\n",
+    script: "run\nresize 1 2\nresize 0 1\nresize 1 1\ninterrupt\nkept\nmarks\nundo 2\nundo 4\nundo 2\nmarks\n",
+    report: "1 0 ok\n2 1 ok\n3 1 ok\n4 1 ok\n5 1 ok\nkept 1 plan x\nkept 2 resize 1 2\nkept 3 resize 0 1\nkept 4 resize 1 1\nkept 5 interrupt\nmark 0 x wanted\ndepth 0 1\ndepth 1 1\nhalted\n6 1 refused 82 4\n7 1 ok\n8 1 ok\nmark 0 x wanted\ndepth 0 1\nhalted\n",
+    status: Status::Success,
+};
+
+const GROWING_READS_NO_SLOT: Row = Row {
+    manifest: POOLS_MANIFEST,
+    trace: "rebug-trace 1\nlane 0\nplan x\nstart x 0 0\nfinish x 5\n",
+    script: "run\nresize 1 3\nresize 1 2\nundo 3\nredo 3\n",
+    report: "1 0 ok\n2 0 ok\n3 0 ok\n4 1 ok\n5 1 ok\n6 1 ok\n7 1 ok\n",
+    status: Status::Success,
+};
+
+const CLEAN_READS_NO_DEPTH: Row = Row {
+    manifest: "pool one\n  depth = 1\nrule gen\n  command = gen\n  restat = 1\nrule cp\n  command = cp $in $out\n  pool = one\nbuild p: gen s\nbuild u: cp p\n",
+    trace: "rebug-trace 1\nstamp s 50\nstamp p 10\nstamp u 20\nbuilt p 10 gen\nbuilt u 20 cp\\sp\\su\nlane 0\nplan u\nstart p 0\nfinish p 10\n",
+    script: "run\nresize 1 2\nclean u\ndependents 4\nundo 4\n",
+    report: "1 0 ok\n2 0 ok\n3 0 ok\n4 1 ok\n5 1 ok\ndependents 4\n6 1 ok\n",
+    status: Status::Success,
+};
+
+const RESIZE_IN_A_FIRST_TRACE: Row = Row {
+    manifest: "",
+    trace: "rebug-trace 1\nlane 0\nresize 1 2\n",
+    script: "run\n",
+    report: "fault trace 3 100\n",
+    status: Status::Fault,
+};
+
+const RESIZE_WITHOUT_A_DEPTH: Row = Row {
+    manifest: "",
+    trace: "rebug-trace 1\n",
+    script: "resize 1\n",
+    report: "fault script 1 100\n",
+    status: Status::Fault,
+};
+
+const RESIZE_TO_NO_NUMBER: Row = Row {
+    manifest: "",
+    trace: "rebug-trace 1\n",
+    script: "resize 1 02\n",
+    report: "fault script 1 101\n",
+    status: Status::Fault,
+};
+
 // A writer that takes some writes, and then fails or takes no byte.
 #[derive(Drop)]
 struct Failing {
@@ -418,6 +477,13 @@ fn rows(rt: HostRuntime) -> Result<(), Fail> {
         PLACE_OF_A_LINE,
         LANE_IN_A_SCRIPT,
         NAME_OF_NO_EVENT,
+        RESIZE,
+        RESIZES_OF_TWO_POOLS,
+        GROWING_READS_NO_SLOT,
+        CLEAN_READS_NO_DEPTH,
+        RESIZE_IN_A_FIRST_TRACE,
+        RESIZE_WITHOUT_A_DEPTH,
+        RESIZE_TO_NO_NUMBER,
     ];
     for row in &rows {
         let name = Vec::from_slice(alloc, b"build.ninja")?;

@@ -37,7 +37,8 @@ refusal_numbered code first second last =
     else if code == 71 then refusal.NoSuchJob else if code == 72 then refusal.JobBusy first else if code == 73
     then refusal.PoolSlot else if code == 74 then refusal.SlotBusy first
     else if code == 75 then refusal.WrongOutputs first else if code == 76 then refusal.UnexpectedDepfile
-    else if code == 77 then refusal.Depfile first second
+    else if code == 77 then refusal.Depfile first second else if code == 78 then refusal.DepthInUse first second
+    else if code == 79 then refusal.BadResize
     else if code == 80 then refusal.NoSuchEvent else if code == 81 then refusal.NotKept else if code == 82
     then refusal.DependedOn first else if code == 83 then refusal.AlreadyKept
     else if code == 84 then refusal.NotNow first last else if code == 85 then refusal.Overtaken first else if code == 86
@@ -70,6 +71,8 @@ refusal_of-refusal_parts (refusal.SlotBusy a) = refl
 refusal_of-refusal_parts (refusal.WrongOutputs a) = refl
 refusal_of-refusal_parts refusal.UnexpectedDepfile = refl
 refusal_of-refusal_parts (refusal.Depfile a b) = refl
+refusal_of-refusal_parts (refusal.DepthInUse a b) = refl
+refusal_of-refusal_parts refusal.BadResize = refl
 refusal_of-refusal_parts refusal.NoSuchEvent = refl
 refusal_of-refusal_parts refusal.NotKept = refl
 refusal_of-refusal_parts (refusal.DependedOn a) = refl

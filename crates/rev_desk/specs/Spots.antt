@@ -15,7 +15,7 @@ use Rattle.rev_desk.specs.declared.spot.Spot.TheVariants as spot
 abbrev pub edge_spot : ManifestValue → (ℕ → Spot) → List ℕ → Option Spot
 edge_spot manifest of_kind out = option_map of_kind (producer_of manifest.builds out)
 
--- what an event is: its kind, with its edge or path
+-- what an event is: its kind, with its edge or path; no point waits for a resize
 abbrev pub event_spot : ManifestValue → Event → Option Spot
 event_spot manifest (event.Plan targets) = Some spot.Plan
 event_spot manifest (event.Start out job slot) = edge_spot manifest spot.Start out
@@ -26,6 +26,7 @@ event_spot manifest (event.Clean out) = edge_spot manifest spot.Clean out
 event_spot manifest (event.Pass out) = edge_spot manifest spot.Pass out
 event_spot manifest (event.Touch path stamp) = Some (spot.Touch path)
 event_spot manifest event.Interrupt = Some spot.Interrupt
+event_spot manifest (event.Resize pool depth) = None
 
 -- what a point waits for: a kind of events, and the edge or the path that it names
 abbrev pub point_spot : ManifestValue → Point → Option Spot

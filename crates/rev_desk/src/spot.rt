@@ -39,7 +39,7 @@ impl Drop for Spot {
     }
 }
 
-/// What an event is, by its kind and its edge or path.
+/// What an event is, by its kind and its edge or path. No point waits for a resize.
 pub(crate) fn event_spot(graph: &Graph, event: &Event) -> Result<Option<Spot>, AllocError>
     ensures { IfOk result (λ spot. spot ≡ event_spot graph.now.manifest event.now) }
 {
@@ -53,6 +53,7 @@ pub(crate) fn event_spot(graph: &Graph, event: &Event) -> Result<Option<Spot>, A
         Event::Pass { out } => graph.producer(out).map(Spot::Pass),
         Event::Touch { path, .. } => Some(Spot::Touch(path.copy()?)),
         Event::Interrupt => Some(Spot::Interrupt),
+        Event::Resize { .. } => None,
     })
 }
 

@@ -24,7 +24,7 @@ use Rattle.rev_events.specs.Kinds.{start_effect, finish_effect, finish_refusal, 
 use Rattle.rev_events.specs.Machine.{edge_of, effect, refusal, write_marks}
 use Rattle.rev_events.specs.Refusal.{HasNoFault, bad_depfile, is_wanted_mark, not_running, of_plan, phony_edge, unexpected_listing, wrong_outputs}
 use Rattle.rev_events.proofs.AddsLemmas.{adds-more, range-length-of}
-use Rattle.rev_events.proofs.HeldEvents.{first-none, none-mapped}
+use Rattle.rev_events.proofs.TestLemmas.{first-none, none-mapped}
 
 -- the first of all writes
 from-none : (old new : List (Cell × Value)) (x : Effect) → old ≡ [] → Adds old new x → Adds [] new x

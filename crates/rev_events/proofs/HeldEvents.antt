@@ -14,47 +14,27 @@ use Rattle.rev_cells.specs.State.{State, stamp_of, mark_of, job_of, slot_of, is_
 use Rattle.rev_causal.specs.Store.{keys_of}
 use Rattle.rev_dirty.specs.Inputs.{inputs, producers_in}
 use Rattle.rev_dirty.specs.Reasons.{newest_stamp, reasons_of, is_rebuilt, is_missing}
-use Rattle.rev_plan.specs.Options.{first_some}
 use Rattle.rev_plan.specs.Plan.{is_running_mark, is_running, plan_refusal, marks_of, edge_numbers, targets_or, still_running, mark_for, is_wanted, is_through}
 use Rattle.rev_events.specs.Edge.{Effect, write, slot_holder, write_slot, free_held, write_stamps, write_built, write_deps, write_first_deps, changes, where_true, seen_by, first_blocking, pass_changes}
 use Rattle.rev_events.specs.declared.event.Listing.{Listing}
 use Rattle.rev_events.specs.declared.event.Event.{Event}
-use Rattle.rev_events.specs.declared.event.Event.TheVariants.{Plan, Start, Finish, Fail, Abort, Clean, Pass, Touch, Interrupt}
-use Rattle.rev_events.specs.Held.{words_of, IsHeldExactly, IsOpened}
+use Rattle.rev_events.specs.declared.event.Event.TheVariants.{Plan, Start, Finish, Fail, Abort, Clean, Pass, Touch, Interrupt, Resize}
+use Rattle.rev_events.specs.Held.{words_of, IsHeld, IsHeldExactly, IsOpened}
 use Rattle.rev_events.specs.Laws.{HeldIsRunning}
-use Rattle.rev_events.specs.Kinds.{start_refusal, start_effect, clean_refusal, clean_effect, pass_refusal, pass_effect, finish_refusal, finish_effect, fail_refusal, abort_refusal, end_effect}
+use Rattle.rev_events.specs.Kinds.{start_refusal, start_effect, clean_refusal, clean_effect, pass_refusal, pass_effect, finish_refusal, finish_effect, fail_refusal, abort_refusal, end_effect, resize_refusal, resize_effect}
 use Rattle.rev_events.specs.Machine.{of_edge, refusal, effect, write_marks}
 use Rattle.rev_events.specs.declared.refusal.Refusal.{Refusal}
 use Rattle.rev_events.specs.declared.refusal.Refusal.TheVariants.{NoSuchEdge}
-use Rattle.rev_events.specs.Refusal.{refuse_if, of_plan, pool_slot, phony_edge, not_phony, halted, not_halted, not_wanted, not_marked, not_running, blocked, not_dirty, no_such_job, job_busy, slot_busy, is_wanted_mark, is_through_mark}
-use Rattle.rev_events.proofs.HeldLemmas.{IsQuiet, quiet-held}
-use Rattle.rev_events.proofs.HeldSteps.{After, files-quiet, mark-quiet, begins, ends}
+use Rattle.rev_events.specs.Refusal.{of_plan, pool_slot, phony_edge, not_phony, halted, not_halted, not_wanted, not_marked, not_running, blocked, not_dirty, no_such_job, job_busy, slot_busy, is_wanted_mark, is_through_mark}
+use Rattle.rev_events.specs.Pools.{present_pool}
+use Rattle.rev_events.proofs.HeldLemmas.{IsQuiet, quiet-held, replaced-held}
+use Rattle.rev_events.proofs.HeldSteps.{After, KeepsDepths, holding, files-quiet, files-depths, mark-quiet, mark-depths, depth-quiet, holding-depths, begins, ends}
+use Rattle.rev_events.proofs.PoolLemmas.{same-present, resized-placed}
+use Rattle.rev_events.proofs.TestLemmas.{first-none, not-refused, not-false, none-mapped}
 use Rattle.rev_events.proofs.WrittenLemmas.{keys-append, keys-stamps, keys-built}
 use Rattle.rev_events.proofs.WriteLemmas.{AllFiles, files-append, files-stamps, files-built}
 
--- TESTS THAT REFUSE NOTHING
-pub first-none : {A : Type 0} (o : Option A) (os : List (Option A)) → first_some (o ∷ os) ≡ None → (o ≡ None) × (first_some os ≡ None)
-first-none None os h = (refl, h)
-first-none (Some r) os h =
-    let no : Some r ≡ None = h in
-    cc
-
-pub not-refused : (b : Bool) (r : Refusal) → refuse_if b r ≡ None → b ≡ false
-not-refused true r h =
-    let no : Some r ≡ None = h in
-    cc
-not-refused false r h = refl
-
-not-false : (b : Bool) → not b ≡ false → b ≡ true
-not-false true h = refl
-not-false false h = absurd (true≢false h)
-
-pub none-mapped : {A B : Type 0} (f : A → B) (o : Option A) → option_map f o ≡ None → o ≡ None
-none-mapped f None h = refl
-none-mapped f (Some x) h =
-    let no : Some (f x) ≡ None = h in
-    cc
-
+-- WHAT TESTS SAY OF MARKS
 -- a wanted edge does not run, nor does one that is through
 wanted-idle : (m : Mark) → is_wanted_mark m ≡ true → is_running_mark m ≡ false
 wanted-idle (mark.Running job slot seen) h = absurd (true≢false (sym h))
@@ -126,6 +106,21 @@ module _ (manifest : ManifestValue) where
   abbrev HeldAt : State → Type 0
   HeldAt s = IsHeldExactly manifest s
 
+  -- steps that write no depth
+  same-depths : (s t : State) → KeepsDepths s t → IsHeld (pool_of manifest) (present_pool manifest s) (length manifest.builds) (words_of t) → HeldAt t
+  same-depths s t keeps h =
+      replaced-held (pool_of manifest) (present_pool manifest s) (present_pool manifest t) (length manifest.builds) (words_of t)
+      (λ edge job slot seen on. ap (λ o. pool_slot o slot) (same-present manifest s t keeps edge) ∙ h.placed edge job slot seen on) h
+
+  quiet-step : (s t : State) → KeepsDepths s t → IsQuiet (words_of s) (words_of t) → HeldAt s → HeldAt t
+  quiet-step s t keeps q h = same-depths s t keeps (quiet-held (pool_of manifest) (present_pool manifest s) (length manifest.builds) (words_of s) (words_of t) q h)
+
+  files-held : (s : State) (ws : Effect) → AllFiles (keys_of ws) → HeldAt s → HeldAt (After s ws)
+  files-held s ws files h = quiet-step s (After s ws) (files-depths s ws files) (files-quiet s ws files) h
+
+  mark-held : (s : State) (edge : ℕ) (m : Mark) → is_running_mark (mark_of s edge) ≡ false → is_running_mark m ≡ false → HeldAt s → HeldAt (After s (write (cell.Mark edge) (value.Mark m) ∷ []))
+  mark-held s edge m was is h = quiet-step s _ (mark-depths s edge m) (mark-quiet s edge m was is) h
+
   -- START
   slot-free : (s : State) (pool : Option (ℕ × ℕ)) (slot : Option ℕ) → slot_holder s pool slot ≡ None → (p depth q : ℕ) → pool ≡ Some (p, depth) → slot ≡ Some q → slot_of s p q ≡ None
   slot-free s pool slot h p depth q e k = subst (λ o. slot_holder s (Some (p, depth)) o ≡ None) k (subst (λ o. slot_holder s o slot ≡ None) e h)
@@ -135,6 +130,7 @@ module _ (manifest : ManifestValue) where
   start-held jobs edge job slot s within acc h =
       let build = build_at manifest.builds edge in
       let pool = pool_of manifest edge in
+      let present = present_pool manifest s edge in
       let t1 = first-none (phony_edge build) _ acc in
       let t2 = first-none (halted (is_halted s)) _ t1.1 in
       let t3 = first-none (not_wanted (mark_of s edge)) _ t2.1 in
@@ -142,19 +138,22 @@ module _ (manifest : ManifestValue) where
       let t5 = first-none (not_dirty (reasons_of manifest.builds s edge)) _ t4.1 in
       let t6 = first-none (no_such_job jobs job) _ t5.1 in
       let t7 = first-none (job_busy (job_of s job)) _ t6.1 in
-      let t8 = first-none (pool_slot pool slot) _ t7.1 in
+      let t8 = first-none (pool_slot present slot) _ t7.1 in
       let t9 = first-none (slot_busy (slot_holder s pool slot)) _ t8.1 in
       let seen = newest_stamp manifest.builds s (inputs s build) in
-      let r = begins (pool_of manifest) (length manifest.builds) s edge job slot seen [] tt within t8.0 (wanted-of (mark_of s edge) t3.0) (none-mapped _ (job_of s job) t7.0)
+      let r = begins (pool_of manifest) (present_pool manifest s) (length manifest.builds) s edge job slot seen [] tt within t8.0 (wanted-of (mark_of s edge) t3.0) (none-mapped _ (job_of s job) t7.0)
       (slot-free s pool slot (none-mapped _ (slot_holder s pool slot) t9.0)) h in
-      subst (λ ws. HeldAt (After s (write (cell.Mark edge) (value.Mark (mark.Running job slot seen)) ∷ write (cell.Job job) (value.Job (Some edge)) ∷ ws))) (append-nil (write_slot pool slot (Some edge))) r
+      let keeps = holding-depths s edge (mark.Running job slot seen) job (Some edge) pool slot [] tt in
+      subst (λ ws. HeldAt (After s (write (cell.Mark edge) (value.Mark (mark.Running job slot seen)) ∷ write (cell.Job job) (value.Job (Some edge)) ∷ ws))) (append-nil (write_slot pool slot (Some edge)))
+      (same-depths s (After s (holding edge (mark.Running job slot seen) job (Some edge) pool slot [])) keeps r)
 
   -- WHAT ENDS A COMMAND
   end-held : (edge : ℕ) (m : Mark) (tail : Effect) (s : State) → AllFiles (keys_of tail) → IsRunning (mark_of s edge) → is_running_mark m ≡ false → HeldAt s
       → HeldAt (After s (write (cell.Mark edge) (value.Mark m) ∷ (free_held (pool_of manifest edge) (mark_of s edge) ++ tail)))
   end-held edge m tail s files r off h =
       subst (λ now. HeldAt (After s (write (cell.Mark edge) (value.Mark m) ∷ (free_held (pool_of manifest edge) now ++ tail)))) (sym r.is)
-      (ends (pool_of manifest) (length manifest.builds) s edge r.job r.slot r.seen m tail files r.is off h)
+      (same-depths s (After s (holding edge m r.job None (pool_of manifest edge) r.slot tail)) (holding-depths s edge m r.job None (pool_of manifest edge) r.slot tail files)
+      (ends (pool_of manifest) (present_pool manifest s) (length manifest.builds) s edge r.job r.slot r.seen m tail files r.is off h))
 
   finish-held : (edge : ℕ) (stamps : List ℕ) (listing : Listing) (s : State) → finish_refusal manifest edge stamps listing s ≡ None → HeldAt s → HeldAt (After s (finish_effect manifest edge stamps listing s))
   unfolding finish_refusal finish_effect
@@ -194,7 +193,7 @@ module _ (manifest : ManifestValue) where
   clean-held edge s acc h =
       let t1 = first-none (phony_edge (build_at manifest.builds edge)) _ acc in
       let t2 = first-none (not_wanted (mark_of s edge)) _ t1.1 in
-      quiet-held (pool_of manifest) (length manifest.builds) (words_of s) _ (mark-quiet s edge mark.Clean (wanted-of (mark_of s edge) t2.0) refl) h
+      mark-held s edge mark.Clean (wanted-of (mark_of s edge) t2.0) refl h
 
   pass-held : (edge : ℕ) (s : State) → pass_refusal manifest edge s ≡ None → HeldAt s → HeldAt (After s (pass_effect manifest edge s))
   unfolding pass_refusal pass_effect
@@ -203,7 +202,7 @@ module _ (manifest : ManifestValue) where
       let t2 = first-none (not_marked (mark_of s edge)) _ t1.1 in
       let build = build_at manifest.builds edge in
       let changed = pass_changes (mark_of s edge) (inputs s build) (list_any (is_rebuilt manifest.builds s) (inputs s build)) (map (is_missing s) (outputs_of build)) in
-      quiet-held (pool_of manifest) (length manifest.builds) (words_of s) _ (mark-quiet s edge (mark.Done changed) (marked-of (mark_of s edge) t2.0) refl) h
+      mark-held s edge (mark.Done changed) (marked-of (mark_of s edge) t2.0) refl h
 
   -- PLAN
   abbrev AllRest : State → Type 0
@@ -214,6 +213,7 @@ module _ (manifest : ManifestValue) where
     rest : AllRest t
     jobs : (job : ℕ) → job_of t job ≡ job_of s job
     slots : (pool place : ℕ) → slot_of t pool place ≡ slot_of s pool place
+    depths : KeepsDepths s t
 
   abbrev NoneRuns : List Mark → Type 0
   NoneRuns [] = Unit {0}
@@ -223,13 +223,13 @@ module _ (manifest : ManifestValue) where
   rest-on s t all q edge = elim (q.marks edge) [ inl same ↦ ap is_running_mark same ∙ all edge | inr both ↦ both.1 ]
 
   marks-rest : (s : State) (edges : List ℕ) (marks : List Mark) → NoneRuns marks → AllRest s → Rests s (After s (write_marks edges marks))
-  marks-rest s [] marks none all = record { rest = all; jobs = λ job. refl; slots = λ pool place. refl }
-  marks-rest s (edge ∷ edges) [] none all = record { rest = all; jobs = λ job. refl; slots = λ pool place. refl }
+  marks-rest s [] marks none all = record { rest = all; jobs = λ job. refl; slots = λ pool place. refl; depths = λ pool. refl }
+  marks-rest s (edge ∷ edges) [] none all = record { rest = all; jobs = λ job. refl; slots = λ pool place. refl; depths = λ pool. refl }
   marks-rest s (edge ∷ edges) (m ∷ marks) none all =
       let t = After s (write (cell.Mark edge) (value.Mark m) ∷ []) in
       let q = mark-quiet s edge m (all edge) none.0 in
       let r = marks-rest t edges marks none.1 (rest-on s t all q) in
-      record { rest = r.rest; jobs = λ job. r.jobs job ∙ q.jobs job; slots = λ pool place. r.slots pool place ∙ q.slots pool place }
+      record { rest = r.rest; jobs = λ job. r.jobs job ∙ q.jobs job; slots = λ pool place. r.slots pool place ∙ q.slots pool place; depths = λ pool. r.depths pool ∙ mark-depths s edge m pool }
 
   after-append : (s : State) (xs ys : Effect) → After s (xs ++ ys) ≡ After (After s xs) ys
   after-append s [] ys = refl
@@ -276,7 +276,7 @@ module _ (manifest : ManifestValue) where
       let q = files-quiet (After s writes) clear (refl, tt) in
       let t = After (After s writes) clear in
       subst (λ t. HeldAt t) (sym (after-append s writes clear))
-      (quiet-held (pool_of manifest) (length manifest.builds) (words_of s) (words_of t) (record {
+      (quiet-step s t (λ pool. files-depths (After s writes) clear (refl, tt) pool ∙ r.depths pool) (record {
         marks = λ edge. inr (all edge, rest-on (After s writes) t r.rest q edge);
         jobs = λ job. q.jobs job ∙ r.jobs job;
         slots = λ pool place. q.slots pool place ∙ r.slots pool place;
@@ -287,6 +287,13 @@ module _ (manifest : ManifestValue) where
           let r = running-parts (mark_of s edge) e in
           absurd (out (h.edges edge r.job (record { slot = r.slot; seen = r.seen; is = r.is })))
       outside edge out false e = e
+
+  -- RESIZE
+  resize-held : (pool depth : ℕ) (s : State) → resize_refusal manifest pool depth s ≡ None → HeldAt s → HeldAt (After s (resize_effect manifest pool depth))
+  resize-held pool depth s acc h =
+      let t = After s (resize_effect manifest pool depth) in
+      quiet-held (pool_of manifest) (present_pool manifest t) (length manifest.builds) (words_of s) (words_of t) (depth-quiet s pool depth)
+      (replaced-held (pool_of manifest) (present_pool manifest s) (present_pool manifest t) (length manifest.builds) (words_of s) (resized-placed manifest pool depth s acc h) h)
 
   -- EACH EVENT
   edge-held : (s : State) (o : Option ℕ) (r : ℕ → Option Refusal) (e : ℕ → Effect) → of_edge (Some NoSuchEdge) r o ≡ None → ((edge : ℕ) → o ≡ Some edge → r edge ≡ None → HeldAt (After s (e edge))) → HeldAt (After s (of_edge [] e o))
@@ -306,9 +313,10 @@ module _ (manifest : ManifestValue) where
   event-held jobs s (Clean out) acc h = edge-held s (producer_of manifest.builds out) _ _ acc (λ edge is ok. clean-held edge s ok h)
   event-held jobs s (Pass out) acc h = edge-held s (producer_of manifest.builds out) _ _ acc (λ edge is ok. pass-held edge s ok h)
   event-held jobs s (Touch path stamp) acc h =
-      quiet-held (pool_of manifest) (length manifest.builds) (words_of s) _ (files-quiet s (write (cell.Stamp path) (value.Stamp stamp) ∷ []) (refl, tt)) h
+      files-held s (write (cell.Stamp path) (value.Stamp stamp) ∷ []) (refl, tt) h
   event-held jobs s Interrupt acc h =
-      quiet-held (pool_of manifest) (length manifest.builds) (words_of s) _ (files-quiet s (write cell.Halted (value.Halted true) ∷ []) (refl, tt)) h
+      files-held s (write cell.Halted (value.Halted true) ∷ []) (refl, tt) h
+  event-held jobs s (Resize pool depth) acc h = resize-held pool depth s acc h
 
   -- AT AN OPENING
   not-idle : (job : ℕ) (slot : Option ℕ) (seen : ℕ) (m : Mark) → m ≡ mark.Idle → m ≡ mark.Running job slot seen → ⊥

@@ -5,5 +5,8 @@ pub mod HeldEvents
 pub mod HeldLemmas
 pub mod HeldSteps
 pub mod PlannedState
+pub mod PoolLemmas
+pub mod SlotLemmas
+pub mod TestLemmas
 pub mod WriteLemmas
 pub mod WrittenLemmas

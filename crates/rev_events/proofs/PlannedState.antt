@@ -1,6 +1,5 @@
 -- The state that an accepted plan leaves.
-use Rattle.std.proofs.Common.{◌≡◌, ℕ, ◌<◌, Bool, true, false, List, [], ◌∷◌, ◌++◌, map, length, Option, None, inl, inr, refl, sym, ap, subst, ◌∙◌, true≢false}
-use Rattle.std.specs.List.{range_with_len}
+use Rattle.std.proofs.Common.{◌≡◌, ℕ, Bool, true, false, List, [], ◌∷◌, ◌++◌, map, length, Option, None, inl, inr, refl, sym, ap, subst, ◌∙◌, true≢false}
 use Rattle.std.specs.FinMap.{get}
 use Rattle.rev_manifest.specs.Manifest.{ManifestValue}
 use Rattle.rev_cells.specs.declared.cell.Cell.{Cell}
@@ -9,7 +8,7 @@ use Rattle.rev_cells.specs.declared.mark.Mark.{Mark}
 use Rattle.rev_cells.specs.declared.value.Value.{Value}
 use Rattle.rev_cells.specs.declared.value.Value.TheVariants as value
 use Rattle.rev_cells.specs.Keys.{cell_cmp}
-use Rattle.rev_cells.specs.State.{State, stamp_of, mark_of, built_of, deps_of, default_or, stamp_in, mark_in, built_in, deps_in}
+use Rattle.rev_cells.specs.State.{State, mark_of, default_or, stamp_in, mark_in, built_in, deps_in}
 use Rattle.rev_cells.specs.Values.{unless_default}
 use Rattle.rev_causal.specs.Order.{Has, Distinct}
 use Rattle.rev_causal.specs.Store.{keys_of, set_cell, set_cells}
@@ -23,7 +22,7 @@ use Rattle.rev_events.specs.Laws.{PlansAreExplained}
 use Rattle.rev_events.specs.Machine.{refusal, effect, after, write_marks}
 use Rattle.rev_events.specs.Refusal.{of_plan}
 use Rattle.rev_events.specs.Written.{written}
-use Rattle.rev_events.proofs.HeldEvents.{none-mapped}
+use Rattle.rev_events.proofs.TestLemmas.{none-mapped}
 use Rattle.rev_events.proofs.WriteLemmas.{unwritten, written-first, read-mark}
 use Rattle.rev_events.proofs.WrittenLemmas.{written-same, plan-once}
 
@@ -46,6 +45,7 @@ is_planned (cell.Stamp path) = false
 is_planned (cell.Mark edge) = true
 is_planned (cell.Job job) = false
 is_planned (cell.Slot pool place) = false
+is_planned (cell.Depth pool) = false
 is_planned (cell.Built path) = false
 is_planned (cell.Deps path) = false
 is_planned cell.Halted = true

@@ -16,7 +16,7 @@ use Rattle.rev_dirty.specs.Inputs.{producers_in}
 use Rattle.rev_plan.specs.Plan.{edge_numbers, marks_of, mark_for, targets_or}
 use Rattle.rev_events.specs.declared.event.Listing.{Listing}
 use Rattle.rev_events.specs.declared.event.Event.{Event}
-use Rattle.rev_events.specs.declared.event.Event.TheVariants.{Plan, Start, Finish, Fail, Abort, Clean, Pass, Touch, Interrupt}
+use Rattle.rev_events.specs.declared.event.Event.TheVariants.{Plan, Start, Finish, Fail, Abort, Clean, Pass, Touch, Interrupt, Resize}
 use Rattle.rev_events.specs.Edge.{Effect, write, slot_cells, held_cells, write_slot, free_held, seen_by, rest_of, write_stamps, changes, write_built, write_first_deps, write_deps}
 use Rattle.rev_events.specs.Kinds.{start_effect, clean_effect, pass_effect, finish_effect, end_effect}
 use Rattle.rev_events.specs.Laws.{OutputsOnce, WritesOnce}
@@ -72,6 +72,7 @@ kind (cell.Slot pool place) = 3
 kind (cell.Built path) = 4
 kind (cell.Deps path) = 5
 kind cell.Halted = 6
+kind (cell.Depth pool) = 7
 
 -- all these cells are of kinds in between
 abbrev Within : ℕ → ℕ → List Cell → Type 0
@@ -262,6 +263,7 @@ module _ (manifest : ManifestValue) where
   written-once s (Pass out) outs = at-once (producer_of manifest.builds out) _ (λ edge. one-once (cell.Mark edge))
   written-once s (Touch path stamp) outs = one-once (cell.Stamp path)
   written-once s Interrupt outs = one-once cell.Halted
+  written-once s (Resize pool depth) outs = one-once (cell.Depth pool)
 
   -- the keys of an effect are the written cells
   keys-marks : (edges : List ℕ) (f : ℕ → Mark) → keys_of (write_marks edges (map f edges)) ≡ map cell.Mark edges
@@ -327,6 +329,7 @@ module _ (manifest : ManifestValue) where
   written-same s (Pass out) = at-keys (producer_of manifest.builds out) _ _ (λ edge. pass-keys edge s)
   written-same s (Touch path stamp) = refl
   written-same s Interrupt = refl
+  written-same s (Resize pool depth) = refl
 
 pub writes-once : WritesOnce
 writes-once = record { same = written-same; once = written-once }

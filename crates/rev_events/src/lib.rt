@@ -19,5 +19,6 @@ pub use checks::check;
 pub use effects::effect;
 pub use event::{Event, Listing};
 pub use fault::Fault;
+pub use pools::slots_lost;
 pub use refusal::Refusal;
 pub use stamps::Stamps;

@@ -13,7 +13,7 @@ use Rattle.rev_causal.specs.Store.{is_written}
 use Rattle.rev_causal.proofs.Store as store
 use Rattle.rev_causal.proofs.Occurrence as occurrence
 use Rattle.rev_events.specs.declared.event.Event.{Event}
-use Rattle.rev_events.specs.declared.event.Event.TheVariants.{Plan, Start, Finish, Fail, Abort, Clean, Pass, Touch, Interrupt}
+use Rattle.rev_events.specs.declared.event.Event.TheVariants.{Plan, Start, Finish, Fail, Abort, Clean, Pass, Touch, Interrupt, Resize}
 use Rattle.rev_events.specs.declared.refusal.Refusal.{Refusal}
 use Rattle.rev_events.specs.declared.refusal.Refusal.TheVariants.{NoSuchEdge}
 use Rattle.rev_events.specs.Kinds.{start_refusal, finish_refusal, fail_refusal, abort_refusal, clean_refusal, pass_refusal}
@@ -78,6 +78,7 @@ module _ (manifest : ManifestValue) (jobs : ℕ) where
   )
   always (Touch path stamp) = inr (cell.Stamp path, λ s acc. writes-cell s (Touch path stamp) (cell.Stamp path) (inl refl))
   always Interrupt = inr (cell.Halted, λ s acc. writes-cell s Interrupt cell.Halted (inl refl))
+  always (Resize pool depth) = inr (cell.Depth pool, λ s acc. writes-cell s (Resize pool depth) (cell.Depth pool) (inl refl))
 
 pub equal-conflict : EqualConflict
 equal-conflict manifest jobs = occurrence.equal_events_conflict_of cells_total cells_exact (table manifest jobs) (always manifest jobs)

@@ -1,30 +1,33 @@
 -- Each kind of event asks and does what the cells that it reads and writes decide.
-use Rattle.std.proofs.Common.{◌≡◌, ℕ, ◌==◌, not, List, [], ◌∷◌, ◌++◌, map, Option, Some, None, inl, inr, refl, ap, ◌∙◌}
+use Rattle.std.proofs.Common.{◌≡◌, ℕ, ◌==◌, not, List, [], ◌∷◌, ◌++◌, map, Option, Some, None, unwrap_or, inl, inr, refl, ap, ◌∙◌}
 use Rattle.std.specs.List.{list_any}
+use Rattle.std.specs.Option.{option_map}
 use Rattle.rev_manifest.specs.Manifest.{BuildValue, ManifestValue}
-use Rattle.rev_graph.specs.Graph.{build_at, outputs_of, pool_of}
+use Rattle.rev_graph.specs.Graph.{build_at, depth_of, outputs_of, pool_of}
 use Rattle.rev_cells.specs.declared.cell.Cell.{Cell}
 use Rattle.rev_cells.specs.declared.cell.Cell.TheVariants as cell
 use Rattle.rev_cells.specs.declared.mark.Mark.{Mark}
 use Rattle.rev_cells.specs.declared.mark.Mark.TheVariants as mark
 use Rattle.rev_cells.specs.declared.value.Value.TheVariants as value
-use Rattle.rev_cells.specs.State.{State, stamp_of, mark_of, job_of, is_halted, default_or, job_in, slot_in, halted_in}
+use Rattle.rev_cells.specs.State.{State, stamp_of, mark_of, job_of, slot_of, given_depth_of, is_halted, default_or, job_in, slot_in, depth_in, halted_in}
 use Rattle.rev_causal.specs.Order.{Has}
 use Rattle.rev_causal.specs.Store.{keys_of}
 use Rattle.rev_dirty.specs.Inputs.{InputValue, inputs}
 use Rattle.rev_dirty.specs.Reasons.{is_rebuilt, is_missing, newest_stamp, reasons_of}
 use Rattle.rev_events.specs.declared.event.Listing.{Listing}
 use Rattle.rev_events.specs.declared.refusal.Refusal.{Refusal}
-use Rattle.rev_events.specs.Refusal.{is_settled}
+use Rattle.rev_events.specs.Refusal.{is_settled, phony_edge, halted, not_wanted, blocked, not_dirty, no_such_job, job_busy, pool_slot, slot_busy}
+use Rattle.rev_events.specs.Pools.{present_depth, at_present, present_pool, slots_lost, first_held}
+use Rattle.rev_plan.specs.Options.{first_some}
 use Rattle.rev_dirty.specs.Seen.{stamp_cells, built_cells, producer_marks, seen_stamps, deps_cells, joined, reason_cells}
 use Rattle.rev_events.specs.Edge.{Effect, write, is_blocking, first_blocking, slot_cells, slot_holder, write_slot, held_cells, free_held, seen_by, write_stamps, changes, write_built, write_deps, pass_changes}
-use Rattle.rev_events.specs.Kinds.{start_tests, start_refusal, start_effect, clean_tests, clean_refusal, clean_effect, pass_tests, pass_refusal, pass_effect, finish_tests, finish_refusal, finish_by, finish_effect, fail_tests, fail_refusal, abort_tests, abort_refusal, end_effect}
+use Rattle.rev_events.specs.Kinds.{start_refusal, start_effect, clean_tests, clean_refusal, clean_effect, pass_tests, pass_refusal, pass_effect, finish_tests, finish_refusal, finish_by, finish_effect, fail_tests, fail_refusal, abort_tests, abort_refusal, end_effect, resize_tests, resize_refusal, resize_effect}
 use Rattle.rev_events.specs.Written.{start_writes, mark_writes, finish_writes, end_writes}
 use Rattle.rev_events.proofs.WrittenLemmas.{keys-append, keys-slot, keys-held, keys-stamps, keys-built, keys-deps}
-use Rattle.rev_footprint.specs.Reads.{start_reads, clean_reads, pass_reads}
-use Rattle.rev_dirty.proofs.ListLemmas.{in-front, in-back, map-same, any-same, position-same}
+use Rattle.rev_footprint.specs.Reads.{depth_cells, start_reads, clean_reads, pass_reads, resize_reads}
+use Rattle.rev_dirty.proofs.ListLemmas.{in-front, in-back, in-map, map-same, any-same, position-same}
 use Rattle.rev_dirty.proofs.SeenLemmas.{Agree, SameStamps}
-use Rattle.rev_dirty.proofs.SameReasons.{SameProducers, stamps-same, mark-same, inputs-same, producers-same, tested-same, rebuilt-same, newest-stamp-same, reasons-same, agree-part, agree-back, facts}
+use Rattle.rev_dirty.proofs.SameReasons.{SameProducers, stamps-same, mark-same, inputs-same, producers-same, tested-same, rebuilt-same, newest-stamp-same, reasons-same, agree-part, agree-front, agree-back, facts}
 
 -- What a kind of event owes: what it asks, does and reads is the same in states that agree on what it reads and writes, also
 -- where it is refused; and its effect writes the cells that it says.
@@ -47,6 +50,17 @@ holder-same s u None (Some slot) on = refl
 holder-same s u (Some pool) None on = refl
 holder-same s u (Some pool) (Some slot) on = ap (λ o. slot_in (default_or (cell.Slot pool.0 slot) o)) (on (cell.Slot pool.0 slot) (inl refl))
 
+depth-same : (s u : State) (cells : List Cell) (pool : ℕ) → Agree s u cells → Has cells (cell.Depth pool) → given_depth_of u pool ≡ given_depth_of s pool
+depth-same s u cells pool on h = ap (λ o. depth_in (default_or (cell.Depth pool) o)) (on (cell.Depth pool) h)
+
+-- whether a slot can be named depends on the present depth of the pool where one is named, and else on no cell
+placed-same : (s u : State) (pool : Option (ℕ × ℕ)) (slot : Option ℕ) → Agree s u (depth_cells pool slot) → pool_slot (at_present u pool) slot ≡ pool_slot (at_present s pool) slot
+placed-same s u None None on = refl
+placed-same s u None (Some slot) on = refl
+placed-same s u (Some pool) None on = refl
+placed-same s u (Some pool) (Some slot) on =
+    ap (λ given. pool_slot (Some (pool.0, unwrap_or given pool.1)) (Some slot)) (depth-same s u (depth_cells (Some pool) (Some slot)) pool.0 on (inl refl))
+
 blocking-same : (builds : List BuildValue) (s u : State) (all all' : List InputValue) → all' ≡ all → SameProducers builds s u all → first_blocking builds u all' ≡ first_blocking builds s all
 blocking-same builds s u all all' e same =
     ap (first_blocking builds u) e
@@ -57,27 +71,30 @@ module _ (manifest : ManifestValue) where
     abbrev build : BuildValue
     build = build_at manifest.builds edge
 
-    pub start-local : (jobs job : ℕ) (slot : Option ℕ) → IsLocalKind (start_refusal manifest jobs edge job slot) (start_effect manifest edge job slot) (start_reads manifest edge) (start_writes manifest edge job slot)
+    pub start-local : (jobs job : ℕ) (slot : Option ℕ) → IsLocalKind (start_refusal manifest jobs edge job slot) (start_effect manifest edge job slot) (start_reads manifest edge slot) (start_writes manifest edge job slot)
     unfolding start_refusal start_effect start_reads start_writes
     start-local jobs job slot = record {
       same_refusal = λ s u reads writes.
           let pool = pool_of manifest edge in
-          let same = facts manifest.builds s u edge (agree-back s u (cell.Halted ∷ []) (joined (reason_cells manifest.builds s edge)) reads) in
-          let is : is_halted u ≡ is_halted s = halted-same s u (joined ((cell.Halted ∷ []) ∷ reason_cells manifest.builds s edge)) reads (inl refl) in
+          let same = facts manifest.builds s u edge (agree-back s u (cell.Halted ∷ depth_cells pool slot) (joined (reason_cells manifest.builds s edge)) reads) in
+          let front = agree-front s u (cell.Halted ∷ depth_cells pool slot) (joined (reason_cells manifest.builds s edge)) reads in
+          let is : is_halted u ≡ is_halted s = halted-same s u (cell.Halted ∷ depth_cells pool slot) front (inl refl) in
+          let placed : pool_slot (present_pool manifest u edge) slot ≡ pool_slot (present_pool manifest s edge) slot = placed-same s u pool slot (λ c h. front c (inr h)) in
           let m : mark_of u edge ≡ mark_of s edge = mark-same s u (cell.Mark edge ∷ cell.Job job ∷ slot_cells pool slot) edge writes (inl refl) in
           let blocking : first_blocking manifest.builds u (inputs u build) ≡ first_blocking manifest.builds s (inputs s build) =
           blocking-same manifest.builds s u (inputs s build) (inputs u build) same.all same.producers in
           let reasons : reasons_of manifest.builds u edge ≡ reasons_of manifest.builds s edge = reasons-same manifest.builds s u edge same in
           let holder : job_of u job ≡ job_of s job = job-same s u (cell.Mark edge ∷ cell.Job job ∷ slot_cells pool slot) job writes (inr (inl refl)) in
           let other : slot_holder u pool slot ≡ slot_holder s pool slot = holder-same s u pool slot (λ c h. writes c (inr (inr h))) in
-          λ i. start_tests build pool jobs job slot (is i) (m i) (blocking i) (reasons i) (holder i) (other i);
+          λ i. first_some (phony_edge build ∷ halted (is i) ∷ not_wanted (m i) ∷ blocked (blocking i) ∷ not_dirty (reasons i) ∷ no_such_job jobs job ∷ job_busy (holder i) ∷ placed i ∷ slot_busy (other i) ∷ []);
       same_effect = λ s u reads writes.
-          let same = facts manifest.builds s u edge (agree-back s u (cell.Halted ∷ []) (joined (reason_cells manifest.builds s edge)) reads) in
+          let same = facts manifest.builds s u edge (agree-back s u (cell.Halted ∷ depth_cells (pool_of manifest edge) slot) (joined (reason_cells manifest.builds s edge)) reads) in
           ap (λ seen. write (cell.Mark edge) (value.Mark (mark.Running job slot seen)) ∷ write (cell.Job job) (value.Job (Some edge)) ∷ write_slot (pool_of manifest edge) slot (Some edge))
           (ap (newest_stamp manifest.builds u) same.all ∙ newest-stamp-same manifest.builds s u (inputs s build) same.shown);
       same_reads = λ s u reads writes.
-          let same = facts manifest.builds s u edge (agree-back s u (cell.Halted ∷ []) (joined (reason_cells manifest.builds s edge)) reads) in
-          ap (λ all. joined ((cell.Halted ∷ []) ∷ producer_marks manifest.builds all ∷ seen_stamps manifest.builds all ∷ stamp_cells (outputs_of build) ∷ built_cells (outputs_of build) ∷ deps_cells build ∷ [])) same.all;
+          let front = cell.Halted ∷ depth_cells (pool_of manifest edge) slot in
+          let same = facts manifest.builds s u edge (agree-back s u front (joined (reason_cells manifest.builds s edge)) reads) in
+          ap (λ all. joined (front ∷ producer_marks manifest.builds all ∷ seen_stamps manifest.builds all ∷ stamp_cells (outputs_of build) ∷ built_cells (outputs_of build) ∷ deps_cells build ∷ [])) same.all;
       written = λ s. ap (λ (ks : List Cell). cell.Mark edge ∷ cell.Job job ∷ ks) (keys-slot (pool_of manifest edge) slot (Some edge));
     }
 
@@ -201,4 +218,31 @@ module _ (manifest : ManifestValue) where
       same_effect = λ s u reads writes. end-effect stamps mark.Stopped s u writes;
       same_reads = λ s u reads writes. refl;
       written = end-keys stamps mark.Stopped;
+    }
+
+  -- a resize asks for the present depth of the pool, and with it for the slots that the pool loses
+  module _ (pool depth : ℕ) where
+    abbrev lost : State → List ℕ
+    lost s = slots_lost depth (present_depth manifest s pool)
+
+    present-same : (s u : State) → Agree s u (cell.Depth pool ∷ []) → present_depth manifest u pool ≡ present_depth manifest s pool
+    present-same s u writes = ap (λ given. option_map (unwrap_or given) (depth_of manifest pool)) (depth-same s u (cell.Depth pool ∷ []) pool writes (inl refl))
+
+    held-same : (s u : State) (slots : List ℕ) → Agree s u (map (cell.Slot pool) slots) → first_held u pool slots ≡ first_held s pool slots
+    held-same s u slots on =
+        ap first_some
+        (map-same (λ slot. option_map (λ edge. (slot, edge)) (slot_of u pool slot)) (λ slot. option_map (λ edge. (slot, edge)) (slot_of s pool slot)) slots
+        (λ slot h. ap (λ o. option_map (λ edge. (slot, edge)) (slot_in (default_or (cell.Slot pool slot) o))) (on (cell.Slot pool slot) (in-map (cell.Slot pool) slots slot h))))
+
+    pub resize-local : IsLocalKind (resize_refusal manifest pool depth) (λ s. resize_effect manifest pool depth) (resize_reads manifest pool depth) (λ s. cell.Depth pool ∷ [])
+    unfolding resize_refusal resize_reads
+    resize-local = record {
+      same_refusal = λ s u reads writes.
+          let now = present-same s u writes in
+          let held : first_held u pool (lost u) ≡ first_held s pool (lost s) =
+          ap (λ present. first_held u pool (slots_lost depth present)) now ∙ held-same s u (lost s) reads in
+          λ i. resize_tests (now i) depth (held i);
+      same_effect = λ s u reads writes. refl;
+      same_reads = λ s u reads writes. ap (λ present. map (cell.Slot pool) (slots_lost depth present)) (present-same s u writes);
+      written = λ s. refl;
     }

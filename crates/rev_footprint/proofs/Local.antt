@@ -16,7 +16,7 @@ use Rattle.rev_dirty.proofs.ListLemmas.{in-front, in-back}
 use Rattle.rev_dirty.proofs.SeenLemmas.{Agree}
 use Rattle.rev_events.specs.declared.event.Listing.{Listing}
 use Rattle.rev_events.specs.declared.event.Event.{Event}
-use Rattle.rev_events.specs.declared.event.Event.TheVariants.{Plan, Start, Finish, Fail, Abort, Clean, Pass, Touch, Interrupt}
+use Rattle.rev_events.specs.declared.event.Event.TheVariants.{Plan, Start, Finish, Fail, Abort, Clean, Pass, Touch, Interrupt, Resize}
 use Rattle.rev_events.specs.declared.refusal.Refusal.{Refusal}
 use Rattle.rev_events.specs.declared.refusal.Refusal.TheVariants.{NoSuchEdge}
 use Rattle.rev_events.specs.Edge.{Effect}
@@ -28,7 +28,7 @@ use Rattle.rev_footprint.specs.Value.{print_of, footprint_by}
 use Rattle.rev_footprint.specs.Laws.{EventsAreLocal, MachineIsLocal, RefusalsAreLocal}
 use Rattle.rev_footprint.specs.Machine.{table}
 use Rattle.rev_footprint.specs.Reads.{reads_besides}
-use Rattle.rev_footprint.proofs.KindLemmas.{IsLocalKind, halted-same, start-local, clean-local, pass-local, finish-local, fail-local, abort-local}
+use Rattle.rev_footprint.proofs.KindLemmas.{IsLocalKind, halted-same, start-local, clean-local, pass-local, finish-local, fail-local, abort-local, resize-local}
 
 -- WHERE AN EVENT NAMES AN EDGE
 pub at-edge : (o : Option ℕ) (r : ℕ → State → Option Refusal) (e : ℕ → State → Effect) (reads writes : ℕ → State → List Cell) → ((edge : ℕ) → IsLocalKind (r edge) (e edge) (reads edge) (writes edge))
@@ -129,6 +129,10 @@ module _ (manifest : ManifestValue) (jobs : ℕ) where
     written = λ s. refl;
   }
 
+  pub resize-event : (pool depth : ℕ) → Kind (Resize pool depth)
+  unfolding refusal effect reads_besides written
+  resize-event pool depth = resize-local manifest pool depth
+
   -- a plan is whole, and owes nothing
   plan-event : (targets : List (List ℕ)) → IsLocalEvent (table manifest jobs) (Plan targets)
   unfolding footprint
@@ -144,6 +148,7 @@ module _ (manifest : ManifestValue) (jobs : ℕ) where
   each-event (Pass out) = of_kind (Pass out) (pass-event out)
   each-event (Touch path stamp) = of_kind (Touch path stamp) (touch-event path stamp)
   each-event Interrupt = of_kind Interrupt interrupt-event
+  each-event (Resize pool depth) = of_kind (Resize pool depth) (resize-event pool depth)
 
 pub table-local : EventsAreLocal
 table-local manifest jobs = store.table_of_events cells_total cells_exact (table manifest jobs) (each-event manifest jobs)
@@ -161,3 +166,4 @@ refusals-are-local manifest jobs s u (Clean out) named on = refusal-same manifes
 refusals-are-local manifest jobs s u (Pass out) named on = refusal-same manifest jobs (Pass out) (pass-event manifest jobs out) s u on
 refusals-are-local manifest jobs s u (Touch path stamp) named on = refusal-same manifest jobs (Touch path stamp) (touch-event manifest jobs path stamp) s u on
 refusals-are-local manifest jobs s u Interrupt named on = refusal-same manifest jobs Interrupt (interrupt-event manifest jobs) s u on
+refusals-are-local manifest jobs s u (Resize pool depth) named on = refusal-same manifest jobs (Resize pool depth) (resize-event manifest jobs pool depth) s u on

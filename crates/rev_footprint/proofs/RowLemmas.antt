@@ -4,10 +4,10 @@ use Rattle.rev_manifest.specs.Manifest.{ManifestValue}
 use Rattle.rev_cells.specs.declared.cell.Cell.TheVariants as cell
 use Rattle.rev_cells.specs.State.{State}
 use Rattle.rev_events.specs.declared.event.Listing.{Listing}
-use Rattle.rev_events.specs.declared.event.Event.TheVariants.{Plan, Start, Finish, Fail, Abort, Clean, Pass, Touch, Interrupt}
+use Rattle.rev_events.specs.declared.event.Event.TheVariants.{Plan, Start, Finish, Fail, Abort, Clean, Pass, Touch, Interrupt, Resize}
 use Rattle.rev_events.specs.Machine.{of_edge, edge_of}
 use Rattle.rev_events.specs.Written.{written, start_writes, finish_writes, end_writes, mark_writes}
-use Rattle.rev_footprint.specs.Reads.{reads_besides, start_reads, clean_reads, pass_reads}
+use Rattle.rev_footprint.specs.Reads.{reads_besides, start_reads, clean_reads, pass_reads, resize_reads}
 use Rattle.rev_plan.specs.Plan.{edge_numbers}
 
 module _ (m : ManifestValue) (s : State) where
@@ -47,11 +47,15 @@ module _ (m : ManifestValue) (s : State) where
   unfolding written
   written-interrupt = refl
 
+  pub written-resize : (pool depth : ℕ) → written m s (Resize pool depth) ≡ cell.Depth pool ∷ []
+  unfolding written
+  written-resize pool depth = refl
+
   pub besides-plan : (targets : List (List ℕ)) → reads_besides m s (Plan targets) ≡ []
   unfolding reads_besides
   besides-plan targets = refl
 
-  pub besides-start : (out : List ℕ) (job : ℕ) (slot : Option ℕ) → reads_besides m s (Start out job slot) ≡ of_edge [] (λ edge. start_reads m edge s) (edge_of m out)
+  pub besides-start : (out : List ℕ) (job : ℕ) (slot : Option ℕ) → reads_besides m s (Start out job slot) ≡ of_edge [] (λ edge. start_reads m edge slot s) (edge_of m out)
   unfolding reads_besides
   besides-start out job slot = refl
 
@@ -82,3 +86,7 @@ module _ (m : ManifestValue) (s : State) where
   pub besides-interrupt : reads_besides m s Interrupt ≡ []
   unfolding reads_besides
   besides-interrupt = refl
+
+  pub besides-resize : (pool depth : ℕ) → reads_besides m s (Resize pool depth) ≡ resize_reads m pool depth s
+  unfolding reads_besides
+  besides-resize pool depth = refl

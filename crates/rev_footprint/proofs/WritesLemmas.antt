@@ -1,5 +1,5 @@
--- The cells that events write.
-use Rattle.std.proofs.Common.{◌≡◌, ◌+◌, zero, suc, arith, ℕ, List, [], ◌∷◌, ◌++◌, map, Option, refl, sym, ap, ◌∙◌, append_assoc}
+-- The cells that events write, and slots one after the other.
+use Rattle.std.proofs.Common.{◌≡◌, ◌+◌, ◌-◌, ◌≤◌, zero, suc, arith, ℕ, List, [], ◌∷◌, ◌++◌, map, Option, refl, sym, ap, ◌∙◌, append_assoc}
 use Rattle.std.specs.List.{range_with_len}
 use Rattle.std.proofs.lemmas.List.{map-append}
 use Rattle.rev_cells.specs.declared.cell.Cell.TheVariants as cell
@@ -16,6 +16,15 @@ range-more a zero =
 range-more a (suc n) =
     let same : a + 1 + n ≡ a + suc n = omega arith in
     ap (λ ks. a ∷ ks) (range-more (a + 1) n ∙ ap (λ k. range_with_len (a + 1) n ++ k ∷ []) same)
+
+-- those up to a number, and that number
+pub slots-next : {X : Type 0} (f : ℕ → X) (start slot : ℕ) → start ≤ slot → map f (range_with_len start (slot - start)) ++ f slot ∷ [] ≡ map f (range_with_len start (slot + 1 - start))
+slots-next f start slot within =
+    let more : slot + 1 - start ≡ suc (slot - start) = omega (arith, within) in
+    let last : start + (slot - start) ≡ slot = omega (arith, within) in
+    sym
+    (ap (λ n. map f (range_with_len start n)) more ∙ ap (map f) (range-more start (slot - start)) ∙ map-append f (range_with_len start (slot - start)) ((start + (slot - start)) ∷ [])
+    ∙ ap (λ k. map f (range_with_len start (slot - start)) ++ f k ∷ []) last)
 
 pub marks-next : (n : ℕ) → map cell.Mark (range_with_len 0 n) ++ cell.Mark n ∷ [] ≡ map cell.Mark (range_with_len 0 (n + 1))
 marks-next n =

@@ -1,5 +1,5 @@
 -- What an event reads besides the cells that it writes.
-use Rattle.std.specs.Prelude.{ℕ, List, [], ◌∷◌, map, Option, Some, None}
+use Rattle.std.specs.Prelude.{ℕ, List, [], ◌∷◌, map, Option, Some}
 use Rattle.rev_manifest.specs.Manifest.{BuildValue, ManifestValue}
 use Rattle.rev_graph.specs.Graph.{build_at, outputs_of, pool_of}
 use Rattle.rev_cells.specs.declared.cell.Cell.{Cell}
@@ -21,10 +21,9 @@ module _ (manifest : ManifestValue) where
   abbrev build_of : ℕ → BuildValue
   build_of edge = build_at manifest.builds edge
 
-  -- whether the build is halted, the present depth of the pool whose slot is named, and what the reasons of the edge
-  -- depend on: the marks of the producers of its inputs,
-  -- the stamps that are seen of them, the stamps and built records of its outputs, and its deps record where it keeps
-  -- one
+  -- whether the build is halted, the depth of the pool whose slot is named, and what the reasons of the edge depend on:
+  -- the marks of the producers of its inputs, the stamps that are seen of them, the stamps and built records of its
+  -- outputs, and its deps record where it keeps one
   unfoldable pub start_reads : ℕ → Option ℕ → State → List Cell
   start_reads edge slot state =
       joined ((cell.Halted ∷ depth_cells (pool_of manifest edge) slot) ∷ reason_cells manifest.builds state edge)

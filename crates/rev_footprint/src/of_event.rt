@@ -1,20 +1,21 @@
 //! The footprint of an event.
-ghost use Rattle.std.specs.Prelude.{◌≡◌, ◌<◌, ◌++◌, true, [], length, IfOk, OnOk};
+ghost use Rattle.std.specs.Prelude.{◌≡◌, ◌<◌, ◌++◌, true, [], length, map, IfOk, OnOk};
 ghost use Rattle.std.specs.List.{IsDistinct};
 ghost use Rattle.std.specs.Ordering.{eq_by_cmp};
 ghost use Rattle.rev_events.specs.Machine.{of_edge, edge_of};
-ghost use Rattle.rev_graph.specs.Graph.{build_at};
 ghost use Rattle.rev_dirty.specs.Inputs.{paths_in, deps_record};
 ghost use Rattle.rev_dirty.specs.Seen.{stamp_cells, built_cells, deps_cells};
-ghost use Rattle.rev_graph.specs.Graph.{outputs_of};
+ghost use Rattle.rev_graph.specs.Graph.{build_at, outputs_of};
+ghost use Rattle.rev_cells.specs.declared.cell.Cell.TheVariants.{Slot as SlotCell};
 ghost use Rattle.rev_cells.specs.Keys.{cell_cmp};
 ghost use Rattle.rev_cells.specs.State.{State};
+ghost use Rattle.rev_events.specs.Pools.{slots_between};
 ghost use Rattle.rev_events.specs.Written.{written as written_by};
 ghost use Rattle.rev_manifest.specs.Manifest.{ManifestValue};
 ghost use Rattle.rev_footprint.specs.Adds.{Adds};
 ghost use Rattle.rev_footprint.specs.Footprint.{footprint as footprint_of, is_plan as is_plan_event};
 ghost use Rattle.rev_footprint.specs.Held.{cells_read};
-ghost use Rattle.rev_footprint.specs.Reads.{start_reads, clean_reads, pass_reads, reads_besides};
+ghost use Rattle.rev_footprint.specs.Reads.{depth_cells, start_reads, clean_reads, pass_reads, resize_reads, reads_besides};
 
 use crate::footprints::Footprint;
 use crate::held::{Held, are_few, set_held};
@@ -23,10 +24,11 @@ use crate::writes::{deps_cell, written};
 use indexmap::IndexSet;
 use rev_cells::{Cell, Cells};
 use rev_dirty::{listed_inputs, producers_of};
-use rev_events::Event;
+use rev_events::{Event, slots_lost};
 use rev_graph::Graph;
 use rev_paths::Name;
 use std::alloc::{AllocError, Global};
+use std::ops::Range;
 
 // Room for the cells that most events read.
 const USUAL: usize = 32;
@@ -96,6 +98,23 @@ fn add_reason_cells(
     Ok(())
 }
 
+// Adds the depth of a pool whose slot is named.
+fn add_depth(
+    reads: &mut IndexSet<Cell>,
+    pool: Option<(u32, u32)>,
+    slot: Option<u32>,
+) -> Result<(), AllocError>
+    ensures { OnOk result (Adds reads.old.keys reads.new.keys (depth_cells pool slot)) }
+{
+    match (pool, slot) {
+        (Some((pool, _)), Some(_)) => {
+            add(reads, Cell::Depth(pool))?;
+            Ok(())
+        }
+        _ => Ok(()),
+    }
+}
+
 // Adds what a start of an edge reads besides.
 fn add_start_cells(
     alloc: Global,
@@ -103,12 +122,14 @@ fn add_start_cells(
     cells: &Cells,
     reads: &mut IndexSet<Cell>,
     edge: u32,
+    slot: Option<u32>,
 ) -> Result<(), AllocError>
     requires { edge < length graph.now.manifest.builds }
     ensures { OnOk result (Adds reads.old.keys reads.new.keys
-        (start_reads graph.now.manifest edge cells.now.state)) }
+        (start_reads graph.now.manifest edge slot cells.now.state)) }
 {
     add(reads, Cell::Halted)?;
+    add_depth(reads, graph.pool(edge), slot)?;
     add_reason_cells(alloc, graph, cells, reads, edge)?;
     Ok(())
 }
@@ -140,14 +161,15 @@ fn of_start(
     cells: &Cells,
     reads: &mut IndexSet<Cell>,
     out: &Name,
+    slot: Option<u32>,
 ) -> Result<(), AllocError>
     ensures { OnOk result (Adds reads.old.keys reads.new.keys
-        (of_edge [] (λ edge. start_reads graph.now.manifest edge cells.now.state)
+        (of_edge [] (λ edge. start_reads graph.now.manifest edge slot cells.now.state)
         (edge_of graph.now.manifest out.now))) }
 {
     match graph.producer(out) {
         Some(edge) => {
-            add_start_cells(alloc, graph, cells, reads, edge)?;
+            add_start_cells(alloc, graph, cells, reads, edge, slot)?;
             Ok(())
         }
         None => Ok(()),
@@ -196,6 +218,32 @@ fn of_pass(
     }
 }
 
+// Adds slots of a pool.
+fn add_slots(reads: &mut IndexSet<Cell>, pool: u32, slots: Range<u32>) -> Result<(), AllocError>
+    ensures { OnOk result (Adds reads.old.keys reads.new.keys
+        (map (SlotCell pool) (slots_between slots.start slots.end))) }
+{
+    for slot in slots.start..slots.end {
+        add(reads, Cell::Slot(pool, slot))?;
+    }
+    Ok(())
+}
+
+// Adds the slots that a pool loses where it is given a depth.
+fn of_resize(
+    graph: &Graph,
+    cells: &Cells,
+    reads: &mut IndexSet<Cell>,
+    pool: u32,
+    depth: u32,
+) -> Result<(), AllocError>
+    ensures { OnOk result (Adds reads.old.keys reads.new.keys
+        (resize_reads graph.now.manifest pool depth cells.now.state)) }
+{
+    add_slots(reads, pool, slots_lost(graph, cells, pool, depth))?;
+    Ok(())
+}
+
 // Adds what an event reads besides the cells that it writes.
 fn add_besides(
     alloc: Global,
@@ -208,11 +256,7 @@ fn add_besides(
         (reads_besides graph.now.manifest cells.now.state event.now)) }
 {
     match event {
-        Event::Start {
-            out,
-            job: _,
-            slot: _,
-        } => of_start(alloc, graph, cells, reads, out),
+        Event::Start { out, job: _, slot } => of_start(alloc, graph, cells, reads, out, *slot),
         Event::Clean { out } => of_clean(alloc, graph, cells, reads, out),
         Event::Pass { out } => of_pass(alloc, graph, cells, reads, out),
         Event::Abort { out: _, stamps: _ } => add(reads, Cell::Halted),
@@ -225,6 +269,7 @@ fn add_besides(
         Event::Fail { out: _, stamps: _ } => Ok(()),
         Event::Touch { path: _, stamp: _ } => Ok(()),
         Event::Interrupt => Ok(()),
+        Event::Resize { pool, depth } => of_resize(graph, cells, reads, *pool, *depth),
     }
 }
 
@@ -252,6 +297,7 @@ fn reads_its_writes(event: &Event) -> bool
         Event::Clean { out: _ } => false,
         Event::Pass { out: _ } => false,
         Event::Abort { out: _, stamps: _ } => false,
+        Event::Resize { pool: _, depth: _ } => false,
         Event::Plan(_) => true,
         Event::Finish {
             out: _,
@@ -306,8 +352,9 @@ fn cells_held(
 ///
 /// A start or a clean reads the marks of the producers of the edge's inputs, the stamps and built records of its
 /// outputs, its deps record where it keeps one, and the stamps that are seen of its inputs that are not order-only,
-/// through phony edges whatever the stamps are; a start whether the build is halted, too. A pass reads no visible
-/// stamp. An abort reads whether the build is halted.
+/// through phony edges whatever the stamps are; a start whether the build is halted, too, and where it names a slot of
+/// its edge's pool that pool's depth. A pass reads no visible stamp. An abort reads whether the build is halted. A
+/// resize writes the depth of its pool, which it reads too, and reads the slots that the pool loses.
 ///
 /// It takes time linear in the cells and in what the phony edges behind the inputs have, up to hashing.
 ///

@@ -346,5 +346,6 @@ pub(crate) fn written(
         }
         Event::Touch { path, stamp: _ } => of_touch(alloc, path),
         Event::Interrupt => one(alloc, Cell::Halted),
+        Event::Resize { pool, depth: _ } => one(alloc, Cell::Depth(*pool)),
     }
 }

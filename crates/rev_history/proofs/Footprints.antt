@@ -15,7 +15,7 @@ use Rattle.rev_cells.specs.State.{State}
 use Rattle.rev_cells.proofs.EntryLemmas.{cells_total, cells_exact}
 use Rattle.rev_manifest.specs.Manifest.{ManifestValue}
 use Rattle.rev_events.specs.declared.event.Event.{Event}
-use Rattle.rev_events.specs.declared.event.Event.TheVariants.{Plan, Start, Finish, Fail, Abort, Clean, Pass, Touch, Interrupt}
+use Rattle.rev_events.specs.declared.event.Event.TheVariants.{Plan, Start, Finish, Fail, Abort, Clean, Pass, Touch, Interrupt, Resize}
 use Rattle.rev_events.specs.Machine.{refusal, after}
 use Rattle.rev_events.specs.Written.{written}
 use Rattle.rev_footprint.specs.Reads.{reads_besides}
@@ -86,6 +86,7 @@ same_print m s u (Clean out) same = one_print (footprint m s (Clean out)) (footp
 same_print m s u (Pass out) same = one_print (footprint m s (Pass out)) (footprint m u (Pass out)) refl refl same
 same_print m s u (Touch path stamp) same = one_print (footprint m s (Touch path stamp)) (footprint m u (Touch path stamp)) refl refl same
 same_print m s u Interrupt same = one_print (footprint m s Interrupt) (footprint m u Interrupt) refl refl same
+same_print m s u (Resize pool depth) same = one_print (footprint m s (Resize pool depth)) (footprint m u (Resize pool depth)) refl refl same
 
 module _ (m : ManifestValue) (jobs : ℕ) where
   along_prints : (s : State) (es : Numbered) (n : ℕ) → option_map print_of (causal.event_at n (footprints_along m s es)) ≡ causal.event_at n (causal.footprints_by_number (machine m jobs) s es)

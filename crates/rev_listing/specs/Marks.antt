@@ -1,5 +1,5 @@
--- `mark E OUT WORD` for each edge that is not Idle, then `job J E` and `slot POOL S E` for what is held, in rising
--- numbers, then `halted`.
+-- `mark E OUT WORD` for each edge that is not Idle, then `job J E` and `slot POOL S E` for what is held, then
+-- `depth POOL N` for each pool that was given a depth, in rising numbers, then `halted`.
 use Rattle.std.specs.Prelude.{ℕ, Bool, List, [], ◌∷◌, codes, decimal, Option, Some, None, if◌then◌else◌}
 use Rattle.std.specs.List.{slice_index_or}
 use Rattle.rev_cells.specs.declared.cell.Cell.{Cell}
@@ -7,7 +7,7 @@ use Rattle.rev_cells.specs.declared.cell.Cell.TheVariants as cell
 use Rattle.rev_cells.specs.declared.mark.Mark.{Mark}
 use Rattle.rev_cells.specs.declared.mark.Mark.TheVariants as mark
 use Rattle.rev_cells.specs.declared.value.Value.{Value}
-use Rattle.rev_cells.specs.State.{State, mark_in, job_in, slot_in, halted_in}
+use Rattle.rev_cells.specs.State.{State, mark_in, job_in, slot_in, depth_in, halted_in}
 use Rattle.rev_manifest.specs.Manifest.{BuildValue}
 use Rattle.rev_graph.specs.Graph.{build_at, outputs_of}
 use Rattle.rev_fields.specs.Fields.{field_text}
@@ -46,6 +46,10 @@ abbrev pub slot_text : ℕ → ℕ → Option ℕ → List ℕ
 slot_text pool place None = []
 slot_text pool place (Some edge) = line (codes "slot" ∷ decimal pool ∷ decimal place ∷ decimal edge ∷ [])
 
+abbrev pub depth_text : ℕ → Option ℕ → List ℕ
+depth_text pool None = []
+depth_text pool (Some depth) = line (codes "depth" ∷ decimal pool ∷ decimal depth ∷ [])
+
 abbrev pub halted_text : Bool → List ℕ
 halted_text halted = if halted then line (codes "halted" ∷ []) else []
 
@@ -54,6 +58,7 @@ mark_text builds (cell.Mark edge) v =
     line (codes "mark" ∷ decimal edge ∷ output_field builds edge ∷ mark_fields (mark_in v))
 mark_text builds (cell.Job job) v = job_text job (job_in v)
 mark_text builds (cell.Slot pool place) v = slot_text pool place (slot_in v)
+mark_text builds (cell.Depth pool) v = depth_text pool (depth_in v)
 mark_text builds cell.Halted v = halted_text (halted_in v)
 mark_text builds _ v = []
 

@@ -85,6 +85,7 @@ fn push_cell(text: &mut Vec<u8>, cells: &Cells, cell: &Cell) -> Result<(), Alloc
         Cell::Mark(_) => Ok(()),
         Cell::Job(_) => Ok(()),
         Cell::Slot(_, _) => Ok(()),
+        Cell::Depth(_) => Ok(()),
         Cell::Halted => Ok(()),
     }
 }

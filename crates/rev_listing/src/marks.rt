@@ -1,11 +1,11 @@
-//! How far edges have come, and what is held.
+//! How far edges have come, what is held, and the depths that pools were given.
 ghost use Rattle.std.specs.Prelude.{◌≡◌, ◌++◌, ◌∷◌, [], IfOk, OnOk};
 ghost use Rattle.std.specs.List.{flat_map};
-ghost use Rattle.rev_cells.specs.State.{halted_in, job_in, mark_in, slot_in, value_at};
+ghost use Rattle.rev_cells.specs.State.{depth_in, halted_in, job_in, mark_in, slot_in, value_at};
 ghost use Rattle.rev_cells.specs.declared.mark.Mark.TheVariants as mark;
 ghost use Rattle.rev_fields.specs.Fields.{spaced};
 ghost use Rattle.rev_listing.specs.Listing.{line};
-ghost use Rattle.rev_listing.specs.Marks.{halted_text, job_text, mark_fields, mark_text, marks_text, number_or_dash, numbers_or_dash, output_field, slot_text};
+ghost use Rattle.rev_listing.specs.Marks.{depth_text, halted_text, job_text, mark_fields, mark_text, marks_text, number_or_dash, numbers_or_dash, output_field, slot_text};
 ghost use Rattle.std.specs.Prelude.{codes, decimal};
 
 use crate::output::next_edge;
@@ -128,6 +128,16 @@ fn slot_at(cells: &Cells, cell: &Cell) -> Option<u32>
     }
 }
 
+// The depth that a pool's cell holds.
+fn depth_at(cells: &Cells, cell: &Cell) -> Option<u32>
+    ensures { result ≡ depth_in (value_at cells.now.state cell.now) }
+{
+    match cells.get(cell) {
+        Some(Value::Depth(depth)) => *depth,
+        _ => None,
+    }
+}
+
 // Whether a cell says that the build was interrupted.
 fn halted_at(cells: &Cells, cell: &Cell) -> bool
     ensures { result ≡ halted_in (value_at cells.now.state cell.now) }
@@ -170,6 +180,19 @@ fn push_slot(
     text.extend_from_slice(b"\n")
 }
 
+// Adds `depth POOL N`, where the pool was given a depth.
+fn push_depth(text: &mut Vec<u8>, pool: u32, depth: Option<u32>) -> Result<(), AllocError>
+    ensures { OnOk result (text.new.items ≡ text.old.items ++ depth_text pool depth) }
+{
+    let Some(depth) = depth else {
+        return Ok(());
+    };
+    text.extend_from_slice(b"depth")?;
+    next_number(text, u64::from(pool))?;
+    next_number(text, u64::from(depth))?;
+    text.extend_from_slice(b"\n")
+}
+
 // Adds `halted`, where the build was interrupted.
 fn push_halted(text: &mut Vec<u8>, halted: bool) -> Result<(), AllocError>
     ensures { OnOk result (text.new.items ≡ text.old.items ++ halted_text halted) }
@@ -180,7 +203,8 @@ fn push_halted(text: &mut Vec<u8>, halted: bool) -> Result<(), AllocError>
     text.extend_from_slice(b"halted\n")
 }
 
-// Adds the line of a cell that is a mark, or says what is held or that the build was interrupted.
+// Adds the line of a cell that is a mark, or says what is held, what depth a pool was given or that the build was
+// interrupted.
 fn push_cell(
     text: &mut Vec<u8>,
     graph: &Graph,
@@ -195,6 +219,7 @@ fn push_cell(
         Cell::Mark(edge) => push_edge(text, graph, cells, cell, *edge),
         Cell::Job(job) => push_job(text, *job, job_at(cells, cell)),
         Cell::Slot(pool, place) => push_slot(text, *pool, *place, slot_at(cells, cell)),
+        Cell::Depth(pool) => push_depth(text, *pool, depth_at(cells, cell)),
         Cell::Halted => push_halted(text, halted_at(cells, cell)),
         Cell::Stamp(_) => Ok(()),
         Cell::Built(_) => Ok(()),
@@ -202,8 +227,9 @@ fn push_cell(
     }
 }
 
-/// A line `mark E OUT WORD` for each edge that is not `Idle`, then `job J E` and `slot POOL S E` for what is held, in
-/// rising numbers, then `halted` where the build was interrupted.
+/// A line `mark E OUT WORD` for each edge that is not `Idle`, then `job J E` and `slot POOL S E` for what is held, then
+/// `depth POOL N` for each pool that was given a depth, also where it is that of the manifest, in rising numbers, then
+/// `halted` where the build was interrupted.
 pub fn marks_text(alloc: Global, graph: &Graph, cells: &Cells) -> Result<Vec<u8>, AllocError>
     ensures { IfOk result (λ text. text.items ≡ marks_text graph.now.manifest.builds cells.now.state) }
 {

@@ -18,6 +18,7 @@ fn stamp_in(value: &Value) -> u64
         Value::Mark(_) => 0,
         Value::Job(_) => 0,
         Value::Slot(_) => 0,
+        Value::Depth(_) => 0,
         Value::Built(_) => 0,
         Value::Deps(_) => 0,
         Value::Halted(_) => 0,

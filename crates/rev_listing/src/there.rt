@@ -33,6 +33,7 @@ fn is_default(value: &Value) -> bool
         Value::Mark(mark) => is_idle(mark),
         Value::Job(holder) => holder.is_none(),
         Value::Slot(holder) => holder.is_none(),
+        Value::Depth(depth) => depth.is_none(),
         Value::Built(built) => built.is_none(),
         Value::Deps(deps) => deps.is_none(),
         Value::Halted(halted) => !*halted,

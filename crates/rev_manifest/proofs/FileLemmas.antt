@@ -1,5 +1,5 @@
 -- Files by their names.
-use Rattle.std.proofs.Common.{◌≡◌, ℕ, ◌+◌, ◌<◌, ◌≤◌, suc, Bool, true, false, ◌&&◌, ◌||◌, cond, List, [], ◌∷◌, ◌++◌, length, take, get_or, Option, Some, None, is_none, is_some, nat_lt, bytes_eq, sum_by, refl, sym, ap, ◌∙◌, arith, if◌then◌else◌}
+use Rattle.std.proofs.Common.{◌≡◌, ℕ, ◌+◌, ◌-◌, ◌<◌, ◌≤◌, suc, Bool, true, false, ◌&&◌, ◌||◌, cond, List, [], ◌∷◌, ◌++◌, length, take, get_or, Option, Some, None, is_none, is_some, nat_lt, bytes_eq, refl, sym, ap, ◌∙◌, arith, if◌then◌else◌}
 use Rattle.std.specs.Global.{Vec}
 use Rattle.std.proofs.lemmas.Bool.{ltb-true, lt-ltb}
 use Rattle.std.proofs.lemmas.List.{length-map, map-append, take_more, length-take-le}
@@ -7,7 +7,7 @@ use Rattle.std.proofs.lemmas.Slice.Eq.{bytes_eq-Decides}
 use Rattle.rev_paths.specs.Canonical.{canonical}
 use Rattle.rev_manifest.specs.declared.fault.FaultKind.TheVariants.{LongPath}
 use Rattle.rev_manifest.specs.Names.{path_fault}
-use Rattle.rev_manifest.specs.Files.{FileValue, are_too_large, is_named, file_from}
+use Rattle.rev_manifest.specs.Files.{FileValue, bytes_of, bytes_left, is_named, file_from}
 use Rattle.rev_manifest.specs.Places.{first_place}
 use Rattle.rev_manifest.specs.Seen.{seen_files}
 
@@ -16,8 +16,10 @@ or-true true b h = refl
 or-true false b h = h
 
 -- too many bytes, however many files
-pub large_bytes : (files : List FileValue) → 268435456 < sum_by (λ (file : FileValue). length file.1) files → are_too_large files ≡ true
-large_bytes files h = or-true (nat_lt 16384 (length files)) _ (lt-ltb 268435456 (sum_by (λ (file : FileValue). length file.1) files) h)
+pub large_bytes : (files : List FileValue) → 268435456 < bytes_of files → bytes_left files ≡ None
+large_bytes files h =
+    ap (λ b. if b then None else Some (268435456 - bytes_of files))
+    (or-true (nat_lt 16384 (length files)) _ (lt-ltb 268435456 (bytes_of files) h))
 
 shift : (place n : ℕ) → suc place + n ≡ place + suc n
 shift place n = omega arith

@@ -1,6 +1,6 @@
 -- What each manifest keeps of its edges.
-use Rattle.std.proofs.Common.{◌≡◌, ℕ, zero, suc, ◌+◌, ◌<◌, Bool, true, false, not, ◌||◌, ◌⊎◌, inl, inr, cond, List, [], ◌∷◌, ◌++◌, length, map, filter, get_or, All, Contains, Option, Some, None, IfSome, Result, Ok, Err, bytes_eq, refl, sym, ap, subst, ◌∙◌, arith, if◌then◌else◌}
-use Rattle.std.specs.List.{list_any, IsDistinct, AllByRecursion, position}
+use Rattle.std.proofs.Common.{◌≡◌, ℕ, zero, suc, ◌+◌, ◌<◌, Bool, true, false, not, ◌||◌, ◌⊎◌, inl, inr, cond, List, [], ◌∷◌, ◌++◌, length, map, filter, All, Contains, Option, Some, None, IfSome, Result, Ok, Err, bytes_eq, refl, sym, ap, subst, ◌∙◌, arith, if◌then◌else◌}
+use Rattle.std.specs.List.{IsDistinct, AllByRecursion}
 use Rattle.std.proofs.lemmas.List.Elements.{Contains-append_cases, filter_passes}
 use Rattle.std.proofs.lemmas.List.Folds.{list_any_at}
 use Rattle.std.proofs.lemmas.List.Quantifiers.{position-Some}
@@ -15,7 +15,7 @@ use Rattle.rev_manifest.specs.declared.fault.ManifestFault.{ManifestFault}
 use Rattle.rev_manifest.specs.declared.fault.Place.{Place}
 use Rattle.rev_manifest.specs.Declarations.{DeclaredEdgeValue}
 use Rattle.rev_manifest.specs.Answers.{and_then}
-use Rattle.rev_manifest.specs.Builds.{BuildValue, outputs_of, inputs_of, AreOutputs, IsPhony, IsBuild}
+use Rattle.rev_manifest.specs.Builds.{BuildValue, outputs_of, inputs_of, AreOutputs, IsBuild}
 use Rattle.rev_manifest.specs.Ends.{EndValues}
 use Rattle.rev_manifest.specs.Held.{seen_edge}
 use Rattle.rev_manifest.specs.Manifest.{phony_build, command_build, pool_found, pool_number, variables_of, built, built_with, builds_of}

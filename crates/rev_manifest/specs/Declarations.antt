@@ -1,5 +1,5 @@
 -- What the statements above a place declare.
-use Rattle.std.specs.Prelude.{ℕ, List, [], ◌∷◌, ◌++◌, Option, Some, None}
+use Rattle.std.specs.Prelude.{ℕ, ◌-◌, List, [], ◌∷◌, ◌++◌, Option, Some, None}
 use Rattle.rev_scopes.specs.Scopes.{ScopeValue, RuleValue, empty_scope}
 use Rattle.rev_manifest.specs.Pools.{PoolValue, console}
 use Rattle.rev_manifest.specs.declared.fault.Place.{Place}
@@ -24,16 +24,22 @@ pub record DeclaredEdgeValue : Type 0 where
   pub paths : PathsValue
   pub place : Place
 
--- scopes and pools, edges in reading order, and what `default` statements name, if there was one
+-- scopes and pools, edges in reading order, what `default` statements name, if there was one, and how many bytes may
+-- still be read
 pub record DeclarationsValue : Type 0 where
   pub scopes : List ScopeValue
   pub pools : List PoolValue
   pub edges : List DeclaredEdgeValue
   pub defaults : Option (List (List ℕ))
+  pub room : ℕ
 
 -- before the first statement there are the manifest's scope and the pool `console`
-abbrev pub nothing : DeclarationsValue
-nothing = record { scopes = empty_scope None ∷ []; pools = console ∷ []; edges = []; defaults = None }
+abbrev pub nothing : ℕ → DeclarationsValue
+nothing room = record { scopes = empty_scope None ∷ []; pools = console ∷ []; edges = []; defaults = None; room = room }
+
+-- so many bytes were read
+abbrev pub after_bytes : ℕ → DeclarationsValue → DeclarationsValue
+after_bytes bytes above = record above { room = above.room - bytes }
 
 -- the paths of a further `default` statement
 abbrev pub more_defaults : Option (List (List ℕ)) → List (List ℕ) → List (List ℕ)

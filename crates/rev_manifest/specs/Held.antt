@@ -28,6 +28,7 @@ seen_declarations above =
       pools = above.pools;
       edges = map seen_edge above.edges.items;
       defaults = option_map (λ names. names.items) above.defaults;
+      room = above.room;
     }
 
 abbrev pub seen_values : EdgeVariables → EndValues

@@ -1,5 +1,5 @@
 -- What files say as a manifest: its value, or its first fault.
-use Rattle.std.specs.Prelude.{ℕ, Bool, true, false, not, ◌||◌, List, [], ◌∷◌, ◌++◌, Option, Some, None, Result, Ok, Err, if◌then◌else◌}
+use Rattle.std.specs.Prelude.{ℕ, ◌+◌, true, false, not, ◌||◌, List, [], ◌∷◌, ◌++◌, length, Option, Some, None, Result, Ok, Err, if◌then◌else◌}
 use Rattle.std.specs.List.{flat_map}
 use Rattle.rev_scopes.specs.Edges.{compared}
 use Rattle.rev_scopes.specs.Scopes.{ScopeValue, RuleValue}
@@ -8,7 +8,7 @@ use Rattle.rev_manifest.specs.declared.fault.ManifestFault.{ManifestFault}
 use Rattle.rev_manifest.specs.declared.fault.Place.{Place}
 use Rattle.rev_manifest.specs.Answers.{and_then, refused, unless}
 use Rattle.rev_manifest.specs.Names.{is_empty, without}
-use Rattle.rev_manifest.specs.Files.{FileValue, are_too_large}
+use Rattle.rev_manifest.specs.Files.{FileValue, bytes_left, content_at}
 use Rattle.rev_manifest.specs.Pools.{PoolValue, pool_of}
 use Rattle.rev_manifest.specs.Declarations.{DeclaredEdgeValue, DeclarationsValue, nothing}
 use Rattle.rev_manifest.specs.Ends.{EndValues, at_end, fault_at_end, values_at_end}
@@ -106,15 +106,22 @@ abbrev pub nowhere : Place
 nowhere = record { file = 0; line = 0 }
 
 -- what all files declare: the first is the manifest itself, and others are read where statements name them, at most 16
--- files deep below it
-abbrev pub declared_by : List FileValue → Result DeclarationsValue ManifestFault
-declared_by files = reading files MOST_DEEP nothing (record { file = 0; scope = 0; place = nowhere })
+-- files deep below it, and of so many bytes more than are given. (Each file is counted as it is given, and again each
+-- time that a statement names it; that the first one is read is no such time.)
+abbrev pub declared_by : List FileValue → ℕ → Result DeclarationsValue ManifestFault
+declared_by files left =
+    reading files MOST_DEEP (nothing (left + length (content_at files 0)))
+    (record { file = 0; scope = 0; place = nowhere })
+
+-- what files say of which so many bytes may still be read; none where they are too large
+abbrev pub manifest_with : List FileValue → Option ℕ → Result ManifestValue ManifestFault
+manifest_with files None = refused nowhere TooLarge
+manifest_with files (Some left) =
+    if is_empty files then refused nowhere NoFile else and_then (declared_by files left) ended
 
 -- The value of files, each a name and its content, or their first fault.
 unfoldable pub manifest_of : List (List ℕ × List ℕ) → Result ManifestValue ManifestFault
-manifest_of files =
-    if are_too_large files then refused nowhere TooLarge
-    else (if is_empty files then refused nowhere NoFile else and_then (declared_by files) ended)
+manifest_of files = manifest_with files (bytes_left files)
 
 abbrev pub fault_of : Result ManifestValue ManifestFault → Option ManifestFault
 fault_of (Ok value) = None

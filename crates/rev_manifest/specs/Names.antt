@@ -1,5 +1,5 @@
 -- Paths as they are expanded, and their canonical names.
-use Rattle.std.specs.Prelude.{ℕ, Bool, true, false, not, List, [], ◌∷◌, length, filter, Option, Some, None, Result, Ok, bytes_eq, nat_lt, if◌then◌else◌}
+use Rattle.std.specs.Prelude.{ℕ, Bool, not, List, [], ◌∷◌, length, filter, Option, Some, None, Result, Ok, bytes_eq, nat_lt, if◌then◌else◌}
 use Rattle.std.specs.List.{list_any}
 use Rattle.rev_paths.specs.Canonical.{canonical}
 pub use Rattle.rev_syntax.specs.Bytes.{is_empty}

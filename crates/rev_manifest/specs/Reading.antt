@@ -1,16 +1,17 @@
 -- Statements in reading order, an included file at its place.
-use Rattle.std.specs.Prelude.{◌≡◌, ℕ, zero, suc, List, [], ◌∷◌, Option, Some, None, Result, Ok, Err}
+use Rattle.std.specs.Prelude.{◌≡◌, ℕ, zero, suc, nat_lt, List, [], ◌∷◌, length, Option, Some, None, Result, Ok, Err, if◌then◌else◌}
 use Rattle.rev_syntax.specs.declared.fault.SyntaxFault.{SyntaxFault}
 use Rattle.std.specs.Borrow.{Bor}
 use Rattle.rev_syntax.specs.Lines.{LineValue, lines_of}
 use Rattle.rev_syntax.specs.Statements as syntax
-use Rattle.rev_manifest.specs.declared.fault.FaultKind.TheVariants.{IncludeDepth}
+use Rattle.rev_manifest.specs.declared.fault.FaultKind.{FaultKind}
+use Rattle.rev_manifest.specs.declared.fault.FaultKind.TheVariants.{IncludeDepth, TooLarge}
 use Rattle.rev_manifest.specs.declared.fault.ManifestFault.{ManifestFault}
 use Rattle.rev_manifest.specs.declared.fault.ReadFault.{ReadFault}
 use Rattle.rev_manifest.specs.declared.fault.ReadFault.TheVariants.{Memory, Manifest}
-use Rattle.rev_manifest.specs.Answers.{fault_at, and_then, refused, syntax_kind, in_file}
+use Rattle.rev_manifest.specs.Answers.{fault_at, and_then, refused, unless_then, syntax_kind, in_file}
 use Rattle.rev_manifest.specs.Files.{FileValue, content_at}
-use Rattle.rev_manifest.specs.Declarations.{DeclarationsValue}
+use Rattle.rev_manifest.specs.Declarations.{DeclarationsValue, after_bytes}
 use Rattle.rev_manifest.specs.declared.inclusion.Inclusion.{Inclusion}
 use Rattle.rev_manifest.specs.Statements.{Step, with_form}
 
@@ -52,9 +53,15 @@ IsAdded files file scope old new meant (Some found) =
     (value : syntax.StatementValue) × (meant ≡ Ok value ∷ syntax.statements_of found.1.now)
     × (with_statement files file scope old value ≡ Ok (record { above = new; inclusion = found.0 }))
 
+-- why a file is not read for its bytes: there are more than may still be read
+abbrev pub bytes_fault : ℕ → DeclarationsValue → Option FaultKind
+bytes_fault bytes above = if nat_lt above.room bytes then Some TooLarge else None
+
 -- what a file declares, where so many files deep may still be read, itself among them
 unfoldable pub reading : List FileValue → ℕ → Reader
 reading files zero above inclusion = refused inclusion.place IncludeDepth
 reading files (suc left) above inclusion =
-    with_statements files (reading files left) inclusion.file inclusion.scope above
-    (syntax.statements_of (lines_of (content_at files inclusion.file)))
+    let content = content_at files inclusion.file in
+    unless_then inclusion.place (bytes_fault (length content) above)
+    (with_statements files (reading files left) inclusion.file inclusion.scope (after_bytes (length content) above)
+    (syntax.statements_of (lines_of content)))

@@ -38,11 +38,13 @@ pub(crate) struct Declarations {
     pub(crate) defaults: Option<Vec<Name>>,
     /// The paths so far, each once; equal ones share their bytes.
     pub(crate) paths: Paths,
+    /// The bytes that may still be read.
+    pub(crate) room: usize,
 }
 
-/// What stands above the first statement: the manifest's scope and the pool `console`.
-pub(crate) fn nothing(alloc: Global) -> Result<Declarations, AllocError>
-    ensures { IfOk result (λ above. seen_declarations above ≡ nothing) }
+/// What stands above the first statement: the manifest's scope and the pool `console`. So many bytes may be read.
+pub(crate) fn nothing(alloc: Global, room: usize) -> Result<Declarations, AllocError>
+    ensures { IfOk result (λ above. seen_declarations above ≡ nothing room) }
 {
     let mut scopes = Scopes::new(alloc);
     scopes.add(alloc, None)?;
@@ -52,5 +54,6 @@ pub(crate) fn nothing(alloc: Global) -> Result<Declarations, AllocError>
         edges: Vec::new(alloc),
         defaults: None,
         paths: Paths::new(alloc),
+        room,
     })
 }

@@ -277,6 +277,7 @@ pub(crate) fn ended(alloc: Global, above: Declarations) -> Result<Manifest, Read
         edges,
         defaults,
         paths: _,
+        room: _,
     } = above;
     let builds = builds_of(alloc, &scopes, &pools, edges)?;
     let defaults = defaults_of(alloc, defaults, &builds)?;

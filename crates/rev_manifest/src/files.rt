@@ -2,7 +2,7 @@
 ghost use Rattle.std.specs.Prelude.{◌≡◌, List, ℕ, option_map, bytes_eq, IfOk, OnOk};
 ghost use Rattle.std.specs.Option.{option_copied};
 ghost use Rattle.indexmap.specs.IndexMap.{get};
-ghost use Rattle.rev_manifest.specs.Files.{are_too_large, is_named, file_of, content_at};
+ghost use Rattle.rev_manifest.specs.Files.{bytes_left, is_named, file_of, content_at};
 ghost use Rattle.rev_manifest.specs.Places.{first_place};
 ghost use Rattle.rev_manifest.specs.Seen.{seen_files};
 
@@ -37,22 +37,23 @@ impl<'a> Model for Files<'a> {
     ghost invariant = { λ f. (path : List ℕ) → get bytes_eq f.places path ≡ file_of path (seen_files f.files.now) };
 }
 
-/// Whether more files or more bytes are given than may be.
-pub(crate) fn are_too_large(files: &[(Vec<u8>, Vec<u8>)]) -> bool
-    ensures { result ≡ are_too_large (seen_files files.now) }
+/// How many bytes may still be read where these files are given: none where more files or more bytes are given than may
+/// be.
+pub(crate) fn bytes_left(files: &[(Vec<u8>, Vec<u8>)]) -> Option<usize>
+    ensures { result ≡ bytes_left (seen_files files.now) }
 {
     if files.len() > MAX_FILES {
-        return true;
+        return None;
     }
     let mut left = MAX_BYTES;
     for file in files {
         let bytes = file.1.len();
         if bytes > left {
-            return true;
+            return None;
         }
         left -= bytes;
     }
-    false
+    Some(left)
 }
 
 // Notes the place of a file, unless an earlier one has its name. A name without a canonical form is none.

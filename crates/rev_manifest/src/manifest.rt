@@ -1,6 +1,6 @@
 //! Manifests, and how files are read as one.
 
-ghost use Rattle.std.specs.Prelude.{◌≡◌, Ok, None, Some, IfOk, OnOk, IsErrOf, MatchResult};
+ghost use Rattle.std.specs.Prelude.{◌≡◌, ◌≤◌, Ok, None, Some, IfOk, OnOk, IsErrOf, MatchResult};
 ghost use Rattle.rev_manifest.specs.Answers.{IsFault, and_then};
 ghost use Rattle.rev_manifest.specs.Manifest.{manifest_of, first_fault, declared_by, ended};
 ghost use Rattle.rev_manifest.specs.Builds.{IsManifest};
@@ -11,7 +11,7 @@ use crate::builds::Build;
 use crate::declarations::{Declarations, nothing};
 use crate::ends::ended;
 use crate::fault::{FaultKind, ManifestFault, Place, ReadFault};
-use crate::files::{Files, are_too_large};
+use crate::files::{Files, bytes_left};
 use crate::inclusion::Inclusion;
 use crate::reading::read_file;
 use rev_paths::Name;
@@ -117,14 +117,19 @@ const MOST_DEEP: u32 = 17;
 /// A place that is no line.
 const NOWHERE: Place = Place { file: 0, line: 0 };
 
-// What all files declare.
-fn declared_by(alloc: Global, files: &[(Vec<u8>, Vec<u8>)]) -> Result<Declarations, ReadFault>
+// What all files declare, of which so many bytes more may be read than are given.
+fn declared_by(
+    alloc: Global,
+    files: &[(Vec<u8>, Vec<u8>)],
+    left: usize,
+) -> Result<Declarations, ReadFault>
+    requires { left ≤ 268435456 }
     ensures { MatchResult result
-        (λ above. declared_by (seen_files files.now) ≡ Ok (seen_declarations above))
-        (λ fault. IsFault fault (declared_by (seen_files files.now))) }
+        (λ above. declared_by (seen_files files.now) left ≡ Ok (seen_declarations above))
+        (λ fault. IsFault fault (declared_by (seen_files files.now) left)) }
 {
     let given = Files::new(alloc, files)?;
-    let mut above = nothing(alloc)?;
+    let mut above = nothing(alloc, left + given.content(0).len())?;
     let first = Inclusion {
         file: 0,
         scope: 0,
@@ -135,13 +140,14 @@ fn declared_by(alloc: Global, files: &[(Vec<u8>, Vec<u8>)]) -> Result<Declaratio
 }
 
 // Reads files of which there is one, and which are not too large.
-fn read_all(alloc: Global, files: &[(Vec<u8>, Vec<u8>)]) -> Result<Manifest, ReadFault>
+fn read_all(alloc: Global, files: &[(Vec<u8>, Vec<u8>)], left: usize) -> Result<Manifest, ReadFault>
+    requires { left ≤ 268435456 }
     ensures meant { MatchResult result
-        (λ manifest. and_then (declared_by (seen_files files.now)) ended ≡ Ok manifest)
-        (λ fault. IsFault fault (and_then (declared_by (seen_files files.now)) ended)) }
+        (λ manifest. and_then (declared_by (seen_files files.now) left) ended ≡ Ok manifest)
+        (λ fault. IsFault fault (and_then (declared_by (seen_files files.now) left) ended)) }
     ensures kept { IfOk result IsManifest }
 {
-    let above = declared_by(alloc, files)?;
+    let above = declared_by(alloc, files, left)?;
     let manifest = ended(alloc, above)?;
     Ok(manifest)
 }
@@ -166,12 +172,12 @@ pub fn read(alloc: Global, files: &[(Vec<u8>, Vec<u8>)]) -> Result<Manifest, Rea
     ensures fault { (fault : ManifestFault) → IsErrOf result (ReadFault.Manifest fault)
         → first_fault (seen_files files.now) ≡ Some fault }
 {
-    if are_too_large(files) {
+    let Some(left) = bytes_left(files) else {
         return Err(NOWHERE.fault(FaultKind::TooLarge));
-    }
+    };
     if files.is_empty() {
         return Err(NOWHERE.fault(FaultKind::NoFile));
     }
-    let manifest = read_all(alloc, files)?;
+    let manifest = read_all(alloc, files, left)?;
     Ok(manifest)
 }

@@ -95,7 +95,7 @@ fn add_next<'a>(
 }
 
 /// Reads the file that a statement names, if it names one, where so many files deep may still be read, that one among
-/// them.
+/// them. Its bytes are counted each time that it is read, so that reading ends whatever the files say.
 pub(crate) fn read_file(
     alloc: Global,
     files: &Files<'_>,
@@ -115,8 +115,13 @@ pub(crate) fn read_file(
     if left == 0 {
         return Err(inclusion.place.fault(FaultKind::IncludeDepth));
     }
+    let content = files.content(inclusion.file);
+    if content.len() > above.room {
+        return Err(inclusion.place.fault(FaultKind::TooLarge));
+    }
+    above.room -= content.len();
     let file = inclusion.file as u64;
-    let lines = lines_of(alloc, files.content(inclusion.file))?;
+    let lines = lines_of(alloc, content)?;
     let mut rest = lines.as_slice();
     while let Some((next, after)) = add_next(alloc, files, above, file, inclusion.scope, rest)? {
         read_file(alloc, files, left - 1, above, next)?;

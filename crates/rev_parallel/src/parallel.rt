@@ -6,7 +6,7 @@ use rev_desk::{Desk, Entry};
 use rev_fields::ReadFault;
 use rev_graph::Graph;
 use rev_manifest::{Manifest, read};
-use rev_report::{answer_line, leave, open_desk, run_words};
+use rev_report::{answer_line, open_desk, run_words};
 use rev_script::{
     RunFault, Status, Word, close_line, read_script, report_fault, report_graph_fault,
     report_manifest_fault, send,
@@ -124,11 +124,7 @@ fn run_and_finish<R: Threads + Wait + Sync, W: Write>(
 {
     let before = desk.journal().len();
     match run_lanes(rt, alloc, desk, trace)? {
-        Ok(mut desk) => {
-            let finished = finish(alloc, &mut desk, before, words, writer);
-            leave(desk);
-            finished
-        }
+        Ok(mut desk) => finish(alloc, &mut desk, before, words, writer),
         Err(fault) => report_close_fault(alloc, &fault, before, writer),
     }
 }
@@ -150,10 +146,7 @@ fn run_on_threads<R: Threads + Wait + Sync, W: Write>(
     run_words(alloc, &mut desk, lane, &[], before, writer)?;
     match after {
         Some(words) => run_and_finish(rt, alloc, desk, trace, words, writer),
-        None => {
-            leave(desk);
-            Ok(Status::Success)
-        }
+        None => Ok(Status::Success),
     }
 }
 
@@ -212,7 +205,6 @@ fn report_edges<R: Threads + Wait + Sync, W: Write>(
 /// say, `fault close CODE LANE` is the report's last line.
 ///
 /// Answers `Write` where the writer fails in any way or takes no byte, and `Memory` where the system refused memory.
-/// What the desk of the run holds is left to the end of the process.
 pub fn run_parallel<R: Threads + Wait + Sync, W: Write>(
     rt: &R,
     alloc: Global,

@@ -7,6 +7,6 @@ mod report;
 mod runs;
 mod text;
 
-pub use report::{leave, open_desk, run_serial, run_words};
+pub use report::{open_desk, run_serial, run_words};
 pub use rev_script::{RunFault, Status, write_migrated};
 pub use text::answer_line;

@@ -32,7 +32,6 @@ use rev_script::{
 use rev_trace::Trace;
 use std::alloc::Global;
 use std::io::Write;
-use std::mem;
 
 // Writes the lines of the kept events.
 fn write_kept<W: Write>(alloc: Global, history: &History, writer: &mut W) -> Result<(), RunFault>
@@ -211,12 +210,6 @@ pub fn open_desk(
     }
 }
 
-/// Leaves a desk to the end of the process, which gives back what its history holds in one go. To free it piece by piece
-/// took an eighth of a run.
-pub fn leave(desk: Desk) {
-    mem::forget(desk);
-}
-
 // Runs words over a desk to which nothing was said yet, and which has one lane more than these.
 fn run_opened<W: Write>(
     alloc: Global,
@@ -249,9 +242,7 @@ fn run_script<W: Write>(
         (session_text graph.manifest opening.now (lanes_of lanes.now) words.now) }
 {
     let mut desk = open_desk(alloc, graph, opening, lanes)?;
-    let ran = run_opened(alloc, &mut desk, lanes, words, writer);
-    leave(desk);
-    ran
+    run_opened(alloc, &mut desk, lanes, words, writer)
 }
 
 // Reports on a script, for a trace that has been read.
@@ -321,7 +312,7 @@ fn report_edges<W: Write>(
 /// at the first fault of the four. `files` are pairs of a name and a content, and the first is the manifest itself.
 ///
 /// Answers `Write` where the writer fails in any way or takes no byte, and `Memory` where the system refused memory.
-/// After either a prefix of the report was written. What the desk of the run holds is left to the end of the process.
+/// After either a prefix of the report was written.
 pub fn run_serial<W: Write>(
     alloc: Global,
     files: &[(Vec<u8>, Vec<u8>)],

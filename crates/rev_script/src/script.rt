@@ -22,7 +22,7 @@ pub enum Word {
     Run(Option<u32>),
     /// `kept` lists the kept events.
     Kept,
-    /// `marks` lists the marks, what is held, and whether the build was interrupted.
+    /// `marks` lists the marks, what is held, the depths that pools were given, and whether the build was interrupted.
     Marks,
     /// `stamps` lists the files that are there.
     Stamps,

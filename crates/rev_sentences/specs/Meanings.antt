@@ -53,7 +53,9 @@ of_events =
     (74, codes "the slot is taken") ∷
     (75, codes "not one stamp for each output") ∷
     (76, codes "a list of files of an edge that keeps none") ∷
-    (77, codes "a depfile with a fault") ∷ []
+    (77, codes "a depfile with a fault") ∷
+    (78, codes "a slot that the pool would lose is taken") ∷
+    (79, codes "no such pool, or a depth, present or new, that is not from 1 to 1,024") ∷ []
 
 -- of a refusal of another command, or of a fault of a trace, a script or lanes
 abbrev pub of_desks : List (ℕ × List ℕ)

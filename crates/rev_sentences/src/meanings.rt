@@ -63,6 +63,8 @@ fn of_a_command(number: u64) -> Option<&'static str>
         75 => "not one stamp for each output",
         76 => "a list of files of an edge that keeps none",
         77 => "a depfile with a fault",
+        78 => "a slot that the pool would lose is taken",
+        79 => "no such pool, or a depth, present or new, that is not from 1 to 1,024",
         _ => return None,
     };
     Some(words)

@@ -12,6 +12,11 @@ pub(crate) const OBJECTS: &str =
     "rule cc\n  command = cc -c $in -o $out\nrule ld\n  command = ld $in -o $out\n\
 build a.o: cc a.c\nbuild b.o: cc b.c\nbuild app: ld a.o b.o\n";
 
+// Two commands of a pool of one slot, which has the number 1.
+pub(crate) const LINKS: &str =
+    "pool link\n  depth = 1\nrule ld\n  command = ld $out\n  pool = link\n\
+build a: ld\nbuild b: ld\n";
+
 fn manifest_of(alloc: Global, text: &[u8]) -> Result<Manifest, AllocError> {
     let name = Vec::from_slice(alloc, b"build.ninja")?;
     let files = vec![in alloc; (name, Vec::from_slice(alloc, text)?)]?;
@@ -108,15 +113,25 @@ fn stamps_of(alloc: Global, text: &[u8]) -> Result<Stamps, AllocError> {
     Ok(Stamps::new(stamps))
 }
 
+// A start of the command that makes an output, in a job and, where one is named, a slot.
+fn start_of(alloc: Global, out: &[u8], place: &[u8]) -> Result<Event, AllocError> {
+    let (job, slot) = cut(place, b' ');
+    Ok(Event::Start {
+        out: path_of(alloc, out)?,
+        job: number(job),
+        slot: if slot.is_empty() {
+            None
+        } else {
+            Some(number(slot))
+        },
+    })
+}
+
 fn event_of(alloc: Global, word: &[u8], said: &[u8]) -> Result<Event, AllocError> {
     let (out, rest) = cut(said, b' ');
     match word {
         b"plan" => plan_of(alloc, out),
-        b"start" => Ok(Event::Start {
-            out: path_of(alloc, out)?,
-            job: number(rest),
-            slot: None,
-        }),
+        b"start" => start_of(alloc, out, rest),
         b"finish" => Ok(Event::Finish {
             out: path_of(alloc, out)?,
             stamps: stamps_of(alloc, rest)?,
@@ -131,6 +146,10 @@ fn event_of(alloc: Global, word: &[u8], said: &[u8]) -> Result<Event, AllocError
         }),
         b"pass" => Ok(Event::Pass {
             out: path_of(alloc, out)?,
+        }),
+        b"resize" => Ok(Event::Resize {
+            pool: number(out),
+            depth: number(rest),
         }),
         _ => Ok(Event::Interrupt),
     }

@@ -1,5 +1,5 @@
 // How often cells are written, and that the lists find what a look at each kept event finds.
-use crate::builds::{OBJECTS, opened, says};
+use crate::builds::{LINKS, OBJECTS, opened, says};
 use rev_footprint::{Footprint, conflict};
 use rev_history::History;
 use std::alloc::{AllocError, Global};
@@ -317,6 +317,24 @@ build g.h: gen\nbuild grp: phony || g.h\nbuild x.o: cc x.c || grp\n",
     accepted: 5,
 };
 
+const RESIZED: Row = Row {
+    manifest: LINKS,
+    records: &[],
+    lines: &[
+        "plan",
+        "start a 0 0",
+        "resize 1 2",
+        "start b 1 1",
+        "resize 1 1",
+        "undo 3",
+        "finish b 6",
+        "resize 1 1",
+        "undo 7",
+        "back",
+    ],
+    accepted: 7,
+};
+
 #[test]
 fn the_lists_find_what_a_look_at_each_finds(rt: HostRuntime) -> Result<(), Fail> {
     let rows = [
@@ -328,6 +346,7 @@ fn the_lists_find_what_a_look_at_each_finds(rt: HostRuntime) -> Result<(), Fail>
         OVERTAKEN,
         RESTATED,
         THROUGH_PHONY,
+        RESIZED,
     ];
     for row in &rows {
         let agreed = agreed_on(rt.alloc(), row)?;

@@ -1,5 +1,5 @@
 use Rattle.rev_footprint.proofs.AddsLemmas.{adds-nothing}
-use Rattle.rev_footprint.proofs.RowLemmas.{besides-start, besides-clean, besides-pass, besides-abort, besides-plan, besides-finish, besides-fail, besides-touch, besides-interrupt}
+use Rattle.rev_footprint.proofs.RowLemmas.{besides-start, besides-clean, besides-pass, besides-abort, besides-plan, besides-finish, besides-fail, besides-touch, besides-interrupt, besides-resize}
 use Rattle.rev_footprint.proofs.of_event.add_besides.Goals as goal
 
 pub returns-in-Start : goal.returns-in-Start
@@ -28,3 +28,6 @@ returns-in-Touch c = rw (c.in-Touch.is, besides-touch) (adds-nothing c.args.read
 
 pub returns-in-Interrupt : goal.returns-in-Interrupt
 returns-in-Interrupt c = rw (c.in-Interrupt.is, besides-interrupt) (adds-nothing c.args.reads.now.keys)
+
+pub returns-in-Resize : goal.returns-in-Resize
+returns-in-Resize c = rw (c.in-Resize.is, besides-resize) c.of_resize.ensures

@@ -1,4 +1,4 @@
-use Rattle.rev_footprint.proofs.RowLemmas.{written-plan, written-start, written-finish, written-fail, written-abort, written-clean, written-pass, written-touch, written-interrupt}
+use Rattle.rev_footprint.proofs.RowLemmas.{written-plan, written-start, written-finish, written-fail, written-abort, written-clean, written-pass, written-touch, written-interrupt, written-resize}
 use Rattle.rev_footprint.proofs.writes.written.Goals as goal
 
 pub returns-in-Plan : goal.returns-in-Plan
@@ -27,3 +27,6 @@ returns-in-Touch c = rw (c.in-Touch.is, written-touch) c.of_touch.ensures
 
 pub returns-in-Interrupt : goal.returns-in-Interrupt
 returns-in-Interrupt c = rw (c.in-Interrupt.is, written-interrupt) c.one.ensures
+
+pub returns-in-Resize : goal.returns-in-Resize
+returns-in-Resize c = rw (c.in-Resize.is, written-resize) c.one-in-Resize.ensures

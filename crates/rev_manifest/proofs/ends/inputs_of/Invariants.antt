@@ -1,4 +1,4 @@
-use Rattle.std.proofs.Common.{◌≡◌, take, map, List, ℕ}
+use Rattle.std.proofs.Common.{◌≡◌, take, List, ℕ}
 use Rattle.std.specs.List.{flat_map}
 use Rattle.rev_manifest.specs.Names.{has_path}
 use Rattle.rev_manifest.specs.Manifest.{inputs_of}

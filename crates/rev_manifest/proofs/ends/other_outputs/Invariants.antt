@@ -1,4 +1,4 @@
-use Rattle.std.proofs.Common.{◌≡◌, not, filter, take, map}
+use Rattle.std.proofs.Common.{◌≡◌, not, filter, take}
 use Rattle.std.specs.List.{flat_map}
 use Rattle.rev_manifest.specs.Names.{has_path}
 use Rattle.rev_manifest.specs.Manifest.{outputs_of}

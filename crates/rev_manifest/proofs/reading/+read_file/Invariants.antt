@@ -1,9 +1,8 @@
 use Rattle.std.proofs.Common.{◌≡◌, ◌<◌, ◌≤◌, ◌-◌, length}
-use Rattle.rev_syntax.specs.Lines.{lines_of}
 use Rattle.rev_syntax.specs.Statements.{statements_of}
-use Rattle.rev_manifest.specs.Files.{content_at}
 use Rattle.rev_manifest.specs.Reading.{reading, with_statements}
 use Rattle.rev_manifest.specs.Held.{seen_declarations}
+use Rattle.rev_manifest.proofs.ReadingLemmas.{in_room}
 use Rattle.rev_manifest.proofs.reading.+read_file.Given as goal
 
 abbrev pub decreases-read_file : goal.decreases-read_file
@@ -15,7 +14,7 @@ invariant-loop-lines l =
     record {
       declared :
           with_statements l.files (reading l.files (l.left - 1)) l.file l.inclusion.scope (seen_declarations l.above) (statements_of l.rest)
-          ≡ with_statements l.files (reading l.files (l.left - 1)) l.file l.inclusion.scope (seen_declarations l.fn.above) (statements_of (lines_of (content_at l.files l.inclusion.file)));
+          ≡ in_room l.files (reading l.files (l.left - 1)) (seen_declarations l.fn.above) l.inclusion;
       grows : length l.fn.above.scopes ≤ length l.above.scopes;
       within : l.inclusion.scope < length l.above.scopes;
       place : l.file ≡ l.inclusion.file;

@@ -1,7 +1,7 @@
 use Rattle.std.proofs.Common.{◌≡◌, ◌+◌, drop, length, sum_by}
 use Rattle.rev_manifest.specs.Files.{FileValue}
 use Rattle.rev_manifest.specs.Seen.{seen_files}
-use Rattle.rev_manifest.proofs.files.are_too_large.Given as goal
+use Rattle.rev_manifest.proofs.files.bytes_left.Given as goal
 
 abbrev pub invariant-loop-file : goal.invariant-loop-file
 invariant-loop-file l =
