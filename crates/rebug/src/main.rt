@@ -117,10 +117,11 @@ fn migrate<'a, R: Files + Print + Eprint + AllocGlobal>(
         return Err(ProgramFault::Run(RunFault::Memory));
     };
     let status = write_migrated(alloc, &trace, &mut writer)?;
+    let (files, script) = (Vec::new(alloc), Vec::new(alloc));
     let inputs = Inputs {
-        files: &[],
+        files: &files,
         trace: (options.trace.as_bytes(), &trace),
-        script: (options.script.as_bytes(), &[]),
+        script: (options.script.as_bytes(), &script),
     };
     end(rt, &mut writer, inputs, status)
 }
