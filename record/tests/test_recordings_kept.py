@@ -27,6 +27,10 @@ class Kept(unittest.TestCase):
     """A build folder with a recording of it in `out`, whose trace is known."""
 
     def setUp(self):
+        # What runs the tests may ignore one of these, as nohup does; the recorder would then, too.
+        for number in (signal.SIGINT, signal.SIGTERM, signal.SIGHUP):
+            self.addCleanup(signal.signal, number, signal.getsignal(number) or signal.SIG_DFL)
+            signal.signal(number, signal.default_int_handler if number == signal.SIGINT else signal.SIG_DFL)
         lacking = builds.missing_tools("ninja")
         if lacking:
             self.skipTest(lacking)
