@@ -16,7 +16,7 @@ use std::alloc::Global;
 const LINES: &[u8] = b"rebug-trace 1\njobs 2\nstamp a.c 10\nlane 0\nplan app\nfinish a.o 100 list a.h b.h\n";
 const WORDS: &[u8] = b"run 2\nundo 0:1\nwhy app\nmarks\n";
 const DEPFILE: &[u8] = b"a.o: a.c \\\n a.h b.h\n";
-const WHY: &[u8] = b"why app via a.o\nwhy a.o missing a.o\nwhy a.o older a.o a.c\nwhy a.o no-record a.o\n";
+const WHY: &[u8] = b"why app missing app\nwhy app no-record app\n";
 
 // What a call answered.
 #[derive(Clone, Copy, PartialEq, Eq)]
