@@ -16,7 +16,7 @@ use std::alloc::Global;
 const LINES: &[u8] = b"rebug-trace 1\njobs 2\nstamp a.c 10\nlane 0\nplan app\nfinish a.o 100 list a.h b.h\n";
 const WORDS: &[u8] = b"run 2\nundo 0:1\nwhy app\nmarks\n";
 const DEPFILE: &[u8] = b"a.o: a.c \\\n a.h b.h\n";
-const WHY: &[u8] = b"why app missing app\nwhy app no-record app\n";
+const WHY: &[u8] = b"why app nothing\n";
 
 // What a call answered.
 #[derive(Clone, Copy, PartialEq, Eq)]
@@ -190,7 +190,7 @@ fn asks<R: Print>(rt: &R, alloc: Global, history: &History) -> Said {
     tell(rt, first, of_why(alloc, history.graph(), history.cells()))
 }
 
-/// Asks why the last edge runs.
+/// Asks why the last edge runs, before there is a plan.
 pub(crate) fn why<R: Print>(rt: &R, alloc: Global) -> Said {
     let trace = trace(alloc, OPENING)?;
     let history = History::new(alloc, graph(alloc)?, &trace.opening)?;
