@@ -13,9 +13,13 @@ use rev_plan::PlanFault;
 use rev_script::read_script;
 use std::alloc::Global;
 
-const LINES: &[u8] = b"rebug-trace 1\njobs 2\nstamp a.c 10\nlane 0\nplan app\nfinish a.o 100 list a.h b.h\n";
+const LINES: &[u8] =
+    b"rebug-trace 1\njobs 2\nstamp a.c 10\nlane 0\nplan app\nfinish a.o 100 list a.h b.h\n";
+
 const WORDS: &[u8] = b"run 2\nundo 0:1\nwhy app\nmarks\n";
+
 const DEPFILE: &[u8] = b"a.o: a.c \\\n a.h b.h\n";
+
 const WHY: &[u8] = b"why app nothing\n";
 
 // What a call answered.
@@ -102,7 +106,9 @@ pub(crate) fn trace_of<R: Print>(rt: &R, alloc: Global) -> Said {
 
 fn of_migration(alloc: Global) -> Answer {
     match rev_trace::migrate(alloc, LINES) {
-        Ok(text) => due_if(text.len() == LINES.len() && text.starts_with(b"rebug-trace 2\njobs 2\n")),
+        Ok(text) => due_if(
+            text.len() == LINES.len() && text.starts_with(b"rebug-trace 2\njobs 2\n"),
+        ),
         Err(ReadFault::Memory) => Answer::Memory,
         Err(_) => Answer::Other,
     }
@@ -174,7 +180,11 @@ fn plans<R: Print>(rt: &R, alloc: Global, history: &History) -> Said {
     let targets = vec![in alloc; name]?;
     println!(rt; "made")?;
     let first = of_plan(alloc, history.graph(), history.cells(), &targets);
-    tell(rt, first, of_plan(alloc, history.graph(), history.cells(), &targets))
+    tell(
+        rt,
+        first,
+        of_plan(alloc, history.graph(), history.cells(), &targets),
+    )
 }
 
 /// Plans a build.
