@@ -48,5 +48,7 @@ same_edge pools others a b =
     same_outputs a b && same_inputs a b && same_rule a b
     && same_pool (numbered_pool pools a.pool) (numbered_pool others b.pool)
 
-abbrev pub same_edges : ManifestValue → ManifestValue → Bool
-same_edges m n = pointwise (same_edge m.pools n.pools) m.builds n.builds
+abbrev pub same_lent : ManifestValue → ManifestValue → Bool
+same_lent m n =
+    bytes_eq (depths_of m.pools) (depths_of n.pools) && same_paths m.defaults n.defaults
+    && pointwise (same_edge m.pools n.pools) m.builds n.builds

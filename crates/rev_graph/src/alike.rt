@@ -2,10 +2,10 @@
 ghost use Rattle.std.specs.Prelude.{◌≡◌, bytes_eq};
 ghost use Rattle.std.specs.Cmp.Lexicographic.{pointwise};
 ghost use Rattle.rev_manifest.specs.Seen.{seen_pools};
-ghost use Rattle.rev_graph.specs.Alike.{depths_of, same_edge as same_edge_of, same_inputs as same_inputs_of, same_outputs as same_outputs_of, same_pool as same_pool_of, same_rule as same_rule_of};
+ghost use Rattle.rev_graph.specs.Alike.{depths_of, same_edge as same_edge_of, same_lent as same_lent_of, same_inputs as same_inputs_of, same_outputs as same_outputs_of, same_pool as same_pool_of, same_rule as same_rule_of};
 ghost use Rattle.rev_graph.specs.Graph.{numbered_pool};
 
-use rev_manifest::Build;
+use rev_manifest::{Build, Manifest};
 
 /// The number and the depth of a pool of this number: none without a number, or where the depth is 0.
 pub(crate) fn numbered(pools: &[(Vec<u8>, u32)], number: Option<u32>) -> Option<(u32, u32)>
@@ -19,8 +19,8 @@ pub(crate) fn numbered(pools: &[(Vec<u8>, u32)], number: Option<u32>) -> Option<
     Some((number, *depth))
 }
 
-/// Whether pools have the same depths, whatever their names are.
-pub(crate) fn same_depths(pools: &[(Vec<u8>, u32)], others: &[(Vec<u8>, u32)]) -> bool
+// Whether pools have the same depths, whatever their names are.
+fn same_depths(pools: &[(Vec<u8>, u32)], others: &[(Vec<u8>, u32)]) -> bool
     ensures { result ≡ bytes_eq (depths_of (seen_pools pools.now)) (depths_of (seen_pools others.now)) }
 {
     if pools.len() != others.len() {
@@ -85,8 +85,8 @@ fn same_edge(
         && same_pool(numbered(pools, edge.pool()), numbered(others, other.pool()))
 }
 
-/// Whether edges lend the same, each with its pool's number and depth.
-pub(crate) fn same_edges(
+// Whether edges lend the same, each with its pool's number and depth.
+fn same_edges(
     pools: &[(Vec<u8>, u32)],
     others: &[(Vec<u8>, u32)],
     edges: &[Build],
@@ -103,4 +103,15 @@ pub(crate) fn same_edges(
         }
     }
     true
+}
+
+/// Whether the graphs of two manifests lend the same.
+pub(crate) fn same_lent(manifest: &Manifest, other: &Manifest) -> bool
+    ensures { result ≡ same_lent_of manifest.now other.now }
+{
+    let pools = manifest.pools();
+    let others = other.pools();
+    same_depths(pools, others)
+        && manifest.defaults() == other.defaults()
+        && same_edges(pools, others, manifest.builds(), other.builds())
 }

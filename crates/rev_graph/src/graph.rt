@@ -5,7 +5,7 @@ ghost use Rattle.rev_graph.specs.Alike.{LendAlike};
 ghost use Rattle.rev_graph.specs.Fault.{Explains, IsFaultless};
 ghost use Rattle.rev_graph.specs.Graph.{build_at, is_known, producer_of, pool_of, depth_of, input_producers, rank_at, IsGraph, Produces};
 
-use crate::alike::{numbered, same_depths, same_edges};
+use crate::alike::{numbered, same_lent};
 use crate::fault::GraphFault;
 use crate::steps::{all_producers, ranks_of};
 use crate::table::{Table, outputs_table, producer};
@@ -265,16 +265,7 @@ impl Graph {
     pub fn lends_alike(&self, other: &Graph) -> bool
         ensures { IsTrue result ↔ LendAlike self.now.manifest other.now.manifest }
     {
-        let pools = self.manifest.pools();
-        let others = other.manifest.pools();
-        same_depths(pools, others)
-            && self.defaults() == other.defaults()
-            && same_edges(
-                pools,
-                others,
-                self.manifest.builds(),
-                other.manifest.builds(),
-            )
+        same_lent(&self.manifest, &other.manifest)
     }
 
     /// The graph of the same manifest, built again.
