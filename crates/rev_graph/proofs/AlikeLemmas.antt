@@ -1,5 +1,5 @@
 -- Tests of graphs that lend the same.
-use Rattle.std.proofs.Common.{◌≡◌, ◌==◌, ◌↔◌, ◌<◌, ◌≤◌, ℕ, Bool, true, false, ◌&&◌, List, [], ◌∷◌, map, length, Option, None, Some, refl, sym, ap, ap₂, ◌∙◌, bytes_eq, eq-eqb, eqb-true, true≢false, arith}
+use Rattle.std.proofs.Common.{◌≡◌, ◌==◌, ◌↔◌, ℕ, Bool, true, false, ◌&&◌, List, [], ◌∷◌, map, Option, None, Some, refl, sym, ap, ap₂, ◌∙◌, bytes_eq, eq-eqb, eqb-true, true≢false, arith}
 use Rattle.std.proofs.Math.Bool.{beq}
 use Rattle.std.specs.Bool.{Decides}
 use Rattle.std.specs.Cmp.{booleans_Decides}
@@ -7,7 +7,11 @@ use Rattle.std.specs.Cmp.Lexicographic.{pointwise}
 use Rattle.std.proofs.lemmas.Slice.Eq.{bytes_eq-Decides, slice_eq-Decides}
 use Rattle.rev_manifest.specs.Builds.{BuildValue, ManifestValue}
 use Rattle.rev_graph.specs.Alike.{lent_edge, depths_of, LendAlike, same_paths, same_outputs, same_inputs, same_rule, same_pool, same_edge, same_lent}
-use Rattle.rev_graph.specs.Graph.{numbered_pool}
+use Rattle.rev_graph.specs.declared.fault.GraphFault.{GraphFault}
+use Rattle.rev_graph.specs.declared.fault.GraphFault.TheVariants.{Memory, TooManyEdges, MultipleProducers, Cycle}
+use Rattle.rev_graph.specs.Fault.{Explains}
+use Rattle.rev_graph.specs.Graph.{numbered_pool, GraphValue, IsGraph}
+use Rattle.rev_graph.proofs.StepLemmas.{ranked-acyclic}
 
 both : (a b : Bool) → (a && b) ≡ true → (a ≡ true) × (b ≡ true)
 both true b h = (refl, h)
@@ -105,3 +109,10 @@ lent_told m n =
   where
     edge : (a b : BuildValue) → Decides (same_edge m.pools n.pools a b) (lent_edge n.pools b ≡ lent_edge m.pools a)
     edge a b = (edge_told m.pools n.pools a b, edge_tells m.pools n.pools a b)
+
+-- Of edges that make a graph no fault is told but want of memory.
+pub only_memory : (g : GraphValue) → IsGraph g → (f : GraphFault) → Explains f g.manifest.builds → f ≡ Memory
+only_memory g is Memory e = refl
+only_memory g is TooManyEdges e = let few = is.few in let never : ⊥ = omega arith in absurd never
+only_memory g is (MultipleProducers path) e = let never : None ≡ Some path = sym is.single ∙ e.1 in cc
+only_memory g is (Cycle path) e = absurd (ranked-acyclic g.manifest.builds g.ranks is.ranked e.2.edge e.2.least.on_cycle)
