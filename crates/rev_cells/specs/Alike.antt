@@ -1,6 +1,6 @@
 -- Cells that hold the same.
 use Rattle.std.specs.Prelude.{◌≡◌, Bool, true, ◌&&◌, List, [], ◌∷◌, Option, Some, None}
-use Rattle.std.specs.Map.{lookup}
+use Rattle.std.specs.Map.{lookup, keys_of}
 use Rattle.rev_cells.specs.declared.cell.Cell.{Cell}
 use Rattle.rev_cells.specs.declared.value.Value.{Value}
 use Rattle.rev_cells.specs.contracts.value.ValuePartialEq.TheImpl as same
@@ -28,3 +28,7 @@ same_held (Some v) (Some w) = value_eq v w
 abbrev pub same_at : List Cell → List (Cell × Value) → List (Cell × Value) → Bool
 same_at [] es fs = true
 same_at (c ∷ cs) es fs = same_held (lookup (cell_eq c) es) (lookup (cell_eq c) fs) && same_at cs es fs
+
+-- whether the cells of both hold the same
+abbrev pub same_entries : List (Cell × Value) → List (Cell × Value) → Bool
+same_entries es fs = same_at (keys_of es) es fs && same_at (keys_of fs) es fs

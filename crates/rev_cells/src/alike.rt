@@ -2,7 +2,7 @@
 ghost use Rattle.std.specs.Prelude.{◌≡◌};
 ghost use Rattle.std.specs.Option.{option_copied};
 ghost use Rattle.std.specs.Map.{keys_of};
-ghost use Rattle.rev_cells.specs.Alike.{same_at as same_at_all, same_held as same_held_in};
+ghost use Rattle.rev_cells.specs.Alike.{same_at as same_at_all, same_entries as same_entries_in, same_held as same_held_in};
 ghost use Rattle.rev_cells.specs.Values.{is_default as is_default_value};
 
 use crate::cell::Cell;
@@ -37,8 +37,8 @@ fn same_held(value: Option<&Value>, other: Option<&Value>) -> bool
     }
 }
 
-/// Whether the cells of some entries hold the same in two others.
-pub(crate) fn same_at(
+// Whether the cells of some entries hold the same in two others.
+fn same_at(
     cells: &IndexMap<Cell, Value>,
     entries: &IndexMap<Cell, Value>,
     others: &IndexMap<Cell, Value>,
@@ -51,4 +51,14 @@ pub(crate) fn same_at(
         }
     }
     true
+}
+
+/// Whether each cell holds the same by two lists of entries.
+pub(crate) fn same_entries(
+    entries: &IndexMap<Cell, Value>,
+    others: &IndexMap<Cell, Value>,
+) -> bool
+    ensures { result ≡ same_entries_in entries.now.entries others.now.entries }
+{
+    same_at(entries, entries, others) && same_at(others, entries, others)
 }
