@@ -1,6 +1,6 @@
 //! Equal items of two lists are matched by occurrence: the first one there with the first one here, the second with the
 //! second, and so on.
-ghost use Rattle.std.specs.Prelude.{◌≡◌, ◌×◌, ◌≤◌, List, ℕ, map, option_map, length, Some, None, IfOk, IfSome, IsSome};
+ghost use Rattle.std.specs.Prelude.{◌≡◌, ◌≤◌, List, ℕ, map, option_map, length, Some, None, IfOk, IfSome, IsSome};
 ghost use Rattle.std.specs.List.{AllByRecursion};
 ghost use Rattle.rev_causal.specs.Chosen.{IsRising as IsRisingNumbers, chosen};
 ghost use Rattle.rev_causal.specs.History.{IsRising, event_at};

@@ -1,7 +1,7 @@
 use Rattle.std.proofs.Common.{◌≤◌, drop, length, map}
 use Rattle.rev_causal.specs.Chosen.{chosen}
 use Rattle.rev_order.specs.Waiting.{Waits}
-use Rattle.rev_order.proofs.matching.waiting_items.Given as goal
+use Rattle.rev_order.proofs.pairing.waiting_items.Given as goal
 
 -- the items that are seen wait
 abbrev pub invariant-loop-left : goal.invariant-loop-left

@@ -4,7 +4,7 @@ use Rattle.rev_causal.specs.History.{IsRising}
 use Rattle.rev_causal.specs.OrderCheck.{bare}
 use Rattle.rev_order.specs.Matched.{IsLeft}
 use Rattle.rev_order.specs.Waiting.{Waits}
-use Rattle.rev_order.proofs.matching.take_all.Given as goal
+use Rattle.rev_order.proofs.pairing.take_all.Given as goal
 
 -- the items that are left find the numbers that are left
 abbrev pub invariant-loop-number : goal.invariant-loop-number
