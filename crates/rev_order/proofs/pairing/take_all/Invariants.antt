@@ -9,6 +9,6 @@ use Rattle.rev_order.proofs.pairing.take_all.Given as goal
 -- the items that are left find the numbers that are left
 abbrev pub invariant-loop-number : goal.invariant-loop-number
 invariant-loop-number g l =
-    (xs : List (ℕ × g.T)) → IsRising xs → length xs ≡ length (bare (chosen l.items.entries l.kept))
+    (xs : List (ℕ × g.row.T.Denot)) → IsRising xs → length xs ≡ length (bare (chosen l.items.entries l.kept))
     → Waits g.T.PartialEq.eq (map (λ e. (e.0.now, e.1.items)) l.fn.waiting.numbers.entries) xs
     → IsLeft g.T.PartialEq.eq xs (bare (chosen l.items.entries l.kept)) l.numbers.items (bare (chosen l.items.entries (drop l.number-index l.kept))) (map (λ e. (e.0.now, e.1.items)) l.waiting.numbers.entries)

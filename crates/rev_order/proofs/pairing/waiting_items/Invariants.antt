@@ -10,3 +10,6 @@ invariant-loop-left g l =
       within : l.left ≤ length l.kept;
       waits : Waits g.T.PartialEq.eq (map (λ e. (e.0.now, e.1.items)) l.waiting.numbers.entries) (chosen l.items.entries (drop l.left l.kept));
     }
+
+abbrev pub decreases-loop-left : goal.decreases-loop-left
+decreases-loop-left g l = l.left
