@@ -1,10 +1,10 @@
-use Rattle.std.proofs.Common.{◌≡◌, ◌<◌, ◌≤◌, ◌+◌, ◌^◌, ℕ, List, length, map, option_map, sym, ap, subst, ◌∙◌, arith}
+use Rattle.std.proofs.Common.{◌≡◌, ◌<◌, ◌≤◌, ◌+◌, ◌^◌, ℕ, List, length, option_map, sym, ap, subst, ◌∙◌, arith}
 use Rattle.std.specs.List.{AllByRecursion}
 use Rattle.rev_causal.specs.Chosen.{chosen}
 use Rattle.rev_causal.specs.Order.{Distinct}
-use Rattle.rev_causal.specs.OrderCheck.{bare, number_in}
+use Rattle.rev_causal.specs.OrderCheck.{bare}
 use Rattle.rev_order.specs.Pairs.{ArePlaces}
-use Rattle.rev_order.proofs.Matching.{is_found, none_of}
+use Rattle.rev_order.proofs.Matching.{is_found}
 use Rattle.rev_order.proofs.pairing.matched_places.Goals as goal
 
 pub places_of-requires-clause-within : goal.places_of-requires-clause-within

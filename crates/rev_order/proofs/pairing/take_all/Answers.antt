@@ -1,10 +1,8 @@
-use Rattle.std.proofs.Common.{◌≡◌, ◌∷◌, ◌++◌, [], ◌+◌, ◌<◌, ◌≤◌, ℕ, Bool, List, Option, Some, None, map, length, get_or, drop, sym, ap, subst, ◌∙◌, arith}
-use Rattle.std.specs.Prelude.{IfSome}
+use Rattle.std.proofs.Common.{◌∷◌, ◌+◌, ◌<◌, ◌≤◌, ℕ, List, map, length, drop, sym, ap, subst, arith}
 use Rattle.rev_causal.specs.Chosen.{chosen}
 use Rattle.rev_causal.specs.OrderCheck.{bare}
 use Rattle.rev_order.specs.Matched.{IsLeft}
 use Rattle.rev_order.proofs.Matching.{left_step, left_none, left_end, left_first, chosen-next, drop_over}
-use Rattle.rev_order.proofs.pairing.take_all.Given.{Over}
 use Rattle.rev_order.proofs.pairing.take_all.Goals as goal
 
 pub loop-number-init : goal.loop-number-init

@@ -1,4 +1,4 @@
-use Rattle.std.proofs.Common.{◌≡◌, ◌∷◌, ◌+◌, ◌-◌, ◌<◌, ◌≤◌, ℕ, List, map, length, get_or, drop, sym, ap, subst, ◌∙◌, arith}
+use Rattle.std.proofs.Common.{◌≡◌, ◌∷◌, ◌+◌, ◌-◌, ◌<◌, ℕ, List, map, length, get_or, drop, sym, ap, subst, ◌∙◌, arith}
 use Rattle.rev_causal.specs.Chosen.{chosen}
 use Rattle.rev_order.specs.Waiting.{Waits}
 use Rattle.rev_order.proofs.Matching.{chosen-next}
