@@ -11,7 +11,7 @@ ghost use Rattle.rev_history.specs.Timeline.{IsHistory, Timeline, accept_refusal
 ghost use Rattle.rev_history.specs.Value.{cells_written};
 
 use crate::closing::cone;
-use crate::order::{Order, first_pair};
+use crate::order::{Order, both, first_pair};
 use crate::prints::{nearest, take_print, write_noted};
 use crate::step::{Checked, effect, effect_if_accepted, refusal};
 use crate::steps::{Step, footprint_at};
@@ -400,14 +400,13 @@ impl History {
     {
         let graphs = self.graph.lends_alike(&other.graph);
         let openings = self.opening.same(&other.opening);
-        graphs && openings
+        both(graphs, openings)
     }
 
     // What the order check answers where the openings are the same.
     fn order_of_events(&self, other: &History) -> Result<Order, AllocError>
-        ensures answer { IfOk result (λ order. answer_of order
+        ensures { IfOk result (λ order. answer_of order
             ≡ order_of event_eq true self.now.timeline other.now.timeline) }
-        ensures legal { IsHistory self.now.timeline }
     {
         let matched = matched_places(
             self.alloc,

@@ -1,5 +1,5 @@
 //! Whether two histories of the same events are equivalent.
-ghost use Rattle.std.specs.Prelude.{◌≡◌, length, IsSome};
+ghost use Rattle.std.specs.Prelude.{◌≡◌, ◌&&◌, length, IsSome};
 ghost use Rattle.std.specs.List.{AllByRecursion};
 ghost use Rattle.rev_accesses.specs.Value.{Shows};
 ghost use Rattle.rev_causal.specs.Chosen.{IsRising, chosen};
@@ -55,4 +55,11 @@ pub(crate) fn first_pair(
         Some(second) => Order::Pair(first, second),
         None => Order::Same,
     }
+}
+
+/// Whether both of two tests hold.
+pub(crate) fn both(first: bool, second: bool) -> bool
+    ensures { result ≡ (first && second) }
+{
+    first && second
 }
