@@ -396,7 +396,8 @@ impl History {
 
     // Whether another history has the same graph, by what it lends, and the same opening.
     fn same_opening(&self, other: &History) -> bool
-        ensures { IsTrue result ↔ IsSameOpening self.now.timeline other.now.timeline }
+        ensures same { IsTrue result ↔ IsSameOpening self.now.timeline other.now.timeline }
+        ensures legal { IsHistory self.now.timeline }
     {
         let graphs = self.graph.lends_alike(&other.graph);
         let openings = self.opening.same(&other.opening);
