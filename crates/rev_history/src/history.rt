@@ -385,7 +385,10 @@ impl History {
     /// # Errors
     /// [`AllocError`] only where an allocation was refused.
     pub fn same_order(&self, other: &History) -> Result<Order, AllocError>
-        ensures { IfOk result (λ order. IsOrder event_eq self.now.timeline other.now.timeline (answer_of order)) }
+        ensures order { IfOk result (λ order. IsOrder event_eq self.now.timeline other.now.timeline (answer_of order)) }
+        // Where the openings are the same, it is what a function of the kept events says.
+        ensures answer { IsSameOpening self.now.timeline other.now.timeline
+            → IfOk result (λ order. answer_of order ≡ order_of event_eq true self.now.timeline other.now.timeline) }
     {
         if !self.same_opening(other) {
             return Ok(Order::EventsDiffer);

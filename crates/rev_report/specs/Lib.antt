@@ -1,4 +1,5 @@
 pub mod Answers
 pub mod Dependents
+pub mod Orders
 pub mod Report
 pub mod Runs
