@@ -85,7 +85,7 @@ def read_commands(folder):
         for number, text in enumerate(file.read().split(b"\n"), 1):
             if text.startswith(b"lane "):
                 lane = int(text[5:])
-                lanes[lane] = []
+                lanes.setdefault(lane, [])
             elif lane is not None and text:
                 lanes[lane].append((number, text))
     with open(os.path.join(folder, "script"), "rb") as file:

@@ -21,11 +21,9 @@ def write_recording(it, folder, with_lanes, program, at=None):
     names = write_manifest(it, folder)
     lanes, script = _lanes(it) if with_lanes else _one_lane(it)
     with _open(folder, b"trace") as file:
-        file.write(b"rebug-trace 1\n")
+        file.write(b"rebug-trace %d\n" % (1 if len(lanes) == 1 else 2))
         file.writelines(text + b"\n" for text in opening(it))
-        for number, places in enumerate(lanes):
-            file.write(b"lane %d\n" % number)
-            file.writelines(command(it.found.events[place]) + b"\n" for place in places)
+        file.writelines(text + b"\n" for text in commands(it.found.events, lanes))
     with _open(folder, b"times") as file:
         file.write(b"rebug-times 1\n")
         file.writelines(times(it.found.times, lanes))
@@ -108,6 +106,23 @@ def command(event):
     if word in ("finish", "fail", "abort"):
         return line(word, rest[0], ",".join(map(str, rest[1])))
     return line(word, *rest)
+
+
+def commands(events, lanes):
+    """The lines of the lanes, each command where it came: a lane is named again where its next commands come.
+
+    A lane that is named for the first time has the next number, so those before it are opened first.
+    """
+    lane_of = {place: number for number, places in enumerate(lanes) for place in places}
+    opened, last = 0, None
+    for place in sorted(lane_of):
+        if lane_of[place] != last:
+            last = lane_of[place]
+            yield from (b"lane %d" % number for number in range(opened, last))
+            yield b"lane %d" % last
+            opened = max(opened, last + 1)
+        yield command(events[place])
+    yield from (b"lane %d" % number for number in range(opened, len(lanes)))
 
 
 def times(known, lanes):

@@ -4,6 +4,7 @@ beside it quotes lines that are there."""
 import os
 import pathlib
 import subprocess
+import tempfile
 import unittest
 
 from recorder.checking import check
@@ -18,6 +19,16 @@ class ReplaysOfExamples(unittest.TestCase):
         if unable:
             self.skipTest(unable)
         return os.path.abspath(program())
+
+    def report_of(self, folder, trace):
+        """What is reported of a trace, with the manifest and the script or story that lie beside it, and the status."""
+        words = ["--manifest", "build.ninja", "--trace", trace, "--script", "script"]
+        if (folder / "replay").exists():
+            words = (folder / "replay").read_text().splitlines()[-1].split()[2:]
+            words[words.index("--trace") + 1] = trace
+            words[words.index("--script") + 1] = "story"
+        done = subprocess.run([self.program(), *words], cwd=folder, stdin=subprocess.DEVNULL, capture_output=True)
+        return done.stdout, done.returncode
 
 
 def _check_test(folder):
@@ -47,6 +58,33 @@ def _plain_test(folder):
         done = subprocess.run([self.program(), *words], cwd=folder, stdin=subprocess.DEVNULL, capture_output=True)
         self.assertEqual(done.stdout, (folder / "report").read_bytes())
         self.assertEqual(done.returncode, 0)
+
+    return test
+
+
+def _migrated_test(folder):
+    """With `--migrate` all bytes of the trace but its first line are kept, and the report is the one it was. Manifest
+    and script are not read then."""
+
+    def test(self):
+        first, rest = (folder / "trace").read_bytes().split(b"\n", 1)
+        words = ["--manifest", "none", "--trace", "trace", "--script", "none", "--migrate"]
+        done = subprocess.run([self.program(), *words], cwd=folder, stdin=subprocess.DEVNULL, capture_output=True)
+        self.assertEqual(done.stdout, b"rebug-trace 2\n" + rest)
+        self.assertEqual(done.returncode, 0)
+        with tempfile.NamedTemporaryFile() as trace:
+            trace.write(done.stdout)
+            trace.flush()
+            self.assertEqual(*(self.report_of(folder, name) for name in ("trace", trace.name)))
+
+    return test
+
+
+def _version_test(folder):
+    """The same lanes in version 2, in the order of time, have the report that they have in version 1."""
+
+    def test(self):
+        self.assertEqual(self.report_of(folder, "trace-2"), ((folder / "report").read_bytes(), 0))
 
     return test
 
@@ -89,3 +127,8 @@ for _example in sorted({it.parents[1] for it in EXAMPLES.glob("*/*/story")}):
 for _plain in sorted(EXAMPLES.glob("*/script")):
     setattr(ReplaysOfExamples, f"test_{_plain.parent.name}_is_answered", _plain_test(_plain.parent))
     setattr(ReplaysOfExamples, f"test_{_plain.parent.name}_quotes_its_report", _plain_quote_test(_plain.parent))
+for _trace in sorted([*EXAMPLES.glob("*/trace"), *EXAMPLES.glob("*/*/trace")]):
+    _name = "_".join(_trace.parent.relative_to(EXAMPLES).parts)
+    setattr(ReplaysOfExamples, f"test_{_name}_is_migrated", _migrated_test(_trace.parent))
+for _trace in sorted(EXAMPLES.glob("*/trace-2")):
+    setattr(ReplaysOfExamples, f"test_{_trace.parent.name}_in_version_two", _version_test(_trace.parent))

@@ -10,7 +10,7 @@ from recorder.checking import check
 from recorder.depfiles import read_depfile
 from recorder.disk import Snapshot, built_records
 from recorder.fields import canonical, field, line, quoted
-from recorder.files import command, opening, write_recording
+from recorder.files import command, commands, opening, write_recording
 from recorder.logs import BuildLog, LogEntry, hash_of, new_entries, read_build_log
 from recorder.manifest import BadManifest, Manifest
 from recorder.recording import record
@@ -371,10 +371,19 @@ class Whole(unittest.TestCase):
         with tempfile.TemporaryDirectory() as folder:
             write_recording(self.found, folder, True, "/nowhere/rebug")
             room = pathlib.Path(folder)
-            lanes = (room / "trace").read_text().split("lane ")[1:]
-            self.assertEqual([it.split("\n")[1].split(" ")[:2] for it in lanes], [["start", "a.o"], ["start", "b.o"]])
+            version, *lines = (room / "trace").read_text().split("\n")
+            said = [" ".join(it.split(" ")[:2]) for it in lines[lines.index("lane 0"):-1]]
+            # in the order of time: lane 0 is named again where it goes on
+            self.assertEqual((version, said), ("rebug-trace 2", [
+                "lane 0", "start a.o", "lane 1", "start b.o", "touch made.h", "finish b.o", "lane 0", "finish a.o",
+                "start app", "fail app"]))
             self.assertEqual((room / "script").read_text(), "plan\nrun\nkept\nmarks\n")
             self.assertIn("--workers", (room / "replay").read_text())
+
+    def test_lanes_are_opened_in_rising_number(self):
+        lines = commands([("start", b"a", 1), ("start", b"b", 3), ("pass", b"c")], [[], [0, 2], [], [1], []])
+        self.assertEqual([it.decode() for it in lines], [
+            "lane 0", "lane 1", "start a 1", "lane 2", "lane 3", "start b 3", "lane 1", "pass c", "lane 4"])
 
     def test_files_from_outside_get_a_name_inside(self):
         with tempfile.TemporaryDirectory() as folder:

@@ -100,6 +100,21 @@ pub(crate) fn trace_of<R: Print>(rt: &R, alloc: Global) -> Said {
     tell(rt, first, of_trace(alloc))
 }
 
+fn of_migration(alloc: Global) -> Answer {
+    match rev_trace::migrate(alloc, LINES) {
+        Ok(text) => due_if(text.len() == LINES.len() && text.starts_with(b"rebug-trace 2\njobs 2\n")),
+        Err(ReadFault::Memory) => Answer::Memory,
+        Err(_) => Answer::Other,
+    }
+}
+
+/// Makes a trace of version 2 of one of version 1.
+pub(crate) fn migration<R: Print>(rt: &R, alloc: Global) -> Said {
+    println!(rt; "made")?;
+    let first = of_migration(alloc);
+    tell(rt, first, of_migration(alloc))
+}
+
 fn of_script(alloc: Global) -> Answer {
     match read_script(alloc, WORDS) {
         Ok(words) => due_if(words.len() == 4),

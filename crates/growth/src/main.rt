@@ -42,6 +42,7 @@ fn run<R: Env + Print + AllocGlobal + Threads + Wait + Sync>(rt: &R) -> Said {
         "manifest" => answers::manifest(rt, rt.alloc()),
         "graph" => answers::graph_of(rt, rt.alloc()),
         "trace" => answers::trace_of(rt, rt.alloc()),
+        "migrate" => answers::migration(rt, rt.alloc()),
         "script" => answers::script(rt, rt.alloc()),
         "depfile" => answers::depfile(rt, rt.alloc()),
         "plan" => answers::plan(rt, rt.alloc()),

@@ -8,7 +8,7 @@ use fault::{ProgramFault, Unread};
 use rev_input::{TakeFault, take_up_to};
 use rev_options::{Options, options};
 use rev_parallel::run_parallel;
-use rev_report::{RunFault, Status, run_serial};
+use rev_report::{RunFault, Status, run_serial, write_migrated};
 use rev_sentences::{Inputs, sentence};
 use std::alloc::Global;
 use std::io::{BufWriter, Write};
@@ -87,8 +87,47 @@ fn read_manifest<'a, R: Files + AllocGlobal>(
     Ok(files)
 }
 
+// Writes what is left of a report, and says a sentence beside its fault line. Such a line is short and the last, so it
+// is still in the buffer.
+fn end<'a, R: Eprint + AllocGlobal, W: Write + Drop>(
+    rt: &R,
+    writer: &mut BufWriter<W>,
+    inputs: Inputs<'_>,
+    status: Status,
+) -> Result<Status, ProgramFault<'a>> {
+    let said = sentence(rt.alloc(), writer.buffer(), inputs)?;
+    match writer.flush() {
+        Ok(()) => {}
+        Err(_) => return Err(ProgramFault::Run(RunFault::Write)),
+    }
+    if let (Status::Fault, Some(said)) = (status, said) {
+        tell(rt, &said);
+    }
+    Ok(status)
+}
+
+// Writes the trace in version 2 to the standard output, or the line of its fault. No other file is read.
+fn migrate<'a, R: Files + Print + Eprint + AllocGlobal>(
+    rt: &R,
+    options: &Options<'a>,
+) -> Result<Status, ProgramFault<'a>> {
+    let alloc = rt.alloc();
+    let trace = read_lines(rt, options.trace)?;
+    let Ok(mut writer) = BufWriter::new(alloc, io::writer(rt)) else {
+        return Err(ProgramFault::Run(RunFault::Memory));
+    };
+    let status = write_migrated(alloc, &trace, &mut writer)?;
+    let (files, script) = (Vec::new(alloc), Vec::new(alloc));
+    let inputs = Inputs {
+        files: &files,
+        trace: (options.trace.as_bytes(), &trace),
+        script: (options.script.as_bytes(), &script),
+    };
+    end(rt, &mut writer, inputs, status)
+}
+
 // Reads the files and writes the report to the standard output.
-fn run<'a, R: Files + Print + Eprint + AllocGlobal + Threads + Wait + Sync>(
+fn report<'a, R: Files + Print + Eprint + AllocGlobal + Threads + Wait + Sync>(
     rt: &R,
     options: &Options<'a>,
 ) -> Result<Status, ProgramFault<'a>> {
@@ -109,16 +148,7 @@ fn run<'a, R: Files + Print + Eprint + AllocGlobal + Threads + Wait + Sync>(
         trace: (options.trace.as_bytes(), &trace),
         script: (options.script.as_bytes(), &script),
     };
-    // A fault line is short and the last, so it is still in the buffer.
-    let said = sentence(alloc, writer.buffer(), inputs)?;
-    match writer.flush() {
-        Ok(()) => {}
-        Err(_) => return Err(ProgramFault::Run(RunFault::Write)),
-    }
-    if let (Status::Fault, Some(said)) = (status, said) {
-        tell(rt, &said);
-    }
-    Ok(status)
+    end(rt, &mut writer, inputs, status)
 }
 
 // Says a sentence on the standard error, its bytes that are no text as replacement characters.
@@ -164,7 +194,12 @@ fn main(rt: HostRuntime) -> ExitCode {
         Ok(options) => options,
         Err(error) => return explain(&rt, &error),
     };
-    match run(&rt, &options) {
+    let ended = if options.migrate {
+        migrate(&rt, &options)
+    } else {
+        report(&rt, &options)
+    };
+    match ended {
         Ok(Status::Success) => ExitCode::SUCCESS,
         Ok(Status::Fault) => ExitCode::FAILURE,
         Err(fault) => fail(&rt, fault),

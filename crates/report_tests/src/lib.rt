@@ -10,3 +10,5 @@ mod devices;
 mod limits;
 #[cfg(test)]
 mod reports;
+#[cfg(test)]
+mod versions;

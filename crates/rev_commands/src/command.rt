@@ -128,6 +128,13 @@ fn same_event(event: &Event, other: &Event) -> bool
             },
         ) => { path == other && stamp == its_stamp }
         (Event::Interrupt, Event::Interrupt) => true,
+        (
+            Event::Resize { pool, depth },
+            Event::Resize {
+                pool: other,
+                depth: its_depth,
+            },
+        ) => { pool == other && depth == its_depth }
         _ => false,
     }
 }

@@ -17,11 +17,11 @@ use Rattle.rev_dirty.specs.Reasons.{is_rebuilt, is_missing, newest_stamp, reason
 use Rattle.rev_events.specs.declared.event.Listing.{Listing}
 use Rattle.rev_events.specs.declared.refusal.Refusal.{Refusal}
 use Rattle.rev_events.specs.Refusal.{is_settled, phony_edge, halted, not_wanted, blocked, not_dirty, no_such_job, job_busy, pool_slot, slot_busy}
-use Rattle.rev_events.specs.Pools.{present_or, present_depth, at_present, present_pool, slots_lost, first_held}
+use Rattle.rev_events.specs.Pools.{present_depth, at_present, present_pool, slots_lost, first_held}
 use Rattle.rev_plan.specs.Options.{first_some}
 use Rattle.rev_dirty.specs.Seen.{stamp_cells, built_cells, producer_marks, seen_stamps, deps_cells, joined, reason_cells}
 use Rattle.rev_events.specs.Edge.{Effect, write, is_blocking, first_blocking, slot_cells, slot_holder, write_slot, held_cells, free_held, seen_by, write_stamps, changes, write_built, write_deps, pass_changes}
-use Rattle.rev_events.specs.Kinds.{start_tests, start_refusal, start_effect, clean_tests, clean_refusal, clean_effect, pass_tests, pass_refusal, pass_effect, finish_tests, finish_refusal, finish_by, finish_effect, fail_tests, fail_refusal, abort_tests, abort_refusal, end_effect, resize_tests, resize_refusal, resize_effect}
+use Rattle.rev_events.specs.Kinds.{start_refusal, start_effect, clean_tests, clean_refusal, clean_effect, pass_tests, pass_refusal, pass_effect, finish_tests, finish_refusal, finish_by, finish_effect, fail_tests, fail_refusal, abort_tests, abort_refusal, end_effect, resize_tests, resize_refusal, resize_effect}
 use Rattle.rev_events.specs.Written.{start_writes, mark_writes, finish_writes, end_writes}
 use Rattle.rev_events.proofs.WrittenLemmas.{keys-append, keys-slot, keys-held, keys-stamps, keys-built, keys-deps}
 use Rattle.rev_footprint.specs.Reads.{depth_cells, start_reads, clean_reads, pass_reads, resize_reads}

@@ -1,5 +1,5 @@
 -- What an event reads besides the cells that it writes.
-use Rattle.std.specs.Prelude.{ℕ, List, [], ◌∷◌, map, Option, Some, None}
+use Rattle.std.specs.Prelude.{ℕ, List, [], ◌∷◌, map, Option, Some}
 use Rattle.rev_manifest.specs.Manifest.{BuildValue, ManifestValue}
 use Rattle.rev_graph.specs.Graph.{build_at, outputs_of, pool_of}
 use Rattle.rev_cells.specs.declared.cell.Cell.{Cell}

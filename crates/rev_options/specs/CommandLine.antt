@@ -12,9 +12,9 @@ use Rattle.clap.specs.declared.builder.action.ArgAction.TheVariants.{Append, Set
 abbrev pub file_rule : Text → Rule
 file_rule name = record (new_rule name) { long = Some name; value_names = 1; required = true; action = Some Set }
 
--- `--workers`, which takes no value
-abbrev pub workers_rule : Rule
-workers_rule = record (new_rule (codes "workers")) { long = Some (codes "workers"); action = Some SetTrue }
+-- `--NAME`, which takes no value
+abbrev pub flag_rule : Text → Rule
+flag_rule name = record (new_rule name) { long = Some name; action = Some SetTrue }
 
 -- the words that are no options, any number of them
 abbrev pub others_rule : Rule
@@ -30,8 +30,9 @@ bare_program = on_top (λ s. record s { has_version = true }) (new_app (codes "r
 -- the program with its arguments
 abbrev pub program : App
 program =
-    with_rule (with_rule (with_rule (with_rule (with_rule bare_program
-    (file_rule (codes "manifest"))) (file_rule (codes "trace"))) (file_rule (codes "script"))) workers_rule) others_rule
+    with_rule (with_rule (with_rule (with_rule (with_rule (with_rule bare_program
+    (file_rule (codes "manifest"))) (file_rule (codes "trace"))) (file_rule (codes "script")))
+    (flag_rule (codes "workers"))) (flag_rule (codes "migrate"))) others_rule
 
 -- the value of an option, if the words give it one
 abbrev pub value_in : List Text → Text → Option Text

@@ -3,7 +3,7 @@ ghost use Rattle.std.specs.Prelude.{◌≡◌, [], codes, false, IfOk};
 ghost use Rattle.clap.specs.Built.{TakesValue};
 ghost use Rattle.clap.specs.Words.{IsPlainArg, app_of, args_of, groups_of, rule_of};
 ghost use Rattle.clap.specs.declared.builder.command.Command.TheViews.{out-Command};
-ghost use Rattle.rev_options.specs.CommandLine.{Gives, bare_program, file_rule, others_rule, program, workers_rule};
+ghost use Rattle.rev_options.specs.CommandLine.{Gives, bare_program, file_rule, flag_rule, others_rule, program};
 
 use clap::{Arg, ArgAction, Command};
 use std::alloc::{AllocError, Global};
@@ -30,17 +30,15 @@ fn file_option<'a>(alloc: Global, name: &'a str, value: &'a str, help: &'a str) 
         .action(ArgAction::Set)
 }
 
-// `--workers`
-fn workers_option<'a>(alloc: Global) -> Arg<'a>
-    ensures rule { rule_of result ≡ workers_rule }
+// An option that takes no value.
+fn flag_option<'a>(alloc: Global, name: &'a str, help: &'a str) -> Arg<'a>
+    ensures rule { rule_of result ≡ flag_rule name.entry.now }
     ensures plain { IsPlainArg result }
     ensures alone { result.global ≡ false }
 {
-    Arg::new(alloc, "workers")
-        .long("workers")
-        .help(
-            "Runs each lane of the trace on a thread of its own, so the report may differ from run to run",
-        )
+    Arg::new(alloc, name)
+        .long(name)
+        .help(help)
         .action(ArgAction::SetTrue)
 }
 
@@ -81,10 +79,15 @@ pub(crate) fn command<'a>(alloc: Global) -> Result<Command<'a>, AllocError>
     let manifest = "The build's manifest as Ninja reads it: rules, pools and build lines";
     let trace = "The recorded build: the files and logs before it, then what happened, a line each";
     let script = "What to do with it: run the trace, undo, redo, ask why";
+    let workers =
+        "Runs each lane of the trace on a thread of its own, so the report may differ from run to run";
+    let migrate =
+        "Writes the trace in version 2 in place of a report; manifest and script are not read";
     bare_command(alloc)
         .arg(file_option(alloc, "manifest", "MANIFEST", manifest))?
         .arg(file_option(alloc, "trace", "TRACE", trace))?
         .arg(file_option(alloc, "script", "SCRIPT", script))?
-        .arg(workers_option(alloc))?
+        .arg(flag_option(alloc, "workers", workers))?
+        .arg(flag_option(alloc, "migrate", migrate))?
         .arg(others(alloc))
 }

@@ -11,6 +11,8 @@ pub struct Options<'a> {
     pub script: &'a str,
     /// Whether each lane of the trace runs on a thread of its own.
     pub workers: bool,
+    /// Whether the trace is written in version 2, in place of a report.
+    pub migrate: bool,
     /// The files that the manifest may include, in the order in which they were named.
     pub files: Vec<&'a str>,
 }

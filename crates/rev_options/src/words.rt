@@ -22,6 +22,8 @@ pub fn options<'a>(alloc: Global, words: &'a [String]) -> Result<Options<'a>, Er
         ≡ Some o.script.now) }
     ensures workers { IfOk result (λ o. IsTrue o.workers
         ↔ value_in (map string_bytes words.entry.now) (codes "workers") ≡ Some (codes "true")) }
+    ensures migrate { IfOk result (λ o. IsTrue o.migrate
+        ↔ value_in (map string_bytes words.entry.now) (codes "migrate") ≡ Some (codes "true")) }
     ensures files { IfOk result (λ o. map (λ f. f.now) o.files.items
         ≡ others_in (map string_bytes words.entry.now)) }
     ensures fails { FailsBy (fault_of program (map string_bytes words.entry.now)) result }
@@ -33,6 +35,7 @@ pub fn options<'a>(alloc: Global, words: &'a [String]) -> Result<Options<'a>, Er
         trace: file_of(&matches, "trace"),
         script: file_of(&matches, "script"),
         workers: is_on(&matches, "workers"),
+        migrate: is_on(&matches, "migrate"),
         files,
     })
 }

@@ -8,5 +8,5 @@ mod runs;
 mod text;
 
 pub use report::{open_desk, run_serial, run_words};
-pub use rev_script::{RunFault, Status};
+pub use rev_script::{RunFault, Status, write_migrated};
 pub use text::answer_line;

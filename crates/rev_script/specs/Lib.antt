@@ -1,5 +1,6 @@
 pub mod LeftTurns
 pub mod Lines
+pub mod Migrations
 pub mod Output
 pub mod Scripts
 pub mod SeenTurns

@@ -21,7 +21,7 @@ use Rattle.rev_fields.specs.Lines.{path_of, paths_of, read_as}
 use Rattle.rev_fields.specs.Numbers.{numbers_below}
 use Rattle.rev_trace.specs.declared.verb.Verb.{Verb}
 use Rattle.rev_trace.specs.declared.verb.Verb.TheVariants as verb
-use Rattle.rev_trace.specs.Commands.{alone_of, break_number_of, command_line, command_of, depfile_of, ended_of, ending_of, finish_of, list_of, listing_of, long, name_of, nothing_of, plan_of, point_by, point_by_any, point_of, short, start_of, taken_by, taken_by_any, touch_of, verb_of, verbs, which_of, word_of}
+use Rattle.rev_trace.specs.Commands.{alone_of, break_number_of, command_line, command_of, depfile_of, ended_of, ending_of, finish_of, list_of, listing_of, long, name_of, nothing_of, plan_of, point_by, point_by_any, point_of, resize_of, short, start_of, taken_by, taken_by_any, touch_of, verb_of, verbs, which_of, word_of}
 use Rattle.rev_trace.specs.Laws.{LinesSayCommands}
 use Rattle.rev_fields.proofs.GrammarLemmas.{fields-are-read}
 use Rattle.rev_trace.proofs.NumberLemmas.{long-is, long-of, short-is, short-of, stamps-is, stamps-of, which-is, which-of}
@@ -75,6 +75,9 @@ event_read targets texts (event.Touch path stamp) h =
     ap (command_of targets) h.2 ∙ ap (λ r. r >>= λ p. long h.1 >>= λ n. Ok (command.Event (event.Touch p n))) h.3
     ∙ ap (λ r. r >>= λ n. Ok (command.Event (event.Touch path n))) (long-of h.1 stamp h.4)
 event_read targets texts event.Interrupt h = ap (command_of targets) h
+event_read targets texts (event.Resize pool depth) h =
+    ap (command_of targets) h.2 ∙ ap (λ r. r >>= λ p. short h.1 >>= λ d. Ok (command.Event (event.Resize p d))) (short-of h.0 pool h.3)
+    ∙ ap (λ r. r >>= λ d. Ok (command.Event (event.Resize pool d))) (short-of h.1 depth h.4)
 
 pub point_read : (texts : List (List ℕ)) (p : Point) → SaysPoint texts p → point_of texts ≡ Ok p
 point_read texts (point.Start out) h = ap point_of h.1 ∙ ap (λ r. r >>= λ o. Ok (point.Start o)) h.2
@@ -209,6 +212,7 @@ point_said word rest verb.Clean p e h = point_at word rest point.Clean p (codes 
 point_said word rest verb.Pass p e h = point_at word rest point.Pass p (codes "pass") (λ text path r. (text, refl, r)) e h
 point_said word rest verb.Touch p e h = point_at word rest point.Touch p (codes "touch") (λ text path r. (text, refl, r)) e h
 point_said word rest verb.Interrupt p e h = point_bare word rest point.Interrupt p (codes "interrupt") refl e h
+point_said word rest verb.Resize p e h = syntax_never p h
 point_said word rest verb.Undo p e h = syntax_never p h
 point_said word rest verb.Redo p e h = syntax_never p h
 point_said word rest verb.Cone p e h = syntax_never p h
@@ -304,6 +308,16 @@ touch_said targets word (path ∷ stamp ∷ []) c e h =
     subst P (ok_is (command.Event (event.Touch p.0 n.0)) c n.2) (path, stamp, ap (λ w. w ∷ path ∷ stamp ∷ []) e, p.1, long-is stamp n.0 n.1)
 touch_said targets word (path ∷ stamp ∷ more ∷ rest) c e h = syntax_never c h
 
+resize_said : (targets : List (List ℕ)) (word : List ℕ) (rest : List (List ℕ)) (c : Command) → word ≡ codes "resize" → resize_of rest ≡ Ok c → SaysCommand Exact targets (word ∷ rest) c
+resize_said targets word [] c e h = syntax_never c h
+resize_said targets word (pool ∷ []) c e h = syntax_never c h
+resize_said targets word (pool ∷ depth ∷ []) c e h =
+    let p = bind_ok (short pool) (λ p. short depth >>= λ d. Ok (command.Event (event.Resize p d))) c h in
+    let d = bind_ok (short depth) (λ d. Ok (command.Event (event.Resize p.0 d))) c p.2 in
+    let P : Command → Type 0 = λ x. SaysCommand Exact targets (word ∷ pool ∷ depth ∷ []) x in
+    subst P (ok_is (command.Event (event.Resize p.0 d.0)) c d.2) (pool, depth, ap (λ w. w ∷ pool ∷ depth ∷ []) e, short-is pool p.0 p.1, short-is depth d.0 d.1)
+resize_said targets word (pool ∷ depth ∷ more ∷ rest) c e h = syntax_never c h
+
 command_said : (targets : List (List ℕ)) (word : List ℕ) (rest : List (List ℕ)) (v : Verb) (c : Command) → word ≡ word_of v → taken_by targets v rest ≡ Ok c → SaysCommand Exact targets (word ∷ rest) c
 command_said targets word rest verb.Plan c e h = plan_said targets word rest c e h
 command_said targets word rest verb.Start c e h = start_said targets word rest c e h
@@ -314,6 +328,7 @@ command_said targets word rest verb.Clean c e h = settled_said targets word rest
 command_said targets word rest verb.Pass c e h = settled_said targets word rest event.Pass c (codes "pass") (λ text path r. (text, refl, r)) e h
 command_said targets word rest verb.Touch c e h = touch_said targets word rest c e h
 command_said targets word rest verb.Interrupt c e h = bare_said targets word rest (command.Event event.Interrupt) c (codes "interrupt") refl e h
+command_said targets word rest verb.Resize c e h = resize_said targets word rest c e h
 command_said targets word rest verb.Undo c e h = named_said targets word rest command.Undo c (codes "undo") (λ text w r. (text, refl, which-is text w r)) e h
 command_said targets word rest verb.Redo c e h = named_said targets word rest command.Redo c (codes "redo") (λ text w r. (text, refl, which-is text w r)) e h
 command_said targets word rest verb.Cone c e h = named_said targets word rest command.Cone c (codes "cone") (λ text w r. (text, refl, which-is text w r)) e h

@@ -7,3 +7,4 @@ pub mod NumberLemmas
 pub mod ShapeLemmas
 pub mod JudgeLemmas
 pub mod SaysLemmas
+pub mod MigrateLemmas

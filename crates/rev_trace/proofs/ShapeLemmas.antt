@@ -26,7 +26,7 @@ use Rattle.rev_trace.specs.declared.record.Record.{Record}
 use Rattle.rev_trace.specs.declared.record.Record.TheVariants.{Jobs, Stamp, Built, Deps, Target}
 use Rattle.rev_trace.specs.declared.verb.Verb.{Verb}
 use Rattle.rev_trace.specs.declared.verb.Verb.TheVariants as verb
-use Rattle.rev_trace.specs.Commands.{alone_of, break_number_of, command_of, depfile_of, ended_of, ending_of, finish_of, list_of, listing_of, long, name_of, nothing_of, plan_of, point_by, point_by_any, point_of, short, start_of, taken_by, taken_by_any, touch_of, verb_of, which_in, which_of, word_of}
+use Rattle.rev_trace.specs.Commands.{alone_of, break_number_of, command_of, depfile_of, ended_of, ending_of, finish_of, list_of, listing_of, long, name_of, nothing_of, plan_of, point_by, point_by_any, point_of, resize_of, short, start_of, taken_by, taken_by_any, touch_of, verb_of, which_in, which_of, word_of}
 use Rattle.rev_trace.specs.Grammar.{Exact, Shape, SaysCommand, SaysEvent, SaysRecord}
 use Rattle.rev_trace.specs.Records.{built_of, deps_of, jobs_of, record_of, stamp_of, target_of}
 use Rattle.rev_trace.proofs.GrammarLemmas.{bind_ok, listing_is, listing_read, ok_is, point_read, targets_read, texts_are, word_is}
@@ -133,6 +133,10 @@ event-shaped targets texts (event.Touch path stamp) h =
     shaped-at (command_of targets texts) (path_of h.0 >>= after) (ap (command_of targets) h.2)
     (shaped-bind (path_of h.0) after (shaped-ok (path_of h.0) path h.3) (λ p. shaped-bind (long h.1) (λ n. Ok (command.Event (event.Touch p n))) (long-shaped h.1) (λ n. tt)))
 event-shaped targets texts event.Interrupt h = shaped-ok (command_of targets texts) (command.Event event.Interrupt) (ap (command_of targets) h)
+event-shaped targets texts (event.Resize pool depth) h =
+    let after : ℕ → Result Command FaultKind = λ p. short h.1 >>= λ d. Ok (command.Event (event.Resize p d)) in
+    shaped-at (command_of targets texts) (short h.0 >>= after) (ap (command_of targets) h.2)
+    (shaped-bind (short h.0) after (short-shaped h.0) (λ p. shaped-bind (short h.1) (λ d. Ok (command.Event (event.Resize p d))) (short-shaped h.1) (λ d. tt)))
 
 pub command-shaped : (targets texts : List (List ℕ)) (c : Command) → SaysCommand Shape targets texts c → Shaped (command_of targets texts)
 command-shaped targets texts (command.Event e) h = event-shaped targets texts e h
@@ -309,6 +313,7 @@ point-verb-err verb.Clean rest kind h = point-at-err point.Clean rest kind h
 point-verb-err verb.Pass rest kind h = point-at-err point.Pass rest kind h
 point-verb-err verb.Touch rest kind h = point-at-err point.Touch rest kind h
 point-verb-err verb.Interrupt rest kind h = point-bare-err point.Interrupt rest kind h
+point-verb-err verb.Resize rest kind h = same-kind {A = Point} Syntax kind h
 point-verb-err verb.Undo rest kind h = same-kind {A = Point} Syntax kind h
 point-verb-err verb.Redo rest kind h = same-kind {A = Point} Syntax kind h
 point-verb-err verb.Cone rest kind h = same-kind {A = Point} Syntax kind h
@@ -444,6 +449,20 @@ touch-err targets word (path ∷ stamp ∷ []) kind e h =
     ]
 touch-err targets word (path ∷ stamp ∷ more ∷ rest) kind e h = inl (same-kind {A = Command} Syntax kind h)
 
+resize-err : (targets : List (List ℕ)) (word : List ℕ) (rest : List (List ℕ)) (kind : FaultKind) → word ≡ codes "resize" → resize_of rest ≡ Err kind → HasShape kind (SomeCommand targets (word ∷ rest))
+resize-err targets word [] kind e h = inl (same-kind {A = Command} Syntax kind h)
+resize-err targets word (pool ∷ []) kind e h = inl (same-kind {A = Command} Syntax kind h)
+resize-err targets word (pool ∷ depth ∷ []) kind e h =
+    let says : SaysCommand Shape targets (word ∷ pool ∷ depth ∷ []) (command.Event (event.Resize 0 0)) = (pool, depth, ap (λ w. w ∷ pool ∷ depth ∷ []) e, tt, tt) in
+    elim (bind-err (short pool) (λ p. short depth >>= λ d. Ok (command.Event (event.Resize p d))) kind h) [
+      | inl g ↦ inr (short-err pool kind g, (command.Event (event.Resize 0 0), says))
+      | inr p ↦ elim (bind-err (short depth) (λ d. Ok (command.Event (event.Resize p.0 d))) kind p.2) [
+        | inl g ↦ inr (short-err depth kind g, (command.Event (event.Resize 0 0), says))
+        | inr d ↦ never-err (command.Event (event.Resize p.0 d.0)) kind d.2
+      ]
+    ]
+resize-err targets word (pool ∷ depth ∷ more ∷ rest) kind e h = inl (same-kind {A = Command} Syntax kind h)
+
 break-err : (targets texts : List (List ℕ)) (rest : List (List ℕ)) (kind : FaultKind) → (point_of rest >>= λ p. Ok (command.Break p)) ≡ Err kind → HasShape kind (SomeCommand targets texts)
 break-err targets texts rest kind h =
     elim (bind-err (point_of rest) (λ p. Ok (command.Break p)) kind h) [
@@ -470,6 +489,7 @@ verb-err targets word rest verb.Clean kind e h = settled-err targets (word ∷ r
 verb-err targets word rest verb.Pass kind e h = settled-err targets (word ∷ rest) event.Pass rest kind h
 verb-err targets word rest verb.Touch kind e h = touch-err targets word rest kind e h
 verb-err targets word rest verb.Interrupt kind e h = bare-err targets (word ∷ rest) (command.Event event.Interrupt) rest kind h
+verb-err targets word rest verb.Resize kind e h = resize-err targets word rest kind e h
 verb-err targets word rest verb.Undo kind e h = named-err targets word command.Undo rest kind (codes "undo") (λ text. (text, refl, tt)) e h
 verb-err targets word rest verb.Redo kind e h = named-err targets word command.Redo rest kind (codes "redo") (λ text. (text, refl, tt)) e h
 verb-err targets word rest verb.Cone kind e h = named-err targets word command.Cone rest kind (codes "cone") (λ text. (text, refl, tt)) e h
@@ -694,6 +714,7 @@ event-shape targets texts (event.Clean out) h = h
 event-shape targets texts (event.Pass out) h = h
 event-shape targets texts (event.Touch path stamp) h = (h.0, h.1, h.2, h.3, tt)
 event-shape targets texts event.Interrupt h = h
+event-shape targets texts (event.Resize pool depth) h = (h.0, h.1, h.2, tt, tt)
 
 pub command-shape : (targets texts : List (List ℕ)) (c : Command) → SaysCommand Exact targets texts c → SaysCommand Shape targets texts c
 command-shape targets texts (command.Event e) h = event-shape targets texts e h

@@ -154,6 +154,12 @@ read-touch path stamp p n =
     (ap (λ f. codes "touch" ∷ field_text path ∷ f ∷ []) (long-field stamp n))
     (ap (λ r. r >>= λ p. long (decimal stamp) >>= λ n. Ok (command.Event (event.Touch p n))) (path-read path p) ∙ ap (λ r. r >>= λ n. Ok (command.Event (event.Touch path n))) (long-read stamp n))
 
+read-resize : (pool depth : ℕ) → IsShort pool → IsShort depth → command_line [] (command_text (command.Event (event.Resize pool depth))) ≡ Ok (command.Event (event.Resize pool depth))
+read-resize pool depth p d =
+    read-from (codes "resize" ∷ decimal pool ∷ decimal depth ∷ []) (command.Event (event.Resize pool depth)) (omega arith)
+    (ap (λ f. codes "resize" ∷ f ∷ decimal depth ∷ []) (short-field pool p) ∙ ap (λ f. codes "resize" ∷ field_text (decimal pool) ∷ f ∷ []) (short-field depth d))
+    (ap (λ r. r >>= λ p. short (decimal depth) >>= λ d. Ok (command.Event (event.Resize p d))) (short-read pool p) ∙ ap (λ r. r >>= λ d. Ok (command.Event (event.Resize pool d))) (short-read depth d))
+
 All-none : {X : Type 0} (P : X → Type 0) → All P []
 All-none P k d lt = absurd (omega arith)
 
@@ -261,6 +267,7 @@ events-read (event.Abort out stamps) h some = read-abort out stamps h.0 some h.1
 events-read (event.Clean out) h some = read-clean out h
 events-read (event.Pass out) h some = read-pass out h
 events-read (event.Touch path stamp) h some = read-touch path stamp h.0 h.1
+events-read (event.Resize pool depth) h some = read-resize pool depth h.0 h.1
 events-read event.Interrupt h some = read-from (codes "interrupt" ∷ []) (command.Event event.Interrupt) (omega arith) refl refl
 
 pub commands-are-read : CommandsAreRead

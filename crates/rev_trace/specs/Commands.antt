@@ -32,6 +32,7 @@ word_of verb.Clean = codes "clean"
 word_of verb.Pass = codes "pass"
 word_of verb.Touch = codes "touch"
 word_of verb.Interrupt = codes "interrupt"
+word_of verb.Resize = codes "resize"
 word_of verb.Undo = codes "undo"
 word_of verb.Redo = codes "redo"
 word_of verb.Cone = codes "cone"
@@ -43,12 +44,12 @@ word_of verb.Continue = codes "continue"
 abbrev pub verbs : List Verb
 verbs =
     verb.Plan ∷ verb.Start ∷ verb.Finish ∷ verb.Fail ∷ verb.Abort ∷ verb.Clean ∷ verb.Pass ∷ verb.Touch ∷ verb.Interrupt
-    ∷ verb.Undo ∷ verb.Redo ∷ verb.Cone ∷ verb.Back ∷ verb.Break ∷ verb.Unbreak ∷ verb.Continue ∷ []
+    ∷ verb.Resize ∷ verb.Undo ∷ verb.Redo ∷ verb.Cone ∷ verb.Back ∷ verb.Break ∷ verb.Unbreak ∷ verb.Continue ∷ []
 
 abbrev pub verb_of : List ℕ → Option Verb
 verb_of word = find (λ v. bytes_eq word (word_of v)) verbs
 
--- numbers: job, slot and event have 32 bits, stamps 64
+-- numbers: job, slot, pool, depth and event have 32 bits, stamps 64
 
 abbrev pub short : List ℕ → Result ℕ FaultKind
 short text = number_below (2 ^ 32) text
@@ -120,6 +121,13 @@ touch_of [] = Err Syntax
 touch_of (path ∷ []) = Err Syntax
 touch_of (path ∷ stamp ∷ []) = path_of path >>= λ p. long stamp >>= λ n. Ok (command.Event (event.Touch p n))
 touch_of (path ∷ stamp ∷ more ∷ rest) = Err Syntax
+
+-- `resize POOL DEPTH`
+abbrev pub resize_of : List (List ℕ) → Result Command FaultKind
+resize_of [] = Err Syntax
+resize_of (pool ∷ []) = Err Syntax
+resize_of (pool ∷ depth ∷ []) = short pool >>= λ p. short depth >>= λ d. Ok (command.Event (event.Resize p d))
+resize_of (pool ∷ depth ∷ more ∷ rest) = Err Syntax
 
 -- nothing more
 abbrev pub nothing_of : List (List ℕ) → Result (Unit {0}) FaultKind
@@ -203,6 +211,7 @@ taken_by targets verb.Clean texts = settled_of event.Clean texts
 taken_by targets verb.Pass texts = settled_of event.Pass texts
 taken_by targets verb.Touch texts = touch_of texts
 taken_by targets verb.Interrupt texts = bare_of (command.Event event.Interrupt) texts
+taken_by targets verb.Resize texts = resize_of texts
 taken_by targets verb.Undo texts = named_of command.Undo texts
 taken_by targets verb.Redo texts = named_of command.Redo texts
 taken_by targets verb.Cone texts = named_of command.Cone texts

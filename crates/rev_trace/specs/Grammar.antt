@@ -27,7 +27,7 @@ abbrev pub SaysNumber : Look → ℕ → List ℕ → ℕ → Type 0
 SaysNumber Exact limit text n = IsNumber limit text n
 SaysNumber Shape limit text n = Unit {0}
 
--- job, slot and event have 32 bits, stamps 64
+-- job, slot, pool, depth and event have 32 bits, stamps 64
 abbrev pub SaysShort : Look → List ℕ → ℕ → Type 0
 SaysShort look text n = SaysNumber look (2 ^ 32) text n
 
@@ -97,6 +97,9 @@ SaysEvent look targets texts (event.Touch path stamp) =
     (text : List ℕ) × (number : List ℕ) × (texts ≡ codes "touch" ∷ text ∷ number ∷ []) × (path_of text ≡ Ok path)
     × SaysLong look number stamp
 SaysEvent look targets texts event.Interrupt = texts ≡ codes "interrupt" ∷ []
+SaysEvent look targets texts (event.Resize pool depth) =
+    (number : List ℕ) × (other : List ℕ) × (texts ≡ codes "resize" ∷ number ∷ other ∷ []) × SaysShort look number pool
+    × SaysShort look other depth
 
 -- `KIND OUT`, `touch PATH`, `plan`, `interrupt`
 abbrev pub SaysPoint : List (List ℕ) → Point → Type 0

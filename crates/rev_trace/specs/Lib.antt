@@ -2,8 +2,11 @@ pub mod Commands
 pub mod Grammar
 pub mod Heads
 pub mod Lanes
+pub mod Lists
 pub mod Laws
+pub mod Migrated
 pub mod Records
 pub mod Says
 pub mod Texts
 pub mod Traces
+pub mod Versions

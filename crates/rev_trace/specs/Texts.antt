@@ -40,6 +40,7 @@ event_fields (event.Clean out) = word_of verb.Clean ∷ field_text out ∷ []
 event_fields (event.Pass out) = word_of verb.Pass ∷ field_text out ∷ []
 event_fields (event.Touch path stamp) = word_of verb.Touch ∷ field_text path ∷ decimal stamp ∷ []
 event_fields event.Interrupt = word_of verb.Interrupt ∷ []
+event_fields (event.Resize pool depth) = word_of verb.Resize ∷ decimal pool ∷ decimal depth ∷ []
 
 -- the name of an event
 abbrev pub which_text : Which → List ℕ
@@ -98,6 +99,7 @@ IsEvent (event.Clean out) = IsCanonical out
 IsEvent (event.Pass out) = IsCanonical out
 IsEvent (event.Touch path stamp) = IsCanonical path × IsLong stamp
 IsEvent event.Interrupt = Unit {0}
+IsEvent (event.Resize pool depth) = IsShort pool × IsShort depth
 
 abbrev pub IsWhich : Which → Type 0
 IsWhich (which.Number n) = IsShort n

@@ -5,8 +5,8 @@ ghost use Rattle.rev_fields.specs.Parts.{vectors_of};
 ghost use Rattle.rev_trace.specs.Commands.{bare_of, command_line, command_of, taken_by};
 
 use crate::events::{
-    BAD_LINE, abort, break_number, clean, event_name, fail, finish, nothing, pass, plan, start,
-    touch,
+    BAD_LINE, abort, break_number, clean, event_name, fail, finish, nothing, pass, plan, resize,
+    start, touch,
 };
 use crate::points::point;
 use crate::verb::Verb;
@@ -43,6 +43,7 @@ fn taken_by(
         Verb::Pass => pass(alloc, texts),
         Verb::Touch => touch(alloc, texts),
         Verb::Interrupt => bare(Command::Event(Event::Interrupt), texts),
+        Verb::Resize => resize(texts),
         Verb::Undo => Ok(Command::Undo(event_name(alloc, texts)?)),
         Verb::Redo => Ok(Command::Redo(event_name(alloc, texts)?)),
         Verb::Cone => Ok(Command::Cone(event_name(alloc, texts)?)),
@@ -70,22 +71,11 @@ pub fn command_of_texts(
     }
 }
 
-/// The command that a line is, where `plan` without a path means these targets.
-pub(crate) fn read_command(
-    alloc: Global,
-    targets: &Names,
-    line: &[u8],
-) -> Result<Command, LineFault>
-    ensures { Answers result (λ c. c) (command_line targets.now line.now) }
-{
-    let texts = read_fields(alloc, line)?;
-    command_of_texts(alloc, targets, &texts)
-}
-
 /// The command that a line is, which stands without its end. `plan` without a path has no targets.
 pub fn read_line(alloc: Global, line: &[u8]) -> Result<Command, LineFault>
     ensures { Answers result (λ c. c) (command_line [] line.now) }
 {
     let none = Names::new(Vec::new(alloc));
-    read_command(alloc, &none, line)
+    let texts = read_fields(alloc, line)?;
+    command_of_texts(alloc, &none, &texts)
 }

@@ -3,7 +3,7 @@ ghost use Rattle.std.specs.Prelude.{◌∷◌};
 ghost use Rattle.rev_events.specs.declared.event.Event.TheVariants as event;
 ghost use Rattle.rev_fields.specs.Faults.{Answers};
 ghost use Rattle.rev_fields.specs.Parts.{vectors_of};
-ghost use Rattle.rev_trace.specs.Commands.{alone_of, break_number_of, depfile_of, ended_of, ending_of, finish_of, list_of, listing_of, name_of, nothing_of, plan_of, settled_of, start_of, touch_of};
+ghost use Rattle.rev_trace.specs.Commands.{alone_of, break_number_of, depfile_of, ended_of, ending_of, finish_of, list_of, listing_of, name_of, nothing_of, plan_of, resize_of, settled_of, start_of, touch_of};
 
 use crate::labels::which_of;
 use rev_cells::{Names, Text};
@@ -191,6 +191,20 @@ pub(crate) fn touch(alloc: Global, texts: &[Vec<u8>]) -> Result<Command, LineFau
             let path = path(alloc, text)?;
             let stamp = wide_number(stamp)?;
             Ok(Command::Event(Event::Touch { path, stamp }))
+        }
+        _ => Err(BAD_LINE),
+    }
+}
+
+/// `resize POOL DEPTH`
+pub(crate) fn resize(texts: &[Vec<u8>]) -> Result<Command, LineFault>
+    ensures { Answers result (λ c. c) (resize_of (vectors_of texts.now)) }
+{
+    match texts {
+        [pool, depth] => {
+            let pool = number(pool)?;
+            let depth = number(depth)?;
+            Ok(Command::Event(Event::Resize { pool, depth }))
         }
         _ => Err(BAD_LINE),
     }

@@ -1,5 +1,6 @@
 //! Laws of lines, each the contract of a function that does nothing.
 ghost use Rattle.rev_trace.specs.Laws.{CommandsAreRead, LinesSayCommands};
+ghost use Rattle.rev_trace.specs.Migrated.{MigratedStay, MigratedTracesAreRead};
 ghost use Rattle.rev_trace.specs.Says.{FaultsAreFirst, OneOrTheOther, TracesAreSaid};
 
 /// The line that says a command is read as that command, but for an empty list of stamps.
@@ -12,8 +13,8 @@ pub fn lines_say_commands()
     ensures { LinesSayCommands }
 {}
 
-/// A text is read as a trace exactly where it says that trace: its first line names the format, and the other lines say
-/// records and lanes by the tables of lines.
+/// A text is read as a trace exactly where it says that trace: its first line names the format and a version, and the
+/// other lines say records and parts of lanes by the tables of lines and by what that version lets stand.
 pub fn traces_are_said()
     ensures { TracesAreSaid }
 {}
@@ -27,4 +28,14 @@ pub fn faults_are_first()
 /// Each text says one trace or has one first fault, and not both.
 pub fn one_or_the_other()
     ensures { OneOrTheOther }
+{}
+
+/// A text that is read as a trace is read as the same trace where it is migrated.
+pub fn migrated_traces_are_read()
+    ensures { MigratedTracesAreRead }
+{}
+
+/// A text whose first line names version 2 stays as it is where it is migrated.
+pub fn migrated_stay()
+    ensures { MigratedStay }
 {}

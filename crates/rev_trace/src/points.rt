@@ -35,7 +35,8 @@ fn point_by(alloc: Global, verb: Verb, texts: &[Vec<u8>]) -> Result<Point, LineF
             nothing(texts)?;
             Ok(Point::Interrupt)
         }
-        Verb::Undo
+        Verb::Resize
+        | Verb::Undo
         | Verb::Redo
         | Verb::Cone
         | Verb::Back

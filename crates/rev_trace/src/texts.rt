@@ -116,6 +116,16 @@ fn push_touch(line: &mut Vec<u8>, path: &Name, stamp: u64) -> Result<(), AllocEr
     next_number(line, stamp)
 }
 
+// Adds `resize POOL DEPTH`.
+fn push_resize(line: &mut Vec<u8>, pool: u32, depth: u32) -> Result<(), AllocError>
+    ensures text { OnOk result (line.new.items ≡ line.old.items ++ event_text (event.Resize pool depth)) }
+    ensures sound { IsEvent (event.Resize pool depth) }
+{
+    push_word(line, Verb::Resize)?;
+    next_number(line, u64::from(pool))?;
+    next_number(line, u64::from(depth))
+}
+
 // Adds a word and the name of an event.
 fn push_of_event(line: &mut Vec<u8>, verb: Verb, which: Which) -> Result<(), AllocError>
     ensures text { OnOk result (line.new.items
@@ -164,6 +174,7 @@ pub fn push_event(line: &mut Vec<u8>, event: &Event) -> Result<(), AllocError>
         Event::Pass { out } => push_named(line, Verb::Pass, out),
         Event::Touch { path, stamp } => push_touch(line, path, *stamp),
         Event::Interrupt => push_word(line, Verb::Interrupt),
+        Event::Resize { pool, depth } => push_resize(line, *pool, *depth),
     }
 }
 

@@ -1,14 +1,14 @@
 //! Traces.
-ghost use Rattle.std.specs.Prelude.{◌≡◌, ℕ, ◌+◌, ◌^◌, ◌<◌, ◌≤◌, length, map, Some, None, IfOk, OnOk, IsErrOf};
+ghost use Rattle.std.specs.Prelude.{◌≡◌, ℕ, ◌+◌, ◌^◌, ◌<◌, ◌≤◌, length, Some, None, IfOk, OnOk, IsErrOf};
 ghost use Rattle.rev_fields.specs.declared.faults.TextFault.{TextFault};
 ghost use Rattle.rev_fields.specs.Faults.{IsFirstWrong};
 ghost use Rattle.rev_fields.specs.Parts.{slices_of};
 ghost use Rattle.rev_trace.specs.Heads.{seen};
-ghost use Rattle.rev_trace.specs.Traces.{IsOpened, commands_in, lane_wrong, lanes_of, parts_of, trace_fault, trace_of, value_of, wrong_at};
+ghost use Rattle.rev_trace.specs.Traces.{IsOpened, lane_wrong, lanes_from, lanes_of, trace_fault, trace_of, value_of, wrong_at};
 
-use crate::commands::read_command;
 use crate::head::{Head, add_line, empty_head};
-use crate::lanes::{lane_line, opens_lane};
+use crate::lanes::{Lanes, add_held, lane_line, opens_lane};
+use crate::version::Version;
 use rev_cells::{Names, Opening};
 use rev_commands::Command;
 use rev_fields::{FaultKind, ReadFault, TextFault, parts_at};
@@ -64,11 +64,11 @@ const NO_HEADER: ReadFault = ReadFault::Numbered(TextFault {
 });
 
 // What the lines before the lane make, and how many of the lines these are. Lines are those after the first.
-fn read_head(alloc: Global, lines: &[&[u8]]) -> Result<(Head, usize), ReadFault>
+fn read_head(alloc: Global, version: Version, lines: &[&[u8]]) -> Result<(Head, usize), ReadFault>
     requires { length lines.now + 1 < 2 ^ 64 }
-    ensures opened { IfOk result (λ r. IsOpened (slices_of lines.now) (seen r.0) r.1) }
+    ensures opened { IfOk result (λ r. IsOpened version (slices_of lines.now) (seen r.0) r.1) }
     ensures fault { (f : TextFault) → IsErrOf result (ReadFault.Numbered f)
-        → IsFirstWrong (wrong_at (slices_of lines.now)) (length lines.now) 1 f }
+        → IsFirstWrong (wrong_at version (slices_of lines.now)) (length lines.now) 1 f }
 {
     let Ok(mut head) = empty_head(alloc) else {
         return Err(ReadFault::Memory);
@@ -78,7 +78,7 @@ fn read_head(alloc: Global, lines: &[&[u8]]) -> Result<(Head, usize), ReadFault>
             continue;
         }
         if opens_lane(line) {
-            return match lane_line(alloc, 0, line) {
+            return match lane_line(alloc, version, 0, line) {
                 Ok(_) => Ok((head, place)),
                 Err(fault) => Err(fault.at(place + 1)),
             };
@@ -94,55 +94,44 @@ fn read_head(alloc: Global, lines: &[&[u8]]) -> Result<(Head, usize), ReadFault>
 // lines of the trace stand before these.
 fn read_lanes(
     alloc: Global,
+    version: Version,
     targets: &Names,
     lines: &[&[u8]],
     before: usize,
 ) -> Result<Vec<Vec<Command>>, ReadFault>
     requires { before + length lines.now < 2 ^ 64 }
     ensures lanes { IfOk result (λ lanes. lanes_of lanes.items
-        ≡ map (commands_in targets.now) (parts_of (slices_of lines.now))) }
+        ≡ lanes_from version targets.now 1 (Some 0) (slices_of lines.now)) }
     ensures few { IfOk result (λ lanes. length lanes.items ≤ Trace.MAX_LANES) }
     ensures sound { OnOk result ((k : ℕ) → k < length lines.now
-        → lane_wrong targets.now (slices_of lines.now) k ≡ None) }
+        → lane_wrong version targets.now (slices_of lines.now) k ≡ None) }
     ensures fault { (f : TextFault) → IsErrOf result (ReadFault.Numbered f)
-        → IsFirstWrong (lane_wrong targets.now (slices_of lines.now)) (length lines.now) before
-        f }
+        → IsFirstWrong (lane_wrong version targets.now (slices_of lines.now)) (length lines.now) before f }
 {
-    let mut lanes = Vec::new(alloc);
-    let mut commands = Vec::new(alloc);
+    let Ok(mut lanes) = Lanes::one(alloc) else {
+        return Err(ReadFault::Memory);
+    };
     for (place, line) in lines.iter().enumerate() {
-        if line.is_empty() {
-            continue;
-        }
-        if opens_lane(line) {
-            if let Err(fault) = lane_line(alloc, lanes.len() + 1, line) {
-                return Err(fault.at(before + place));
-            }
-            lanes.push(commands)?;
-            commands = Vec::new(alloc);
-            continue;
-        }
-        match read_command(alloc, targets, line) {
-            Ok(command) => commands.push(command)?,
-            Err(fault) => return Err(fault.at(before + place)),
+        if let Err(fault) = add_held(alloc, version, targets, &mut lanes, line) {
+            return Err(fault.at(before + place));
         }
     }
-    lanes.push(commands)?;
-    Ok(lanes)
+    Ok(lanes.into_lists())
 }
 
-// What the lines after the first say.
-fn read_lines(alloc: Global, lines: &[&[u8]]) -> Result<Trace, ReadFault>
+// What the lines after the first say, which names this version.
+fn read_lines(alloc: Global, version: Version, lines: &[&[u8]]) -> Result<Trace, ReadFault>
     requires { length lines.now + 1 < 2 ^ 64 }
-    ensures opening { IfOk result (λ trace. trace.opening ≡ (value_of (slices_of lines.now)).opening) }
-    ensures targets { IfOk result (λ trace. trace.targets ≡ (value_of (slices_of lines.now)).targets) }
-    ensures lanes { IfOk result (λ trace. lanes_of trace.lanes.items ≡ (value_of (slices_of lines.now)).lanes) }
+    ensures opening { IfOk result (λ trace. trace.opening ≡ (value_of version (slices_of lines.now)).opening) }
+    ensures targets { IfOk result (λ trace. trace.targets ≡ (value_of version (slices_of lines.now)).targets) }
+    ensures lanes { IfOk result (λ trace. lanes_of trace.lanes.items
+        ≡ (value_of version (slices_of lines.now)).lanes) }
     ensures few { IfOk result (λ trace. length trace.lanes.items ≤ Trace.MAX_LANES) }
-    ensures sound { OnOk result ((k : ℕ) → k < length lines.now → wrong_at (slices_of lines.now) k ≡ None) }
+    ensures sound { OnOk result ((k : ℕ) → k < length lines.now → wrong_at version (slices_of lines.now) k ≡ None) }
     ensures fault { (f : TextFault) → IsErrOf result (ReadFault.Numbered f)
-        → IsFirstWrong (wrong_at (slices_of lines.now)) (length lines.now) 1 f }
+        → IsFirstWrong (wrong_at version (slices_of lines.now)) (length lines.now) 1 f }
 {
-    let (head, end) = read_head(alloc, lines)?;
+    let (head, end) = read_head(alloc, version, lines)?;
     let Head {
         opening,
         targets,
@@ -151,7 +140,7 @@ fn read_lines(alloc: Global, lines: &[&[u8]]) -> Result<Trace, ReadFault>
     let targets = Names::new(targets);
     let mut lanes = Vec::new(alloc);
     if end < lines.len() {
-        lanes = read_lanes(alloc, &targets, &lines[end + 1..], end + 2)?;
+        lanes = read_lanes(alloc, version, &targets, &lines[end + 1..], end + 2)?;
     }
     Ok(Trace {
         opening,
@@ -160,9 +149,10 @@ fn read_lines(alloc: Global, lines: &[&[u8]]) -> Result<Trace, ReadFault>
     })
 }
 
-/// Reads a trace: the line `rebug-trace 1`, then opening lines (`jobs N` at most once, `stamp PATH N`,
-/// `built PATH N COMMAND`, `deps PATH N PATH...`, `target PATH`), and then lanes, each a line `lane N` and the commands
-/// after it, where N counts them from 0. Empty lines are skipped.
+/// Reads a trace: the line `rebug-trace 1` or `rebug-trace 2`, then opening lines (`jobs N` at most once, `stamp PATH
+/// N`, `built PATH N COMMAND`, `deps PATH N PATH...`, `target PATH`), and then lanes, each a line `lane N` and the
+/// commands after it, where N counts them from 0. Empty lines are skipped. In version 2 a line `lane N` may also name a
+/// lane that was opened before, whose commands go on behind it, and lanes may hold lines `resize POOL DEPTH`.
 pub fn read(alloc: Global, text: &[u8]) -> Result<Trace, TraceFault>
     ensures opening { IfOk result (λ trace. trace.opening ≡ (trace_of text.now).opening) }
     ensures targets { IfOk result (λ trace. trace.targets ≡ (trace_of text.now).targets) }
@@ -175,8 +165,8 @@ pub fn read(alloc: Global, text: &[u8]) -> Result<Trace, TraceFault>
     let Some((first, rest)) = lines.split_first() else {
         return Err(NO_HEADER);
     };
-    if *first != b"rebug-trace 1".as_slice() {
+    let Some(version) = Version::of_line(first) else {
         return Err(NO_HEADER);
-    }
-    read_lines(alloc, rest)
+    };
+    read_lines(alloc, version, rest)
 }

@@ -23,6 +23,8 @@ pub(crate) enum Verb {
     Touch,
     /// `interrupt`
     Interrupt,
+    /// `resize`
+    Resize,
     /// `undo`
     Undo,
     /// `redo`
@@ -54,6 +56,7 @@ impl Verb {
             Verb::Pass => b"pass",
             Verb::Touch => b"touch",
             Verb::Interrupt => b"interrupt",
+            Verb::Resize => b"resize",
             Verb::Undo => b"undo",
             Verb::Redo => b"redo",
             Verb::Cone => b"cone",
@@ -94,6 +97,9 @@ impl Verb {
         }
         if word == b"interrupt".as_slice() {
             return Some(Verb::Interrupt);
+        }
+        if word == b"resize".as_slice() {
+            return Some(Verb::Resize);
         }
         if word == b"undo".as_slice() {
             return Some(Verb::Undo);

@@ -27,7 +27,7 @@ fn files_and_options_are_read(rt: HostRuntime) -> Result<(), Fail> {
     let words = words_of(rt.alloc(), line)?;
     let read = options(rt.alloc(), &words)?;
     assert!(rt; (read.manifest, read.trace, read.script) == ("m", "t", "s"));
-    assert!(rt; read.workers);
+    assert!(rt; read.workers && !read.migrate);
     assert!(rt; read.files.as_slice() == ["b.ninja", "c.ninja"].as_slice());
     Ok(())
 }
@@ -37,6 +37,17 @@ fn workers_and_files_may_be_left_out(rt: HostRuntime) -> Result<(), Fail> {
     let words = words_of(rt.alloc(), "rebug --manifest m --trace t --script s")?;
     let read = options(rt.alloc(), &words)?;
     assert!(rt; !read.workers && read.files.is_empty());
+    Ok(())
+}
+
+#[test]
+fn a_trace_may_be_migrated(rt: HostRuntime) -> Result<(), Fail> {
+    let words = words_of(
+        rt.alloc(),
+        "rebug --migrate --manifest m --trace t --script s",
+    )?;
+    let read = options(rt.alloc(), &words)?;
+    assert!(rt; read.migrate && !read.workers && read.files.is_empty());
     Ok(())
 }
 

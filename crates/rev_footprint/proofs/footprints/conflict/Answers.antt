@@ -1,4 +1,4 @@
-use Rattle.std.proofs.Common.{◌||◌, ap, sym, ◌∙◌}
+use Rattle.std.proofs.Common.{ap, sym, ◌∙◌}
 use Rattle.std.specs.FinSet as cells
 use Rattle.std.specs.List.{list_any}
 use Rattle.rev_footprint.specs.Value.{FootprintValue}

@@ -1,5 +1,4 @@
 use Rattle.std.proofs.Common.{refl}
-use Rattle.rev_footprint.specs.Reads.{reads_besides}
 use Rattle.rev_footprint.proofs.RowLemmas.{besides-plan, besides-finish, besides-fail, besides-touch, besides-interrupt}
 use Rattle.rev_footprint.proofs.of_event.reads_its_writes.Goals as goal
 

@@ -1,4 +1,4 @@
-use Rattle.std.proofs.Common.{◌+◌, ◌++◌, [], ℕ, Option, None, get_or, take, map, refl, ap, sym, ◌∙◌}
+use Rattle.std.proofs.Common.{◌+◌, [], ℕ, Option, None, get_or, take, map, refl, ap, sym, ◌∙◌}
 use Rattle.std.specs.List.{cons_option, filter_map}
 use Rattle.std.proofs.lemmas.List.{map-append}
 use Rattle.rev_cells.specs.declared.cell.Cell.TheVariants.{Mark}

@@ -1,7 +1,15 @@
-use Rattle.std.proofs.Common.{◌≡◌, ap, codes, map, string_bytes, subst, true}
-use Rattle.clap.specs.Words.{App, FailsBy, fault_of, is_simple_and_free}
+use Rattle.std.proofs.Common.{◌≡◌, ap, IfOk, map, refl, string_bytes, subst}
+use Rattle.std.proofs.lemmas.Result.{IfOk-weaker}
+use Rattle.clap.specs.Words.{App, FailsBy, HasMatchesOf, fault_of, found_of, is_simple_and_free, matches_of, rows_of}
 use Rattle.rev_options.specs.CommandLine.{program}
 use Rattle.rev_options.proofs.words.matches_of.Goals as goal
+
+pub returns-clause-rows : goal.returns-clause-rows
+returns-clause-rows c =
+    let same = c.in_ok-command.ensures.program in
+    let words = map string_bytes c.args.words.now in
+    let has = subst (λ (a : App). IfOk c.try_get_matches_from.result (HasMatchesOf a words)) same c.try_get_matches_from.ensures.matches in
+    IfOk-weaker c.try_get_matches_from.result (HasMatchesOf program words) (λ m. rows_of (found_of m) ≡ matches_of program words) (λ m h. (h refl).0) has
 
 pub returns-clause-fails : goal.returns-clause-fails
 returns-clause-fails c =

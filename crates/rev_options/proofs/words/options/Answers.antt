@@ -1,4 +1,4 @@
-use Rattle.std.proofs.Common.{◌≡◌, ◌∙◌, [], List, Option, ap, codes, map, string_bytes, sym, unwrap_or}
+use Rattle.std.proofs.Common.{◌∙◌, [], List, Option, ap, codes, sym, unwrap_or}
 use Rattle.clap.specs.Words.{Text, all_of, first_of, found_of}
 use Rattle.clap.proofs.WalkLemmas.{first_value-rows, raw_values-rows}
 use Rattle.rev_options.proofs.words.options.Goals as goal
@@ -23,6 +23,12 @@ returns-clause-workers c =
     let same = first_value-rows (found_of c.in_ok-matches.matches) (codes "workers")
     ∙ ap (first_of (codes "workers")) c.in_ok-matches.ensures.rows in
     ((λ on. sym same ∙ c.is_on.ensures.0 on), (λ e. c.is_on.ensures.1 (same ∙ e)))
+
+pub returns-clause-migrate : goal.returns-clause-migrate
+returns-clause-migrate c =
+    let same = first_value-rows (found_of c.in_ok-matches.matches) (codes "migrate")
+    ∙ ap (first_of (codes "migrate")) c.in_ok-matches.ensures.rows in
+    ((λ on. sym same ∙ c.is_on-2.ensures.0 on), (λ e. c.is_on-2.ensures.1 (same ∙ e)))
 
 pub returns-clause-files : goal.returns-clause-files
 returns-clause-files c =

@@ -19,15 +19,15 @@ returns-in-Ok-lane_line-clause-opened c =
     let items = c.args.lines.now in
     let i = c.loop-place.place in
     let opens : opens_lane (get_or (slices_of items) i []) ≡ true = ap opens_lane (at-slices_of items i) ∙ sym c.opens_lane.ensures ∙ c.if-opens_lane.true in
-    opened_at_lane (slices_of items) (seen c.loop-place.head) i c.in-Ok-lane_line.field-0 (within-slices_of items i c.loop-place-test.true) opens
-    (ap (lane_line 0) (at-slices_of items i) ∙ c.in-Ok-lane_line.ensures.said) c.loop-place.invariant
+    opened_at_lane c.args.version (slices_of items) (seen c.loop-place.head) i c.in-Ok-lane_line.field-0 (within-slices_of items i c.loop-place-test.true) opens
+    (ap (lane_line c.args.version 0) (at-slices_of items i) ∙ c.in-Ok-lane_line.ensures.said) c.loop-place.invariant
 
 pub loop-place-preserved-then-is_empty : goal.loop-place-preserved-then-is_empty
 loop-place-preserved-then-is_empty c =
     let items = c.args.lines.now in
     let i = c.loop-place.place in
     let blank : is_blank (get_or (slices_of items) i []) ≡ true = ap is_blank (at-slices_of items i) ∙ is_blank-length _ ∙ sym c.is_empty.ensures ∙ c.if-is_empty.true in
-    reads_blank (slices_of items) (seen c.loop-place.head) i (within-slices_of items i c.loop-place-test.true) blank c.loop-place.invariant
+    reads_blank c.args.version (slices_of items) (seen c.loop-place.head) i (within-slices_of items i c.loop-place-test.true) blank c.loop-place.invariant
 
 pub returns-in-Err-clause-fault : goal.returns-in-Err-clause-fault
 returns-in-Err-clause-fault c = λ f h.
@@ -35,9 +35,9 @@ returns-in-Err-clause-fault c = λ f h.
     let i = c.loop-place.place in
     let opens : opens_lane (get_or (slices_of items) i []) ≡ true = ap opens_lane (at-slices_of items i) ∙ sym c.opens_lane.ensures ∙ c.if-opens_lane.true in
     let same : c.at.result ≡ text.Numbered f = cc in
-    let found = line_at_fault c.in-Err.fault (λ n. n) (lane_line 0 (get_or items i (record { ref_ptr = (0, 0); now = [] })).now) (i + 1) f c.in-Err.ensures.said (sym c.at.ensures ∙ same) in
-    IsFirstWrong-length (slices_of items) (length items) f (length-slices_of items)
-    (lane_at_fault (slices_of items) (seen c.loop-place.head) i found.0 f (within-slices_of items i c.loop-place-test.true) opens (ap (lane_line 0) (at-slices_of items i) ∙ found.1) found.2 c.loop-place.invariant)
+    let found = line_at_fault c.in-Err.fault (λ n. n) (lane_line c.args.version 0 (get_or items i (record { ref_ptr = (0, 0); now = [] })).now) (i + 1) f c.in-Err.ensures.said (sym c.at.ensures ∙ same) in
+    IsFirstWrong-length c.args.version (slices_of items) (length items) f (length-slices_of items)
+    (lane_at_fault c.args.version (slices_of items) (seen c.loop-place.head) i found.0 f (within-slices_of items i c.loop-place-test.true) opens (ap (lane_line c.args.version 0) (at-slices_of items i) ∙ found.1) found.2 c.loop-place.invariant)
 
 pub returns-in-Err-add_line-clause-fault : goal.returns-in-Err-add_line-clause-fault
 returns-in-Err-add_line-clause-fault c = λ f h.
@@ -48,8 +48,8 @@ returns-in-Err-add_line-clause-fault c = λ f h.
     let same : c.at-in-Err-add_line.result ≡ text.Numbered f = cc in
     let found = kind_of_fault c.in-Err-add_line.fault (i + 1) f (sym c.at-in-Err-add_line.ensures ∙ same) in
     let wrong = c.in-Err-add_line.ensures.fault found.0 (ap Err found.1) in
-    IsFirstWrong-length (slices_of items) (length items) f (length-slices_of items)
-    (opening_at_fault (slices_of items) (seen c.loop-place.head) i found.0 f (within-slices_of items i c.loop-place-test.true) filled closed (ap (opening_wrong (seen c.loop-place.head)) (at-slices_of items i) ∙ wrong) found.2 c.loop-place.invariant)
+    IsFirstWrong-length c.args.version (slices_of items) (length items) f (length-slices_of items)
+    (opening_at_fault c.args.version (slices_of items) (seen c.loop-place.head) i found.0 f (within-slices_of items i c.loop-place-test.true) filled closed (ap (opening_wrong (seen c.loop-place.head)) (at-slices_of items i) ∙ wrong) found.2 c.loop-place.invariant)
 
 pub loop-place-preserved : goal.loop-place-preserved
 loop-place-preserved c =
@@ -59,9 +59,9 @@ loop-place-preserved c =
     let closed : opens_lane (get_or (slices_of items) i []) ≡ false = ap opens_lane (at-slices_of items i) ∙ sym c.opens_lane.ensures ∙ c.if-opens_lane.false in
     let P : List ℕ → Type 0 = λ l. IsAdded (seen c.loop-place.head) l (seen c.add_line.new.head) in
     let added = subst P (sym (at-slices_of items i)) c.in_default-add_line.ensures.ok in
-    reads_line (slices_of items) (seen c.loop-place.head) (seen c.add_line.new.head) i (within-slices_of items i c.loop-place-test.true) filled closed added c.loop-place.invariant
+    reads_line c.args.version (slices_of items) (seen c.loop-place.head) (seen c.add_line.new.head) i (within-slices_of items i c.loop-place-test.true) filled closed added c.loop-place.invariant
 
 pub returns-clause-opened : goal.returns-clause-opened
 returns-clause-opened c =
     let items = c.args.lines.now in
-    opened_at_end (slices_of items) (seen c.loop-place.head) c.loop-place.place (length items) (omega arith) (length-slices_of items) c.loop-place.invariant
+    opened_at_end c.args.version (slices_of items) (seen c.loop-place.head) c.loop-place.place (length items) (omega arith) (length-slices_of items) c.loop-place.invariant

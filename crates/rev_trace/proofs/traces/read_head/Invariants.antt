@@ -4,4 +4,4 @@ use Rattle.rev_trace.proofs.TraceLemmas.{ReadsHead}
 use Rattle.rev_trace.proofs.traces.read_head.Given as goal
 
 abbrev pub invariant-loop-place : goal.invariant-loop-place
-invariant-loop-place l = ReadsHead (slices_of l.lines) (seen l.head) l.place
+invariant-loop-place l = ReadsHead l.version (slices_of l.lines) (seen l.head) l.place
