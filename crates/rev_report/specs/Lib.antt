@@ -1,5 +1,4 @@
 pub mod Answers
 pub mod Dependents
-pub mod Orders
 pub mod Report
 pub mod Runs

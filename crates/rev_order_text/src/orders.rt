@@ -2,7 +2,7 @@
 ghost use Rattle.std.specs.Prelude.{◌≡◌, ◌++◌, codes, decimal, IfOk};
 ghost use Rattle.rev_history.specs.Order.{IsSameOpening, answer_of};
 ghost use Rattle.rev_history.specs.Timeline.{event_at};
-ghost use Rattle.rev_report.specs.Orders.{answer_text as answer_text_of, one_said, order_text as order_text_of, said_again, said_by, said_event};
+ghost use Rattle.rev_order_text.specs.Orders.{answer_text as answer_text_of, one_said, order_text as order_text_of, said_again, said_by, said_event};
 
 use rev_events::{Fault, Refusal};
 use rev_fields::push_number;
@@ -81,7 +81,7 @@ fn refused_text(alloc: Global, number: u32, code: u16) -> Result<Vec<u8>, AllocE
 
 /// The line of `order N...`: the accepted events of these numbers run again from the opening, in this order, on a
 /// history of their own, and are compared with the kept ones.
-pub(crate) fn order_text(
+pub fn order_text(
     alloc: Global,
     history: &History,
     numbers: &[u32],
