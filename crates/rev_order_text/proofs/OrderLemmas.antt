@@ -14,7 +14,7 @@ pub record OpensAlike (t u : Timeline) : Type 0 where
   pub jobs : u.jobs ≡ t.jobs
   pub opening : u.opening ≡ t.opening
 
-IfSaid : (Timeline → Type 0) → Said → Type 0
+abbrev pub IfSaid : (Timeline → Type 0) → Said → Type 0
 IfSaid P (Ok u) = P u
 IfSaid P (Err p) = Unit {0}
 
