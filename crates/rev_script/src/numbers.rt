@@ -62,7 +62,7 @@ impl Eq for Numbers {
 }
 
 /// The numbers that texts write.
-pub(crate) fn numbers(alloc: Global, texts: &[Vec<u8>]) -> Result<Vec<u32>, LineFault>
+pub(crate) fn each_number(alloc: Global, texts: &[Vec<u8>]) -> Result<Vec<u32>, LineFault>
     ensures { Answers result (λ numbers. numbers.items) (each_of short (vectors_of texts.now)) }
 {
     let mut numbers = Vec::with_capacity(alloc, texts.len())?;

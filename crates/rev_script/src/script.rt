@@ -5,7 +5,7 @@ ghost use Rattle.rev_fields.specs.Faults.{Answers};
 ghost use Rattle.rev_fields.specs.Parts.{vectors_of};
 ghost use Rattle.rev_script.specs.Scripts.{bare_of, command_word, dependents_of, order_of, run_of, script_fault, script_line, script_of, why_of, word_of};
 
-use crate::numbers::{Numbers, numbers};
+use crate::numbers::{Numbers, each_number};
 use rev_cells::Names;
 use rev_commands::{Command, Which};
 use rev_fields::{FaultKind, LineFault, ReadFault, number, parts_at, path, read_fields};
@@ -110,7 +110,7 @@ fn dependents(alloc: Global, texts: &[Vec<u8>]) -> Result<Word, LineFault>
 fn order(alloc: Global, texts: &[Vec<u8>]) -> Result<Word, LineFault>
     ensures { Answers result (λ w. w) (order_of (vectors_of texts.now)) }
 {
-    Ok(Word::Order(Numbers::new(numbers(alloc, texts)?)))
+    Ok(Word::Order(Numbers::new(each_number(alloc, texts)?)))
 }
 
 // The word of a script, from the texts of the fields.

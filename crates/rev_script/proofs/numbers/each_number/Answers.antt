@@ -6,7 +6,7 @@ use Rattle.rev_fields.specs.Parts.{vectors_of}
 use Rattle.rev_fields.proofs.AnswerLemmas.{fault_passes}
 use Rattle.rev_fields.proofs.EachLemmas.{after, after-empty, each_step, each_fault, each_all}
 use Rattle.rev_fields.proofs.SliceLemmas.{at-vectors_of, length-vectors_of}
-use Rattle.rev_script.proofs.numbers.numbers.Goals as goal
+use Rattle.rev_script.proofs.numbers.each_number.Goals as goal
 
 pub loop-text-init : goal.loop-text-init
 loop-text-init c =
