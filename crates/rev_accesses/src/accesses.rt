@@ -145,7 +145,13 @@ impl Accesses {
     }
 
     /// The least number which overtakes another whose event reads and writes these cells, and conflicts with that.
-    pub fn partner(&self, places: &[u32], number: u32, reads: &[Cell], writes: &[Cell]) -> Option<u32>
+    pub fn partner(
+        &self,
+        places: &[u32],
+        number: u32,
+        reads: &[Cell],
+        writes: &[Cell],
+    ) -> Option<u32>
         ensures { (prints : Prints) (f : Footprint Cell) → Names f reads.now writes.now → IsRising prints
             → Shows self.now prints
             → result ≡ partner_of (conflict cell_cmp) places.now prints number f }

@@ -175,14 +175,16 @@ module _ (es fs : List (Cell × Value)) where
 
   -- the cells of both hold the same exactly where the states are one
   pub state_told : AllFit es → AllFit fs → (same_entries es fs ≡ true) ↔ (state_of fs ≡ state_of es)
-  state_told f g =
-      (λ h.
+  state_told f g = (
+    λ h.
         let t = both h in
         same_map cells_total cells_exact _ _ (λ q. get-state_of fs q ∙ sym (stored_at t.0 t.1 q) ∙ sym (get-state_of es q)),
-      λ e. so (all_same f g e (keys_of es)) (all_same f g e (keys_of fs)))
+    λ e. so (all_same f g e (keys_of es)) (all_same f g e (keys_of fs)),
+  )
 
 -- two tests joined tell whether two openings are the same
 pub opening_told : (a b : Bool) (r s : Records) → (a ≡ true) ↔ (s.jobs ≡ r.jobs) → (b ≡ true) ↔ (s.state ≡ r.state) → ((a && b) ≡ true) ↔ IsSameOpening r s
-opening_told a b r s jobs state =
-    (λ h. let t = both h in record { jobs = jobs.0 t.0; state = state.0 t.1 },
-    λ o. so (jobs.1 o.jobs) (state.1 o.state))
+opening_told a b r s jobs state = (
+  λ h. let t = both h in record { jobs = jobs.0 t.0; state = state.0 t.1 },
+  λ o. so (jobs.1 o.jobs) (state.1 o.state),
+)

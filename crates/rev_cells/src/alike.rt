@@ -54,10 +54,7 @@ fn same_at(
 }
 
 /// Whether each cell holds the same by two lists of entries.
-pub(crate) fn same_entries(
-    entries: &IndexMap<Cell, Value>,
-    others: &IndexMap<Cell, Value>,
-) -> bool
+pub(crate) fn same_entries(entries: &IndexMap<Cell, Value>, others: &IndexMap<Cell, Value>) -> bool
     ensures { result ≡ same_entries_in entries.now.entries others.now.entries }
 {
     same_at(entries, entries, others) && same_at(others, entries, others)

@@ -35,7 +35,7 @@ use Rattle.rev_history.specs.Order.{IsSameOpening, IsOrder, OrderIsExact, kept_i
 exact_here : (same : Event → Event → Bool) (t u : Timeline) → IsEquality same → IsHistory t → IsSameOpening t u → IsOrder same t u (order_of same true t u)
 exact_here same t u q h o =
     let a : IsOrderAnswer (machine_at t) same t.opening (kept_events t) (kept_in_order u) =
-      order_check_is_exact (machine_at t) (machine-local t.manifest t.jobs) (equal-conflict t.manifest t.jobs) same q t.opening (kept_events t) (kept_in_order u) h.legal (chosen-rises t.accepted t.kept h.rising) in
+    order_check_is_exact (machine_at t) (machine-local t.manifest t.jobs) (equal-conflict t.manifest t.jobs) same q t.opening (kept_events t) (kept_in_order u) h.legal (chosen-rises t.accepted t.kept h.rising) in
     record {
       differ = (λ e w. a.differ.0 e w.1, λ f. a.differ.1 (λ w. f (o, w)));
       same_order = (λ e. (o, a.same_order.0 e), λ w. a.same_order.1 w.1);
@@ -103,7 +103,7 @@ module _ (places : List ℕ) (es : List (ℕ × Event)) (steps : List Step) (kep
       → pair_answer (option_map (λ j. (n, j)) o) ≡ pair_answer (turned_pair (conflict cell_cmp) places (chosen (prints_of es steps) kept))
   pair_some n f o found at is =
       let print : event_at n (chosen (prints_of es steps) kept) ≡ Some (print_of f) =
-        event_at-chosen (prints_of es steps) kept n (print_of f) (turned_among n found) (prints-footprints n es steps ∙ ap (option_map print_of) (sym at)) in
+      event_at-chosen (prints_of es steps) kept n (print_of f) (turned_among n found) (prints-footprints n es steps ∙ ap (option_map print_of) (sym at)) in
       ap (λ (p : Option ℕ). pair_answer (option_map (λ j. (n, j)) p)) is
       ∙ sym (ap (λ (q : Option (Footprint Cell)). pair_answer (with_partner (conflict cell_cmp) places (chosen (prints_of es steps) kept) n q)) print)
       ∙ ap (λ (q : Option ℕ). pair_answer (pair_of (conflict cell_cmp) places (chosen (prints_of es steps) kept) q)) found

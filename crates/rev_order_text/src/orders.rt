@@ -81,11 +81,7 @@ fn refused_text(alloc: Global, number: u32, code: u16) -> Result<Vec<u8>, AllocE
 
 /// The line of `order N...`: the accepted events of these numbers run again from the opening, in this order, on a
 /// history of their own, and are compared with the kept ones.
-pub fn order_text(
-    alloc: Global,
-    history: &History,
-    numbers: &[u32],
-) -> Result<Vec<u8>, AllocError>
+pub fn order_text(alloc: Global, history: &History, numbers: &[u32]) -> Result<Vec<u8>, AllocError>
     ensures { IfOk result (λ text. text.items ≡ order_text_of history.now.timeline numbers.now) }
 {
     let mut other = history.reopened()?;

@@ -22,7 +22,7 @@ loop-number-preserved g c = λ xs rising many waits.
     let after = map (λ e. (e.0.now, e.1.items)) c.take.new.self.numbers.entries in
     let left = bare (chosen es (drop (i + 1) ks)) in
     let now : IsLeft g.T.PartialEq.eq xs ys c.loop-number.numbers.items (c.item_at.result.now ∷ left) before =
-      subst (λ (us : List g.row.T.Denot). IsLeft g.T.PartialEq.eq xs ys c.loop-number.numbers.items us before) (ap bare (chosen-next es ks i c.item_at.result.now lt c.item_at.ensures)) (c.loop-number.invariant xs rising many waits) in
+    subst (λ (us : List g.row.T.Denot). IsLeft g.T.PartialEq.eq xs ys c.loop-number.numbers.items us before) (ap bare (chosen-next es ks i c.item_at.result.now lt c.item_at.ensures)) (c.loop-number.invariant xs rising many waits) in
     subst (λ (ns : List ℕ). IsLeft g.T.PartialEq.eq xs ys ns left after) (sym c.in_ok-push-in-Some.ensures.items)
     (left_step g.T.PartialEq.eq xs ys c.loop-number.numbers.items c.item_at.result.now left before after c.in-Some.own now (c.in-Some.ensures.first now.rest now.waits) (c.in-Some.ensures.rest now.rest now.rising now.waits))
 
@@ -36,7 +36,7 @@ returns-in-None g c = λ xs rising many waits.
     let before = map (λ e. (e.0.now, e.1.items)) c.loop-number.waiting.numbers.entries in
     let left = bare (chosen es (drop (i + 1) ks)) in
     let now : IsLeft g.T.PartialEq.eq xs ys c.loop-number.numbers.items (c.item_at.result.now ∷ left) before =
-      subst (λ (us : List g.row.T.Denot). IsLeft g.T.PartialEq.eq xs ys c.loop-number.numbers.items us before) (ap bare (chosen-next es ks i c.item_at.result.now lt c.item_at.ensures)) (c.loop-number.invariant xs rising many waits) in
+    subst (λ (us : List g.row.T.Denot). IsLeft g.T.PartialEq.eq xs ys c.loop-number.numbers.items us before) (ap bare (chosen-next es ks i c.item_at.result.now lt c.item_at.ensures)) (c.loop-number.invariant xs rising many waits) in
     left_none g.T.PartialEq.eq xs ys c.loop-number.numbers.items c.item_at.result.now left before now (c.in-None.ensures.first now.rest now.waits)
 
 pub returns : goal.returns

@@ -9,6 +9,7 @@ pub returns : goal.returns
 returns c =
     let told = lent_told c.self.inside.manifest c.other.inside.manifest in
     let m = ap (λ (g : GraphValue). g.manifest) c.self.view_is in
-    let n = ap (λ (g : GraphValue). g.manifest) c.other.view_is in
-    (λ h. subst (λ (x : ManifestValue). LendAlike x c.args.other.now.manifest) m (subst (λ (y : ManifestValue). LendAlike c.self.inside.manifest y) n (told.0 (sym c.same_lent.ensures ∙ h))),
-    λ a. c.same_lent.ensures ∙ told.1 (subst (λ (x : ManifestValue). LendAlike x c.other.inside.manifest) (sym m) (subst (λ (y : ManifestValue). LendAlike c.args.self.now.manifest y) (sym n) a)))
+    let n = ap (λ (g : GraphValue). g.manifest) c.other.view_is in (
+      λ h. subst (λ (x : ManifestValue). LendAlike x c.args.other.now.manifest) m (subst (λ (y : ManifestValue). LendAlike c.self.inside.manifest y) n (told.0 (sym c.same_lent.ensures ∙ h))),
+      λ a. c.same_lent.ensures ∙ told.1 (subst (λ (x : ManifestValue). LendAlike x c.other.inside.manifest) (sym m) (subst (λ (y : ManifestValue). LendAlike c.args.self.now.manifest y) (sym n) a)),
+    )

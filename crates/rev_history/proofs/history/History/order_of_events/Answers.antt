@@ -27,7 +27,7 @@ returns-in-Some c =
     let a = c.self.inside in
     let b = c.other.inside in
     let found : ArePlacesOf event_eq (chosen a.accepted.entries c.deref.result.now) (bare (chosen b.accepted.entries c.deref-2.result.now)) c.in-Some.places.items =
-      subst (λ (o : Option (Vec ℕ)). MatchedPlaces event_eq (chosen a.accepted.entries c.deref.result.now) (bare (chosen b.accepted.entries c.deref-2.result.now)) (option_map (λ v. v.items) o)) c.in-Some.is c.in_ok-matched.ensures in
+    subst (λ (o : Option (Vec ℕ)). MatchedPlaces event_eq (chosen a.accepted.entries c.deref.result.now) (bare (chosen b.accepted.entries c.deref-2.result.now)) (option_map (λ v. v.items) o)) c.in-Some.is c.in_ok-matched.ensures in
     pair_found a b c.args.self.now.timeline c.args.other.now.timeline c.self.invariant.sound
     (ap (λ (h : HistoryValue). h.timeline) c.self.view_is) (ap (λ (h : HistoryValue). h.timeline) c.other.view_is) c.in-Some.places.items
     (subst₂ (λ (ks ls : List ℕ). ArePlacesOf event_eq (chosen a.accepted.entries ks) (bare (chosen b.accepted.entries ls)) c.in-Some.places.items) c.deref.ensures.value c.deref-2.ensures.value found)
