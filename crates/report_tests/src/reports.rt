@@ -32,6 +32,24 @@ stamp a.c 11\nstamp b.c 21\n",
     status: Status::Success,
 };
 
+const ORDER: Row = Row {
+    manifest: MANIFEST,
+    trace: "rebug-trace 1\njobs 2\nstamp a.c 10\nstamp b.c 20\nlane 0\nplan app\nstart a.o 0\n\
+start b.o 1\nfinish a.o 100\nfinish b.o 110\n",
+    script: "run\norder 1 3 2 5 4\norder 1 2 4 3\norder 1 4 2 3 5\n",
+    report: "1 0 ok\n2 0 ok\n3 0 ok\n4 0 ok\n5 0 ok\norder same\norder differ\norder refused 4 67\n",
+    status: Status::Success,
+};
+
+const ORDER_RESIZE: Row = Row {
+    manifest: "pool one\n  depth = 1\npool any\n  depth = 0\nrule r\n  command = r $out\n  pool = one\n\
+build x: r\nbuild y: r\nbuild z: r\n  pool = any\nbuild t: r\n  pool = console\n",
+    trace: "rebug-trace 1\njobs 2\nlane 0\nplan x y z t\nstart x 0 0\nstart z 1\n",
+    script: "run\nresize 1 2\norder 1 2 4 3\norder 1 4 2 3\norder 1 2\n",
+    report: "1 0 ok\n2 0 ok\n3 0 ok\n4 1 ok\norder same\norder pair 2 4\norder differ\n",
+    status: Status::Success,
+};
+
 const EMPTY: Row = Row {
     manifest: "",
     trace: "rebug-trace 1",
@@ -438,6 +456,8 @@ fn rows(rt: HostRuntime) -> Result<(), Fail> {
     let alloc = rt.alloc();
     let rows = [
         EMPTY,
+        ORDER,
+        ORDER_RESIZE,
         OVERTAKEN,
         TOUCHES,
         KEPT,

@@ -4,19 +4,22 @@ ghost use Rattle.rev_causal.specs.AccessLists.{numbers_by};
 ghost use Rattle.rev_causal.specs.Chosen.{IsRising as IsRisingNumbers};
 ghost use Rattle.rev_causal.specs.History.{IsRising, event_at, put, without};
 ghost use Rattle.rev_causal.specs.KeptHistory.{nearest_in};
-ghost use Rattle.rev_causal.specs.Store.{Footprint, Footprint.Whole};
+ghost use Rattle.rev_causal.specs.Store.{Footprint, Footprint.Whole, conflict};
+ghost use Rattle.rev_order.specs.Overtaken.{first_turned_of};
+ghost use Rattle.rev_order.specs.Pairs.{partner_of};
 ghost use Rattle.rev_cells.specs.declared.cell.Cell.{Cell};
 ghost use Rattle.rev_cells.specs.Keys.{cell_cmp};
 ghost use Rattle.rev_accesses.specs.Following.{IsFollowed};
 ghost use Rattle.rev_accesses.specs.Value.{Names, PartlyPut, Prints, PutUnder, Shows, TakenFrom};
 
-use crate::index::{add_firsts, add_users, lesser, nearest, put_all, take_all};
+use crate::index::{add_firsts, add_users, first_turned, nearest, partner, put_all, take_all};
 use crate::numbers::add_between;
 use crate::pending::Pending;
 use crate::rising::Rising;
 use crate::users::{Access, Users};
 use indexmap::IndexMap;
 use rev_cells::Cell;
+use rev_order::lesser;
 use std::alloc::{AllocError, Global};
 use std::marker::Model;
 
@@ -124,6 +127,39 @@ impl Accesses {
         let written = nearest(&self.users, Access::Write, writes, number);
         let used = nearest(&self.users, Access::Read, writes, number);
         let source = nearest(&self.users, Access::Write, reads, number);
+        lesser(whole, lesser(lesser(written, used), source))
+    }
+
+    /// The least of the numbers that another overtakes whose event conflicts: it stands above, and before it in another
+    /// list. All numbers are given, and under each its place in that list. It takes no memory, and time linear in the
+    /// lists.
+    pub fn first_turned(&self, places: &[u32], numbers: &[u32]) -> Option<u32>
+        requires { IsRisingNumbers numbers.now }
+        ensures { (prints : Prints) → IsRising prints → numbers_by (λ f. true) prints ≡ numbers.now
+            → Shows self.now prints
+            → result ≡ first_turned_of (conflict cell_cmp) places.now prints }
+    {
+        let before = self.whole.first_turned_before(places, numbers);
+        let after = self.whole.first_turned_after(places, numbers);
+        lesser(before, lesser(after, first_turned(&self.users, places)))
+    }
+
+    /// The least number which overtakes another whose event reads and writes these cells, and conflicts with that.
+    pub fn partner(
+        &self,
+        places: &[u32],
+        number: u32,
+        reads: &[Cell],
+        writes: &[Cell],
+    ) -> Option<u32>
+        ensures { (prints : Prints) (f : Footprint Cell) → Names f reads.now writes.now → IsRising prints
+            → Shows self.now prints
+            → result ≡ partner_of (conflict cell_cmp) places.now prints number f }
+    {
+        let whole = self.whole.first_overtaking(places, number);
+        let written = partner(&self.users, Access::Write, places, writes, number);
+        let used = partner(&self.users, Access::Read, places, writes, number);
+        let source = partner(&self.users, Access::Write, places, reads, number);
         lesser(whole, lesser(lesser(written, used), source))
     }
 

@@ -1,12 +1,15 @@
 //! Numbers under cells.
-ghost use Rattle.std.specs.Prelude.{◌≡◌, ℕ, ◌||◌, false, cond, IsSome, OnOk};
+ghost use Rattle.std.specs.Prelude.{◌≡◌, ℕ, ◌||◌, false, cond, map, IsSome, OnOk};
+ghost use Rattle.std.specs.List.{IsDistinct};
 ghost use Rattle.std.specs.Ordering.{eq_by_cmp};
 ghost use Rattle.std.specs.Map.{lookup};
-ghost use Rattle.rev_causal.specs.AccessLists.{first_above as first_above_in, lesser as lesser_of};
+ghost use Rattle.rev_causal.specs.AccessLists.{first_above as first_above_in};
 ghost use Rattle.rev_causal.specs.Chosen.{is_among, without};
+ghost use Rattle.rev_order.specs.Overtaken.{first_overtaking as first_overtaking_of};
 ghost use Rattle.rev_cells.specs.declared.cell.Cell.{Cell};
 ghost use Rattle.rev_cells.specs.Keys.{cell_cmp};
 ghost use Rattle.rev_accesses.specs.Following.{is_first_under, is_user_under};
+ghost use Rattle.rev_accesses.specs.Turned.{first_turned_among, partner_at};
 ghost use Rattle.rev_accesses.specs.Users.{IsSame, is_user, listed, other};
 ghost use Rattle.rev_accesses.specs.declared.users.Access.TheVariants.{Read, Write};
 ghost use Rattle.rev_accesses.specs.Value.{PartlyPut, PutUnder, TakenFrom, nearest_at, numbers_at, with_number};
@@ -15,6 +18,7 @@ use crate::pending::Pending;
 use crate::users::{Access, Users};
 use indexmap::IndexMap;
 use rev_cells::Cell;
+use rev_order::lesser;
 use std::alloc::{AllocError, Global};
 
 // Puts a number into one of the lists of a cell, unless it is there; a cell that has no lists gets them. It looks a
@@ -65,19 +69,6 @@ fn first_at(index: &IndexMap<Cell, Users>, access: Access, cell: &Cell, number: 
     match index.get(cell) {
         Some(users) => users.numbers(access).first_above(number),
         None => None,
-    }
-}
-
-/// The lesser of two numbers, where there is one.
-pub(crate) fn lesser(first: Option<u32>, second: Option<u32>) -> Option<u32>
-    ensures { result ≡ lesser_of first second }
-{
-    match first {
-        None => second,
-        Some(one) => match second {
-            None => Some(one),
-            Some(other) => if other < one { Some(other) } else { Some(one) },
-        },
     }
 }
 
@@ -185,4 +176,51 @@ pub(crate) fn add_users(
         add_users_at(pending, index, cell, number)?;
     }
     Ok(())
+}
+
+/// The least number that another overtakes which accesses the same cell, where one of the two writes it. Time is
+/// linear in the lists of all cells.
+pub(crate) fn first_turned(index: &IndexMap<Cell, Users>, places: &[u32]) -> Option<u32>
+    ensures least { result ≡ first_turned_among places.now (map (λ e. e.1) index.now.entries) }
+    ensures distinct { IsDistinct (eq_by_cmp cell_cmp) (map (λ e. e.0) index.now.entries) }
+{
+    let _cells = index.len();
+    let mut least = None;
+    for users in index.values() {
+        least = lesser(least, users.first_turned(places));
+    }
+    least
+}
+
+// The first of those that access a cell in one way which overtakes a number.
+fn partner_in(
+    index: &IndexMap<Cell, Users>,
+    access: Access,
+    places: &[u32],
+    cell: &Cell,
+    number: u32,
+) -> Option<u32>
+    ensures { result ≡ first_overtaking_of places.now number (numbers_at (listed access index.now.entries) cell.now) }
+{
+    match index.get(cell) {
+        Some(users) => users.numbers(access).first_overtaking(places, number),
+        None => None,
+    }
+}
+
+/// The least of those that access one of the cells in one way which overtakes a number.
+pub(crate) fn partner(
+    index: &IndexMap<Cell, Users>,
+    access: Access,
+    places: &[u32],
+    cells: &[Cell],
+    number: u32,
+) -> Option<u32>
+    ensures { result ≡ partner_at places.now number (listed access index.now.entries) cells.now }
+{
+    let mut least = None;
+    for cell in cells {
+        least = lesser(least, partner_in(index, access, places, cell, number));
+    }
+    least
 }

@@ -1,10 +1,12 @@
 //! Those that use one cell.
 ghost use Rattle.std.specs.Prelude.{◌≡◌, ◌∷◌, [], IfOk, OnOk};
 ghost use Rattle.rev_causal.specs.Chosen.{without};
+ghost use Rattle.rev_accesses.specs.Turned.{first_turned_in};
 ghost use Rattle.rev_accesses.specs.Users.{numbers_of, other};
 ghost use Rattle.rev_accesses.specs.Value.{with_number};
 
 use crate::rising::Rising;
+use rev_order::lesser;
 use std::alloc::{AllocError, Global};
 
 /// How a cell is accessed.
@@ -77,5 +79,15 @@ impl Users {
             Access::Read => &self.readers,
             Access::Write => &self.writers,
         }
+    }
+
+    // The least of them that another overtakes, where one of the two writes the cell.
+    pub(crate) fn first_turned(&self, places: &[u32]) -> Option<u32>
+        ensures { result ≡ first_turned_in places.now self.now }
+    {
+        let twice = self.writers.first_overtaken(places, &self.writers);
+        let read = self.writers.first_overtaken(places, &self.readers);
+        let written = self.readers.first_overtaken(places, &self.writers);
+        lesser(twice, lesser(read, written))
     }
 }

@@ -12,6 +12,7 @@ ghost use Rattle.rev_cells.specs.State.{default_or, set, value_at};
 ghost use Rattle.rev_cells.specs.Table.{Table, no_records, opened, raised, raised_by, written, written_all};
 ghost use Rattle.rev_cells.specs.Values.{Fits, unless_default};
 
+use crate::alike::same_entries;
 use crate::asked::Asked;
 use crate::cell::Cell;
 use crate::opening::Opening;
@@ -92,6 +93,13 @@ impl Cells {
             entries: self.entries.clone()?,
             writes: self.writes,
         })
+    }
+
+    // Whether each cell holds the same as in others.
+    pub(crate) fn same_state(&self, other: &Cells) -> bool
+        ensures { IsTrue result ↔ (other.now.state ≡ self.now.state) }
+    {
+        same_entries(&self.entries, &other.entries)
     }
 
     // Changes the number of jobs.

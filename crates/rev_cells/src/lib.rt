@@ -1,6 +1,7 @@
 //! The state of a build: cells, each of which holds a value, and the records that a session opens with.
 #![tactic(auto)]
 
+mod alike;
 mod asked;
 mod cell;
 mod cells;

@@ -1,10 +1,14 @@
 //! Lists that values hold.
-ghost use Rattle.std.specs.Prelude.{◌≡◌, IfOk, bytes_eq};
+ghost use Rattle.std.specs.Prelude.{◌≡◌, ◌∷◌, [], IfOk, bytes_eq};
+ghost use Rattle.std.specs.Hash as fed;
+ghost use Rattle.std.specs.Hash.{items_Alike, same_Alike};
+ghost use Rattle.std.proofs.lemmas.Slice.Eq.{bytes_eq-Decides};
 ghost use Rattle.std.specs.Cmp.{partial_equiv_from_equiv};
 ghost use Rattle.std.specs.Cmp.Lexicographic.{pointwise, nat_list_eq_equiv, lists_equiv};
 
 use rev_paths::Name;
 use std::alloc::AllocError;
+use std::hash::{Hash, Hasher};
 use std::marker::Model;
 
 /// Positions of an edge's outputs, which count from 0.
@@ -159,6 +163,17 @@ impl Eq for Text {
     ghost laws = { nat_list_eq_equiv };
 }
 
+impl Hash for Text {
+    // All bytes in one write, of which the hasher takes many at a time.
+    ghost hash_input = { λ text. text ∷ [] };
+
+    ghost respects_eq = { (same_Alike (λ text. text ∷ []) bytes_eq-Decides).fed };
+
+    fn hash<H: Hasher>(&self, state: &mut H) {
+        state.write(self.as_slice());
+    }
+}
+
 /// Paths in a given order, in which one may stand more than once.
 #[derive(Debug)]
 pub struct Names {
@@ -233,4 +248,14 @@ impl PartialEq for Names {
 
 impl Eq for Names {
     ghost laws = { lists_equiv nat_list_eq_equiv };
+}
+
+impl Hash for Names {
+    ghost hash_input = { fed.slice (λ name. name ∷ []) };
+
+    ghost respects_eq = { (items_Alike (same_Alike (λ name. name ∷ []) bytes_eq-Decides)).fed };
+
+    fn hash<H: Hasher>(&self, state: &mut H) {
+        self.paths.hash(state);
+    }
 }

@@ -1,7 +1,8 @@
 //! The records that a session opens with.
-ghost use Rattle.std.specs.Prelude.{◌≡◌, ◌↔◌, ◌<◌, true, Contains, IfOk, OnOk, OnErr, IsErrOf, ◌⊎◌, ◌≢◌, Err, Some};
+ghost use Rattle.std.specs.Prelude.{◌≡◌, ◌↔◌, ◌<◌, true, Contains, IfOk, IsTrue, OnOk, OnErr, IsErrOf, ◌⊎◌, ◌≢◌, Err, Some};
 ghost use Rattle.rev_cells.specs.declared.cell.Cell.TheVariants as cell;
 ghost use Rattle.rev_cells.specs.declared.value.Value.TheVariants as value;
+ghost use Rattle.rev_cells.specs.Alike.{IsSameOpening};
 ghost use Rattle.rev_cells.specs.Opened.{IsOpened, IsOpening, is_of_record};
 ghost use Rattle.rev_cells.specs.Table.{no_records, opened, with_record};
 ghost use Rattle.rev_cells.specs.Values.{Fits};
@@ -146,6 +147,14 @@ impl Opening {
         Ok(Opening {
             cells: self.cells.copy()?,
         })
+    }
+
+    /// Whether another opening has as many jobs and gives the same state. It takes no memory, and time linear in the
+    /// records up to hashing.
+    pub fn same(&self, other: &Opening) -> bool
+        ensures { IsTrue result ↔ IsSameOpening self.now other.now }
+    {
+        self.cells.jobs() == other.cells.jobs() && self.cells.same_state(&other.cells)
     }
 
     // Adds a record of any kind.

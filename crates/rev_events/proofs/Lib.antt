@@ -6,6 +6,7 @@ pub mod HeldLemmas
 pub mod HeldSteps
 pub mod PlannedState
 pub mod PoolLemmas
+pub mod SameLemmas
 pub mod SlotLemmas
 pub mod TestLemmas
 pub mod WriteLemmas

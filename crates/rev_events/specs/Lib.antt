@@ -6,4 +6,5 @@ pub mod Laws
 pub mod Machine
 pub mod Pools
 pub mod Refusal
+pub mod Same
 pub mod Written

@@ -7,7 +7,7 @@ use rev_paths::Name;
 use std::alloc::AllocError;
 
 /// What is said of the files that a command read.
-#[derive(Debug, PartialEq, Eq)]
+#[derive(Debug, PartialEq, Eq, Hash)]
 pub enum Listing {
     /// Nothing.
     Nothing,
@@ -51,7 +51,7 @@ impl Clone for Listing {
 
 /// What happened in a build. An edge is named by any of its outputs; stamps of its outputs stand in the order of the
 /// outputs, explicit before implicit.
-#[derive(Debug, PartialEq, Eq)]
+#[derive(Debug, PartialEq, Eq, Hash)]
 pub enum Event {
     /// The edges that are needed for these targets are marked; the graph's defaults where no target is named.
     Plan(Names),

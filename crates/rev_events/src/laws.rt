@@ -1,5 +1,6 @@
 //! Laws of every step of a build.
 ghost use Rattle.rev_events.specs.Laws.{HeldIsRunning, PlansAreExplained, WritesOnce};
+ghost use Rattle.rev_events.specs.Same.{EqualEventsAreOne};
 
 /// An effect names each cell once, where no edge has an output twice.
 pub fn writes_once()
@@ -16,4 +17,9 @@ pub fn held_is_running()
 /// and all its edges are Wanted.
 pub fn plans_are_explained()
     ensures { PlansAreExplained }
+{}
+
+/// The test of whether two events are equal holds of equal events alone.
+pub fn equal_events_are_one()
+    ensures { EqualEventsAreOne }
 {}

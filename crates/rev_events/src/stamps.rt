@@ -1,9 +1,13 @@
 //! Stamps that an event gives.
 ghost use Rattle.std.specs.Prelude.{◌≡◌, IfOk, bytes_eq};
+ghost use Rattle.std.specs.Hash as fed;
+ghost use Rattle.std.specs.Hash.{same_Alike};
+ghost use Rattle.std.proofs.lemmas.Slice.Eq.{bytes_eq-Decides};
 ghost use Rattle.std.specs.Cmp.{partial_equiv_from_equiv};
 ghost use Rattle.std.specs.Cmp.Lexicographic.{nat_list_eq_equiv};
 
 use std::alloc::AllocError;
+use std::hash::{Hash, Hasher};
 use std::marker::Model;
 
 /// Stamps of an edge's outputs, in the order of the outputs.
@@ -72,4 +76,14 @@ impl PartialEq for Stamps {
 
 impl Eq for Stamps {
     ghost laws = { nat_list_eq_equiv };
+}
+
+impl Hash for Stamps {
+    ghost hash_input = { fed.slice fed.u64 };
+
+    ghost respects_eq = { (same_Alike (fed.slice fed.u64) bytes_eq-Decides).fed };
+
+    fn hash<H: Hasher>(&self, state: &mut H) {
+        self.items.hash(state);
+    }
 }

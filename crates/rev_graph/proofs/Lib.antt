@@ -1,3 +1,4 @@
+pub mod AlikeLemmas
 pub mod DecidedLemmas
 pub mod EntryLemmas
 pub mod GraphLemmas

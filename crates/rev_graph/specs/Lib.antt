@@ -1,3 +1,4 @@
+pub mod Alike
 pub mod Codes
 pub mod Decided
 pub mod Entries

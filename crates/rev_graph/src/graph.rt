@@ -1,9 +1,11 @@
 //! Graphs of edges.
-ghost use Rattle.std.specs.Prelude.{◌≡◌, ℕ, ◌<◌, ◌++◌, ◌↔◌, length, map, Some, IfSome, IfOk, IfErr, IsErrOf, OnOk};
+ghost use Rattle.std.specs.Prelude.{◌≡◌, ℕ, ◌<◌, ◌++◌, ◌↔◌, length, map, Some, IfSome, IfOk, IfErr, IsErrOf, IsTrue, OnOk};
 ghost use Rattle.rev_manifest.specs.Seen.{seen_pools};
+ghost use Rattle.rev_graph.specs.Alike.{LendAlike};
 ghost use Rattle.rev_graph.specs.Fault.{Explains, IsFaultless};
 ghost use Rattle.rev_graph.specs.Graph.{build_at, is_known, producer_of, pool_of, depth_of, input_producers, rank_at, IsGraph, Produces};
 
+use crate::alike::{numbered, same_lent};
 use crate::fault::GraphFault;
 use crate::steps::{all_producers, ranks_of};
 use crate::table::{Table, outputs_table, producer};
@@ -239,12 +241,7 @@ impl Graph {
         requires { edge < length self.now.manifest.builds }
         ensures { result ≡ pool_of self.now.manifest edge }
     {
-        let number = self.at(edge).pool()?;
-        let (_, depth) = self.manifest.pools().get(number as usize)?;
-        if *depth == 0 {
-            return None;
-        }
-        Some((number, *depth))
+        numbered(self.manifest.pools(), self.at(edge).pool())
     }
 
     /// The depth of a pool by its number, as the manifest has it, also where it is 0 or no edge uses the pool; none
@@ -261,6 +258,31 @@ impl Graph {
         ensures { result.now ≡ self.now.manifest.defaults }
     {
         self.manifest.defaults()
+    }
+
+    /// Whether another graph lends the same: edges, pools by their numbers, and defaults. The names of pools, and where
+    /// statements stand in which file, may be others. It takes no memory, and time linear in what the graphs have.
+    pub fn lends_alike(&self, other: &Graph) -> bool
+        ensures { IsTrue result ↔ LendAlike self.now.manifest other.now.manifest }
+    {
+        same_lent(&self.manifest, &other.manifest)
+    }
+
+    /// The graph of the same manifest, built again.
+    ///
+    /// # Errors
+    /// [`AllocError`] only where an allocation was refused.
+    pub fn again(&self, alloc: Global) -> Result<Graph, AllocError>
+        ensures { IfOk result (λ graph. graph.manifest ≡ self.now.manifest) }
+    {
+        let _edges = self.edges();
+        match Graph::build(alloc, &self.manifest) {
+            Ok(graph) => Ok(graph),
+            Err(fault) => match &fault {
+                GraphFault::Memory => Err(AllocError),
+                _ => unreachable!(),
+            },
+        }
     }
 
     /// The rank of an edge, which is below [`Graph::edges`] and above the ranks of the edges that produce its inputs.

@@ -3,6 +3,7 @@
 //! An edge's number is the place of its build statement among all, from 0.
 #![tactic(auto)]
 
+mod alike;
 mod fault;
 mod graph;
 pub mod laws;

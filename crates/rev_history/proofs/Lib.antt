@@ -5,5 +5,6 @@ pub mod Fields
 pub mod Footprints
 pub mod Listed
 pub mod Members
+pub mod OrderLemmas
 pub mod Promises
 pub mod Written

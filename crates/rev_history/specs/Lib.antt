@@ -1,5 +1,6 @@
 pub mod Checked
 pub mod Laws
+pub mod Order
 pub mod Sound
 pub mod Steps
 pub mod Timeline

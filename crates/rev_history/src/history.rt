@@ -1,14 +1,17 @@
 //! The history.
-ghost use Rattle.std.specs.Prelude.{◌≡◌, ◌↔◌, ◌<◌, length, IfOk, OnOk, OnErr, IsErrOf, Some, None};
+ghost use Rattle.std.specs.Prelude.{◌≡◌, ◌↔◌, ◌<◌, length, IfOk, OnOk, OnErr, IsErrOf, IsTrue, Some, None, true};
 ghost use Rattle.std.specs.Option.{option_copied};
 ghost use Rattle.rev_cells.specs.Table.{raised_by};
 ghost use Rattle.rev_cells.specs.Opened.{IsOpened};
 ghost use Rattle.rev_events.specs.declared.refusal.Refusal.{Refusal};
+ghost use Rattle.rev_events.specs.Same.{event_eq};
 ghost use Rattle.rev_history.specs.Checked.{HasNow, IsChecked};
+ghost use Rattle.rev_history.specs.Order.{IsOrder, IsSameOpening, answer_of, order_of};
 ghost use Rattle.rev_history.specs.Timeline.{IsHistory, Timeline, accept_refusal, accepted_as, back_refusal, cone_numbers, cone_refusal, coned, event_at, greatest_kept, kept_footprint, last_of, nearest_conflict, opened, redo_refusal, redone, state_at, undo_refusal, undone};
 ghost use Rattle.rev_history.specs.Value.{cells_written};
 
 use crate::closing::cone;
+use crate::order::{Order, both, first_pair};
 use crate::prints::{nearest, take_print, write_noted};
 use crate::step::{Checked, effect, effect_if_accepted, refusal};
 use crate::steps::{Step, footprint_at};
@@ -18,6 +21,7 @@ use rev_cells::{Cells, Opening};
 use rev_events::{Event, Fault, Refusal};
 use rev_footprint::{Footprint, footprint as footprint_now};
 use rev_graph::Graph;
+use rev_order::matched_places;
 use std::alloc::{AllocError, Global};
 use std::marker::Model;
 
@@ -372,6 +376,76 @@ impl History {
             Some(other) => Ok(Checked::Refused(Refusal::Overtaken(other))),
             None => Ok(Checked::Free(footprint)),
         }
+    }
+
+    /// Whether another history of the same graph, by what it lends, and the same opening keeps the same events in an
+    /// equivalent order. Equal events are matched by occurrence, and the other ones take the numbers of these. Time is
+    /// linear in the events and their footprints, up to hashing.
+    ///
+    /// # Errors
+    /// [`AllocError`] only where an allocation was refused.
+    pub fn same_order(&self, other: &History) -> Result<Order, AllocError>
+        ensures order { IfOk result (λ order. IsOrder event_eq self.now.timeline other.now.timeline (answer_of order)) }
+        // Where the openings are the same, it is what a function of the kept events says.
+        ensures answer { IsSameOpening self.now.timeline other.now.timeline
+            → IfOk result (λ order. answer_of order ≡ order_of event_eq true self.now.timeline other.now.timeline) }
+    {
+        if !self.same_opening(other) {
+            return Ok(Order::EventsDiffer);
+        }
+        let order = self.order_of_events(other)?;
+        Ok(order)
+    }
+
+    // Whether another history has the same graph, by what it lends, and the same opening.
+    fn same_opening(&self, other: &History) -> bool
+        ensures same { IsTrue result ↔ IsSameOpening self.now.timeline other.now.timeline }
+        ensures legal { IsHistory self.now.timeline }
+    {
+        let graphs = self.graph.lends_alike(&other.graph);
+        let openings = self.opening.same(&other.opening);
+        both(graphs, openings)
+    }
+
+    // What the order check answers where the openings are the same.
+    fn order_of_events(&self, other: &History) -> Result<Order, AllocError>
+        ensures { IfOk result (λ order. answer_of order
+            ≡ order_of event_eq true self.now.timeline other.now.timeline) }
+    {
+        let matched = matched_places(
+            self.alloc,
+            &self.kept,
+            &self.accepted,
+            &other.kept,
+            &other.accepted,
+            self.last,
+        )?;
+        match matched {
+            None => Ok(Order::EventsDiffer),
+            Some(places) => Ok(first_pair(
+                &places,
+                &self.kept,
+                &self.accepted,
+                &self.steps,
+                &self.accesses,
+            )),
+        }
+    }
+
+    /// A history of the same graph, built again, and the same opening, in which nothing was accepted yet.
+    ///
+    /// # Errors
+    /// [`AllocError`] only where an allocation was refused.
+    pub fn reopened(&self) -> Result<History, AllocError>
+        ensures { IfOk result (λ h. h
+            ≡ record {
+              timeline = opened self.now.timeline.manifest self.now.timeline.jobs self.now.timeline.opening;
+              writes = 0;
+            }) }
+    {
+        let graph = self.graph.again(self.alloc)?;
+        let history = History::new(self.alloc, graph, &self.opening)?;
+        Ok(history)
     }
 
     // Takes a kept event out on which none depends.

@@ -1,6 +1,7 @@
 //! Laws of all histories.
 ghost use Rattle.rev_causal.specs.Laws.{ConeIsWithin, FreeExactlyWhereLast, NeighboursExchange, SameEntries, SameRefusals, SameResult};
 ghost use Rattle.rev_history.specs.Laws.{ConeIsLeast, GreatestIsGreatest, NearestIsNamed, OfAllBuilds, OvertakingIsNamed, RedoKeepsFootprints, RedoNextRestores, RedoRunsNow, StepBack, UndoExactlyWhenIndependent, UndoKeepsFootprints, UndoLeavesTheOthers};
+ghost use Rattle.rev_history.specs.Order.{OrderIsExact};
 
 /// Where an event is accepted and a step back follows, that event is undone, and state and kept numbers are those
 /// before.
@@ -87,4 +88,9 @@ pub fn exchange_keeps_footprints()
 /// No event depends on a kept one exactly where some list that such exchanges lead to ends in it.
 pub fn undo_is_causal()
     ensures { OfAllBuilds FreeExactlyWhereLast }
+{}
+
+/// Where the test of equal events holds of equal ones alone, the answer of the order check is exact.
+pub fn order_is_exact()
+    ensures { OrderIsExact }
 {}

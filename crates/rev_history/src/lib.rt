@@ -5,9 +5,11 @@
 mod closing;
 mod history;
 pub mod laws;
+mod order;
 mod prints;
 mod step;
 mod steps;
 
 pub use history::History;
+pub use order::Order;
 pub use rev_events::{Event, Fault, Refusal};

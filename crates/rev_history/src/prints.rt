@@ -8,16 +8,19 @@ ghost use Rattle.rev_causal.specs.AccessLists.{numbers_by};
 ghost use Rattle.rev_causal.specs.Chosen.{IsRising as IsRisingNumbers};
 ghost use Rattle.rev_causal.specs.History.{IsRising, event_at, put, without};
 ghost use Rattle.rev_causal.specs.KeptHistory.{nearest_in};
+ghost use Rattle.rev_causal.specs.Store.{conflict};
 ghost use Rattle.rev_cells.specs.declared.cell.Cell.{Cell};
 ghost use Rattle.rev_cells.specs.declared.value.Value.{Value};
 ghost use Rattle.rev_cells.specs.Effects.{cells_of, former_values, set_all, stored_in, stored_values};
 ghost use Rattle.rev_cells.specs.Keys.{cell_cmp};
 ghost use Rattle.rev_cells.specs.Values.{Fits};
 ghost use Rattle.rev_footprint.specs.Value.{print_of};
+ghost use Rattle.rev_order.specs.Pairs.{partner_of};
 
 use rev_accesses::{Accesses, Pending, first_above};
 use rev_cells::{Cell, Cells, Value};
 use rev_footprint::Footprint;
+use rev_order::first_overtaking;
 use std::alloc::AllocError;
 
 // Puts a number into the lists of a footprint.
@@ -64,6 +67,25 @@ pub(crate) fn nearest(
         return first_above(kept, number);
     }
     accesses.nearest(number, footprint.reads(), footprint.writes())
+}
+
+/// The least kept number that overtakes another, of those whose footprints conflict with one: it stands above, and
+/// before it in another list. It takes no memory.
+pub(crate) fn partner(
+    places: &[u32],
+    number: u32,
+    footprint: &Footprint,
+    kept: &[u32],
+    accesses: &Accesses,
+) -> Option<u32>
+    ensures { (prints : Prints) → IsRising prints → numbers_by (λ f. true) prints ≡ kept.now
+        → Shows accesses.now prints
+        → result ≡ partner_of (conflict cell_cmp) places.now prints number (print_of footprint.now) }
+{
+    if footprint.whole() {
+        return first_overtaking(places, number, kept);
+    }
+    accesses.partner(places, number, footprint.reads(), footprint.writes())
 }
 
 /// Adds to the pending numbers those that lead to all kept ones above another whose footprints conflict with one.

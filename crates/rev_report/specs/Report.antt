@@ -12,6 +12,7 @@ use Rattle.rev_events.specs.declared.refusal.Refusal.{Refusal}
 use Rattle.rev_events.specs.declared.refusal.Refusal.TheVariants.{NoSuchEdge, NoSuchEvent}
 use Rattle.rev_events.specs.Refusal as refusals
 use Rattle.rev_history.specs.Timeline.{Timeline, cone_refusal, event_at, state_at}
+use Rattle.rev_order_text.specs.Orders.{order_text}
 use Rattle.rev_manifest.specs.declared.fault.ManifestFault.{ManifestFault}
 use Rattle.rev_manifest.specs.Manifest as manifest
 use Rattle.rev_manifest.specs.Manifest.{BuildValue, ManifestValue}
@@ -77,6 +78,7 @@ word_text lane d left word.Stamps = stamps.stamps_text (state_now d)
 word_text lane d left word.Logs = logs.logs_text (state_now d)
 word_text lane d left (word.Why out) = why_edge (builds_of d) (state_now d) (producer_of (builds_of d) out)
 word_text lane d left (word.Dependents which) = named_text (named d.journal which) d.history
+word_text lane d left (word.Order numbers) = order_text d.history numbers
 
 -- the desk after a word
 abbrev pub after_word : ℕ → DeskValue → List (ℕ × Command) → Word → DeskValue

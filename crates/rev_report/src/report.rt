@@ -6,6 +6,7 @@ ghost use Rattle.rev_script.specs.SeenTurns.{seen_turns};
 ghost use Rattle.rev_script.specs.Turns.{AreOf, turns};
 ghost use Rattle.rev_desk.specs.Machine.{named, opened_desk};
 ghost use Rattle.rev_history.specs.Timeline.{state_at};
+ghost use Rattle.rev_order_text.specs.Orders.{order_text as order_text_of};
 ghost use Rattle.rev_trace.specs.Traces.{lanes_of};
 ghost use Rattle.rev_graph.specs.Graph.{producer_of};
 ghost use Rattle.rev_listing.specs.Logs as logs;
@@ -24,6 +25,7 @@ use rev_graph::Graph;
 use rev_history::History;
 use rev_listing::{logs_text, marks_text, stamps_text, why_text};
 use rev_manifest::{Manifest, read};
+use rev_order_text::order_text;
 use rev_paths::Name;
 use rev_script::{
     RunFault, Status, Turn, Word, kept_line, read_script, refused_line, report_fault,
@@ -112,6 +114,20 @@ fn write_dependents<W: Write>(
     send(writer, &text)
 }
 
+// Writes whether accepted events, run again in an order, are equivalent to the kept ones.
+fn write_order<W: Write>(
+    alloc: Global,
+    history: &History,
+    numbers: &[u32],
+    writer: &mut W,
+) -> Result<(), RunFault>
+    ensures { Writes result (W.contents writer.old) (W.contents writer.new)
+        (order_text_of history.now.timeline numbers.now) }
+{
+    let text = order_text(alloc, history, numbers)?;
+    send(writer, &text)
+}
+
 // Does a word of the script, where so many turns were taken before, and says how many are taken then.
 fn run_word<W: Write>(
     alloc: Global,
@@ -163,6 +179,10 @@ fn run_word<W: Write>(
         }
         Word::Dependents(which) => {
             write_dependents(alloc, desk, *which, writer)?;
+            Ok(before)
+        }
+        Word::Order(numbers) => {
+            write_order(alloc, desk.history(), numbers.as_slice(), writer)?;
             Ok(before)
         }
     }

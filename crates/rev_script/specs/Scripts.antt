@@ -4,7 +4,7 @@ use Rattle.std.specs.List.{slice_index_or}
 use Rattle.rev_fields.specs.declared.faults.FaultKind.{FaultKind}
 use Rattle.rev_fields.specs.declared.faults.FaultKind.TheVariants.{Syntax}
 use Rattle.rev_fields.specs.declared.faults.TextFault.{TextFault}
-use Rattle.rev_fields.specs.Faults.{◌>>=◌, first_fault}
+use Rattle.rev_fields.specs.Faults.{◌>>=◌, each_of, first_fault}
 use Rattle.rev_fields.specs.Fields.{texts_of}
 use Rattle.rev_fields.specs.Lines.{lines_of, path_of, read_as, wrong_by, said_by}
 use Rattle.rev_trace.specs.Commands.{command_of, short, which_of}
@@ -38,6 +38,10 @@ dependents_of [] = Err Syntax
 dependents_of (event ∷ []) = which_of event >>= λ which. Ok (word.Dependents which)
 dependents_of (event ∷ more ∷ rest) = Err Syntax
 
+-- `order N...`
+abbrev pub order_of : List (List ℕ) → Result Word FaultKind
+order_of texts = each_of short texts >>= λ numbers. Ok (word.Order numbers)
+
 -- the word of a script, or a command, where the fields have these texts
 abbrev pub word_of : List (List ℕ) → Result Word FaultKind
 word_of [] = Err Syntax
@@ -47,7 +51,8 @@ word_of (first ∷ rest) =
     else (if bytes_eq first (codes "stamps") then bare_of word.Stamps rest
     else (if bytes_eq first (codes "logs") then bare_of word.Logs rest
     else (if bytes_eq first (codes "why") then why_of rest
-    else (if bytes_eq first (codes "dependents") then dependents_of rest else command_word (first ∷ rest)))))))
+    else (if bytes_eq first (codes "dependents") then dependents_of rest
+    else (if bytes_eq first (codes "order") then order_of rest else command_word (first ∷ rest))))))))
 
 abbrev pub script_line : List ℕ → Result Word FaultKind
 script_line line = read_as word_of (texts_of line)

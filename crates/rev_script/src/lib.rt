@@ -5,6 +5,7 @@
 mod fault;
 mod fault_report;
 mod migrated;
+mod numbers;
 mod output;
 mod script;
 mod status;
@@ -14,6 +15,7 @@ mod turns;
 pub use fault::RunFault;
 pub use fault_report::{report_fault, report_graph_fault, report_manifest_fault};
 pub use migrated::write_migrated;
+pub use numbers::Numbers;
 pub use output::send;
 pub use script::{Word, read_script};
 pub use status::Status;

@@ -3,8 +3,9 @@ ghost use Rattle.std.specs.Prelude.{◌≡◌, Some, None, IfOk, OnOk, IsErrOf};
 ghost use Rattle.rev_fields.specs.declared.faults.TextFault.{TextFault};
 ghost use Rattle.rev_fields.specs.Faults.{Answers};
 ghost use Rattle.rev_fields.specs.Parts.{vectors_of};
-ghost use Rattle.rev_script.specs.Scripts.{bare_of, command_word, dependents_of, run_of, script_fault, script_line, script_of, why_of, word_of};
+ghost use Rattle.rev_script.specs.Scripts.{bare_of, command_word, dependents_of, order_of, run_of, script_fault, script_line, script_of, why_of, word_of};
 
+use crate::numbers::{Numbers, each_number};
 use rev_cells::Names;
 use rev_commands::{Command, Which};
 use rev_fields::{FaultKind, LineFault, ReadFault, number, parts_at, path, read_fields};
@@ -32,6 +33,8 @@ pub enum Word {
     Why(Name),
     /// `dependents WHICH` lists the kept events that depend on a kept one.
     Dependents(Which),
+    /// `order N...` tells whether these accepted events, in this order from the opening, are equivalent to the kept ones.
+    Order(Numbers),
 }
 
 // Written, since a derived drop is proved again at each exit of each caller.
@@ -46,6 +49,7 @@ impl Drop for Word {
             Word::Logs => {}
             Word::Why(_part) => {}
             Word::Dependents(_part) => {}
+            Word::Order(_part) => {}
         }
     }
 }
@@ -102,6 +106,13 @@ fn dependents(alloc: Global, texts: &[Vec<u8>]) -> Result<Word, LineFault>
     }
 }
 
+// `order N...`
+fn order(alloc: Global, texts: &[Vec<u8>]) -> Result<Word, LineFault>
+    ensures { Answers result (λ w. w) (order_of (vectors_of texts.now)) }
+{
+    Ok(Word::Order(Numbers::new(each_number(alloc, texts)?)))
+}
+
 // The word of a script, from the texts of the fields.
 fn word_of_texts(alloc: Global, texts: &[Vec<u8>]) -> Result<Word, LineFault>
     ensures { Answers result (λ w. w) (word_of (vectors_of texts.now)) }
@@ -129,6 +140,9 @@ fn word_of_texts(alloc: Global, texts: &[Vec<u8>]) -> Result<Word, LineFault>
     }
     if first.as_slice() == b"dependents".as_slice() {
         return dependents(alloc, rest);
+    }
+    if first.as_slice() == b"order".as_slice() {
+        return order(alloc, rest);
     }
     command_as_word(alloc, texts)
 }

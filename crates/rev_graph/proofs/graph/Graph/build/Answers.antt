@@ -1,6 +1,6 @@
 use Rattle.std.proofs.Common.{◌≡◌, ◌≤◌, ℕ, List, None, Some, length, map, ap, sym, subst, ◌∙◌, arith, if◌then◌else◌}
 use Rattle.std.specs.List.{list_any}
-use Rattle.std.specs.Option.{option_or, option_map}
+use Rattle.std.specs.Option.{option_or}
 use Rattle.rev_manifest.specs.Builds.{BuildValue, ManifestValue, IsManifest}
 use Rattle.rev_graph.specs.Entries.{entry, given}
 use Rattle.rev_graph.specs.Graph.{first_double, input_producers, is_known, needs, producer_of, EdgeReaches, IsRanked}

@@ -1,0 +1,36 @@
+use Rattle.std.proofs.Common.{◌≡◌, ◌≤◌, ap, sym, ◌∙◌, subst, subst₂, List, ℕ, Option, option_map}
+use Rattle.std.specs.Global.{Vec}
+use Rattle.std.specs.List.{AllByRecursion}
+use Rattle.rev_causal.specs.Chosen.{chosen}
+use Rattle.rev_causal.specs.OrderCheck.{bare, pair_answer}
+use Rattle.rev_causal.specs.Store.{conflict}
+use Rattle.rev_cells.specs.Keys.{cell_cmp}
+use Rattle.rev_events.specs.Same.{event_eq}
+use Rattle.rev_events.proofs.SameLemmas.{equal_events_are_one}
+use Rattle.rev_order.specs.Matched.{ArePlacesOf, MatchedPlaces}
+use Rattle.rev_order.specs.Pairs.{turned_pair}
+use Rattle.rev_history.specs.Order.{answer_of}
+use Rattle.rev_history.specs.Steps.{prints_of}
+use Rattle.rev_history.specs.Value.{HistoryValue}
+use Rattle.rev_history.proofs.OrderLemmas.{kept_within, pair_found}
+use Rattle.rev_history.proofs.history.History.order_of_events.Goals as goal
+
+pub matched_places-requires-clause-equality : goal.matched_places-requires-clause-equality
+matched_places-requires-clause-equality c = equal_events_are_one
+
+pub matched_places-requires-clause-within : goal.matched_places-requires-clause-within
+matched_places-requires-clause-within c =
+    subst (λ (ks : List ℕ). AllByRecursion (λ n. n ≤ c.self.inside.last) ks) (sym c.deref.ensures.value) (kept_within c.self.inside c.self.invariant.sound)
+
+pub returns-in-Some : goal.returns-in-Some
+returns-in-Some c =
+    let a = c.self.inside in
+    let b = c.other.inside in
+    let found : ArePlacesOf event_eq (chosen a.accepted.entries c.deref.result.now) (bare (chosen b.accepted.entries c.deref-2.result.now)) c.in-Some.places.items =
+    subst (λ (o : Option (Vec ℕ)). MatchedPlaces event_eq (chosen a.accepted.entries c.deref.result.now) (bare (chosen b.accepted.entries c.deref-2.result.now)) (option_map (λ v. v.items) o)) c.in-Some.is c.in_ok-matched.ensures in
+    pair_found a b c.args.self.now.timeline c.args.other.now.timeline c.self.invariant.sound
+    (ap (λ (h : HistoryValue). h.timeline) c.self.view_is) (ap (λ (h : HistoryValue). h.timeline) c.other.view_is) c.in-Some.places.items
+    (subst₂ (λ (ks ls : List ℕ). ArePlacesOf event_eq (chosen a.accepted.entries ks) (bare (chosen b.accepted.entries ls)) c.in-Some.places.items) c.deref.ensures.value c.deref-2.ensures.value found)
+    (answer_of c.first_pair.result)
+    (c.first_pair.ensures
+    ∙ (λ i. pair_answer (turned_pair (conflict cell_cmp) (c.deref-in-Some.ensures.value i) (chosen (prints_of a.accepted.entries (c.deref-in-Some-3.ensures.value i)) (c.deref-in-Some-2.ensures.value i)))))
