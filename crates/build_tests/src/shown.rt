@@ -12,7 +12,7 @@ fn sign(digit: u64) -> u8 {
 }
 
 // A space and a number below 100.
-fn push_number(text: &mut Vec<u8>, number: u64) -> Result<(), AllocError> {
+pub(crate) fn push_number(text: &mut Vec<u8>, number: u64) -> Result<(), AllocError> {
     text.push(b' ')?;
     if number >= 10 {
         text.push(sign(number / 10))?;
@@ -59,7 +59,7 @@ fn push_holder(text: &mut Vec<u8>, holder: Option<u32>) -> Result<(), AllocError
     }
 }
 
-pub(crate) fn push_mark(text: &mut Vec<u8>, mark: &Mark) -> Result<(), AllocError> {
+fn push_mark(text: &mut Vec<u8>, mark: &Mark) -> Result<(), AllocError> {
     match mark {
         Mark::Idle => text.extend_from_slice(b" idle"),
         Mark::Wanted => text.extend_from_slice(b" wanted"),

@@ -105,13 +105,13 @@ fn codes(rt: HostRuntime) {
 }
 
 // The number that a path gets.
-fn intern(alloc: Global, paths: &mut Paths, path: &[u8]) -> Result<u32, Fail> {
+fn intern(alloc: Global, paths: &mut Paths, path: &[u8]) -> Result<u64, Fail> {
     let name = named(alloc, path)?;
     let number = paths.intern(&name)?;
     Ok(number)
 }
 
-fn find(alloc: Global, paths: &Paths, path: &[u8]) -> Result<Option<u32>, Fail> {
+fn find(alloc: Global, paths: &Paths, path: &[u8]) -> Result<Option<u64>, Fail> {
     let name = named(alloc, path)?;
     Ok(paths.find(&name))
 }
