@@ -109,6 +109,9 @@ fn cells_text(alloc: Global, cells: &Cells, cell: &Cell) -> Result<Vec<u8>, Allo
 // That where a copy of an opening of these records is read.
 fn opened_text(alloc: Global, jobs: u32, records: &str, cell: &Cell) -> Result<Vec<u8>, Fail> {
     let opening = opening_of(alloc, jobs, records)?.copy()?;
+    if opening.jobs() != jobs {
+        return Err(Fail::from("a copy of other jobs"));
+    }
     let cells = Cells::new(alloc, &opening)?;
     Ok(cells_text(alloc, &cells, cell)?)
 }

@@ -1,6 +1,6 @@
 // Whole runs, from bytes to bytes.
 
-use crate::runs::{report_in_turn, report_on_threads};
+use crate::runs::{report_in_turn, report_of, report_on_threads};
 use rev_report::Status;
 use std::test::Fail;
 
@@ -507,6 +507,13 @@ fn cut_traces(rt: HostRuntime) -> Result<(), Fail> {
         )?;
         assert!(rt; told.is(report, status), "after {end} bytes");
     }
+    Ok(())
+}
+
+#[test]
+fn no_file(rt: HostRuntime) -> Result<(), Fail> {
+    let told = report_of(rt.alloc(), &[], b"", b"")?;
+    assert!(rt; told.is("fault manifest - 0 20\n", Status::Fault));
     Ok(())
 }
 
