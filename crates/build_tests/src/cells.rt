@@ -181,29 +181,46 @@ fn jobs_are_from_1_to_1024(rt: HostRuntime) {
     }
 }
 
-// What a new cell held, and what is told of it once a value was written.
-fn written_text(alloc: Global, cell: &Cell, value: Value) -> Result<Vec<u8>, Fail> {
-    let mut cells = cells_of(alloc, 1, "")?;
-    cells.reserve(cell)?;
+// What a cell held before it was written, how often cells were written, and what it holds.
+fn swapped_text(
+    alloc: Global,
+    cells: &Cells,
+    cell: &Cell,
+    old: &Value,
+) -> Result<Vec<u8>, AllocError> {
     let mut text = Vec::new(alloc);
-    let old = cells.swap(cell, value);
-    push_value(&mut text, &old)?;
+    push_value(&mut text, old)?;
     push_number(&mut text, cells.writes())?;
-    push_held(&mut text, &cells, cell)?;
+    push_held(&mut text, cells, cell)?;
     Ok(text)
+}
+
+fn stamp_written(alloc: Global, path: &[u8], stamp: u64) -> Result<Vec<u8>, Fail> {
+    let mut cells = cells_of(alloc, 1, "")?;
+    let cell = Cell::Stamp(named(alloc, path)?);
+    cells.reserve(&cell)?;
+    let old = cells.swap(&cell, Value::Stamp(stamp));
+    Ok(swapped_text(alloc, &cells, &cell, &old)?)
 }
 
 #[test]
 fn a_place_is_written(rt: HostRuntime) -> Result<(), Fail> {
-    let cell = cell_of(rt.alloc(), "stamp", "a.c")?;
-    let told = written_text(rt.alloc(), &cell, Value::Stamp(7))?;
+    let told = stamp_written(rt.alloc(), b"a.c", 7)?;
     assert!(rt; told.as_slice() == b" 0 1 7".as_slice());
     Ok(())
 }
 
+fn depth_written(alloc: Global, pool: u32, depth: u32) -> Result<Vec<u8>, Fail> {
+    let mut cells = cells_of(alloc, 1, "")?;
+    let cell = Cell::Depth(pool);
+    cells.reserve(&cell)?;
+    let old = cells.swap(&cell, Value::Depth(Some(depth)));
+    Ok(swapped_text(alloc, &cells, &cell, &old)?)
+}
+
 #[test]
 fn a_given_depth_is_another_value_than_none(rt: HostRuntime) -> Result<(), Fail> {
-    let told = written_text(rt.alloc(), &Cell::Depth(1), Value::Depth(Some(1)))?;
+    let told = depth_written(rt.alloc(), 1, 1)?;
     assert!(rt; told.as_slice() == b" - 1 1".as_slice());
     Ok(())
 }
