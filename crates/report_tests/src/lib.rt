@@ -11,4 +11,6 @@ mod limits;
 #[cfg(test)]
 mod reports;
 #[cfg(test)]
+mod runs;
+#[cfg(test)]
 mod versions;
