@@ -1,15 +1,15 @@
 // Scopes, rules and the variables of edges, as generators write them.
 use rev_paths::Name;
 use rev_scopes::{
-    Bindings, EdgeEnv, EdgeVariables, Rule, RuleFault, RuleTexts, RuleVariable, Scopes, ValueFault,
-    compared_command, edge_variables, expand, expand_in_block,
+    Bindings, EdgeEnv, EdgeVariables, Rule, RuleFault, RuleTexts, RuleVariable, Scopes, SharedText,
+    ValueFault, compared_command, edge_variables, expand, expand_in_block,
 };
 use rev_syntax::Text;
 use std::alloc::Global;
 use std::test::Fail;
 
-fn bytes(alloc: Global, text: &[u8]) -> Result<Vec<u8>, Fail> {
-    Ok(Vec::from_slice(alloc, text)?)
+fn bytes(alloc: Global, text: &[u8]) -> Result<SharedText, Fail> {
+    Ok(SharedText::new(Vec::from_slice(alloc, text)?)?)
 }
 
 fn rule_of(alloc: Global, bindings: &[(RuleVariable, &[u8])]) -> Result<Rule, Fail> {
@@ -167,7 +167,22 @@ fn texts_are_expanded_as_they_are_read(rt: HostRuntime) -> Result<(), Fail> {
     let scopes = two_scopes(alloc)?;
     assert_eq!(rt; scopes.len(), 2);
     let value = expand(alloc, Text::new(b"$f/${f}.$$f$g")?, &scopes, 1)?;
-    assert_eq!(rt; value.as_slice(), b"2/2.$f".as_slice());
+    assert_eq!(rt; value.as_bytes(), b"2/2.$f".as_slice());
+    Ok(())
+}
+
+#[test]
+fn a_variable_alone_shares_its_value(rt: HostRuntime) -> Result<(), Fail> {
+    let alloc = rt.alloc();
+    let mut scopes = two_scopes(alloc)?;
+    assert_eq!(rt; scopes.len(), 2);
+    let value = expand(alloc, Text::new(b"${f}")?, &scopes, 1)?;
+    assert_eq!(rt; value.as_bytes(), b"2".as_slice());
+    scopes.bind(alloc, 1, b"h", value)?;
+    scopes.bind(alloc, 1, b"f", bytes(alloc, b"3")?)?;
+    assert_eq!(rt; scopes.variable(1, b"h"), b"2".as_slice());
+    let nowhere = expand(alloc, Text::new(b"$none")?, &scopes, 1)?;
+    assert_eq!(rt; nowhere.as_bytes(), b"".as_slice());
     Ok(())
 }
 
@@ -187,7 +202,7 @@ fn a_block_comes_before_the_scopes(rt: HostRuntime) -> Result<(), Fail> {
 fn doubled(alloc: Global, half: usize, more: &[u8]) -> Result<Result<usize, ValueFault>, Fail> {
     let scopes = two_scopes(alloc)?;
     let mut block = Bindings::new(alloc);
-    block.bind(alloc, b"a", vec![in alloc; b'x'; half]?)?;
+    block.bind(alloc, b"a", SharedText::new(vec![in alloc; b'x'; half]?)?)?;
     if scopes.len() == 0 {
         return Err(Fail::from("no scope"));
     }
@@ -328,9 +343,9 @@ fn rule_variables_are_found_by_their_names(rt: HostRuntime) {
 #[test]
 fn content_of_a_response_file_is_compared(rt: HostRuntime) -> Result<(), Fail> {
     let alloc = rt.alloc();
-    let without = compared_command(bytes(alloc, b"cc")?, b"")?;
+    let without = compared_command(Vec::from_slice(alloc, b"cc")?, b"")?;
     assert_eq!(rt; without.as_slice(), b"cc".as_slice());
-    let with = compared_command(bytes(alloc, b"cc")?, b"a b")?;
+    let with = compared_command(Vec::from_slice(alloc, b"cc")?, b"a b")?;
     assert_eq!(rt; with.as_slice(), b"cc;rspfile=a b".as_slice());
     Ok(())
 }
