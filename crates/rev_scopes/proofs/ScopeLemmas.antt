@@ -1,5 +1,5 @@
 -- Look-ups through scopes.
-use Rattle.std.proofs.Common.{◌≡◌, ℕ, zero, suc, ◌<◌, ◌≤◌, List, length, Option, Some, None, get_or, [], refl, sym, ap, ◌∙◌, arith}
+use Rattle.std.proofs.Common.{◌≡◌, ℕ, zero, suc, ◌<◌, ◌≤◌, List, length, Option, Some, None, get_or, refl, sym, ap, ◌∙◌, arith}
 use Rattle.std.proofs.lemmas.List.{get_or_default, get_or_past}
 use Rattle.std.specs.Option.{option_or}
 use Rattle.rev_scopes.specs.Scopes.{ScopeValue, empty_scope, scope_at, AreNested, binding_in, find_up, found_in, rule_in}
