@@ -1,8 +1,8 @@
 // Writers that fail, once or for good, and writers that take little at a time.
 
-use rev_parallel::{run_parallel, run_parallel_in};
-use rev_report::{RunFault, RunMemory, Status, run_serial, run_serial_in};
-use std::alloc::{AllocError, Global};
+use rev_parallel::run_parallel;
+use rev_report::{RunFault, Status, run_serial};
+use std::alloc::Global;
 use std::io;
 use std::io::Write;
 use std::sync::Wait;
@@ -71,17 +71,12 @@ fn device_with(alloc: Global, trouble: Trouble) -> Device {
     }
 }
 
-// The pairs of a name and a content that a run is given.
-fn files(alloc: Global) -> Result<[(Vec<u8>, Vec<u8>); 1], AllocError> {
-    Ok([(
-        Vec::from_slice(alloc, b"build.ninja")?,
-        Vec::from_slice(alloc, MANIFEST)?,
-    )])
-}
-
 // The run of the touches, in turn, to a writer.
 fn in_turn(alloc: Global, writer: &mut Device) -> Result<Status, RunFault> {
-    let files = files(alloc)?;
+    let files = [(
+        Vec::from_slice(alloc, b"build.ninja")?,
+        Vec::from_slice(alloc, MANIFEST)?,
+    )];
     run_serial(alloc, &files, TRACE, SCRIPT, writer)
 }
 
@@ -91,7 +86,10 @@ fn on_threads<R: Threads + Wait + Sync>(
     alloc: Global,
     writer: &mut Device,
 ) -> Result<Status, RunFault> {
-    let files = files(alloc)?;
+    let files = [(
+        Vec::from_slice(alloc, b"build.ninja")?,
+        Vec::from_slice(alloc, MANIFEST)?,
+    )];
     run_parallel(rt, alloc, &files, TRACE, SCRIPT, writer)
 }
 
@@ -141,33 +139,5 @@ fn one_byte_at_a_time(rt: HostRuntime) -> Result<(), Fail> {
     let status = on_threads(&rt, rt.alloc(), &mut other)?;
     assert!(rt; status == Status::Success);
     assert_eq!(rt; other.taken.as_slice(), REPORT);
-    Ok(())
-}
-
-// How many entries the desk has that a run left.
-fn entries(memory: &RunMemory) -> Option<usize> {
-    match &memory.desk {
-        Some(desk) => Some(desk.journal().len()),
-        None => None,
-    }
-}
-
-// The fourth answer cannot be written, so the desk has four entries. On threads all three commands of the lane are said
-// before the first answer is written.
-#[test]
-fn a_run_that_ends_early_hands_its_desk_back(rt: HostRuntime) -> Result<(), Fail> {
-    let alloc = rt.alloc();
-    let files = files(alloc)?;
-    let mut writer = device_with(alloc, Trouble::FailsFrom(3));
-    let mut memory = RunMemory::new();
-    let result = run_serial_in(alloc, &files, TRACE, SCRIPT, &mut writer, &mut memory);
-    assert!(rt; result == Err(RunFault::Write));
-    assert_eq!(rt; entries(&memory), Some(4));
-    assert!(rt; memory.trace.is_some());
-    let mut other = device_with(alloc, Trouble::FailsFrom(0));
-    let mut left = RunMemory::new();
-    let result = run_parallel_in(&rt, alloc, &files, TRACE, SCRIPT, &mut other, &mut left);
-    assert!(rt; result == Err(RunFault::Write));
-    assert_eq!(rt; entries(&left), Some(3));
     Ok(())
 }
