@@ -22,22 +22,24 @@ const DEPFILE: &[u8] = b"a.o: a.c \\\n a.h b.h\n";
 
 const WHY: &[u8] = b"why app nothing\n";
 
-// What a call answered.
+/// What a call answered.
 #[derive(Clone, Copy, PartialEq, Eq)]
-enum Answer {
-    // What is due.
+pub(crate) enum Answer {
+    /// What is due.
     Due,
-    // That memory was refused.
+    /// That memory was refused.
     Memory,
+    /// Anything else.
     Other,
 }
 
-fn due_if(is_due: bool) -> Answer {
+/// What is due, where it is.
+pub(crate) fn due_if(is_due: bool) -> Answer {
     if is_due { Answer::Due } else { Answer::Other }
 }
 
-// Prints what came of a call that was made twice, where one allocation at most was refused.
-fn tell<R: Print>(rt: &R, first: Answer, second: Answer) -> Said {
+/// Prints what came of a call that was made twice, where one allocation at most was refused.
+pub(crate) fn tell<R: Print>(rt: &R, first: Answer, second: Answer) -> Said {
     match (first, second) {
         (Answer::Due, Answer::Due) => println!(rt; "whole")?,
         (Answer::Memory, Answer::Due) | (Answer::Due, Answer::Memory) => println!(rt; "memory")?,

@@ -9,6 +9,8 @@ mod devices;
 #[cfg(test)]
 mod limits;
 #[cfg(test)]
+mod memory;
+#[cfg(test)]
 mod reports;
 #[cfg(test)]
 mod runs;
