@@ -1,7 +1,7 @@
 //! Whether two histories are equivalent: each question is asked twice, and changes nothing.
 
 use crate::answers::{Answer, due_if, tell};
-use crate::said::{OPENING, Said, Stop, command, graph, shown, trace};
+use crate::said::{OPENING, Said, Stop, command, graph, print_line, shown, trace};
 use rev_commands::Command;
 use rev_history::{History, Order};
 use rev_order_text::order_text;
@@ -49,11 +49,11 @@ fn of_same_order(history: &History, other: &History) -> Answer {
 
 fn compares<R: Print>(rt: &R, alloc: Global, history: &History, other: &History) -> Said {
     let before = (shown(alloc, history)?, shown(alloc, other)?);
-    println!(rt; "made")?;
+    print_line(rt, "made")?;
     let first = of_same_order(history, other);
     let second = of_same_order(history, other);
     if (shown(alloc, history)?, shown(alloc, other)?) != before {
-        println!(rt; "something has changed")?;
+        print_line(rt, "something has changed")?;
     }
     tell(rt, first, second)
 }
@@ -74,11 +74,11 @@ fn of_order(alloc: Global, history: &History) -> Answer {
 
 fn runs_again<R: Print>(rt: &R, alloc: Global, history: &History) -> Said {
     let before = shown(alloc, history)?;
-    println!(rt; "made")?;
+    print_line(rt, "made")?;
     let first = of_order(alloc, history);
     let second = of_order(alloc, history);
     if shown(alloc, history)? != before {
-        println!(rt; "something has changed")?;
+        print_line(rt, "something has changed")?;
     }
     tell(rt, first, second)
 }

@@ -165,6 +165,18 @@ pub(crate) fn shown_desk(alloc: Global, desk: &Desk) -> Result<Vec<u8>, Stop> {
     }
 }
 
+/// Prints a line.
+pub(crate) fn print_line<R: Print>(rt: &R, text: &str) -> Said {
+    println!(rt; "{text}")?;
+    Ok(())
+}
+
+/// Prints what is to be said of a line.
+pub(crate) fn print_about<R: Print>(rt: &R, line: &str, text: &str) -> Said {
+    println!(rt; "{line}: {text}")?;
+    Ok(())
+}
+
 /// Prints the kept events of a history.
 pub(crate) fn print_kept<R: Print>(rt: &R, history: &History) -> Said {
     println!(rt; "kept {:?}", history.kept())?;
@@ -180,10 +192,10 @@ pub(crate) fn look_at_command<R: Print>(
     line: &str,
 ) -> Said {
     if why != Why::Memory {
-        println!(rt; "{line}: unsaid for another reason")?;
+        print_about(rt, line, "unsaid for another reason")?;
     }
     if !back.same(sent) {
-        println!(rt; "{line}: another command came back")?;
+        print_about(rt, line, "another command came back")?;
     }
     Ok(())
 }
