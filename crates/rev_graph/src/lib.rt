@@ -12,4 +12,3 @@ mod table;
 
 pub use fault::GraphFault;
 pub use graph::{Graph, Inputs, Outputs};
-pub use steps::edges_among;
