@@ -2,6 +2,8 @@
 
 use crate::runs::{report_in_turn, report_of, report_on_threads};
 use rev_report::Status;
+use std::alloc::Global;
+use std::process::Abort;
 use std::test::Fail;
 
 // A run, with what it has to write.
@@ -421,65 +423,102 @@ const RESIZE_TO_NO_NUMBER: Row = Row {
     status: Status::Fault,
 };
 
-const ROWS: &[Row] = &[
+// Of each row is reported what it has. A table of all rows is more than the prover takes at once.
+fn agree(rt: &impl Abort, alloc: Global, rows: &[Row]) -> Result<(), Fail> {
+    for row in rows {
+        let told = report_in_turn(alloc, row.manifest, row.trace, row.script)?;
+        assert!(rt; told.is(row.report, row.status), "{}", row.trace);
+    }
+    Ok(())
+}
+
+const HISTORIES: &[Row] = &[
     EMPTY,
     ORDER,
     ORDER_RESIZE,
     OVERTAKEN,
     TOUCHES,
     KEPT,
+    UNDO_OUT_OF_ORDER,
+    NEAREST_DEPENDENT,
+    CONE,
+    REDO_IN_ORDER,
+];
+
+#[test]
+fn histories_are_told(rt: HostRuntime) -> Result<(), Fail> {
+    agree(&rt, rt.alloc(), HISTORIES)
+}
+
+const FAULTS: &[Row] = &[
     BAD_MANIFEST,
     TWO_PRODUCERS,
     CYCLE,
     BAD_SCRIPT,
-    PLAN_REFUSED,
-    MARKS_STAMPS_LOGS,
-    WHY_CHAIN,
-    TOUCHES_CONFLICT,
-    UNDO_OUT_OF_ORDER,
-    NEAREST_DEPENDENT,
-    CONE,
-    INTERRUPT_READS,
-    REDO_IN_ORDER,
-    RESTAT_PER_OUTPUT,
-    THROUGH_PHONY,
-    POOLS,
-    RESPONSE_FILE,
-    RESPONSE_FILE_OF_A_GENERATOR,
-    VALIDATION,
-    INTERRUPT_ABORT,
-    DEPFILE,
-    OLD_DEPS,
-    LIST_WITHOUT_DEPS,
-    REDO_READS_THE_PRESENT,
     LANE_OUT_OF_TURN,
     BAD_NUMBER,
     DOUBLE_RECORD,
-    BREAK_PAUSE_LABEL,
-    TURNS_GO_ON,
-    DEPENDENTS_BY_LABEL,
-    STALL_IN_TURN,
-    UNDO_OF_THE_OTHERS,
-    LEAST_BREAK,
     PLACE_OF_A_LINE,
     LANE_IN_A_SCRIPT,
     NAME_OF_NO_EVENT,
-    RESIZE,
-    RESIZES_OF_TWO_POOLS,
-    GROWING_READS_NO_SLOT,
-    CLEAN_READS_NO_DEPTH,
     RESIZE_IN_A_FIRST_TRACE,
     RESIZE_WITHOUT_A_DEPTH,
     RESIZE_TO_NO_NUMBER,
 ];
 
 #[test]
-fn rows(rt: HostRuntime) -> Result<(), Fail> {
-    for row in ROWS {
-        let told = report_in_turn(rt.alloc(), row.manifest, row.trace, row.script)?;
-        assert!(rt; told.is(row.report, row.status), "{}", row.trace);
-    }
-    Ok(())
+fn faults_are_told(rt: HostRuntime) -> Result<(), Fail> {
+    agree(&rt, rt.alloc(), FAULTS)
+}
+
+const BUILDS: &[Row] = &[
+    PLAN_REFUSED,
+    MARKS_STAMPS_LOGS,
+    WHY_CHAIN,
+    TOUCHES_CONFLICT,
+    INTERRUPT_READS,
+    RESTAT_PER_OUTPUT,
+    THROUGH_PHONY,
+    POOLS,
+    INTERRUPT_ABORT,
+    REDO_READS_THE_PRESENT,
+];
+
+#[test]
+fn builds_are_told(rt: HostRuntime) -> Result<(), Fail> {
+    agree(&rt, rt.alloc(), BUILDS)
+}
+
+const RECORDS: &[Row] = &[
+    RESPONSE_FILE,
+    RESPONSE_FILE_OF_A_GENERATOR,
+    VALIDATION,
+    DEPFILE,
+    OLD_DEPS,
+    LIST_WITHOUT_DEPS,
+];
+
+#[test]
+fn records_are_told(rt: HostRuntime) -> Result<(), Fail> {
+    agree(&rt, rt.alloc(), RECORDS)
+}
+
+const LANES_AND_DEPTHS: &[Row] = &[
+    BREAK_PAUSE_LABEL,
+    TURNS_GO_ON,
+    DEPENDENTS_BY_LABEL,
+    STALL_IN_TURN,
+    UNDO_OF_THE_OTHERS,
+    LEAST_BREAK,
+    RESIZE,
+    RESIZES_OF_TWO_POOLS,
+    GROWING_READS_NO_SLOT,
+    CLEAN_READS_NO_DEPTH,
+];
+
+#[test]
+fn lanes_and_depths_are_told(rt: HostRuntime) -> Result<(), Fail> {
+    agree(&rt, rt.alloc(), LANES_AND_DEPTHS)
 }
 
 const CUT: &str = "rebug-trace 1\nstamp a 10\n";
