@@ -35,7 +35,7 @@ use Rattle.rev_events.proofs.WriteLemmas.{unwritten}
 use Rattle.rev_events.proofs.WrittenLemmas.{written-same}
 use Rattle.rev_events.specs.Written.{written}
 use Rattle.rev_races.specs.Laws.{CanEnd, CanEnd.settled, CanEnd.passes, CanEnd.runs, IsReady}
-use Rattle.rev_races.specs.Races.{Waits}
+use Rattle.rev_waits.specs.Waits.{Waits}
 use Rattle.rev_races.proofs.Waiting.{decide}
 use Rattle.std.specs.Prelude.{is_none}
 use Rattle.std.specs.FinMap.{empty, get-empty}
@@ -52,7 +52,7 @@ use Rattle.rev_events.specs.Machine.{write_marks}
 use Rattle.rev_events.specs.Refusal.{of_plan}
 use Rattle.rev_events.proofs.PlannedState.{leads-to}
 use Rattle.rev_races.specs.Laws.{HasSourcesAlone, CanStartBefore, ExactFromNothing, is_source_stamp}
-use Rattle.rev_races.proofs.Waiting.{is-mark, starts-wait, through-reached, line-whole}
+use Rattle.rev_races.proofs.Waiting.{is-mark, starts-wait-in-lists, through-reached, line-whole}
 use Rattle.rev_races.proofs.Alone.{waiting-is-enough}
 
 -- THE OPENING
@@ -349,6 +349,6 @@ exact-from-nothing graph a b is in_a in_b plain_a plain_b = (
       (get_or (outputs_of (build_at graph.manifest.builds a)) 0 []) (get_or (outputs_of (build_at graph.manifest.builds b)) 0 [])
       (Contains-get_or (outputs_of (build_at graph.manifest.builds a)) 0 [] (some-output graph is a in_a)) (Contains-get_or (outputs_of (build_at graph.manifest.builds b)) 0 [] (some-output graph is b in_b)) plain_a plain_b free,
   λ c way.
-      let h = (starts-wait graph.manifest 1 c.opening c.before [] c.n c.e a b (opened graph is c.opening c.from_nothing) c.legal c.begins way).0 in
+      let h = (starts-wait-in-lists graph.manifest 1 c.opening c.before [] c.n c.e a b (opened graph is c.opening c.from_nothing) c.legal c.begins way).0 in
       true≢false (sym h ∙ ap is_settled c.wanted),
 )

@@ -32,7 +32,7 @@ use Rattle.rev_plan.proofs.LeastLemmas.{input-need}
 use Rattle.rev_plan.proofs.PlannedLemmas.{marks-are-of-the-sets}
 use Rattle.rev_events.proofs.PlannedState.{leads-to}
 use Rattle.rev_events.specs.declared.refusal.Refusal.{Refusal}
-use Rattle.rev_races.specs.Laws.{StartsWait, until_plan}
+use Rattle.rev_races.specs.Laws.{StartsWait, StartsWaitInLists, until_plan}
 use Rattle.rev_dirty.specs.Inputs.{InputValue, an, inputs, deps_record, paths_in, paths_of}
 use Rattle.rev_dirty.specs.declared.input.InputKind.{InputKind}
 use Rattle.rev_dirty.specs.declared.input.InputKind.TheVariants.{Listed, OnLine, OrderOnly}
@@ -51,8 +51,9 @@ use Rattle.rev_events.proofs.TestLemmas.{first-none, none-mapped, not-refused}
 use Rattle.rev_events.proofs.WriteLemmas.{unwritten}
 use Rattle.rev_events.proofs.WrittenLemmas.{written-same}
 use Rattle.rev_footprint.specs.Machine.{machine}
-use Rattle.rev_history.specs.Timeline.{Numbered}
-use Rattle.rev_races.specs.Races.{Waits, starts, is_plan}
+use Rattle.rev_history.specs.Timeline.{Numbered, machine_at}
+use Rattle.rev_waits.specs.Waits.{Waits}
+use Rattle.rev_races.specs.Races.{starts, is_plan}
 
 -- MARKS
 -- the edge waits to be run or passed
@@ -595,5 +596,9 @@ module _ (manifest : ManifestValue) (jobs : ℕ) where
       starts-no-plan (Resize pool depth) h = refl
   list-waits s (l ∷ before) later n e a b ordered legal begins way = list-waits (after manifest s l.1) before later n e a b (event-ordered s l.1 legal.0 ordered) legal.1 begins way
 
+pub starts-wait-in-lists : StartsWaitInLists
+starts-wait-in-lists manifest jobs opening before later n e a b opened legal begins way = list-waits manifest jobs opening before later n e a b (opened-ordered manifest jobs opening opened) legal begins way
+
 pub starts-wait : StartsWait
-starts-wait manifest jobs opening before later n e a b opened legal begins way = list-waits manifest jobs opening before later n e a b (opened-ordered manifest jobs opening opened) legal begins way
+starts-wait t before later n e a b is opened split begins way =
+    starts-wait-in-lists t.manifest t.jobs t.opening before later n e a b opened (subst (λ es. Legal (machine_at t) t.opening es) split is.legal) begins way

@@ -1,5 +1,5 @@
 -- What holds of waiting in every history.
-use Rattle.std.specs.Prelude.{◌≡◌, ◌↔◌, ℕ, ◌<◌, Bool, true, false, ◌||◌, List, [], ◌∷◌, ◌++◌, length, Some, None, is_none, if◌then◌else◌}
+use Rattle.std.specs.Prelude.{◌≡◌, ◌↔◌, ℕ, ◌<◌, Bool, true, false, not, ◌||◌, List, [], ◌∷◌, ◌++◌, length, Some, None, is_none, if◌then◌else◌}
 use Rattle.std.specs.FinMap.{get}
 use Rattle.rev_cells.specs.declared.cell.Cell.{Cell}
 use Rattle.rev_cells.specs.declared.cell.Cell.TheVariants as cell
@@ -16,8 +16,9 @@ use Rattle.rev_events.specs.declared.event.Event.{Event}
 use Rattle.rev_events.specs.Held.{IsHeldExactly, IsOpened}
 use Rattle.rev_events.specs.Refusal.{is_settled, is_wanted_mark, is_through_mark}
 use Rattle.rev_footprint.specs.Machine.{machine}
-use Rattle.rev_history.specs.Timeline.{Numbered}
-use Rattle.rev_races.specs.Races.{IsRace, Waits, waits, starts, is_plan}
+use Rattle.rev_history.specs.Timeline.{Numbered, Timeline, IsHistory, machine_at, kept_events}
+use Rattle.rev_waits.specs.Waits.{Waits, waits}
+use Rattle.rev_races.specs.Races.{IsRace, starts, is_plan, started, finished, lists, recorded}
 
 -- the test of waiting is exact
 abbrev pub WaitsIsDecided : Type 0
@@ -28,14 +29,32 @@ abbrev pub until_plan : Numbered → Numbered
 until_plan [] = []
 until_plan (e ∷ es) = if is_plan e.1 then [] else e ∷ until_plan es
 
--- Where b starts and waits for a, then a is settled there, and does not start before the next plan.
-abbrev pub StartsWait : Type 0
-StartsWait =
+-- Where b starts in a legal list from an opening, and waits for a, then a is settled there, and does not start before
+-- the next plan.
+abbrev pub StartsWaitInLists : Type 0
+StartsWaitInLists =
     (manifest : ManifestValue) (jobs : ℕ) (opening : State) (before later : Numbered) (n : ℕ) (e : Event) (a b : ℕ)
     → IsOpened opening → Legal (machine manifest jobs) opening (before ++ (n, e) ∷ later)
     → starts manifest b e ≡ true → Waits manifest.builds b a
     → (is_settled (mark_of (run (machine manifest jobs) opening before) a) ≡ true)
     × AllByRecursion (λ (l : ℕ × Event). starts manifest a l.1 ≡ false) (until_plan later)
+
+-- The same of the kept events of a history.
+abbrev pub StartsWait : Type 0
+StartsWait =
+    (t : Timeline) (before later : Numbered) (n : ℕ) (e : Event) (a b : ℕ) → IsHistory t → IsOpened t.opening
+    → kept_events t ≡ before ++ (n, e) ∷ later → starts t.manifest b e ≡ true → Waits t.manifest.builds b a
+    → (is_settled (mark_of (run (machine_at t) t.opening before) a) ≡ true)
+    × AllByRecursion (λ (l : ℕ × Event). starts t.manifest a l.1 ≡ false) (until_plan later)
+
+-- What an edge lists is what its deps record has at the end, but where it began and never ended well: there it lists
+-- nothing.
+abbrev pub ListsAreRecorded : Type 0
+ListsAreRecorded =
+    (graph : GraphValue) (jobs : ℕ) (opening : State) (events : Numbered) (edge : ℕ) → IsGraph graph
+    → edge < length graph.manifest.builds → lists graph.manifest opening events edge
+    ≡ (if finished graph.manifest edge events || not (started graph.manifest edge events)
+    then recorded (run (machine graph.manifest jobs) opening events) (build_at graph.manifest.builds edge) else None)
 
 -- What may stand between an edge and its end: nothing, where it is settled; a pass, where it is phony; and its own run,
 -- where it is wanted and its first output is missing.
