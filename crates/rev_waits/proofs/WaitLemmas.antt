@@ -1,6 +1,6 @@
 -- Steps of edges, ways behind phony edges, and marks.
-use Rattle.std.proofs.Common.{◌≡◌, ℕ, ◌+◌, ◌<◌, ◌≤◌, Bool, true, false, List, [], ◌∷◌, ◌++◌, length, get_or, map, take, Option, Some, None, refl, sym, ap, subst, ◌∙◌, arith, if◌then◌else◌, Contains, ◌⊎◌, inl, inr, true≢false}
-use Rattle.std.specs.Prelude.{nat_eq, ◌↔◌}
+use Rattle.std.proofs.Common.{◌≡◌, ℕ, zero, suc, ◌+◌, ◌<◌, ◌≤◌, Bool, true, false, List, [], ◌∷◌, ◌++◌, length, get_or, map, take, Option, Some, None, refl, sym, ap, subst, ◌∙◌, arith, if◌then◌else◌, Contains, ◌⊎◌, inl, inr, true≢false}
+use Rattle.std.specs.Prelude.{nat_eq, ◌↔◌, Result, Ok, Err, IfOk}
 use Rattle.std.specs.List.{All, filter_map, cons_option}
 use Rattle.std.specs.Global.{Vec}
 use Rattle.std.proofs.Math.ListN.{get_or-map}
@@ -13,7 +13,7 @@ use Rattle.rev_ranks.specs.Leads.{is_reachable, IsReachable, IsReachable.root, I
 use Rattle.rev_ranks.specs.Sets.{IsSetOf}
 use Rattle.std.proofs.lemmas.Bool.{cases_eq}
 use Rattle.rev_ranks.proofs.Marks.{marked_within}
-use Rattle.rev_ranks.proofs.ReachableLemmas.{reachable-sound, reachable-complete}
+use Rattle.rev_ranks.proofs.SetLemmas.{reachable-sound, reachable-complete}
 use Rattle.rev_graph.specs.Graph.{build_at, no_build, inputs_of, producer_of, input_producers, successor_lists, EdgeSteps, EdgeReaches}
 use Rattle.rev_graph.proofs.GraphLemmas.{producer_of-within}
 use Rattle.rev_graph.proofs.StepLemmas.{source, kept, node_way, edge_way, length-lists, all-within}
@@ -59,6 +59,11 @@ marked-reaches graph node roots marks are marked a = (
   λ h. reach-of graph node a (subst (λ rs. IsReachable graph rs a) are (reachable-sound graph roots a (sym (marked.exact a) ∙ h))),
   λ way. marked.exact a ∙ reachable-complete graph roots a (subst (λ rs. IsReachable graph rs a) (sym are) (of-reach graph node a way)),
 )
+
+pub roots-within : (vectors : List (Vec ℕ)) (edge : ℕ) (v : Vec ℕ) (roots : List ℕ) → All (λ v. All (λ s. s < length vectors) v.items) vectors → edge < length vectors → v ≡ get_or vectors edge v → roots ≡ v.items
+    → All (λ s. s < length vectors) roots
+roots-within vectors edge v roots inside within is same =
+    subst (λ rs. All (λ s. s < length vectors) rs) (sym same) (subst (λ (w : Vec ℕ). All (λ s. s < length vectors) w.items) (sym is) (inside edge v within))
 
 pub waited-for : (builds : List BuildValue) (vectors : List (Vec ℕ)) (edge : ℕ) (v : Vec ℕ) (marks : List Bool) → graph_of vectors ≡ successor_lists builds
     → edge < length vectors → v ≡ get_or vectors edge v → IsSetOf (graph_of vectors) (is_reachable (graph_of vectors) v.items) marks → AreWaitedFor builds edge marks
@@ -208,3 +213,27 @@ made-by-phony builds maker p path is phony = (λ m. by m, λ b. behind is b.phon
         let same : Some q ≡ Some p = sym e ∙ is in
         let at : q ≡ p = cc in
         record { phony = phony; input = input; is_input = subst (λ x. Contains (inputs_of (build_at builds x)) input) at on_line; made = m }
+
+pub made-by-one : (builds : List BuildValue) (p : ℕ) (path : List ℕ) (old items : List ℕ) → old ≡ [] → items ≡ old ++ p ∷ [] → producer_of builds path ≡ Some p → (build_at builds p).phony ≡ false
+    → (maker : ℕ) → Contains items maker ↔ Makes builds maker path
+made-by-one builds p path old items empty pushed is plain maker = (
+  λ h. elim (Contains-push_cases [] p maker (subst (λ xs. Contains xs maker) (pushed ∙ ap (λ xs. xs ++ p ∷ []) empty) h)) [
+    | inl (k, within, at) ↦ absurd (omega (arith, within))
+    | inr same ↦ itself (is ∙ ap Some same) (subst (λ x. (build_at builds x).phony ≡ false) same plain)
+  ],
+  λ m. subst (λ xs. Contains xs maker) (sym pushed) (subst (λ x. Contains (old ++ p ∷ []) x) (made-by-command builds maker p path is plain m) (Contains-push old p)),
+)
+
+-- WHAT HOLDS OF WHAT A CALL GIVES
+pub ok-more : {A E : Type 0} (P Q : A → Type 0) → ((x : A) → P x → Q x) → (r : Result A E) → IfOk r P → IfOk r Q
+ok-more P Q f (Ok x) h = f x h
+ok-more P Q f (Err e) h = h
+
+-- the mark that was read
+pub mark-read : (marks : List Bool) (n : ℕ) (r b : Bool) → n < length marks → r ≡ get_or marks n r → r ≡ b → get_or marks n false ≡ b
+mark-read [] n r b within is e = absurd (omega (arith, within))
+mark-read (m ∷ ms) zero r b within is e = sym is ∙ e
+mark-read (m ∷ ms) (suc n) r b within is e = mark-read ms n r b (omega (arith, within)) is e
+
+pub lists-length : (f : BuildValue → List ℕ) (builds : List BuildValue) (vectors : List (Vec ℕ)) → graph_of vectors ≡ map f builds → length (graph_of vectors) ≡ length builds
+lists-length f builds vectors h = ap length h ∙ length-map builds f
