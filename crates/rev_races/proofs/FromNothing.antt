@@ -284,9 +284,8 @@ module _ (graph : GraphValue) (is : IsGraph graph) where
           (λ h. no-depth (edge_numbers graph.manifest.builds) pool (subst (λ cs. Has cs (cell.Depth pool)) (written-same graph.manifest s (Plan (oa ∷ ob ∷ []))) h)))
 
       never-zero : (pool : ℕ) → given_depth_of (after graph.manifest s (Plan (oa ∷ ob ∷ []))) pool ≡ Some 0 → ⊥
-      never-zero pool zero =
-          let no : None ≡ Some 0 = sym (opened.depths pool) ∙ sym (plan-depths pool) ∙ zero in
-          cc
+      never-zero pool is =
+          true≢false (sym (ap is_none (plan-depths pool ∙ opened.depths pool)) ∙ ap is_none is)
 
       plan-going : is_halted (after graph.manifest s (Plan (oa ∷ ob ∷ []))) ≡ false
       unfolding effect

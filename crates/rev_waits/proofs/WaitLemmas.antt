@@ -1,6 +1,6 @@
 -- Steps of edges, ways behind phony edges, and marks.
-use Rattle.std.proofs.Common.{◌≡◌, ℕ, zero, suc, ◌+◌, ◌<◌, ◌≤◌, Bool, true, false, List, [], ◌∷◌, ◌++◌, length, get_or, map, take, Option, Some, None, refl, sym, ap, subst, ◌∙◌, arith, if◌then◌else◌, Contains, ◌⊎◌, inl, inr, true≢false}
-use Rattle.std.specs.Prelude.{nat_eq, ◌↔◌, Result, Ok, Err, IfOk}
+use Rattle.std.proofs.Common.{◌≡◌, ℕ, zero, suc, ◌+◌, ◌<◌, Bool, true, false, List, [], ◌∷◌, ◌++◌, length, get_or, map, take, Option, Some, None, refl, sym, ap, subst, ◌∙◌, arith, if◌then◌else◌, Contains, inl, inr, true≢false}
+use Rattle.std.specs.Prelude.{◌↔◌, Result, Ok, Err, IfOk}
 use Rattle.std.specs.List.{All, filter_map, cons_option}
 use Rattle.std.specs.Global.{Vec}
 use Rattle.std.proofs.Math.ListN.{get_or-map}
@@ -14,10 +14,10 @@ use Rattle.rev_ranks.specs.Sets.{IsSetOf}
 use Rattle.std.proofs.lemmas.Bool.{cases_eq}
 use Rattle.rev_ranks.proofs.Marks.{marked_within}
 use Rattle.rev_ranks.proofs.SetLemmas.{reachable-sound, reachable-complete}
-use Rattle.rev_graph.specs.Graph.{build_at, no_build, inputs_of, producer_of, input_producers, successor_lists, EdgeSteps, EdgeReaches}
+use Rattle.rev_graph.specs.Graph.{build_at, no_build, inputs_of, producer_of, input_producers, successor_lists, EdgeSteps}
 use Rattle.rev_graph.proofs.GraphLemmas.{producer_of-within}
-use Rattle.rev_graph.proofs.StepLemmas.{source, kept, node_way, edge_way, length-lists, all-within}
-use Rattle.rev_waits.specs.Waits.{Waits, AreWaitedFor, Makes, Makes.itself, Makes.behind, IsBehind, passes_on, phony_lists}
+use Rattle.rev_graph.proofs.StepLemmas.{source, kept, node_way, edge_way, length-lists}
+use Rattle.rev_waits.specs.Waits.{AreWaitedFor, Makes, Makes.itself, Makes.behind, IsBehind, passes_on, phony_lists}
 
 -- EACH EDGE'S LIST, ONE AFTER THE OTHER
 pub graph-more : (f : BuildValue → List ℕ) (vectors : List (Vec ℕ)) (v : Vec ℕ) (all : List (Vec ℕ)) (builds : List BuildValue) (i : ℕ)

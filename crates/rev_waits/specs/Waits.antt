@@ -1,8 +1,8 @@
 -- Which edges wait for which, and which edges make a path.
-use Rattle.std.specs.Prelude.{◌≡◌, ℕ, nat_eq, Bool, true, false, List, [], map, length, Option, Some, slice_index_or, ◌↔◌, if◌then◌else◌}
+use Rattle.std.specs.Prelude.{◌≡◌, ℕ, nat_eq, Bool, true, false, List, [], map, length, Some, slice_index_or, ◌↔◌, if◌then◌else◌}
 use Rattle.std.specs.List.{Contains, filter_map}
 use Rattle.rev_manifest.specs.Manifest.{BuildValue}
-use Rattle.rev_graph.specs.Graph.{EdgeReaches, EdgeSteps, successor_lists, build_at, inputs_of, producer_of}
+use Rattle.rev_graph.specs.Graph.{EdgeReaches, successor_lists, build_at, inputs_of, producer_of}
 use Rattle.rev_ranks.specs.Leads.{leads_to}
 
 -- One edge waits for another: a way of explicit, implicit and order-only inputs leads from it to that one, through

@@ -1,4 +1,4 @@
-use Rattle.std.proofs.Common.{◌≡◌, ◌≤◌, take, map, length}
+use Rattle.std.proofs.Common.{◌≡◌, take, map}
 use Rattle.rev_ranks.specs.Graph.{graph_of}
 use Rattle.rev_waits.specs.Waits.{passes_on}
 use Rattle.rev_waits.proofs.making.phony_steps.Given as goal

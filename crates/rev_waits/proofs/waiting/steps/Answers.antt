@@ -1,4 +1,4 @@
-use Rattle.std.proofs.Common.{ℕ, ◌<◌, length, ap, ◌∙◌, arith}
+use Rattle.std.proofs.Common.{◌<◌, length, ap, ◌∙◌, arith}
 use Rattle.std.specs.List.{filter_map}
 use Rattle.rev_manifest.specs.Manifest.{BuildValue}
 use Rattle.rev_graph.specs.Graph.{build_at, inputs_of, producer_of}

@@ -1,4 +1,4 @@
-use Rattle.std.proofs.Common.{◌≡◌, ◌≤◌, take, map, length}
+use Rattle.std.proofs.Common.{◌≡◌, take, map}
 use Rattle.std.specs.List.{filter_map}
 use Rattle.rev_ranks.specs.Graph.{graph_of}
 use Rattle.rev_graph.specs.Graph.{inputs_of, producer_of}

@@ -1,4 +1,4 @@
-use Rattle.std.proofs.Common.{◌≡◌, ℕ, ◌<◌, length, subst, arith}
+use Rattle.std.proofs.Common.{◌<◌, length, subst, arith}
 use Rattle.rev_ranks.specs.Graph.{graph_of}
 use Rattle.rev_ranks.specs.Leads.{is_reachable}
 use Rattle.rev_ranks.specs.Sets.{IsSetOf}
