@@ -1,122 +1,66 @@
 // Each refusal once, and what each kind of event writes once, on one small build, and on one with pools.
-use rev_cells::{Cell, Cells, Mark, Names, Opening, Text, Value};
+use crate::shown::{push_cell, push_value};
+use crate::small::{Build, build_of, cut, named, names, number};
+use rev_cells::{Names, Text};
 use rev_events::{Event, Fault, Listing, Refusal, Stamps, check, effect, effect_if_accepted};
-use rev_graph::Graph;
-use rev_manifest::{Manifest, read};
-use rev_paths::Name;
 use std::alloc::{AllocError, Global};
+use std::process::Abort;
 use std::test::Fail;
 
 // Two objects and a program, a phony alias, a generator under restat, a pool of one place, a source that is not there.
 // Edges: 0 a.o, 1 b.o, 2 app, 3 all, 4 v.h, 5 x and y, 6 z, 7 lone, 8 n, 9 w.
-const BUILD: &[u8; 354] =
-    b"pool one\n  depth = 1\nrule cc\n  command = cc\n  deps = gcc\n  depfile = d\nrule ld\n  command = ld\nrule gen\n  command = gen\n  restat = 1\nrule p\n  command = p\n  pool = one\nbuild a.o: cc a.c || v.h\nbuild b.o: cc b.c\nbuild app: ld a.o b.o\nbuild all: phony app\nbuild v.h: gen v.in\nbuild x y: p\nbuild z: p\nbuild lone: ld none.c\nbuild n: gen v.h\nbuild w: phony b.o\n";
+const BUILD: &str =
+    "pool one\n  depth = 1\nrule cc\n  command = cc\n  deps = gcc\n  depfile = d\nrule ld\n  command = ld\nrule gen\n  command = gen\n  restat = 1\nrule p\n  command = p\n  pool = one\nbuild a.o: cc a.c || v.h\nbuild b.o: cc b.c\nbuild app: ld a.o b.o\nbuild all: phony app\nbuild v.h: gen v.in\nbuild x y: p\nbuild z: p\nbuild lone: ld none.c\nbuild n: gen v.h\nbuild w: phony b.o\n";
 
 // Pools of depth 1, none, 1,024 and one more, numbered from 1, since `console` is 0. Edges: 0 x, 1 y, 2 z in the first
 // pool, 3 w in the third, 4 t in `console`.
-const POOLS: &[u8; 212] =
-    b"pool one\n  depth = 1\npool any\n  depth = 0\npool most\n  depth = 1024\npool past\n  depth = 1025\nrule p\n  command = p\n  pool = one\nbuild x: p\nbuild y: p\nbuild z: p\nbuild w: p\n  pool = most\nbuild t: p\n  pool = console\n";
+const POOLS: &str =
+    "pool one\n  depth = 1\npool any\n  depth = 0\npool most\n  depth = 1024\npool past\n  depth = 1025\nrule p\n  command = p\n  pool = one\nbuild x: p\nbuild y: p\nbuild z: p\nbuild w: p\n  pool = most\nbuild t: p\n  pool = console\n";
 
-// A build on its way.
-#[derive(Drop)]
-struct Build {
-    graph: Graph,
-    cells: Cells,
+// An answer of many, and what ends it.
+fn push_answer(text: &mut Vec<u8>, answer: &str) -> Result<(), AllocError> {
+    text.extend_from_slice(answer.as_bytes())?;
+    text.extend_from_slice(b"; ")
 }
 
-impl Build {
-    // The refusal of an event, or none where it happens.
-    fn happen(&mut self, alloc: Global, event: &Event) -> Result<Option<Refusal>, AllocError> {
-        match effect_if_accepted(alloc, &self.graph, &self.cells, event) {
-            Ok(writes) => {
-                let _replaced = self.cells.write_all(writes)?;
-                Ok(None)
-            }
-            Err(Fault::Refused(refusal)) => Ok(Some(refusal)),
-            Err(Fault::Memory) => Err(AllocError),
+fn push_refusal(alloc: Global, text: &mut Vec<u8>, refusal: Refusal) -> Result<(), AllocError> {
+    let refusal = format!(in alloc; "{refusal:?}")?;
+    push_answer(text, &refusal)
+}
+
+// An event happens, or is refused: what is told of it.
+fn happen(
+    alloc: Global,
+    build: &mut Build,
+    text: &mut Vec<u8>,
+    event: &Event,
+) -> Result<(), AllocError> {
+    match effect_if_accepted(alloc, &build.graph, &build.cells, event) {
+        Ok(writes) => {
+            let _replaced = build.cells.write_all(writes)?;
+            push_answer(text, "ok")
         }
-    }
-
-    // The refusal of the event that a line says, or none where it happens.
-    fn step(&mut self, alloc: Global, line: &[u8]) -> Result<Option<Refusal>, Fail> {
-        let event = event_of(alloc, line)?;
-        Ok(self.happen(alloc, &event)?)
-    }
-
-    // The refusal where a pool is given a depth, or none where it gets it.
-    fn resize(
-        &mut self,
-        alloc: Global,
-        pool: u32,
-        depth: u32,
-    ) -> Result<Option<Refusal>, AllocError> {
-        self.happen(alloc, &Event::Resize { pool, depth })
-    }
-
-    // What an event that is not refused would write, a line for each cell.
-    fn written(&self, alloc: Global, event: &Event) -> Result<Vec<u8>, Fail> {
-        check(alloc, &self.graph, &self.cells, event)?;
-        let writes = effect(alloc, &self.graph, &self.cells, event)?;
-        let mut text = Vec::new(alloc);
-        for (cell, value) in writes {
-            push_cell(&mut text, &cell)?;
-            push_value(&mut text, &value)?;
-            text.push(b'\n')?;
-        }
-        Ok(text)
-    }
-
-    // Whether the event that a line says would write these lines.
-    fn writes(&self, alloc: Global, line: &[u8], lines: &[u8]) -> Result<bool, Fail> {
-        let event = event_of(alloc, line)?;
-        let written = self.written(alloc, &event)?;
-        Ok(written.as_slice() == lines)
+        Err(Fault::Refused(refusal)) => push_refusal(alloc, text, refusal),
+        Err(Fault::Memory) => Err(AllocError),
     }
 }
 
-fn manifest_of(alloc: Global, content: &[u8]) -> Result<Manifest, Fail> {
-    let name = Vec::from_slice(alloc, b"build.ninja")?;
-    let content = Vec::from_slice(alloc, content)?;
-    let files = vec![in alloc; (name, content)]?;
-    let manifest = read(alloc, &files)?;
-    Ok(manifest)
-}
-
-fn graph_of(alloc: Global, content: &[u8]) -> Result<Graph, Fail> {
-    let manifest = manifest_of(alloc, content)?;
-    let graph = Graph::build(alloc, &manifest)?;
-    Ok(graph)
-}
-
-fn named(alloc: Global, path: &[u8]) -> Result<Name, Fail> {
-    let name = Name::new(alloc, path)?;
-    Ok(name)
-}
-
-fn text(alloc: Global, bytes: &[u8]) -> Result<Text, AllocError> {
-    Ok(Text::new(Vec::from_slice(alloc, bytes)?))
-}
-
-// What stands before and behind the first byte of this value.
-fn cut(text: &[u8], byte: u8) -> (&[u8], &[u8]) {
-    match text.iter().position(|it| *it == byte) {
-        Some(at) => (&text[..at], &text[at + 1..]),
-        None => (text, &[]),
+// What an event that is not refused would write.
+fn push_writes(
+    alloc: Global,
+    build: &Build,
+    text: &mut Vec<u8>,
+    event: &Event,
+) -> Result<(), Fail> {
+    check(alloc, &build.graph, &build.cells, event)?;
+    let writes = effect(alloc, &build.graph, &build.cells, event)?;
+    for (cell, value) in writes {
+        push_cell(text, &cell)?;
+        push_value(text, &value)?;
+        text.extend_from_slice(b", ")?;
     }
-}
-
-// The value of a digit.
-fn digit(byte: u8) -> u32 {
-    u32::from(byte.wrapping_sub(b'0'))
-}
-
-// A number of one or two digits, 0 where there is none.
-fn number(text: &[u8]) -> u32 {
-    match text {
-        [one] => digit(*one),
-        [ten, one] => digit(*ten).wrapping_mul(10).wrapping_add(digit(*one)),
-        _ => 0,
-    }
+    push_answer(text, "")?;
+    Ok(())
 }
 
 // A slot, and none where nothing stands.
@@ -138,25 +82,12 @@ fn stamps(alloc: Global, text: &[u8]) -> Result<Stamps, AllocError> {
     Ok(Stamps::new(stamps))
 }
 
-// Up to three paths.
-fn paths(alloc: Global, text: &[u8]) -> Result<Names, Fail> {
-    let (first, rest) = cut(text, b' ');
-    let (second, third) = cut(rest, b' ');
-    let mut names = Vec::new(alloc);
-    for path in [first, second, third] {
-        if !path.is_empty() {
-            names.push(named(alloc, path)?)?;
-        }
-    }
-    Ok(Names::new(names))
-}
-
 // Nothing, the paths behind `list`, or the text behind `depfile`.
 fn listing(alloc: Global, said: &[u8]) -> Result<Listing, Fail> {
     let (word, rest) = cut(said, b' ');
     match word {
-        b"list" => Ok(Listing::Paths(paths(alloc, rest)?)),
-        b"depfile" => Ok(Listing::Depfile(text(alloc, rest)?)),
+        b"list" => Ok(Listing::Paths(Names::new(names(alloc, rest)?))),
+        b"depfile" => Ok(Listing::Depfile(Text::new(Vec::from_slice(alloc, rest)?))),
         _ => Ok(Listing::Nothing),
     }
 }
@@ -211,535 +142,280 @@ fn event_of(alloc: Global, line: &[u8]) -> Result<Event, Fail> {
     let (word, said) = cut(line, b' ');
     match word {
         b"interrupt" => Ok(Event::Interrupt),
-        b"plan" => Ok(Event::Plan(paths(alloc, said)?)),
+        b"plan" => Ok(Event::Plan(Names::new(names(alloc, said)?))),
         b"resize" => Ok(resize_of(said)),
         _ => event_of_output(alloc, word, said),
     }
 }
 
-// The build with two jobs, where these files are there.
-fn opened(alloc: Global, stamps: &[(&[u8], u64)]) -> Result<Build, Fail> {
-    let graph = graph_of(alloc, BUILD)?;
-    let mut opening = Opening::new(alloc, 2)?;
-    for (path, stamp) in stamps {
-        opening.add_stamp(named(alloc, path)?, *stamp)?;
+// What is told of a line: whether its event happens, or behind `writes` what it would write.
+fn tell(alloc: Global, build: &mut Build, text: &mut Vec<u8>, line: &[u8]) -> Result<(), Fail> {
+    let (word, said) = cut(line, b' ');
+    if word == b"writes".as_slice() {
+        let event = event_of(alloc, said)?;
+        return push_writes(alloc, build, text, &event);
     }
-    let cells = Cells::new(alloc, &opening)?;
-    Ok(Build { graph, cells })
-}
-
-// The build where only the sources are there.
-fn sources(alloc: Global) -> Result<Build, Fail> {
-    opened(alloc, &[(b"a.c", 10), (b"b.c", 20), (b"v.in", 30)])
-}
-
-// The build with pools, all of whose edges are planned, with two jobs.
-fn pooled(alloc: Global) -> Result<Build, Fail> {
-    let graph = graph_of(alloc, POOLS)?;
-    let cells = Cells::new(alloc, &Opening::new(alloc, 2)?)?;
-    let mut build = Build { graph, cells };
-    build.happen(alloc, &Event::Plan(Names::new(Vec::new(alloc))))?;
-    Ok(build)
-}
-
-// The build where v.h is older than its source, and n was built after it.
-fn generated(alloc: Global) -> Result<Build, Fail> {
-    let graph = graph_of(alloc, BUILD)?;
-    let mut opening = Opening::new(alloc, 1)?;
-    let files: [(&[u8], u64); 3] = [(b"v.in", 30), (b"v.h", 20), (b"n", 25)];
-    for (path, stamp) in files {
-        opening.add_stamp(named(alloc, path)?, stamp)?;
-    }
-    let command = Vec::from_slice(alloc, b"gen")?;
-    opening.add_built(named(alloc, b"n")?, 25, command)?;
-    let cells = Cells::new(alloc, &opening)?;
-    Ok(Build { graph, cells })
-}
-
-// The sign of a digit.
-fn sign(digit: u64) -> u8 {
-    match u8::try_from(digit) {
-        Ok(digit) => digit.wrapping_add(b'0'),
-        Err(_) => b'?',
-    }
-}
-
-// A space and a number below 100.
-fn push_number(text: &mut Vec<u8>, number: u64) -> Result<(), AllocError> {
-    text.push(b' ')?;
-    if number >= 10 {
-        text.push(sign(number / 10))?;
-    }
-    text.push(sign(number % 10))?;
+    let event = event_of(alloc, line)?;
+    happen(alloc, build, text, &event)?;
     Ok(())
 }
 
-fn push_name(text: &mut Vec<u8>, word: &[u8], name: &Name) -> Result<(), AllocError> {
-    text.extend_from_slice(word)?;
-    text.extend_from_slice(name.as_bytes())
-}
-
-fn push_cell(text: &mut Vec<u8>, cell: &Cell) -> Result<(), AllocError> {
-    match cell {
-        Cell::Stamp(path) => push_name(text, b"stamp ", path),
-        Cell::Mark(edge) => {
-            text.extend_from_slice(b"mark")?;
-            push_number(text, u64::from(*edge))
-        }
-        Cell::Job(job) => {
-            text.extend_from_slice(b"job")?;
-            push_number(text, u64::from(*job))
-        }
-        Cell::Slot(pool, slot) => {
-            text.extend_from_slice(b"slot")?;
-            push_number(text, u64::from(*pool))?;
-            push_number(text, u64::from(*slot))
-        }
-        Cell::Depth(pool) => {
-            text.extend_from_slice(b"depth")?;
-            push_number(text, u64::from(*pool))
-        }
-        Cell::Built(path) => push_name(text, b"built ", path),
-        Cell::Deps(path) => push_name(text, b"deps ", path),
-        Cell::Halted => text.extend_from_slice(b"halted"),
+// What is told of lines that stand apart by `; `, each in turn.
+fn tell_all(alloc: Global, build: &mut Build, lines: &str) -> Result<Vec<u8>, Fail> {
+    let mut text = Vec::new(alloc);
+    for line in lines.split("; ") {
+        tell(alloc, build, &mut text, line.as_bytes())?;
     }
+    Ok(text)
 }
 
-fn push_holder(text: &mut Vec<u8>, holder: Option<u32>) -> Result<(), AllocError> {
-    match holder {
-        Some(number) => push_number(text, u64::from(number)),
-        None => text.extend_from_slice(b" -"),
-    }
+// Where a row begins.
+#[derive(Clone, Copy)]
+enum Begin {
+    // The build with two jobs, where only the sources are there.
+    Sources,
+    // The build with one job, where v.h is older than its source, and n was built after it.
+    Generated,
+    // The build with pools and two jobs.
+    Pooled,
 }
 
-fn push_mark(text: &mut Vec<u8>, mark: &Mark) -> Result<(), AllocError> {
-    match mark {
-        Mark::Idle => text.extend_from_slice(b" idle"),
-        Mark::Wanted => text.extend_from_slice(b" wanted"),
-        Mark::Through => text.extend_from_slice(b" through"),
-        Mark::Running { job, slot, seen } => {
-            text.extend_from_slice(b" running")?;
-            push_number(text, u64::from(*job))?;
-            push_holder(text, *slot)?;
-            push_number(text, *seen)
-        }
-        Mark::Done(positions) => {
-            text.extend_from_slice(b" done")?;
-            for position in positions.as_slice() {
-                push_number(text, *position)?;
-            }
-            Ok(())
-        }
-        Mark::Clean => text.extend_from_slice(b" clean"),
-        Mark::Failed => text.extend_from_slice(b" failed"),
-        Mark::Stopped => text.extend_from_slice(b" stopped"),
-    }
-}
-
-fn push_value(text: &mut Vec<u8>, value: &Value) -> Result<(), AllocError> {
-    match value {
-        Value::Stamp(stamp) => push_number(text, *stamp),
-        Value::Mark(mark) => push_mark(text, mark),
-        Value::Job(number) | Value::Slot(number) | Value::Depth(number) => push_holder(
-            text, *number,
+fn begun(alloc: Global, begin: Begin) -> Result<Build, Fail> {
+    match begin {
+        Begin::Sources => build_of(alloc, BUILD, 2, "stamp 10 a.c\nstamp 20 b.c\nstamp 30 v.in"),
+        Begin::Generated => build_of(
+            alloc,
+            BUILD,
+            1,
+            "stamp 30 v.in\nstamp 20 v.h\nstamp 25 n\nbuilt 25 n gen",
         ),
-        Value::Built(Some(record)) => {
-            push_number(text, record.stamp)?;
-            text.push(b' ')?;
-            text.extend_from_slice(record.command.as_slice())
-        }
-        Value::Deps(Some(record)) => {
-            push_number(text, record.stamp)?;
-            for path in record.paths.as_slice() {
-                push_name(text, b" ", path)?;
-            }
-            Ok(())
-        }
-        Value::Built(None) | Value::Deps(None) => text.extend_from_slice(b" -"),
-        Value::Halted(halted) => push_number(text, u64::from(*halted)),
+        Begin::Pooled => build_of(alloc, POOLS, 2, ""),
     }
 }
+
+fn told(alloc: Global, from: Begin, lines: &str) -> Result<Vec<u8>, Fail> {
+    let mut build = begun(alloc, from)?;
+    tell_all(alloc, &mut build, lines)
+}
+
+// Of each row's lines is told what stands beside them.
+fn agree(rt: &impl Abort, alloc: Global, from: Begin, rows: &[(&str, &str)]) -> Result<(), Fail> {
+    for (lines, wanted) in rows {
+        let told = told(alloc, from, lines)?;
+        assert!(rt; told.as_slice() == wanted.as_bytes(), "{lines}");
+    }
+    Ok(())
+}
+
+const PLANS_THAT_ARE_REFUSED: &[(&str, &str)] = &[
+    (
+        "plan nowhere; plan lone; plan b.o; start b.o 1; plan app",
+        "UnknownTarget(0); MissingInput(0, 7); ok; ok; StillRunning(1); ",
+    ),
+    // A record that leads back is a cycle.
+    (
+        "plan b.o; start b.o 0; finish b.o 40 list b.c app; plan app",
+        "ok; ok; ok; DepsCycle(1); ",
+    ),
+];
 
 #[test]
 fn plans_that_are_refused(rt: HostRuntime) -> Result<(), Fail> {
-    let alloc = rt.alloc();
-    let mut build = sources(alloc)?;
-    assert_eq!(rt;
-        build.step(alloc, b"plan nowhere")?,
-        Some(Refusal::UnknownTarget(0))
-    );
-    assert_eq!(rt;
-        build.step(alloc, b"plan lone")?,
-        Some(Refusal::MissingInput(0, 7))
-    );
-    assert_eq!(rt; build.step(alloc, b"plan b.o")?, None);
-    assert_eq!(rt; build.step(alloc, b"start b.o 1")?, None);
-    assert_eq!(rt;
-        build.step(alloc, b"plan app")?,
-        Some(Refusal::StillRunning(1))
-    );
-    Ok(())
+    agree(&rt, rt.alloc(), Begin::Sources, PLANS_THAT_ARE_REFUSED)
 }
 
-#[test]
-fn a_record_that_leads_back_is_a_cycle(rt: HostRuntime) -> Result<(), Fail> {
-    let alloc = rt.alloc();
-    let mut build = sources(alloc)?;
-    assert_eq!(rt; build.step(alloc, b"plan b.o")?, None);
-    assert_eq!(rt; build.step(alloc, b"start b.o 0")?, None);
-    assert_eq!(rt; build.step(alloc, b"finish b.o 40 list b.c app")?, None);
-    assert_eq!(rt;
-        build.step(alloc, b"plan app")?,
-        Some(Refusal::DepsCycle(1))
-    );
-    Ok(())
-}
+const STARTS_THAT_ARE_REFUSED: &[(&str, &str)] = &[
+    (
+        "start a.c 0; start all 0; start b.o 0; plan app; start app 0",
+        "NoSuchEdge; Phony; NotWanted; ok; Blocked(0); ",
+    ),
+    // Without a job or a pool.
+    (
+        "plan b.o; start b.o 2; start b.o 0 0",
+        "ok; NoSuchJob; PoolSlot; ",
+    ),
+    // Slots of a pool.
+    ("plan z; start z 0; start z 0 1", "ok; PoolSlot; PoolSlot; "),
+    // Jobs and slots that are taken.
+    (
+        "plan x z; start x 0 0; start z 0 0; start z 1 0",
+        "ok; ok; JobBusy(5); SlotBusy(5); ",
+    ),
+];
 
 #[test]
 fn starts_that_are_refused(rt: HostRuntime) -> Result<(), Fail> {
-    let alloc = rt.alloc();
-    let mut build = sources(alloc)?;
-    assert_eq!(rt;
-        build.step(alloc, b"start a.c 0")?,
-        Some(Refusal::NoSuchEdge)
-    );
-    assert_eq!(rt; build.step(alloc, b"start all 0")?, Some(Refusal::Phony));
-    assert_eq!(rt;
-        build.step(alloc, b"start b.o 0")?,
-        Some(Refusal::NotWanted)
-    );
-    assert_eq!(rt; build.step(alloc, b"plan app")?, None);
-    assert_eq!(rt;
-        build.step(alloc, b"start app 0")?,
-        Some(Refusal::Blocked(0))
-    );
-    Ok(())
+    agree(&rt, rt.alloc(), Begin::Sources, STARTS_THAT_ARE_REFUSED)
 }
 
-#[test]
-fn starts_without_a_job_or_a_pool(rt: HostRuntime) -> Result<(), Fail> {
-    let alloc = rt.alloc();
-    let mut build = sources(alloc)?;
-    assert_eq!(rt; build.step(alloc, b"plan b.o")?, None);
-    assert_eq!(rt;
-        build.step(alloc, b"start b.o 2")?,
-        Some(Refusal::NoSuchJob)
-    );
-    assert_eq!(rt;
-        build.step(alloc, b"start b.o 0 0")?,
-        Some(Refusal::PoolSlot)
-    );
-    Ok(())
-}
-
-#[test]
-fn slots_of_a_pool(rt: HostRuntime) -> Result<(), Fail> {
-    let alloc = rt.alloc();
-    let mut build = sources(alloc)?;
-    assert_eq!(rt; build.step(alloc, b"plan z")?, None);
-    assert_eq!(rt; build.step(alloc, b"start z 0")?, Some(Refusal::PoolSlot));
-    assert_eq!(rt; build.step(alloc, b"start z 0 1")?, Some(Refusal::PoolSlot));
-    Ok(())
-}
-
-#[test]
-fn jobs_and_slots_that_are_taken(rt: HostRuntime) -> Result<(), Fail> {
-    let alloc = rt.alloc();
-    let mut build = sources(alloc)?;
-    assert_eq!(rt; build.step(alloc, b"plan x z")?, None);
-    assert_eq!(rt; build.step(alloc, b"start x 0 0")?, None);
-    assert_eq!(rt;
-        build.step(alloc, b"start z 0 0")?,
-        Some(Refusal::JobBusy(5))
-    );
-    assert_eq!(rt;
-        build.step(alloc, b"start z 1 0")?,
-        Some(Refusal::SlotBusy(5))
-    );
-    Ok(())
-}
-
-#[test]
-fn pools_that_cannot_have_another_depth(rt: HostRuntime) -> Result<(), Fail> {
-    let alloc = rt.alloc();
-    let mut build = pooled(alloc)?;
+const POOLS_GET_OTHER_DEPTHS: &[(&str, &str)] = &[
     // No such pool, one without slots, and one of too many.
-    for pool in [5, 2, 4] {
-        assert_eq!(rt; build.resize(alloc, pool, 1)?, Some(Refusal::BadResize));
-    }
-    Ok(())
-}
+    (
+        "plan; resize 5 1; resize 2 1; resize 4 1",
+        "ok; BadResize; BadResize; BadResize; ",
+    ),
+    // Depths are from 1 to 1,024; of `console`, of the deepest pool that can have another depth, and the greatest.
+    (
+        "plan; resize 1 0; resize 1 1025; resize 0 2; resize 3 1; resize 1 1024",
+        "ok; BadResize; BadResize; ok; ok; ok; ",
+    ),
+    // The least slot that is lost and held is named.
+    (
+        "plan; resize 1 5; start x 0 3; start y 1 1; resize 1 1; resize 1 2",
+        "ok; ok; ok; ok; DepthInUse(1, 1); DepthInUse(3, 0); ",
+    ),
+    // A depth that is none is told before slots that are held. It may stay, grow, and lose slots that are free.
+    (
+        "plan; resize 1 2; start x 0 1; resize 1 0; resize 1 2; resize 1 9; resize 1 2",
+        "ok; ok; ok; BadResize; ok; ok; ok; ",
+    ),
+];
 
 #[test]
-fn depths_are_from_1_to_1024(rt: HostRuntime) -> Result<(), Fail> {
-    let alloc = rt.alloc();
-    let mut build = pooled(alloc)?;
-    for depth in [0, 1025] {
-        assert_eq!(rt; build.resize(alloc, 1, depth)?, Some(Refusal::BadResize));
-    }
-    // Of `console`, of the deepest pool that can have another depth, and to the greatest depth.
-    for (pool, depth) in [(0, 2), (3, 1), (1, 1024)] {
-        assert_eq!(rt; build.resize(alloc, pool, depth)?, None);
-    }
-    Ok(())
+fn pools_get_other_depths(rt: HostRuntime) -> Result<(), Fail> {
+    agree(&rt, rt.alloc(), Begin::Pooled, POOLS_GET_OTHER_DEPTHS)
 }
 
-#[test]
-fn the_least_slot_that_is_lost_and_held_is_named(rt: HostRuntime) -> Result<(), Fail> {
-    let alloc = rt.alloc();
-    let mut build = pooled(alloc)?;
-    assert_eq!(rt; build.resize(alloc, 1, 5)?, None);
-    assert_eq!(rt; build.step(alloc, b"start x 0 3")?, None);
-    assert_eq!(rt; build.step(alloc, b"start y 1 1")?, None);
-    assert_eq!(rt; build.resize(alloc, 1, 1)?, Some(Refusal::DepthInUse(1, 1)));
-    assert_eq!(rt; build.resize(alloc, 1, 2)?, Some(Refusal::DepthInUse(3, 0)));
-    Ok(())
-}
-
-#[test]
-fn a_pool_is_resized_while_its_slots_are_held(rt: HostRuntime) -> Result<(), Fail> {
-    let alloc = rt.alloc();
-    let mut build = pooled(alloc)?;
-    assert_eq!(rt; build.resize(alloc, 1, 2)?, None);
-    assert_eq!(rt; build.step(alloc, b"start x 0 1")?, None);
-    // A depth that is none is told before slots that are held.
-    assert_eq!(rt; build.resize(alloc, 1, 0)?, Some(Refusal::BadResize));
-    // It may stay, grow, and lose slots that are free.
-    for depth in [2, 9, 2] {
-        assert_eq!(rt; build.resize(alloc, 1, depth)?, None);
-    }
-    Ok(())
-}
+const A_START_ASKS_THE_PRESENT_DEPTH: &[(&str, &str)] = &[
+    (
+        "plan; start x 0 1; resize 1 2; start x 0 2; start x 0 1; resize 3 1; start w 1 1",
+        "ok; PoolSlot; ok; PoolSlot; ok; ok; PoolSlot; ",
+    ),
+    // A plan leaves depths as they are.
+    ("plan; resize 1 2; plan x; start x 0 1", "ok; ok; ok; ok; "),
+    // A resize writes the depth, also where the pool has it.
+    (
+        "plan; writes resize 1 4; writes resize 1 1",
+        "ok; depth 1 4, ; depth 1 1, ; ",
+    ),
+];
 
 #[test]
 fn a_start_asks_the_present_depth(rt: HostRuntime) -> Result<(), Fail> {
-    let alloc = rt.alloc();
-    let mut build = pooled(alloc)?;
-    assert_eq!(rt; build.step(alloc, b"start x 0 1")?, Some(Refusal::PoolSlot));
-    assert_eq!(rt; build.resize(alloc, 1, 2)?, None);
-    assert_eq!(rt; build.step(alloc, b"start x 0 2")?, Some(Refusal::PoolSlot));
-    assert_eq!(rt; build.step(alloc, b"start x 0 1")?, None);
-    assert_eq!(rt; build.resize(alloc, 3, 1)?, None);
-    assert_eq!(rt; build.step(alloc, b"start w 1 1")?, Some(Refusal::PoolSlot));
-    Ok(())
+    agree(
+        &rt,
+        rt.alloc(),
+        Begin::Pooled,
+        A_START_ASKS_THE_PRESENT_DEPTH,
+    )
 }
 
-#[test]
-fn a_plan_leaves_depths_as_they_are(rt: HostRuntime) -> Result<(), Fail> {
-    let alloc = rt.alloc();
-    let mut build = pooled(alloc)?;
-    assert_eq!(rt; build.resize(alloc, 1, 2)?, None);
-    assert_eq!(rt; build.step(alloc, b"plan x")?, None);
-    assert_eq!(rt; build.step(alloc, b"start x 0 1")?, None);
-    Ok(())
-}
-
-#[test]
-fn a_resize_writes_the_depth(rt: HostRuntime) -> Result<(), Fail> {
-    let alloc = rt.alloc();
-    let build = pooled(alloc)?;
-    assert!(rt; build.writes(alloc, b"resize 1 4", b"depth 1 4\n")?);
-    // Also where the pool has that depth.
-    assert!(rt; build.writes(alloc, b"resize 1 1", b"depth 1 1\n")?);
-    Ok(())
-}
+const FINISHES_THAT_ARE_REFUSED: &[(&str, &str)] = &[
+    (
+        "finish x 40,41; plan x; start y 0 0; finish x 40; finish x 40,41 depfile x:",
+        "NotRunning; ok; ok; WrongOutputs(2); UnexpectedDepfile; ",
+    ),
+    // A depfile with a fault.
+    (
+        "plan b.o; start b.o 0; finish b.o 40 depfile b.o:\nc.o: b.c",
+        "ok; ok; Depfile(31, 5); ",
+    ),
+];
 
 #[test]
 fn finishes_that_are_refused(rt: HostRuntime) -> Result<(), Fail> {
-    let alloc = rt.alloc();
-    let mut build = sources(alloc)?;
-    assert_eq!(rt;
-        build.step(alloc, b"finish x 40,41")?,
-        Some(Refusal::NotRunning)
-    );
-    assert_eq!(rt; build.step(alloc, b"plan x")?, None);
-    assert_eq!(rt; build.step(alloc, b"start y 0 0")?, None);
-    assert_eq!(rt;
-        build.step(alloc, b"finish x 40")?,
-        Some(Refusal::WrongOutputs(2))
-    );
-    assert_eq!(rt;
-        build.step(alloc, b"finish x 40,41 depfile x:")?,
-        Some(Refusal::UnexpectedDepfile)
-    );
-    Ok(())
+    agree(&rt, rt.alloc(), Begin::Sources, FINISHES_THAT_ARE_REFUSED)
 }
 
-#[test]
-fn a_depfile_with_a_fault_is_refused(rt: HostRuntime) -> Result<(), Fail> {
-    let alloc = rt.alloc();
-    let mut build = sources(alloc)?;
-    assert_eq!(rt; build.step(alloc, b"plan b.o")?, None);
-    assert_eq!(rt; build.step(alloc, b"start b.o 0")?, None);
-    assert_eq!(rt;
-        build.step(alloc, b"finish b.o 40 depfile b.o:\nc.o: b.c")?,
-        Some(Refusal::Depfile(31, 5))
-    );
-    Ok(())
-}
+const AN_INTERRUPT_COMES_ONCE: &[(&str, &str)] = &[
+    (
+        "plan b.o; start b.o 0; abort b.o 0; interrupt; interrupt",
+        "ok; ok; NotHalted; ok; AlreadyHalted; ",
+    ),
+    // Nothing starts after it.
+    ("plan b.o; interrupt; start b.o 0", "ok; ok; Halted; "),
+];
 
 #[test]
 fn an_interrupt_comes_once(rt: HostRuntime) -> Result<(), Fail> {
-    let alloc = rt.alloc();
-    let mut build = sources(alloc)?;
-    assert_eq!(rt; build.step(alloc, b"plan b.o")?, None);
-    assert_eq!(rt; build.step(alloc, b"start b.o 0")?, None);
-    assert_eq!(rt;
-        build.step(alloc, b"abort b.o 0")?,
-        Some(Refusal::NotHalted)
-    );
-    assert_eq!(rt; build.step(alloc, b"interrupt")?, None);
-    assert_eq!(rt;
-        build.step(alloc, b"interrupt")?,
-        Some(Refusal::AlreadyHalted)
-    );
-    Ok(())
+    agree(&rt, rt.alloc(), Begin::Sources, AN_INTERRUPT_COMES_ONCE)
 }
 
-#[test]
-fn nothing_starts_after_an_interrupt(rt: HostRuntime) -> Result<(), Fail> {
-    let alloc = rt.alloc();
-    let mut build = sources(alloc)?;
-    assert_eq!(rt; build.step(alloc, b"plan b.o")?, None);
-    assert_eq!(rt; build.step(alloc, b"interrupt")?, None);
-    assert_eq!(rt; build.step(alloc, b"start b.o 0")?, Some(Refusal::Halted));
-    Ok(())
-}
+const CLEANS_AND_PASSES_THAT_ARE_REFUSED: &[(&str, &str)] = &[(
+    "pass b.o; plan all; clean b.o; pass b.o; pass all",
+    "NotWanted; ok; Dirty(1); NotPhony; Blocked(0); ",
+)];
 
 #[test]
 fn cleans_and_passes_that_are_refused(rt: HostRuntime) -> Result<(), Fail> {
-    let alloc = rt.alloc();
-    let mut build = sources(alloc)?;
-    assert_eq!(rt; build.step(alloc, b"pass b.o")?, Some(Refusal::NotWanted));
-    assert_eq!(rt; build.step(alloc, b"plan all")?, None);
-    assert_eq!(rt; build.step(alloc, b"clean b.o")?, Some(Refusal::Dirty(1)));
-    assert_eq!(rt; build.step(alloc, b"pass b.o")?, Some(Refusal::NotPhony));
-    assert_eq!(rt; build.step(alloc, b"pass all")?, Some(Refusal::Blocked(0)));
-    Ok(())
+    agree(
+        &rt,
+        rt.alloc(),
+        Begin::Sources,
+        CLEANS_AND_PASSES_THAT_ARE_REFUSED,
+    )
 }
 
-#[test]
-fn what_restat_left_alone_makes_nothing_dirty(rt: HostRuntime) -> Result<(), Fail> {
-    let alloc = rt.alloc();
-    let mut build = generated(alloc)?;
-    assert_eq!(rt; build.step(alloc, b"plan n")?, None);
-    assert_eq!(rt; build.step(alloc, b"start v.h 0")?, None);
-    assert_eq!(rt; build.step(alloc, b"finish v.h 20")?, None);
-    assert_eq!(rt; build.step(alloc, b"start n 0")?, Some(Refusal::NotDirty));
-    assert!(rt; build.writes(alloc, b"clean n", b"mark 8 clean\n")?);
-    Ok(())
-}
+const A_GENERATED_HEADER_UNDER_RESTAT: &[(&str, &str)] = &[
+    // What restat left alone makes nothing dirty.
+    (
+        "plan n; start v.h 0; finish v.h 20; start n 0; writes clean n",
+        "ok; ok; ok; NotDirty; mark 8 clean, ; ",
+    ),
+    // A plan marks all edges.
+    (
+        "writes plan n",
+        "mark 0 idle, mark 1 idle, mark 2 idle, mark 3 idle, mark 4 wanted, mark 5 idle, mark 6 idle, mark 7 idle, mark 8 wanted, mark 9 idle, halted 0, ; ",
+    ),
+    // A finish keeps what it saw.
+    (
+        "plan v.h; start v.h 0; writes finish v.h 20",
+        "ok; ok; mark 4 done, job 0 -, stamp v.h 20, built v.h 30 gen, ; ",
+    ),
+];
 
 #[test]
-fn a_plan_marks_all_edges(rt: HostRuntime) -> Result<(), Fail> {
-    let alloc = rt.alloc();
-    let build = generated(alloc)?;
-    assert!(rt;
-        build.writes(
-            alloc,
-            b"plan n",
-            b"mark 0 idle\nmark 1 idle\nmark 2 idle\nmark 3 idle\nmark 4 wanted\nmark 5 idle\nmark 6 idle\nmark 7 idle\nmark 8 wanted\nmark 9 idle\nhalted 0\n"
-        )?
-    );
-    Ok(())
+fn a_generated_header_under_restat(rt: HostRuntime) -> Result<(), Fail> {
+    agree(
+        &rt,
+        rt.alloc(),
+        Begin::Generated,
+        A_GENERATED_HEADER_UNDER_RESTAT,
+    )
 }
 
-#[test]
-fn a_start_holds_its_job_and_its_slot(rt: HostRuntime) -> Result<(), Fail> {
-    let alloc = rt.alloc();
-    let mut build = sources(alloc)?;
-    assert_eq!(rt; build.step(alloc, b"plan x")?, None);
-    assert!(rt;
-        build.writes(
-            alloc,
-            b"start y 1 0",
-            b"mark 5 running 1 0 0\njob 1 5\nslot 1 0 5\n"
-        )?
-    );
-    Ok(())
-}
+const WHAT_COMMANDS_WRITE: &[(&str, &str)] = &[
+    // A start holds its job and its slot.
+    (
+        "plan x; writes start y 1 0",
+        "ok; mark 5 running 1 0 0, job 1 5, slot 1 0 5, ; ",
+    ),
+    // A finish leaves stamps and records.
+    (
+        "plan b.o; start b.o 0; writes finish b.o 40 list b.c h b.c",
+        "ok; ok; mark 1 done 0, job 0 -, stamp b.o 40, built b.o 40 cc, deps b.o 40 b.c h, ; ",
+    ),
+    // A fail leaves no record.
+    (
+        "plan x; start x 0 0; writes fail x 0,41",
+        "ok; ok; mark 5 failed, job 0 -, slot 1 0 -, stamp x 0, stamp y 41, ; ",
+    ),
+    // An abort frees the job.
+    (
+        "plan b.o; start b.o 0; interrupt; writes abort b.o 7",
+        "ok; ok; ok; mark 1 stopped, job 0 -, stamp b.o 7, ; ",
+    ),
+];
 
 #[test]
-fn a_finish_leaves_stamps_and_records(rt: HostRuntime) -> Result<(), Fail> {
-    let alloc = rt.alloc();
-    let mut build = sources(alloc)?;
-    assert_eq!(rt; build.step(alloc, b"plan b.o")?, None);
-    assert_eq!(rt; build.step(alloc, b"start b.o 0")?, None);
-    assert!(rt;
-        build.writes(
-            alloc,
-            b"finish b.o 40 list b.c h b.c",
-            b"mark 1 done 0\njob 0 -\nstamp b.o 40\nbuilt b.o 40 cc\ndeps b.o 40 b.c h\n"
-        )?
-    );
-    Ok(())
+fn what_commands_write(rt: HostRuntime) -> Result<(), Fail> {
+    agree(&rt, rt.alloc(), Begin::Sources, WHAT_COMMANDS_WRITE)
 }
 
-#[test]
-fn a_finish_under_restat_keeps_what_it_saw(rt: HostRuntime) -> Result<(), Fail> {
-    let alloc = rt.alloc();
-    let mut build = generated(alloc)?;
-    assert_eq!(rt; build.step(alloc, b"plan v.h")?, None);
-    assert_eq!(rt; build.step(alloc, b"start v.h 0")?, None);
-    assert!(rt;
-        build.writes(
-            alloc,
-            b"finish v.h 20",
-            b"mark 4 done\njob 0 -\nstamp v.h 20\nbuilt v.h 30 gen\n"
-        )?
-    );
-    Ok(())
-}
+const WHAT_OTHERS_WRITE: &[(&str, &str)] = &[
+    // A touch and an interrupt write one cell.
+    (
+        "writes touch a.c 0; writes interrupt",
+        "stamp a.c 0, ; halted 1, ; ",
+    ),
+    // A pass hands on what was rebuilt.
+    (
+        "plan w; start b.o 0; finish b.o 40; writes pass w",
+        "ok; ok; ok; mark 9 done 0, ; ",
+    ),
+];
 
 #[test]
-fn a_fail_leaves_no_record(rt: HostRuntime) -> Result<(), Fail> {
-    let alloc = rt.alloc();
-    let mut build = sources(alloc)?;
-    assert_eq!(rt; build.step(alloc, b"plan x")?, None);
-    assert_eq!(rt; build.step(alloc, b"start x 0 0")?, None);
-    assert!(rt;
-        build.writes(
-            alloc,
-            b"fail x 0,41",
-            b"mark 5 failed\njob 0 -\nslot 1 0 -\nstamp x 0\nstamp y 41\n"
-        )?
-    );
-    Ok(())
-}
-
-#[test]
-fn an_abort_frees_the_job(rt: HostRuntime) -> Result<(), Fail> {
-    let alloc = rt.alloc();
-    let mut build = sources(alloc)?;
-    assert_eq!(rt; build.step(alloc, b"plan b.o")?, None);
-    assert_eq!(rt; build.step(alloc, b"start b.o 0")?, None);
-    assert_eq!(rt; build.step(alloc, b"interrupt")?, None);
-    assert!(rt;
-        build.writes(
-            alloc,
-            b"abort b.o 7",
-            b"mark 1 stopped\njob 0 -\nstamp b.o 7\n"
-        )?
-    );
-    Ok(())
-}
-
-#[test]
-fn a_touch_and_an_interrupt_write_one_cell(rt: HostRuntime) -> Result<(), Fail> {
-    let alloc = rt.alloc();
-    let build = sources(alloc)?;
-    assert!(rt; build.writes(alloc, b"touch a.c 0", b"stamp a.c 0\n")?);
-    assert!(rt; build.writes(alloc, b"interrupt", b"halted 1\n")?);
-    Ok(())
-}
-
-#[test]
-fn a_pass_hands_on_what_was_rebuilt(rt: HostRuntime) -> Result<(), Fail> {
-    let alloc = rt.alloc();
-    let mut build = sources(alloc)?;
-    assert_eq!(rt; build.step(alloc, b"plan w")?, None);
-    assert_eq!(rt; build.step(alloc, b"start b.o 0")?, None);
-    assert_eq!(rt; build.step(alloc, b"finish b.o 40")?, None);
-    assert!(rt; build.writes(alloc, b"pass w", b"mark 9 done 0\n")?);
-    Ok(())
+fn what_others_write(rt: HostRuntime) -> Result<(), Fail> {
+    agree(&rt, rt.alloc(), Begin::Sources, WHAT_OTHERS_WRITE)
 }

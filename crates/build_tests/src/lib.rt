@@ -15,3 +15,7 @@ mod events;
 mod plans;
 #[cfg(test)]
 mod reasons;
+#[cfg(test)]
+mod shown;
+#[cfg(test)]
+mod small;

@@ -1,6 +1,6 @@
 //! Calls that read or ask and change nothing, each made twice.
 
-use crate::said::{MANIFEST, OPENING, Said, Stop, graph, trace};
+use crate::said::{MANIFEST, OPENING, Said, Stop, graph, print_line, trace};
 use rev_cells::Cells;
 use rev_depfile::DepfileFault;
 use rev_fields::ReadFault;
@@ -22,26 +22,28 @@ const DEPFILE: &[u8] = b"a.o: a.c \\\n a.h b.h\n";
 
 const WHY: &[u8] = b"why app nothing\n";
 
-// What a call answered.
+/// What a call answered.
 #[derive(Clone, Copy, PartialEq, Eq)]
-enum Answer {
-    // What is due.
+pub(crate) enum Answer {
+    /// What is due.
     Due,
-    // That memory was refused.
+    /// That memory was refused.
     Memory,
+    /// Anything else.
     Other,
 }
 
-fn due_if(is_due: bool) -> Answer {
+/// What is due, where it is.
+pub(crate) fn due_if(is_due: bool) -> Answer {
     if is_due { Answer::Due } else { Answer::Other }
 }
 
-// Prints what came of a call that was made twice, where one allocation at most was refused.
-fn tell<R: Print>(rt: &R, first: Answer, second: Answer) -> Said {
+/// Prints what came of a call that was made twice, where one allocation at most was refused.
+pub(crate) fn tell<R: Print>(rt: &R, first: Answer, second: Answer) -> Said {
     match (first, second) {
-        (Answer::Due, Answer::Due) => println!(rt; "whole")?,
-        (Answer::Memory, Answer::Due) | (Answer::Due, Answer::Memory) => println!(rt; "memory")?,
-        _ => println!(rt; "another answer")?,
+        (Answer::Due, Answer::Due) => print_line(rt, "whole")?,
+        (Answer::Memory, Answer::Due) | (Answer::Due, Answer::Memory) => print_line(rt, "memory")?,
+        _ => print_line(rt, "another answer")?,
     }
     Ok(())
 }
@@ -59,7 +61,7 @@ pub(crate) fn manifest<R: Print>(rt: &R, alloc: Global) -> Said {
     let name = Vec::from_slice(alloc, b"build.ninja")?;
     let content = Vec::from_slice(alloc, MANIFEST)?;
     let files = vec![in alloc; (name, content)]?;
-    println!(rt; "made")?;
+    print_line(rt, "made")?;
     let first = of_manifest(alloc, &files);
     tell(rt, first, of_manifest(alloc, &files))
 }
@@ -73,7 +75,7 @@ fn of_graph(alloc: Global, manifest: &Manifest) -> Answer {
 }
 
 fn builds<R: Print>(rt: &R, alloc: Global, manifest: &Manifest) -> Said {
-    println!(rt; "made")?;
+    print_line(rt, "made")?;
     let first = of_graph(alloc, manifest);
     tell(rt, first, of_graph(alloc, manifest))
 }
@@ -99,7 +101,7 @@ fn of_trace(alloc: Global) -> Answer {
 
 /// Reads a trace.
 pub(crate) fn trace_of<R: Print>(rt: &R, alloc: Global) -> Said {
-    println!(rt; "made")?;
+    print_line(rt, "made")?;
     let first = of_trace(alloc);
     tell(rt, first, of_trace(alloc))
 }
@@ -116,7 +118,7 @@ fn of_migration(alloc: Global) -> Answer {
 
 /// Makes a trace of version 2 of one of version 1.
 pub(crate) fn migration<R: Print>(rt: &R, alloc: Global) -> Said {
-    println!(rt; "made")?;
+    print_line(rt, "made")?;
     let first = of_migration(alloc);
     tell(rt, first, of_migration(alloc))
 }
@@ -131,7 +133,7 @@ fn of_script(alloc: Global) -> Answer {
 
 /// Reads a script.
 pub(crate) fn script<R: Print>(rt: &R, alloc: Global) -> Said {
-    println!(rt; "made")?;
+    print_line(rt, "made")?;
     let first = of_script(alloc);
     tell(rt, first, of_script(alloc))
 }
@@ -150,7 +152,7 @@ pub(crate) fn depfile<R: Print>(rt: &R, alloc: Global) -> Said {
         return Err(Stop::Build);
     };
     let outputs = vec![in alloc; name]?;
-    println!(rt; "made")?;
+    print_line(rt, "made")?;
     let first = of_depfile(alloc, &outputs);
     tell(rt, first, of_depfile(alloc, &outputs))
 }
@@ -178,7 +180,7 @@ fn plans<R: Print>(rt: &R, alloc: Global, history: &History) -> Said {
         return Err(Stop::Build);
     };
     let targets = vec![in alloc; name]?;
-    println!(rt; "made")?;
+    print_line(rt, "made")?;
     let first = of_plan(alloc, history.graph(), history.cells(), &targets);
     tell(
         rt,
@@ -195,7 +197,7 @@ pub(crate) fn plan<R: Print>(rt: &R, alloc: Global) -> Said {
 }
 
 fn asks<R: Print>(rt: &R, alloc: Global, history: &History) -> Said {
-    println!(rt; "made")?;
+    print_line(rt, "made")?;
     let first = of_why(alloc, history.graph(), history.cells());
     tell(rt, first, of_why(alloc, history.graph(), history.cells()))
 }

@@ -1,7 +1,8 @@
 //! The commands of a desk.
 
 use crate::said::{
-    LINES, OPENING, Said, Stop, command, desk, look_at_command, print_kept, shown_desk, trace,
+    LINES, OPENING, Said, Stop, command, desk, look_at_command, print_about, print_kept,
+    print_line, shown_desk, trace,
 };
 use rev_desk::{Desk, Reply, Unsaid};
 use std::alloc::Global;
@@ -36,7 +37,7 @@ fn say<R: Print>(rt: &R, alloc: Global, desk: &mut Desk, line: &'static str) -> 
     };
     look_at_command(rt, unsaid.why, &unsaid.command, &same, line)?;
     if shown_desk(alloc, desk)? != before {
-        println!(rt; "{line}: memory was refused, and something has changed")?;
+        print_about(rt, line, "memory was refused, and something has changed")?;
     }
     answer(desk, unsaid, line)
 }
@@ -45,7 +46,7 @@ fn say<R: Print>(rt: &R, alloc: Global, desk: &mut Desk, line: &'static str) -> 
 pub(crate) fn run<R: Print>(rt: &R, alloc: Global) -> Said {
     let trace = trace(alloc, OPENING)?;
     let mut desk = desk(alloc, &trace, 1)?;
-    println!(rt; "made")?;
+    print_line(rt, "made")?;
     for line in LINES {
         say(rt, alloc, &mut desk, line)?;
     }

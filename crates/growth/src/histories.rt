@@ -1,6 +1,8 @@
 //! The calls of a history.
 
-use crate::said::{LINES, OPENING, Said, Stop, command, graph, print_kept, shown, trace};
+use crate::said::{
+    LINES, OPENING, Said, Stop, command, graph, print_about, print_kept, print_line, shown, trace,
+};
 use rev_commands::{Command, Which};
 use rev_events::Fault;
 use rev_history::History;
@@ -36,10 +38,10 @@ fn say<R: Print>(
         Err(Fault::Refused(_)) => return Err(Stop::NotAccepted(line)),
     }
     if shown(alloc, history)? != before {
-        println!(rt; "{line}: memory was refused, and something has changed")?;
+        print_about(rt, line, "memory was refused, and something has changed")?;
     }
     if matches!(&command, Command::Undo(_)) {
-        println!(rt; "{line}: an undo asked for memory")?;
+        print_about(rt, line, "an undo asked for memory")?;
     }
     match act(history, number, &command) {
         Ok(()) => Ok(()),
@@ -52,7 +54,7 @@ fn say<R: Print>(
 pub(crate) fn run<R: Print>(rt: &R, alloc: Global) -> Said {
     let trace = trace(alloc, OPENING)?;
     let mut history = History::new(alloc, graph(alloc)?, &trace.opening)?;
-    println!(rt; "made")?;
+    print_line(rt, "made")?;
     let mut number = 0u32;
     for line in LINES {
         number = number.saturating_add(1);

@@ -2,7 +2,10 @@
 ghost use Rattle.std.specs.Prelude.{◌≡◌};
 
 use crate::desks::is_accepted;
-use crate::said::{LINES, OPENING, Said, Stop, command, desk, look_at_command, print_kept, trace};
+use crate::said::{
+    LINES, OPENING, Said, Stop, command, desk, look_at_command, print_about, print_kept,
+    print_line, trace,
+};
 use rev_desk::Desk;
 use rev_workers::{Lane, Shared, close};
 use std::alloc::Global;
@@ -44,7 +47,7 @@ fn say<L: Ledger, R: Print + Wait>(
     };
     look_at_command(rt, unsaid.why, &unsaid.command, &same, line)?;
     if shown(alloc, lane)? != before {
-        println!(rt; "{line}: memory was refused, and the lane has changed")?;
+        print_about(rt, line, "memory was refused, and the lane has changed")?;
     }
     if lane.number() >= shared.lanes() {
         return Err(Stop::Build);
@@ -80,7 +83,7 @@ fn run_at<L: Ledger, R: Print + Wait>(rt: &R, alloc: Global, blank: Blank, desk:
         return Err(Stop::Memory);
     };
     let mut lanes = lanes;
-    println!(rt; "made")?;
+    print_line(rt, "made")?;
     say_all(rt, alloc, &shared, &mut lanes)?;
     match close(shared, lanes) {
         Ok(desk) => print_kept(rt, desk.history()),

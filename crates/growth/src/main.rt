@@ -2,14 +2,16 @@
 //! first allocation behind the line `made`, then the second, and so on, until a run meets no refusal.
 //!
 //! The word is the part to run: `history`, `desk`, `lane`, `workers`, `report`, or a call that changes nothing:
-//! `manifest`, `graph`, `trace`, `migrate`, `script`, `depfile`, `plan`, `why`. What changes though memory was asked
-//! for in vain is said on a line of its own; so is a call that is not accepted when it is made again.
+//! `manifest`, `graph`, `trace`, `migrate`, `script`, `depfile`, `plan`, `why`, `same_order`, `order`. What changes
+//! though memory was asked for in vain is said on a line of its own; so is a call that is not accepted when it is made
+//! again.
 #![tactic(auto)]
 
 mod answers;
 mod desks;
 mod histories;
 mod lanes;
+mod orders;
 mod reports;
 mod said;
 mod workers;
@@ -47,6 +49,8 @@ fn run<R: Env + Print + AllocGlobal + Threads + Wait + Sync>(rt: &R) -> Said {
         "depfile" => answers::depfile(rt, rt.alloc()),
         "plan" => answers::plan(rt, rt.alloc()),
         "why" => answers::why(rt, rt.alloc()),
+        "same_order" => orders::same_order(rt, rt.alloc()),
+        "order" => orders::order(rt, rt.alloc()),
         _ => Err(Stop::Usage),
     }
 }

@@ -1,6 +1,6 @@
 //! Whole runs.
 
-use crate::said::{MANIFEST, Said, Stop};
+use crate::said::{MANIFEST, Said, Stop, print_line};
 use rev_report::{RunFault, Status, run_serial};
 use std::alloc::Global;
 use std::io::Cursor;
@@ -22,19 +22,19 @@ pub(crate) fn run<R: Print>(rt: &R, alloc: Global) -> Said {
     let files = vec![in alloc; (name, content)]?;
     let mut room = [0u8; 1024];
     let mut writer = Cursor::new(&mut room[..]);
-    println!(rt; "made")?;
+    print_line(rt, "made")?;
     let status = run_serial(alloc, &files, TRACE, SCRIPT, &mut writer);
     let count = usize::try_from(writer.position())
         .unwrap_or(0)
         .min(room.len());
     let written = &room[..count];
     match status {
-        Ok(Status::Success) if written == REPORT.as_bytes() => println!(rt; "whole")?,
+        Ok(Status::Success) if written == REPORT.as_bytes() => print_line(rt, "whole")?,
         Err(RunFault::Memory) if REPORT.as_bytes().starts_with(written) => {
-            println!(rt; "memory, after the begin of the report")?;
+            print_line(rt, "memory, after the begin of the report")?;
         }
-        Ok(_) => println!(rt; "another report")?,
-        Err(RunFault::Memory) => println!(rt; "memory, after another report")?,
+        Ok(_) => print_line(rt, "another report")?,
+        Err(RunFault::Memory) => print_line(rt, "memory, after another report")?,
         Err(_) => return Err(Stop::NotAccepted("run_serial")),
     }
     Ok(())

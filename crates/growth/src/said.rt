@@ -31,6 +31,9 @@ pub(crate) const LINES: [&str; 10] = [
     "undo 9",
 ];
 
+// No event gets a greater number.
+const LAST_NUMBER: u32 = 16;
+
 /// Why a part ends early.
 #[derive(Clone, Copy, Debug, PartialEq, Eq)]
 pub(crate) enum Stop {
@@ -112,6 +115,12 @@ fn history_text(alloc: Global, history: &History) -> Result<Vec<u8>, Stop> {
     let mut text = Vec::new(alloc);
     let first = format!(in alloc; "{} {:?}\n", history.last(), history.kept())?;
     text.extend_from_slice(first.as_bytes())?;
+    for number in 1..=LAST_NUMBER {
+        if let Some(event) = history.event(number) {
+            let line = format!(in alloc; "{number} {event:?}\n")?;
+            text.extend_from_slice(line.as_bytes())?;
+        }
+    }
     for number in history.kept() {
         if let Some(footprint) = history.footprint_of(*number) {
             let line = format!(in alloc;
@@ -128,8 +137,8 @@ fn history_text(alloc: Global, history: &History) -> Result<Vec<u8>, Stop> {
     Ok(text)
 }
 
-/// What a history shows: its greatest number, the kept events with their footprints, and the state. It is worked out
-/// again where memory was refused.
+/// What a history shows: its greatest number, the events under each number, the kept ones with their footprints, and
+/// the state. It is worked out again where memory was refused.
 pub(crate) fn shown(alloc: Global, history: &History) -> Result<Vec<u8>, Stop> {
     match history_text(alloc, history) {
         Ok(text) => Ok(text),
@@ -156,6 +165,18 @@ pub(crate) fn shown_desk(alloc: Global, desk: &Desk) -> Result<Vec<u8>, Stop> {
     }
 }
 
+/// Prints a line.
+pub(crate) fn print_line<R: Print>(rt: &R, text: &str) -> Said {
+    println!(rt; "{text}")?;
+    Ok(())
+}
+
+/// Prints what is to be said of a line.
+pub(crate) fn print_about<R: Print>(rt: &R, line: &str, text: &str) -> Said {
+    println!(rt; "{line}: {text}")?;
+    Ok(())
+}
+
 /// Prints the kept events of a history.
 pub(crate) fn print_kept<R: Print>(rt: &R, history: &History) -> Said {
     println!(rt; "kept {:?}", history.kept())?;
@@ -171,10 +192,10 @@ pub(crate) fn look_at_command<R: Print>(
     line: &str,
 ) -> Said {
     if why != Why::Memory {
-        println!(rt; "{line}: unsaid for another reason")?;
+        print_about(rt, line, "unsaid for another reason")?;
     }
     if !back.same(sent) {
-        println!(rt; "{line}: another command came back")?;
+        print_about(rt, line, "another command came back")?;
     }
     Ok(())
 }

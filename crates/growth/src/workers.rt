@@ -1,7 +1,7 @@
 //! Lanes on threads.
 ghost use Rattle.std.specs.Prelude.{◌≡◌, ◌≤◌, length};
 
-use crate::said::{Said, Stop, desk, trace};
+use crate::said::{Said, Stop, desk, print_line, trace};
 use rev_desk::{Desk, Entry};
 use rev_trace::Trace;
 use rev_workers::{Gate, Shared, run_workers};
@@ -51,7 +51,7 @@ fn apply_again(desk: &mut Desk, entry: &Entry) -> Result<bool, Stop> {
 fn look_at<R: Print>(rt: &R, journal: &[Entry], other: &mut Desk) -> Said {
     for entry in journal {
         if !apply_again(other, entry)? {
-            println!(rt; "the journal gives another reply on a new desk")?;
+            print_line(rt, "the journal gives another reply on a new desk")?;
         }
     }
     Ok(())
@@ -71,12 +71,12 @@ fn run_at<L: Ledger + Send + Sync, R: Print + Threads + Wait + Sync>(
     requires few { length trace.lanes.items ≤ desk.lanes }
 {
     let Ok((shared, lanes)) = Shared::<L>::new(alloc, desk, blank) else {
-        println!(rt; "memory")?;
+        print_line(rt, "memory")?;
         return Ok(());
     };
     match run_workers(rt, alloc, shared, lanes, trace, &Open) {
         Ok(desk) => {
-            println!(rt; "closed")?;
+            print_line(rt, "closed")?;
             look_at(rt, desk.journal(), other)
         }
         Err(fault) => {
@@ -105,6 +105,6 @@ pub(crate) fn run<R: Print + Threads + Wait + Sync>(rt: &R, alloc: Global) -> Sa
     let trace = trace(alloc, TRACE)?;
     let mut other = desk(alloc, &trace, 2)?;
     let desk = desk(alloc, &trace, 2)?;
-    println!(rt; "made")?;
+    print_line(rt, "made")?;
     run_desk(rt, alloc, desk, trace, &mut other)
 }

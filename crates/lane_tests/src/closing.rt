@@ -103,19 +103,20 @@ fn close_new<R: Wait>(
     Ok(closed_changed(rt, alloc, desk, change, left_out))
 }
 
+const CLOSINGS: &[(Change, Option<usize>, (u16, u32))] = &[
+    (Change::Nothing, None, (0, 0)),
+    (Change::Nothing, Some(0), (110, 0)),
+    (Change::Nothing, Some(1), (110, 1)),
+    (Change::Command, None, (111, 1)),
+    (Change::Reply, None, (111, 1)),
+    (Change::Command, Some(0), (110, 0)),
+];
+
 #[test]
 fn lanes_that_do_not_fit_are_named(rt: HostRuntime) -> Result<(), Fail> {
-    let alloc = rt.alloc();
-    for (change, left_out, wanted) in [
-        (Change::Nothing, None, (0, 0)),
-        (Change::Nothing, Some(0), (110, 0)),
-        (Change::Nothing, Some(1), (110, 1)),
-        (Change::Command, None, (111, 1)),
-        (Change::Reply, None, (111, 1)),
-        (Change::Command, Some(0), (110, 0)),
-    ] {
-        let told = close_new(&rt, alloc, change, left_out)?;
-        assert_eq!(rt; told, wanted, "{change:?} {left_out:?}");
+    for (change, left_out, wanted) in CLOSINGS {
+        let told = close_new(&rt, rt.alloc(), *change, *left_out)?;
+        assert!(rt; told == *wanted, "{change:?} {left_out:?}");
     }
     Ok(())
 }

@@ -6,6 +6,7 @@ use crate::gates::{Both, Holding};
 use rev_cells::{Cell, Value};
 use rev_desk::{Command, Desk};
 use rev_paths::Name;
+use rev_trace::Trace;
 use std::alloc::Global;
 use std::test::Fail;
 
@@ -21,6 +22,21 @@ fn stamp_of(alloc: Global, desk: &Desk, path: &[u8]) -> Result<u64, Fail> {
     }
 }
 
+// How often each lane was told that all is well, how many entries and kept events there are, and two stamps.
+fn counts_text(alloc: Global, desk: &Desk) -> Result<String, Fail> {
+    let told = journal_text(alloc, desk)?;
+    let text = format!(in alloc;
+        "{} {} {} {}; {} {}",
+        told.as_str().matches("0 ok; ").count(),
+        told.as_str().matches("1 ok; ").count(),
+        desk.journal().len(),
+        desk.history().kept().len(),
+        stamp_of(alloc, desk, b"a.c")?,
+        stamp_of(alloc, desk, b"b.c")?
+    )?;
+    Ok(text)
+}
+
 #[test]
 fn each_undoes_what_the_other_did(rt: HostRuntime) -> Result<(), Fail> {
     let alloc = rt.alloc();
@@ -30,21 +46,20 @@ fn each_undoes_what_the_other_did(rt: HostRuntime) -> Result<(), Fail> {
         second: Holding::new((1, 2), (0, 1), 1_000_000),
     };
     let desk = closed_desk(run(&rt, alloc, MANIFEST, UNDO_OF_THE_OTHERS, &gate)?)?;
-    let told = journal_text(alloc, &desk)?;
-    assert_eq!(rt; told.as_str().matches("0 ok; ").count(), 2);
-    assert_eq!(rt; told.as_str().matches("1 ok; ").count(), 2);
-    assert_eq!(rt; desk.journal().len(), 4);
-    assert!(rt; desk.history().kept().is_empty());
-    let stamps = (
-        stamp_of(alloc, &desk, b"a.c")?,
-        stamp_of(alloc, &desk, b"b.c")?,
-    );
-    assert_eq!(rt; stamps, (10, 20));
+    let told = counts_text(alloc, &desk)?;
+    assert!(rt; told.as_str() == "2 2 4 0; 10 20", "{told}");
     Ok(())
 }
 
 const PAUSED: &str = "rebug-trace 1\njobs 2\nstamp a.c 10\nstamp b.c 20\n\
 lane 0\nbreak touch a.c\ntouch a.c 11\ncontinue\nlane 1\ntouch b.c 21\n";
+
+// A desk's journal, and the events that it keeps.
+fn kept_text(alloc: Global, desk: &Desk) -> Result<String, Fail> {
+    let mut text = journal_text(alloc, desk)?;
+    text.push_str(&format!(in alloc; "{:?}", desk.history().kept())?)?;
+    Ok(text)
+}
 
 #[test]
 fn a_break_stops_the_other_lane(rt: HostRuntime) -> Result<(), Fail> {
@@ -55,9 +70,11 @@ fn a_break_stops_the_other_lane(rt: HostRuntime) -> Result<(), Fail> {
         second: Holding::new((0, 3), (1, 1), 1_000_000),
     };
     let desk = closed_desk(run(&rt, alloc, MANIFEST, PAUSED, &gate)?)?;
-    let told = journal_text(alloc, &desk)?;
-    assert_eq!(rt; told.as_str(), "0 ok; 0 ok break 1; 1 refused 92; 0 ok; ");
-    assert_eq!(rt; desk.history().kept(), [2].as_slice());
+    let told = kept_text(alloc, &desk)?;
+    assert!(rt;
+        told.as_str() == "0 ok; 0 ok break 1; 1 refused 92; 0 ok; [2]",
+        "{told}"
+    );
     Ok(())
 }
 
@@ -82,14 +99,22 @@ fn fault_of(outcome: Outcome) -> (u16, u32, usize) {
     }
 }
 
+// A desk whose journal takes one more entry, and a trace of two lanes that say one each.
+fn almost_full(alloc: Global) -> Result<(Desk, Trace), Fail> {
+    let trace = trace_of(alloc, LAST_ENTRIES)?;
+    let mut desk = desk_of(alloc, MANIFEST, &trace)?;
+    if !fill(&mut desk, Desk::MAX_ENTRIES - 1) {
+        return Err(Fail::from("a journal that is full too early"));
+    }
+    Ok((desk, trace))
+}
+
 #[test]
 fn a_full_journal_stops_a_lane(rt: HostRuntime) -> Result<(), Fail> {
     let alloc = rt.alloc();
-    let trace = trace_of(alloc, LAST_ENTRIES)?;
-    let mut desk = desk_of(alloc, MANIFEST, &trace)?;
-    assert!(rt; fill(&mut desk, Desk::MAX_ENTRIES - 1));
+    let (desk, trace) = almost_full(alloc)?;
     let gate = Holding::new((1, 1), (0, 1), 1_000_000);
     let fault = fault_of(run_desk(&rt, alloc, desk, trace, &gate));
-    assert_eq!(rt; fault, (112, 1, 1_048_576));
+    assert!(rt; fault == (112, 1, 1_048_576), "{fault:?}");
     Ok(())
 }

@@ -179,7 +179,8 @@ fn a_paused_desk_comes_back_equal(rt: HostRuntime) -> Result<(), Fail> {
             .starts_with("true [1, 3, 4] break 2 Finish("),
         "{before}"
     );
-    assert_eq!(rt; after?.as_str(), before.as_str());
+    let after = after?;
+    assert!(rt; after.as_str() == before.as_str(), "{after}");
     Ok(())
 }
 
@@ -233,10 +234,10 @@ fn a_closed_desk_goes_back_to_its_opening(rt: HostRuntime) -> Result<(), Fail> {
     let alloc = rt.alloc();
     let desk = said_desk(alloc, PAUSED, &PAUSED_BY)?;
     let (code, cells) = backed_after(alloc, closed(alloc, desk))?;
-    assert_eq!(rt; code, 86);
+    assert!(rt; code == 86);
     let opening = opening_text(alloc, new_desk(alloc, PAUSED)?)?;
     assert!(rt; opening.as_str().starts_with("Stamp("), "{opening}");
-    assert_eq!(rt; cells.as_str(), opening.as_str());
+    assert!(rt; cells.as_str() == opening.as_str(), "{cells}");
     Ok(())
 }
 
@@ -339,14 +340,14 @@ fn taken_in_turn<R: Wait>(
 #[test]
 fn what_a_lane_has_seen_rises(rt: HostRuntime) -> Result<(), Fail> {
     let (seen, closed) = taken_in_turn(&rt, rt.alloc(), false)?;
-    assert_eq!(rt; seen.as_slice(), [1, 2, 3, 4, 5, 6].as_slice());
-    assert_eq!(rt; closed, (0, 0));
+    assert!(rt; seen.as_slice() == [1, 2, 3, 4, 5, 6].as_slice());
+    assert!(rt; closed == (0, 0));
     Ok(())
 }
 
 #[test]
 fn a_lane_that_is_left_out_is_missing(rt: HostRuntime) -> Result<(), Fail> {
     let (_seen, closed) = taken_in_turn(&rt, rt.alloc(), true)?;
-    assert_eq!(rt; closed, (110, 1));
+    assert!(rt; closed == (110, 1));
     Ok(())
 }

@@ -20,22 +20,24 @@ build g.h: gen\nbuild grp: phony || g.h\nbuild x.o: cc x.c || grp\n";
 const BY_INPUT: &str = "rebug-trace 1\njobs 2\nstamp x.c 5\n\
 lane 0\nplan x.o\nstart g.h 0\nfinish g.h 7\npass grp\nlane 1\nstart x.o 1\n";
 
+// Manifests and traces, and what their lanes are told.
+const BLOCKED: &[(&str, &str, &str)] = &[
+    (MANIFEST, BY_JOB, "0 ok; 0 ok; 0 ok; 1 ok; "),
+    (POOLS, BY_SLOT, "0 ok; 0 ok; 0 ok; 1 ok; "),
+    (HEADER, BY_INPUT, "0 ok; 0 ok; 0 ok; 0 ok; 1 ok; "),
+];
+
 #[test]
 fn a_blocked_start_is_served(rt: HostRuntime) -> Result<(), Fail> {
-    let alloc = rt.alloc();
-    for (manifest, trace, wanted) in [
-        (MANIFEST, BY_JOB, "0 ok; 0 ok; 0 ok; 1 ok; "),
-        (POOLS, BY_SLOT, "0 ok; 0 ok; 0 ok; 1 ok; "),
-        (HEADER, BY_INPUT, "0 ok; 0 ok; 0 ok; 0 ok; 1 ok; "),
-    ] {
+    for (manifest, trace, wanted) in BLOCKED {
         // Lane 1 is let in once lane 0 has started something. Lane 0 goes on where lane 1 has been told something, or
         // after so many turns.
         let gate = Both {
             first: Holding::new((1, 1), (0, 2), 1_000_000),
             second: Holding::new((0, 3), (1, 1), 100_000),
         };
-        let told = told_text(&rt, alloc, manifest, trace, &gate)?;
-        assert_eq!(rt; told.as_str(), wanted);
+        let told = told_text(&rt, rt.alloc(), manifest, trace, &gate)?;
+        assert!(rt; told.as_str() == *wanted, "{told}");
     }
     Ok(())
 }
@@ -47,6 +49,6 @@ lane 0\nplan app\nlane 1\nstart app 0\n";
 fn a_stall_is_refused(rt: HostRuntime) -> Result<(), Fail> {
     let gate = Holding::new((1, 1), (0, 1), 1_000_000);
     let told = told_text(&rt, rt.alloc(), MANIFEST, STALLED, &gate)?;
-    assert_eq!(rt; told.as_str(), "0 ok; 1 refused 68 0; ");
+    assert!(rt; told.as_str() == "0 ok; 1 refused 68 0; ", "{told}");
     Ok(())
 }

@@ -12,43 +12,43 @@ use std::process::ExitCode;
 use std::rt::{Env, Files};
 
 // Why no count is printed.
-#[derive(Debug, Drop)]
+#[derive(Clone, Copy, Debug, PartialEq, Eq)]
 enum CountFault {
     // The words, a file, or the standard output.
-    Io(std::io::Error),
+    Io,
     // The manifest.
-    Manifest(ReadFault),
+    Manifest,
     // Its graph.
-    Graph(GraphFault),
+    Graph,
 }
 
 impl From<std::io::Error> for CountFault {
-    fn from(error: std::io::Error) -> CountFault {
-        CountFault::Io(error)
+    fn from(_error: std::io::Error) -> CountFault {
+        CountFault::Io
     }
 }
 
 impl From<std::alloc::AllocError> for CountFault {
     fn from(_e: std::alloc::AllocError) -> CountFault {
-        CountFault::Manifest(ReadFault::Memory)
+        CountFault::Manifest
     }
 }
 
 impl<T: Drop> From<std::alloc::AllocFailed<T>> for CountFault {
     fn from(_e: std::alloc::AllocFailed<T>) -> CountFault {
-        CountFault::Manifest(ReadFault::Memory)
+        CountFault::Manifest
     }
 }
 
 impl From<ReadFault> for CountFault {
-    fn from(fault: ReadFault) -> CountFault {
-        CountFault::Manifest(fault)
+    fn from(_fault: ReadFault) -> CountFault {
+        CountFault::Manifest
     }
 }
 
 impl From<GraphFault> for CountFault {
-    fn from(fault: GraphFault) -> CountFault {
-        CountFault::Graph(fault)
+    fn from(_fault: GraphFault) -> CountFault {
+        CountFault::Graph
     }
 }
 
@@ -63,33 +63,51 @@ fn outputs(manifest: &Manifest) -> usize {
     count
 }
 
+fn content_of<R: Files + AllocGlobal>(rt: &R, name: &str) -> Result<Vec<u8>, CountFault> {
+    let mut content = Vec::new(rt.alloc());
+    fs::open(rt, name)?.read_to_end(&mut content)?;
+    content.shrink_to_fit();
+    Ok(content)
+}
+
+fn manifest_of<R: Files + AllocGlobal>(rt: &R, names: &[String]) -> Result<Manifest, CountFault> {
+    let alloc = rt.alloc();
+    let mut files = Vec::new(alloc);
+    for name in names {
+        let content = content_of(rt, name)?;
+        files.push((Vec::from_slice(alloc, name.as_bytes())?, content))?;
+    }
+    Ok(read(alloc, &files)?)
+}
+
+fn print_graph<R: Print + AllocGlobal>(rt: &R, manifest: &Manifest) -> Result<(), CountFault> {
+    let graph = Graph::build(rt.alloc(), manifest)?;
+    println!(rt; "graph of {} edges", graph.edges())?;
+    Ok(())
+}
+
+fn print_counts<R: Print>(rt: &R, manifest: &Manifest) -> Result<(), CountFault> {
+    println!(rt;
+        "edges {} outputs {} pools {} defaults {}",
+        manifest.builds().len(),
+        outputs(manifest),
+        manifest.pools().len(),
+        manifest.defaults().len()
+    )?;
+    Ok(())
+}
+
 // Prints the counts of the manifest that these files are.
 fn count<R: Files + Print + AllocGlobal>(
     rt: &R,
     names: &[String],
     with_graph: bool,
 ) -> Result<(), CountFault> {
-    let alloc = rt.alloc();
-    let mut files = Vec::new(alloc);
-    for name in names {
-        let mut content = Vec::new(alloc);
-        fs::open(rt, name.as_str())?.read_to_end(&mut content)?;
-        content.shrink_to_fit();
-        files.push((Vec::from_slice(alloc, name.as_bytes())?, content))?;
-    }
-    let manifest = read(alloc, &files)?;
+    let manifest = manifest_of(rt, names)?;
     if with_graph {
-        let graph = Graph::build(alloc, &manifest)?;
-        println!(rt; "graph of {} edges", graph.edges())?;
+        print_graph(rt, &manifest)?;
     }
-    println!(rt;
-        "edges {} outputs {} pools {} defaults {}",
-        manifest.builds().len(),
-        outputs(&manifest),
-        manifest.pools().len(),
-        manifest.defaults().len()
-    )?;
-    Ok(())
+    print_counts(rt, &manifest)
 }
 
 // Counts the manifests one after another.

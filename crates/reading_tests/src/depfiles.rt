@@ -35,139 +35,151 @@ fn agree(rt: &impl Abort, alloc: Global, cases: &[(&[u8], &[u8])]) -> Result<(),
     Ok(())
 }
 
+const SEPARATING_COLONS: &[(&[u8], &[u8])] = &[
+    (b"a.o: b", b"b"),
+    (b"a.o : b : c:d", b"b|:|c:d"),
+    (b"a.o:", b""),
+    (b"a.o:\\\n b", b"b"),
+];
+
 #[test]
 fn separating_colons(rt: HostRuntime) -> Result<(), Fail> {
-    let cases: [(&[u8], &[u8]); 4] = [
-        (b"a.o: b", b"b"),
-        (b"a.o : b : c:d", b"b|:|c:d"),
-        (b"a.o:", b""),
-        (b"a.o:\\\n b", b"b"),
-    ];
-    agree(&rt, rt.alloc(), &cases)
+    agree(&rt, rt.alloc(), SEPARATING_COLONS)
 }
+
+const LATER_COLONS_ARE_BYTES: &[(&[u8], &[u8])] = &[
+    (b"a.o: b: c", b"b:|c"),
+    (b"a.o:b: c", b"OtherTarget(0)"),
+    (b"a.o: C:/k.h C\\:/k.h", b"C:/k.h"),
+    (b"a.o: b\\: c\\:d", b"b\\:|c:d"),
+];
 
 #[test]
 fn later_colons_are_bytes(rt: HostRuntime) -> Result<(), Fail> {
-    let cases: [(&[u8], &[u8]); 4] = [
-        (b"a.o: b: c", b"b:|c"),
-        (b"a.o:b: c", b"OtherTarget(0)"),
-        (b"a.o: C:/k.h C\\:/k.h", b"C:/k.h"),
-        (b"a.o: b\\: c\\:d", b"b\\:|c:d"),
-    ];
-    agree(&rt, rt.alloc(), &cases)
+    agree(&rt, rt.alloc(), LATER_COLONS_ARE_BYTES)
 }
+
+const LINES: &[(&[u8], &[u8])] = &[
+    (b"\n \t\n\\\n\na.o: b\n\na.o: c\n", b"b|c"),
+    (b"a.o: b\r\na.o: c\r\n", b"b|c"),
+    (b"a.o: b\rc\n", b"b\rc"),
+    (b"a.o: b \\\r\n c \\\n d", b"b|c|d"),
+];
 
 #[test]
 fn lines(rt: HostRuntime) -> Result<(), Fail> {
-    let cases: [(&[u8], &[u8]); 4] = [
-        (b"\n \t\n\\\n\na.o: b\n\na.o: c\n", b"b|c"),
-        (b"a.o: b\r\na.o: c\r\n", b"b|c"),
-        (b"a.o: b\rc\n", b"b\rc"),
-        (b"a.o: b \\\r\n c \\\n d", b"b|c|d"),
-    ];
-    agree(&rt, rt.alloc(), &cases)
+    agree(&rt, rt.alloc(), LINES)
 }
+
+const BACKSLASHES_BEFORE_LINE_ENDS: &[(&[u8], &[u8])] = &[
+    (b"a.o: b\\\\\n c", b"b\\|c"),
+    (b"a.o: b\\\\\\\r\n c", b"b\\\\|c"),
+    (b"a.o: b\\\r\r\n", b"b\\\r"),
+];
 
 #[test]
 fn backslashes_before_line_ends(rt: HostRuntime) -> Result<(), Fail> {
-    let cases: [(&[u8], &[u8]); 3] = [
-        (b"a.o: b\\\\\n c", b"b\\|c"),
-        (b"a.o: b\\\\\\\r\n c", b"b\\\\|c"),
-        (b"a.o: b\\\r\r\n", b"b\\\r"),
-    ];
-    agree(&rt, rt.alloc(), &cases)
+    agree(&rt, rt.alloc(), BACKSLASHES_BEFORE_LINE_ENDS)
 }
+
+const BACKSLASHES_BEFORE_BLANKS: &[(&[u8], &[u8])] = &[
+    (b"a.o: b\\ c", b"b c"),
+    (b"a.o: b\\\\ c", b"b\\\\|c"),
+    (b"a.o: b\\\\\\ c", b"b\\ c"),
+    (b"a.o: b\\\tc", b"b\\|c"),
+];
 
 #[test]
 fn backslashes_before_blanks(rt: HostRuntime) -> Result<(), Fail> {
-    let cases: [(&[u8], &[u8]); 4] = [
-        (b"a.o: b\\ c", b"b c"),
-        (b"a.o: b\\\\ c", b"b\\\\|c"),
-        (b"a.o: b\\\\\\ c", b"b\\ c"),
-        (b"a.o: b\\\tc", b"b\\|c"),
-    ];
-    agree(&rt, rt.alloc(), &cases)
+    agree(&rt, rt.alloc(), BACKSLASHES_BEFORE_BLANKS)
 }
+
+const BACKSLASHES_BEFORE_SIGNS: &[(&[u8], &[u8])] = &[
+    (b"a.o: \\#b c\\\\#d #e", b"#b|c\\#d|#e"),
+    (b"a.o: b\\c d\\", b"b\\c|d\\"),
+    (b"a.o: $$b $x c$$$d", b"$b|$x|c$$d"),
+];
 
 #[test]
 fn backslashes_before_signs(rt: HostRuntime) -> Result<(), Fail> {
-    let cases: [(&[u8], &[u8]); 3] = [
-        (b"a.o: \\#b c\\\\#d #e", b"#b|c\\#d|#e"),
-        (b"a.o: b\\c d\\", b"b\\c|d\\"),
-        (b"a.o: $$b $x c$$$d", b"$b|$x|c$$d"),
-    ];
-    agree(&rt, rt.alloc(), &cases)
+    agree(&rt, rt.alloc(), BACKSLASHES_BEFORE_SIGNS)
 }
+
+const TARGETS: &[(&[u8], &[u8])] = &[
+    (b"b.o a.o c.o: d", b"d"),
+    (b"./x/../a.o: d", b"d"),
+    (b"a.o: b\nb.h:\nc.h: ", b"b"),
+    (b"\\a.o: b", b"OtherTarget(0)"),
+];
 
 #[test]
 fn targets(rt: HostRuntime) -> Result<(), Fail> {
-    let cases: [(&[u8], &[u8]); 4] = [
-        (b"b.o a.o c.o: d", b"d"),
-        (b"./x/../a.o: d", b"d"),
-        (b"a.o: b\nb.h:\nc.h: ", b"b"),
-        (b"\\a.o: b", b"OtherTarget(0)"),
-    ];
-    agree(&rt, rt.alloc(), &cases)
+    agree(&rt, rt.alloc(), TARGETS)
 }
+
+const OTHER_TARGETS: &[(&[u8], &[u8])] = &[
+    (b"a.o: b\n b.o c.o: d", b"OtherTarget(8)"),
+    (b"a.o: b\n : d", b"OtherTarget(8)"),
+    (b":", b""),
+];
 
 #[test]
 fn other_targets(rt: HostRuntime) -> Result<(), Fail> {
-    let cases: [(&[u8], &[u8]); 3] = [
-        (b"a.o: b\n b.o c.o: d", b"OtherTarget(8)"),
-        (b"a.o: b\n : d", b"OtherTarget(8)"),
-        (b":", b""),
-    ];
-    agree(&rt, rt.alloc(), &cases)
+    agree(&rt, rt.alloc(), OTHER_TARGETS)
 }
+
+const MISSING_COLONS: &[(&[u8], &[u8])] = &[
+    (b"a.o b", b"NoColon(0)"),
+    (b"a.o: b\n  \\#c d", b"NoColon(9)"),
+    (b"a.o: b\nb.o: c\nd", b"OtherTarget(7)"),
+];
 
 #[test]
 fn missing_colons(rt: HostRuntime) -> Result<(), Fail> {
-    let cases: [(&[u8], &[u8]); 3] = [
-        (b"a.o b", b"NoColon(0)"),
-        (b"a.o: b\n  \\#c d", b"NoColon(9)"),
-        (b"a.o: b\nb.o: c\nd", b"OtherTarget(7)"),
-    ];
-    agree(&rt, rt.alloc(), &cases)
+    agree(&rt, rt.alloc(), MISSING_COLONS)
 }
+
+const FIRST_MENTIONS: &[(&[u8], &[u8])] = &[
+    (b"a.o: b ./b c b\na.o: x/../c d", b"b|c|d"),
+    (b"a.o: a.o ../b /..", b"a.o|../b|/"),
+];
 
 #[test]
 fn first_mentions(rt: HostRuntime) -> Result<(), Fail> {
-    let cases: [(&[u8], &[u8]); 2] = [
-        (b"a.o: b ./b c b\na.o: x/../c d", b"b|c|d"),
-        (b"a.o: a.o ../b /..", b"a.o|../b|/"),
-    ];
-    agree(&rt, rt.alloc(), &cases)
+    agree(&rt, rt.alloc(), FIRST_MENTIONS)
 }
+
+const WORDS_OF_SEVERAL_KINDS: &[(&[u8], &[u8])] = &[
+    (
+        b"a.o: a.c \\\n my\\ h.h $$x C:/k.h\nmy\\ h.h:\n",
+        b"a.c|my h.h|$x|C:/k.h",
+    ),
+    (b"a.o: C\\:/k.h d\\\\ e\\\\\\ f", b"C:/k.h|d\\\\|e\\ f"),
+];
 
 #[test]
 fn words_of_several_kinds(rt: HostRuntime) -> Result<(), Fail> {
-    let cases: [(&[u8], &[u8]); 2] = [
-        (
-            b"a.o: a.c \\\n my\\ h.h $$x C:/k.h\nmy\\ h.h:\n",
-            b"a.c|my h.h|$x|C:/k.h",
-        ),
-        (b"a.o: C\\:/k.h d\\\\ e\\\\\\ f", b"C:/k.h|d\\\\|e\\ f"),
-    ];
-    agree(&rt, rt.alloc(), &cases)
+    agree(&rt, rt.alloc(), WORDS_OF_SEVERAL_KINDS)
 }
+
+const CUT_TEXTS: &[(&[u8], &[u8])] = &[
+    (b"", b""),
+    (b"a", b"NoColon(0)"),
+    (b"a.", b"NoColon(0)"),
+    (b"a.o", b"NoColon(0)"),
+    (b"a.o:", b""),
+    (b"a.o: ", b""),
+    (b"a.o: b", b"b"),
+    (b"a.o: b\\", b"b\\"),
+    (b"a.o: b\\\n", b"b"),
+    (b"a.o: b\\\n ", b"b"),
+    (b"a.o: b\\\n c", b"b|c"),
+    (b"a.o: b\\\n c\n", b"b|c"),
+];
 
 #[test]
 fn cut_texts(rt: HostRuntime) -> Result<(), Fail> {
-    let cases: [(&[u8], &[u8]); 12] = [
-        (b"", b""),
-        (b"a", b"NoColon(0)"),
-        (b"a.", b"NoColon(0)"),
-        (b"a.o", b"NoColon(0)"),
-        (b"a.o:", b""),
-        (b"a.o: ", b""),
-        (b"a.o: b", b"b"),
-        (b"a.o: b\\", b"b\\"),
-        (b"a.o: b\\\n", b"b"),
-        (b"a.o: b\\\n ", b"b"),
-        (b"a.o: b\\\n c", b"b|c"),
-        (b"a.o: b\\\n c\n", b"b|c"),
-    ];
-    agree(&rt, rt.alloc(), &cases)
+    agree(&rt, rt.alloc(), CUT_TEXTS)
 }
 
 #[test]

@@ -39,6 +39,11 @@ fn answer_to(alloc: Global, contents: &[(&[u8], &[u8])]) -> Result<Answer, Alloc
     })
 }
 
+// What is read of one file.
+fn answer_to_one(alloc: Global, content: &[u8]) -> Result<Answer, AllocError> {
+    answer_to(alloc, &[(b"build.ninja", content)])
+}
+
 // The command of the first edge, none where there is no edge.
 fn first_command(alloc: Global, contents: &[(&[u8], &[u8])]) -> Result<Option<Vec<u8>>, Fail> {
     let files = given(alloc, contents)?;
@@ -106,56 +111,55 @@ fn a_manifest_cut_after_each_byte(rt: HostRuntime) -> Result<(), Fail> {
             ),
             _ => Fault(*code, 0, *line),
         };
-        assert_eq!(rt;
-            answer_to(rt.alloc(), &[(b"build.ninja", text)])?,
-            want,
-            "after {length} bytes"
-        );
+        let answer = answer_to_one(rt.alloc(), text)?;
+        assert!(rt; answer == want, "after {length} bytes");
     }
     Ok(())
 }
 
+const FAULTS: &[(&[u8], Answer)] = &[
+    (b"build x: nope\n", Fault(13, 0, 1)),
+    (b"rule r\n\tcommand = r\n", Fault(11, 0, 2)),
+    (b"a = $%\n", Fault(12, 0, 1)),
+    (b"rule r\n  depfile = d\n", Fault(16, 0, 1)),
+    (b"rule r\n  dyndep = d\n", Fault(22, 0, 1)),
+    (
+        b"rule r\n  command = $depfile\n  depfile = $command\nbuild x: r\n",
+        Fault(17, 0, 4),
+    ),
+    (b"include no.ninja\n", Fault(20, 0, 1)),
+    (b"pool p\n", Fault(19, 0, 1)),
+    (b"pool p\n  depth =\n", Fault(19, 0, 1)),
+    (b"pool p\n  depth = 1000001\n", Fault(19, 0, 1)),
+    (b"pool p\n  depth = 0001000000\n", Read(0, 2, 0)),
+    (b"pool p\n  depth = x\n  depth = 3\n", Read(0, 2, 0)),
+    (b"pool console\n  depth = 2\n", Fault(24, 0, 1)),
+    (b"pool p\n  depht = 2\n", Fault(15, 0, 1)),
+    (b"rule r\n  commando = x\n", Fault(15, 0, 1)),
+    (b"rule phony\n  dyndep = x\n", Fault(22, 0, 1)),
+    (b"rule phony\n", Fault(14, 0, 1)),
+    (b"dyndep = x\n", Fault(22, 0, 1)),
+    (b"include ./x/../build.ninja\n", Fault(21, 0, 1)),
+    (b"include $none\n", Fault(1, 0, 1)),
+    (b"default $none x\n", Fault(1, 0, 1)),
+    (b"build x: phony\n  dyndep = d\n", Fault(22, 0, 1)),
+    (b"build $none: nope\n", Fault(13, 0, 1)),
+    (
+        b"rule r\n  command = c\n  pool = p\nbuild x: r\n",
+        Fault(18, 0, 4),
+    ),
+    (
+        b"rule r\n  command = c\nbuild x: r\n  pool =\n",
+        Read(1, 1, 1),
+    ),
+    (b"build x: phony x y |@ z\nbuild z: phony\n", Read(2, 1, 2)),
+];
+
 #[test]
 fn faults_and_their_lines(rt: HostRuntime) -> Result<(), Fail> {
-    let cases: [(&[u8], Answer); 26] = [
-        (b"build x: nope\n", Fault(13, 0, 1)),
-        (b"rule r\n\tcommand = r\n", Fault(11, 0, 2)),
-        (b"a = $%\n", Fault(12, 0, 1)),
-        (b"rule r\n  depfile = d\n", Fault(16, 0, 1)),
-        (b"rule r\n  dyndep = d\n", Fault(22, 0, 1)),
-        (
-            b"rule r\n  command = $depfile\n  depfile = $command\nbuild x: r\n",
-            Fault(17, 0, 4),
-        ),
-        (b"include no.ninja\n", Fault(20, 0, 1)),
-        (b"pool p\n", Fault(19, 0, 1)),
-        (b"pool p\n  depth =\n", Fault(19, 0, 1)),
-        (b"pool p\n  depth = 1000001\n", Fault(19, 0, 1)),
-        (b"pool p\n  depth = 0001000000\n", Read(0, 2, 0)),
-        (b"pool p\n  depth = x\n  depth = 3\n", Read(0, 2, 0)),
-        (b"pool console\n  depth = 2\n", Fault(24, 0, 1)),
-        (b"pool p\n  depht = 2\n", Fault(15, 0, 1)),
-        (b"rule r\n  commando = x\n", Fault(15, 0, 1)),
-        (b"rule phony\n  dyndep = x\n", Fault(22, 0, 1)),
-        (b"rule phony\n", Fault(14, 0, 1)),
-        (b"dyndep = x\n", Fault(22, 0, 1)),
-        (b"include ./x/../build.ninja\n", Fault(21, 0, 1)),
-        (b"include $none\n", Fault(1, 0, 1)),
-        (b"default $none x\n", Fault(1, 0, 1)),
-        (b"build x: phony\n  dyndep = d\n", Fault(22, 0, 1)),
-        (b"build $none: nope\n", Fault(13, 0, 1)),
-        (
-            b"rule r\n  command = c\n  pool = p\nbuild x: r\n",
-            Fault(18, 0, 4),
-        ),
-        (
-            b"rule r\n  command = c\nbuild x: r\n  pool =\n",
-            Read(1, 1, 1),
-        ),
-        (b"build x: phony x y |@ z\nbuild z: phony\n", Read(2, 1, 2)),
-    ];
-    for (content, want) in cases {
-        assert_eq!(rt; answer_to(rt.alloc(), &[(b"build.ninja", content)])?, want);
+    for (content, want) in FAULTS {
+        let answer = answer_to_one(rt.alloc(), content)?;
+        assert!(rt; answer == *want, "{answer:?} {want:?}");
     }
     Ok(())
 }
@@ -165,7 +169,7 @@ fn files_and_their_scopes(rt: HostRuntime) -> Result<(), Fail> {
     let main: &[u8] = b"f = 1\nrule r\n  command = r $f $in\nsubninja s.ninja\nbuild y: r b\n";
     let nested: (&[u8], &[u8]) = (b"./s.ninja", b"f = 2\nbuild x: r a\n");
     let command = first_command(rt.alloc(), &[(b"build.ninja", main), nested])?;
-    assert_eq!(rt; command.as_deref(), Some(b"r 2 a".as_slice()));
+    assert!(rt; command.as_deref() == Some(b"r 2 a".as_slice()));
     Ok(())
 }
 
@@ -173,10 +177,8 @@ fn files_and_their_scopes(rt: HostRuntime) -> Result<(), Fail> {
 fn an_included_file_is_in_the_same_scope(rt: HostRuntime) -> Result<(), Fail> {
     let main: &[u8] = b"rule r\n  command = $f\ninclude i\nbuild y: r\n  unused = $\n";
     let included: (&[u8], &[u8]) = (b"i", b"f = 3\npool p\n");
-    assert_eq!(rt;
-        answer_to(rt.alloc(), &[(b"build.ninja", main), included])?,
-        Fault(19, 1, 2)
-    );
+    let answer = answer_to(rt.alloc(), &[(b"build.ninja", main), included])?;
+    assert!(rt; answer == Fault(19, 1, 2));
     Ok(())
 }
 
@@ -185,37 +187,45 @@ fn a_response_file_counts(rt: HostRuntime) -> Result<(), Fail> {
     let main: &[u8] =
         b"rule r\n  command = r @$out.rsp\n  rspfile = $out.rsp\n  rspfile_content = $in\nbuild o: r a$ b it's\n";
     let command = first_command(rt.alloc(), &[(b"build.ninja", main)])?;
-    assert_eq!(rt;
-        command.as_deref(),
-        Some(b"r @o.rsp;rspfile='a b' 'it'\\''s'".as_slice())
-    );
+    assert!(rt; command.as_deref() == Some(b"r @o.rsp;rspfile='a b' 'it'\\''s'".as_slice()));
     Ok(())
 }
 
+// What is read of the one edge of a file: the numbers of its explicit and implicit outputs, whether it keeps deps, has
+// restat and is a generator, its pool, and its line.
+fn edge_text(alloc: Global, content: &[u8]) -> Result<String, Fail> {
+    let files = given(alloc, &[(b"build.ninja", content)])?;
+    let manifest = read(alloc, &files)?;
+    let mut text = String::new(alloc);
+    for build in manifest.builds() {
+        let told = format!(in alloc;
+            "{} {} {} {} {} {:?} {}; ",
+            build.explicit_outs().len(),
+            build.implicit_outs().len(),
+            build.keeps_deps(),
+            build.restat(),
+            build.generator(),
+            build.pool(),
+            build.line()
+        )?;
+        text.push_str(&told)?;
+    }
+    Ok(text)
+}
+
+const EDGE: &[u8] =
+    b"pool p\n  depth = 0\nrule r\n  command = c\n  deps = gcc\n  restat = $x\n  pool = $which\nbuild d/../o ./o | o q: r i | j || k |@ v\n  generator = 1\n  which = p\n";
+
 #[test]
 fn an_edge(rt: HostRuntime) -> Result<(), Fail> {
-    let main: &[u8] =
-        b"pool p\n  depth = 0\nrule r\n  command = c\n  deps = gcc\n  restat = $x\n  pool = $which\nbuild d/../o ./o | o q: r i | j || k |@ v\n  generator = 1\n  which = p\n";
-    let files = given(rt.alloc(), &[(b"build.ninja", main)])?;
-    let manifest = read(rt.alloc(), &files)?;
-    assert_eq!(rt; manifest.builds().len(), 1);
-    for build in manifest.builds() {
-        assert_eq!(rt;
-            (build.explicit_outs().len(), build.implicit_outs().len()),
-            (1, 1)
-        );
-        assert_eq!(rt;
-            (build.keeps_deps(), build.restat(), build.generator()),
-            (true, false, true)
-        );
-        assert_eq!(rt; (build.pool(), build.line()), (Some(1), 8));
-    }
+    let told = edge_text(rt.alloc(), EDGE)?;
+    assert!(rt; told.as_str() == "1 1 true false true Some(1) 8; ");
     Ok(())
 }
 
 #[test]
 fn no_file(rt: HostRuntime) -> Result<(), Fail> {
-    assert_eq!(rt; answer_to(rt.alloc(), &[])?, Fault(20, 0, 0));
+    assert!(rt; answer_to(rt.alloc(), &[])? == Fault(20, 0, 0));
     Ok(())
 }
 
@@ -223,52 +233,53 @@ fn no_file(rt: HostRuntime) -> Result<(), Fail> {
 const DOUBLES: &[u8] =
     b"a0 = x\na1 = $a0$a0\na2 = $a1$a1\na3 = $a2$a2\na4 = $a3$a3\na5 = $a4$a4\na6 = $a5$a5\na7 = $a6$a6\na8 = $a7$a7\na9 = $a8$a8\na10 = $a9$a9\na11 = $a10$a10\na12 = $a11$a11\na13 = $a12$a12\na14 = $a13$a13\na15 = $a14$a14\na16 = $a15$a15\na17 = $a16$a16\na18 = $a17$a17\na19 = $a18$a18\na20 = $a19$a19\n";
 
+// What is read of the doubles, and more behind them.
+fn answer_behind_doubles(alloc: Global, more: &[u8]) -> Result<Answer, AllocError> {
+    let mut content = Vec::from_slice(alloc, DOUBLES)?;
+    content.extend_from_slice(more)?;
+    answer_to_one(alloc, &content)
+}
+
+const BEHIND_DOUBLES: &[(&[u8], Answer)] = &[
+    (b"", Read(0, 1, 0)),
+    (b"build $a20: phony\n", Fault(2, 0, 22)),
+    (b"a21 = $a20$a20\n", Fault(23, 0, 22)),
+];
+
 #[test]
 fn values_up_to_their_limit(rt: HostRuntime) -> Result<(), Fail> {
-    let alloc = rt.alloc();
-    let mut content = Vec::from_slice(alloc, DOUBLES)?;
-    assert_eq!(rt;
-        answer_to(alloc, &[(b"build.ninja", &content)])?,
-        Read(0, 1, 0)
-    );
-    content.extend_from_slice(b"build $a20: phony\n")?;
-    assert_eq!(rt;
-        answer_to(alloc, &[(b"build.ninja", &content)])?,
-        Fault(2, 0, 22)
-    );
-    let mut content = Vec::from_slice(alloc, DOUBLES)?;
-    content.extend_from_slice(b"a21 = $a20$a20\n")?;
-    assert_eq!(rt;
-        answer_to(alloc, &[(b"build.ninja", &content)])?,
-        Fault(23, 0, 22)
-    );
+    for (more, want) in BEHIND_DOUBLES {
+        let answer = answer_behind_doubles(rt.alloc(), more)?;
+        assert!(rt; answer == *want, "{answer:?} {want:?}");
+    }
     Ok(())
 }
 
+const NESTED: &[(&[u8], &[u8])] = &[
+    (b"a", b"include b\n"),
+    (b"b", b"subninja c\n"),
+    (b"c", b"include d\n"),
+    (b"d", b"include e\n"),
+    (b"e", b"include f\n"),
+    (b"f", b"include g\n"),
+    (b"g", b"include h\n"),
+    (b"h", b"include i\n"),
+    (b"i", b"include j\n"),
+    (b"j", b"include k\n"),
+    (b"k", b"include l\n"),
+    (b"l", b"include m\n"),
+    (b"m", b"include n\n"),
+    (b"n", b"include o\n"),
+    (b"o", b"include p\n"),
+    (b"p", b"include q\n"),
+    (b"q", b"include r\n"),
+    (b"r", b"build x: phony\n"),
+];
+
 #[test]
 fn files_in_one_another(rt: HostRuntime) -> Result<(), Fail> {
-    let files: [(&[u8], &[u8]); 18] = [
-        (b"a", b"include b\n"),
-        (b"b", b"subninja c\n"),
-        (b"c", b"include d\n"),
-        (b"d", b"include e\n"),
-        (b"e", b"include f\n"),
-        (b"f", b"include g\n"),
-        (b"g", b"include h\n"),
-        (b"h", b"include i\n"),
-        (b"i", b"include j\n"),
-        (b"j", b"include k\n"),
-        (b"k", b"include l\n"),
-        (b"l", b"include m\n"),
-        (b"m", b"include n\n"),
-        (b"n", b"include o\n"),
-        (b"o", b"include p\n"),
-        (b"p", b"include q\n"),
-        (b"q", b"include r\n"),
-        (b"r", b"build x: phony\n"),
-    ];
-    assert_eq!(rt; answer_to(rt.alloc(), &files)?, Fault(21, 16, 1));
-    let (_, below) = files.as_slice().split_at(1);
-    assert_eq!(rt; answer_to(rt.alloc(), below)?, Read(1, 1, 1));
+    assert!(rt; answer_to(rt.alloc(), NESTED)? == Fault(21, 16, 1));
+    let (_, below) = NESTED.split_at(1);
+    assert!(rt; answer_to(rt.alloc(), below)? == Read(1, 1, 1));
     Ok(())
 }

@@ -1,135 +1,139 @@
 // Paths as files are named, quoted, and interned.
 use rev_paths::{Name, PathFault, Paths, is_unquoted, quoted};
+use std::alloc::Global;
 use std::cmp::Ordering;
 use std::test::Fail;
 
-#[test]
-fn parent_parts_are_resolved(rt: HostRuntime) -> Result<(), Fail> {
-    let alloc = rt.alloc();
-    assert_eq!(rt;
-        Name::new(alloc, b"./a//b/../c")?.as_bytes(),
-        b"a/c".as_slice()
-    );
-    assert_eq!(rt; Name::new(alloc, b"a/..")?.as_bytes(), b".".as_slice());
-    assert_eq!(rt;
-        Name::new(alloc, b"../../a")?.as_bytes(),
-        b"../../a".as_slice()
-    );
-    Ok(())
+// The canonical form of a path.
+fn named(alloc: Global, path: &[u8]) -> Result<Name, Fail> {
+    let name = Name::new(alloc, path)?;
+    Ok(name)
 }
 
-#[test]
-fn root_has_no_parent(rt: HostRuntime) -> Result<(), Fail> {
-    let alloc = rt.alloc();
-    assert_eq!(rt; Name::new(alloc, b"/..")?.as_bytes(), b"/".as_slice());
-    assert_eq!(rt; Name::new(alloc, b"/../a/")?.as_bytes(), b"/a".as_slice());
-    Ok(())
-}
+const NAMES: &[(&[u8], &[u8])] = &[
+    // Parent parts are resolved.
+    (b"./a//b/../c", b"a/c"),
+    (b"a/..", b"."),
+    (b"../../a", b"../../a"),
+    // The root has no parent.
+    (b"/..", b"/"),
+    (b"/../a/", b"/a"),
+];
 
 #[test]
-fn longest_path_is_kept(rt: HostRuntime) -> Result<(), Fail> {
-    let alloc = rt.alloc();
-    let longest = vec![in alloc; b'a'; 4096]?;
-    let name = Name::new(alloc, &longest)?;
-    assert_eq!(rt; name.as_bytes(), longest.as_slice());
-    Ok(())
-}
-
-#[test]
-fn empty_and_longer_paths_are_refused(rt: HostRuntime) -> Result<(), Fail> {
-    let alloc = rt.alloc();
-    let longer = vec![in alloc; b'a'; 4097]?;
-    assert_eq!(rt;
-        Name::new(alloc, &longer).map_err(PathFault::code),
-        Err(Some(2))
-    );
-    assert_eq!(rt;
-        Name::new(alloc, b"").map_err(PathFault::code),
-        Err(Some(1))
-    );
-    Ok(())
-}
-
-#[test]
-fn names_of_one_file_are_equal(rt: HostRuntime) -> Result<(), Fail> {
-    let alloc = rt.alloc();
-    let name = Name::new(alloc, b"a/b")?;
-    assert_eq!(rt; name, Name::new(alloc, b"./a/b")?);
-    assert_eq!(rt; name.copy()?, name);
-    Ok(())
-}
-
-#[test]
-fn names_stand_in_order_of_bytes(rt: HostRuntime) -> Result<(), Fail> {
-    let alloc = rt.alloc();
-    let first = Name::new(alloc, b"a-b")?;
-    let second = Name::new(alloc, b"a/b")?;
-    assert!(rt; first < second);
-    assert_eq!(rt; second.cmp(&first), Ordering::Greater);
-    Ok(())
-}
-
-#[test]
-fn safe_paths_stand_as_they_are(rt: HostRuntime) -> Result<(), Fail> {
-    let alloc = rt.alloc();
-    let path = Name::new(alloc, b"../Src_1/a+b-c.o")?;
-    assert_eq!(rt;
-        quoted(alloc, &path)?.as_slice(),
-        b"../Src_1/a+b-c.o".as_slice()
-    );
-    assert!(rt; is_unquoted(&path));
-    Ok(())
-}
-
-#[test]
-fn other_paths_stand_between_quotes(rt: HostRuntime) -> Result<(), Fail> {
-    let alloc = rt.alloc();
-    let path = Name::new(alloc, b"it's a $x.o")?;
-    assert_eq!(rt;
-        quoted(alloc, &path)?.as_slice(),
-        b"'it'\\''s a $x.o'".as_slice()
-    );
-    assert!(rt; !is_unquoted(&path));
-    Ok(())
-}
-
-#[test]
-fn codes(rt: HostRuntime) {
-    assert_eq!(rt; PathFault::EmptyPath.code(), Some(1));
-    assert_eq!(rt; PathFault::LongPath.code(), Some(2));
-    assert_eq!(rt; PathFault::Memory.code(), None);
-}
-
-#[test]
-fn a_name_keeps_its_number(rt: HostRuntime) -> Result<(), Fail> {
-    let alloc = rt.alloc();
-    let a = Name::new(alloc, b"a")?;
-    let b = Name::new(alloc, b"b")?;
-    let mut paths = Paths::new(alloc);
-    assert_eq!(rt; paths.intern(&a)?, 0);
-    assert_eq!(rt; paths.intern(&b)?, 1);
-    assert_eq!(rt; paths.intern(&a)?, 0);
-    Ok(())
-}
-
-#[test]
-fn a_name_is_found_by_its_number(rt: HostRuntime) -> Result<(), Fail> {
-    let alloc = rt.alloc();
-    let a = Name::new(alloc, b"a")?;
-    let mut paths = Paths::new(alloc);
-    paths.intern(&a)?;
-    assert_eq!(rt; paths.len(), 1);
-    assert_eq!(rt; paths.find(&a), Some(0));
-    if paths.len() == 1 {
-        assert_eq!(rt; paths.path(0), &a);
+fn parts_are_resolved(rt: HostRuntime) -> Result<(), Fail> {
+    for (path, wanted) in NAMES {
+        let name = named(rt.alloc(), path)?;
+        assert!(rt; name.as_bytes() == *wanted);
     }
     Ok(())
 }
 
 #[test]
-fn a_name_that_was_not_given_has_no_number(rt: HostRuntime) -> Result<(), Fail> {
-    let alloc = rt.alloc();
-    let paths = Paths::new(alloc);
-    assert_eq!(rt; paths.find(&Name::new(alloc, b"a")?), None);
+fn longest_path_is_kept(rt: HostRuntime) -> Result<(), Fail> {
+    let longest = vec![in rt.alloc(); b'a'; 4096]?;
+    let name = named(rt.alloc(), &longest)?;
+    assert!(rt; name.as_bytes() == longest.as_slice());
+    Ok(())
+}
+
+// The number of the fault of a path, which has one.
+fn code_of(alloc: Global, path: &[u8]) -> Result<Option<u16>, Fail> {
+    match Name::new(alloc, path) {
+        Ok(_) => Err(Fail::from("a name")),
+        Err(fault) => Ok(fault.code()),
+    }
+}
+
+#[test]
+fn empty_and_longer_paths_are_refused(rt: HostRuntime) -> Result<(), Fail> {
+    let longer = vec![in rt.alloc(); b'a'; 4097]?;
+    assert!(rt; code_of(rt.alloc(), &longer)? == Some(2));
+    assert!(rt; code_of(rt.alloc(), b"")? == Some(1));
+    Ok(())
+}
+
+fn same(alloc: Global, path: &[u8], other: &[u8]) -> Result<bool, Fail> {
+    let name = named(alloc, path)?;
+    Ok(name == named(alloc, other)? && name.copy()? == name)
+}
+
+#[test]
+fn names_of_one_file_are_equal(rt: HostRuntime) -> Result<(), Fail> {
+    assert!(rt; same(rt.alloc(), b"a/b", b"./a/b")?);
+    Ok(())
+}
+
+fn is_before(alloc: Global, path: &[u8], other: &[u8]) -> Result<bool, Fail> {
+    let first = named(alloc, path)?;
+    let second = named(alloc, other)?;
+    Ok(first < second && second.cmp(&first) == Ordering::Greater)
+}
+
+#[test]
+fn names_stand_in_order_of_bytes(rt: HostRuntime) -> Result<(), Fail> {
+    assert!(rt; is_before(rt.alloc(), b"a-b", b"a/b")?);
+    Ok(())
+}
+
+// A path as it stands in a command, and whether it stands there without quotes.
+fn quoted_text(alloc: Global, path: &[u8]) -> Result<(Vec<u8>, bool), Fail> {
+    let name = named(alloc, path)?;
+    let text = quoted(alloc, &name)?;
+    Ok((text, is_unquoted(&name)))
+}
+
+const QUOTED: &[(&[u8], &[u8], bool)] = &[
+    (b"../Src_1/a+b-c.o", b"../Src_1/a+b-c.o", true),
+    (b"it's a $x.o", b"'it'\\''s a $x.o'", false),
+];
+
+#[test]
+fn all_but_safe_paths_stand_between_quotes(rt: HostRuntime) -> Result<(), Fail> {
+    for (path, wanted, safe) in QUOTED {
+        let (text, is_unquoted) = quoted_text(rt.alloc(), path)?;
+        assert!(rt; text.as_slice() == *wanted && is_unquoted == *safe);
+    }
+    Ok(())
+}
+
+#[test]
+fn codes(rt: HostRuntime) {
+    assert!(rt; PathFault::EmptyPath.code() == Some(1));
+    assert!(rt; PathFault::LongPath.code() == Some(2));
+    assert!(rt; PathFault::Memory.code() == None);
+}
+
+// The number that a path gets.
+fn intern(alloc: Global, paths: &mut Paths, path: &[u8]) -> Result<u64, Fail> {
+    let name = named(alloc, path)?;
+    let number = paths.intern(&name)?;
+    Ok(number)
+}
+
+fn find(alloc: Global, paths: &Paths, path: &[u8]) -> Result<Option<u64>, Fail> {
+    let name = named(alloc, path)?;
+    Ok(paths.find(&name))
+}
+
+#[test]
+fn a_name_keeps_its_number(rt: HostRuntime) -> Result<(), Fail> {
+    let mut paths = Paths::new(rt.alloc());
+    for (path, wanted) in [(b"a", 0), (b"b", 1), (b"a", 0)] {
+        assert!(rt; intern(rt.alloc(), &mut paths, path)? == wanted);
+    }
+    Ok(())
+}
+
+#[test]
+fn a_name_is_found_by_its_number(rt: HostRuntime) -> Result<(), Fail> {
+    let mut paths = Paths::new(rt.alloc());
+    assert!(rt; find(rt.alloc(), &paths, b"a")? == None);
+    intern(rt.alloc(), &mut paths, b"a")?;
+    assert!(rt; find(rt.alloc(), &paths, b"a")? == Some(0));
+    assert!(rt; paths.len() == 1);
+    if paths.len() == 1 {
+        assert!(rt; paths.path(0).as_bytes() == b"a".as_slice());
+    }
     Ok(())
 }

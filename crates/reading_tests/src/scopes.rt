@@ -5,332 +5,398 @@ use rev_scopes::{
     compared_command, edge_variables, expand, expand_in_block,
 };
 use rev_syntax::Text;
-use std::alloc::Global;
+use std::alloc::{AllocError, Global};
+use std::process::Abort;
 use std::test::Fail;
 
-fn bytes(alloc: Global, text: &[u8]) -> Result<Vec<u8>, Fail> {
-    Ok(Vec::from_slice(alloc, text)?)
-}
-
-fn rule_of(alloc: Global, bindings: &[(RuleVariable, &[u8])]) -> Result<Rule, Fail> {
-    let mut texts = RuleTexts::new(alloc);
-    for (variable, text) in bindings {
-        let text = Text::new(text)?;
-        texts.bind(*variable, text.to_stored(alloc)?)?;
+// What stands before and behind the first byte of this value.
+fn cut(text: &[u8], byte: u8) -> (&[u8], &[u8]) {
+    match text.iter().position(|it| *it == byte) {
+        Some(at) => (&text[..at], &text[at + 1..]),
+        None => (text, &[]),
     }
-    Ok(texts.into_rule()?)
-}
-
-fn names_of(alloc: Global, paths: &[&[u8]]) -> Result<Vec<Name>, Fail> {
-    let mut names = Vec::new(alloc);
-    for path in paths {
-        names.push(Name::new(alloc, path)?)?;
-    }
-    Ok(names)
 }
 
 // A scope where `f` is 1, and one below it where `f` is 2.
-fn two_scopes(alloc: Global) -> Result<Scopes, Fail> {
+fn two_scopes(alloc: Global) -> Result<Scopes, AllocError> {
     let mut scopes = Scopes::new(alloc);
     let outer = scopes.add(alloc, None)?;
-    scopes.bind(alloc, outer, b"f", bytes(alloc, b"1")?)?;
+    scopes.bind(alloc, outer, b"f", Vec::from_slice(alloc, b"1")?)?;
     let inner = scopes.add(alloc, Some(outer))?;
-    scopes.bind(alloc, inner, b"f", bytes(alloc, b"2")?)?;
+    scopes.bind(alloc, inner, b"f", Vec::from_slice(alloc, b"2")?)?;
     Ok(scopes)
 }
 
-// The variables of an edge from `ins` to `o`.
-fn variables(
-    alloc: Global,
-    ins: &[&[u8]],
-    block: &Bindings,
-    rule: &Rule,
-    scopes: &Scopes,
-    scope: usize,
-) -> Result<Result<EdgeVariables, ValueFault>, Fail> {
-    if scope >= scopes.len() {
-        return Err(Fail::from("no scope of that number"));
-    }
-    let ins = names_of(alloc, ins)?;
-    let outs = names_of(alloc, &[b"o"])?;
-    Ok(edge_variables(
-        alloc,
-        &EdgeEnv {
-            ins: &ins,
-            outs: &outs,
-            block,
-            rule,
-            scopes,
-            scope,
-        },
-    ))
-}
-
-// The command of an edge of that rule, with one scope and no block.
-fn command(
-    alloc: Global,
-    ins: &[&[u8]],
-    bindings: &[(RuleVariable, &[u8])],
-) -> Result<Result<Vec<u8>, ValueFault>, Fail> {
-    let scopes = two_scopes(alloc)?;
-    let rule = rule_of(alloc, bindings)?;
-    let variables = variables(alloc, ins, &Bindings::new(alloc), &rule, &scopes, 0)?;
-    Ok(variables.map(|variables| variables.command))
-}
-
-#[test]
-fn a_scope_hides_its_parent(rt: HostRuntime) -> Result<(), Fail> {
-    let alloc = rt.alloc();
-    let scopes = two_scopes(alloc)?;
-    assert_eq!(rt; scopes.len(), 2);
-    assert_eq!(rt; scopes.variable(0, b"f"), b"1".as_slice());
-    assert_eq!(rt; scopes.variable(1, b"f"), b"2".as_slice());
-    assert_eq!(rt; scopes.variable(1, b"g"), b"".as_slice());
+// A line `VARIABLE=TEXT`.
+fn add_text(alloc: Global, texts: &mut RuleTexts, line: &[u8]) -> Result<(), Fail> {
+    let (name, text) = cut(line, b'=');
+    let variable = RuleVariable::named(name).ok_or("no variable of a rule")?;
+    let text = Text::new(text)?;
+    texts.bind(variable, text.to_stored(alloc)?)?;
     Ok(())
 }
 
-#[test]
-fn a_parent_gives_what_a_scope_has_not(rt: HostRuntime) -> Result<(), Fail> {
-    let alloc = rt.alloc();
+fn add_texts(alloc: Global, texts: &mut RuleTexts, lines: &str) -> Result<(), Fail> {
+    for line in lines.as_bytes().split(|byte| *byte == b'\n') {
+        if !line.is_empty() {
+            add_text(alloc, texts, line)?;
+        }
+    }
+    Ok(())
+}
+
+fn rule_of(alloc: Global, lines: &str) -> Result<Rule, Fail> {
+    let mut texts = RuleTexts::new(alloc);
+    add_texts(alloc, &mut texts, lines)?;
+    Ok(texts.into_rule()?)
+}
+
+// Lines `NAME=VALUE`.
+fn block_of(alloc: Global, lines: &str) -> Result<Bindings, AllocError> {
+    let mut block = Bindings::new(alloc);
+    for line in lines.as_bytes().split(|byte| *byte == b'\n') {
+        let (name, value) = cut(line, b'=');
+        block.bind(alloc, name, Vec::from_slice(alloc, value)?)?;
+    }
+    Ok(block)
+}
+
+fn push_answer(text: &mut Vec<u8>, answer: &[u8]) -> Result<(), AllocError> {
+    text.extend_from_slice(answer)?;
+    text.extend_from_slice(b"; ")
+}
+
+// What is told where a rule is added.
+fn push_added(
+    alloc: Global,
+    text: &mut Vec<u8>,
+    added: Result<(), RuleFault>,
+) -> Result<(), AllocError> {
+    match added {
+        Ok(()) => push_answer(text, b"ok"),
+        Err(fault) => {
+            let told = format!(in alloc; "{fault:?} {:?}", fault.code())?;
+            push_answer(text, told.as_bytes())
+        }
+    }
+}
+
+fn push_expanded(
+    alloc: Global,
+    text: &mut Vec<u8>,
+    scopes: &Scopes,
+    scope: usize,
+    said: &[u8],
+) -> Result<(), Fail> {
+    if scope >= scopes.len() {
+        return Err(Fail::from("no scope of that number"));
+    }
+    let value = expand(alloc, Text::new(said)?, scopes, scope)?;
+    push_answer(text, &value)?;
+    Ok(())
+}
+
+// A line `WORD SCOPE NAME` on scopes, where the scope is a digit.
+fn tell(alloc: Global, scopes: &mut Scopes, text: &mut Vec<u8>, line: &[u8]) -> Result<(), Fail> {
+    let (word, rest) = cut(line, b' ');
+    let (scope, said) = cut(rest, b' ');
+    let scope = usize::from(scope == b"1".as_slice());
+    if scope >= scopes.len() {
+        return Err(Fail::from("no scope of that number"));
+    }
+    match word {
+        b"variable" => push_answer(text, scopes.variable(scope, said))?,
+        b"has" if scopes.rule(scope, said).is_some() => push_answer(text, b"a rule")?,
+        b"has" => push_answer(text, b"none")?,
+        b"bind" => {
+            let (name, value) = cut(said, b'=');
+            scopes.bind(alloc, scope, name, Vec::from_slice(alloc, value)?)?;
+        }
+        b"rule" => {
+            let rule = rule_of(alloc, "")?;
+            let added = scopes.add_rule(alloc, scope, said, rule);
+            push_added(alloc, text, added)?;
+        }
+        _ => push_expanded(alloc, text, scopes, scope, said)?,
+    }
+    Ok(())
+}
+
+fn tell_all(alloc: Global, scopes: &mut Scopes, lines: &str) -> Result<Vec<u8>, Fail> {
+    let mut text = Vec::new(alloc);
+    for line in lines.split("; ") {
+        tell(alloc, scopes, &mut text, line.as_bytes())?;
+    }
+    Ok(text)
+}
+
+// What two scopes answer to lines that stand apart by `; `.
+fn told(alloc: Global, lines: &str) -> Result<Vec<u8>, Fail> {
     let mut scopes = two_scopes(alloc)?;
-    assert_eq!(rt; scopes.len(), 2);
-    scopes.bind(alloc, 0, b"g", bytes(alloc, b"3")?)?;
-    assert_eq!(rt; scopes.variable(1, b"g"), b"3".as_slice());
+    tell_all(alloc, &mut scopes, lines)
+}
+
+const SCOPES: &[(&str, &str)] = &[
+    // A scope hides its parent.
+    ("variable 0 f; variable 1 f; variable 1 g", "1; 2; ; "),
+    // A parent gives what a scope has not.
+    ("bind 0 g=3; variable 1 g", "3; "),
+    // A second rule of a name is refused, and so is `phony`.
+    (
+        "rule 0 r; rule 0 r; rule 1 r",
+        "ok; DoubleRule Some(14); ok; ",
+    ),
+    ("rule 0 phony", "DoubleRule Some(14); "),
+    // A rule is found in a parent.
+    ("rule 0 r; has 1 r; has 1 s", "ok; a rule; none; "),
+    // Texts are expanded as they are read.
+    ("expand 1 $f/${f}.$$f$g", "2/2.$f; "),
+];
+
+#[test]
+fn scopes_and_their_rules(rt: HostRuntime) -> Result<(), Fail> {
+    for (lines, wanted) in SCOPES {
+        let told = told(rt.alloc(), lines)?;
+        assert!(rt; told.as_slice() == wanted.as_bytes(), "{lines}");
+    }
     Ok(())
 }
 
 #[test]
 fn the_later_of_two_bindings_counts(rt: HostRuntime) -> Result<(), Fail> {
-    let alloc = rt.alloc();
-    let mut block = Bindings::new(alloc);
-    block.bind(alloc, b"a", bytes(alloc, b"1")?)?;
-    block.bind(alloc, b"a", bytes(alloc, b"2")?)?;
-    assert_eq!(rt; block.value(b"a"), Some(b"2".as_slice()));
-    assert_eq!(rt; block.value(b"b"), None);
+    let block = block_of(rt.alloc(), "a=1\na=2")?;
+    assert!(rt; block.value(b"a") == Some(b"2".as_slice()));
+    assert!(rt; block.value(b"b") == None);
     Ok(())
+}
+
+// Whether a copy of a rule has a text for each of two variables.
+fn texts_of_copy(alloc: Global, lines: &str) -> Result<(bool, bool), Fail> {
+    let rule = rule_of(alloc, lines)?;
+    let copy = rule.copy()?;
+    Ok((
+        copy.text(b"command").is_some(),
+        copy.text(b"depfile").is_some(),
+    ))
 }
 
 #[test]
 fn a_rule_has_one_text_for_each_variable(rt: HostRuntime) -> Result<(), Fail> {
-    let alloc = rt.alloc();
-    let rule = rule_of(
-        alloc,
-        &[
-            (RuleVariable::Command, b"one"),
-            (RuleVariable::Command, b"two"),
-        ],
-    )?;
-    let copy = rule.copy()?;
-    assert!(rt; copy.text(b"command").is_some());
-    assert!(rt; copy.text(b"depfile").is_none());
+    let found = texts_of_copy(rt.alloc(), "command=one\ncommand=two")?;
+    assert!(rt; found == (true, false));
     Ok(())
 }
 
-#[test]
-fn a_second_rule_of_a_name_is_refused(rt: HostRuntime) -> Result<(), Fail> {
-    let alloc = rt.alloc();
-    let mut scopes = two_scopes(alloc)?;
-    assert_eq!(rt; scopes.len(), 2);
-    scopes.add_rule(alloc, 0, b"r", rule_of(alloc, &[])?)?;
-    assert_eq!(rt;
-        scopes.add_rule(alloc, 0, b"r", rule_of(alloc, &[])?),
-        Err(RuleFault::DoubleRule)
-    );
-    scopes.add_rule(alloc, 1, b"r", rule_of(alloc, &[])?)?;
-    Ok(())
-}
-
-#[test]
-fn phony_is_no_name_of_a_rule(rt: HostRuntime) -> Result<(), Fail> {
-    let alloc = rt.alloc();
-    let mut scopes = two_scopes(alloc)?;
-    assert_eq!(rt; scopes.len(), 2);
-    let added = scopes.add_rule(alloc, 0, b"phony", rule_of(alloc, &[])?);
-    assert_eq!(rt; added.map_err(RuleFault::code), Err(Some(14)));
-    Ok(())
-}
-
-#[test]
-fn a_rule_is_found_in_a_parent(rt: HostRuntime) -> Result<(), Fail> {
-    let alloc = rt.alloc();
-    let mut scopes = two_scopes(alloc)?;
-    assert_eq!(rt; scopes.len(), 2);
-    scopes.add_rule(alloc, 0, b"r", rule_of(alloc, &[])?)?;
-    assert!(rt; scopes.rule(1, b"r").is_some());
-    assert!(rt; scopes.rule(1, b"s").is_none());
-    Ok(())
-}
-
-#[test]
-fn texts_are_expanded_as_they_are_read(rt: HostRuntime) -> Result<(), Fail> {
-    let alloc = rt.alloc();
+// The value of a text in the outer scope, behind a block.
+fn expanded(
+    alloc: Global,
+    block: &Bindings,
+    text: &[u8],
+) -> Result<Result<Vec<u8>, ValueFault>, Fail> {
     let scopes = two_scopes(alloc)?;
-    assert_eq!(rt; scopes.len(), 2);
-    let value = expand(alloc, Text::new(b"$f/${f}.$$f$g")?, &scopes, 1)?;
-    assert_eq!(rt; value.as_slice(), b"2/2.$f".as_slice());
-    Ok(())
+    if scopes.len() == 0 {
+        return Err(Fail::from("no scope"));
+    }
+    Ok(expand_in_block(alloc, Text::new(text)?, block, &scopes, 0))
 }
 
 #[test]
 fn a_block_comes_before_the_scopes(rt: HostRuntime) -> Result<(), Fail> {
-    let alloc = rt.alloc();
-    let scopes = two_scopes(alloc)?;
-    assert_eq!(rt; scopes.len(), 2);
-    let mut block = Bindings::new(alloc);
-    block.bind(alloc, b"f", bytes(alloc, b"3")?)?;
-    let value = expand_in_block(alloc, Text::new(b"$f")?, &block, &scopes, 0)?;
-    assert_eq!(rt; value.as_slice(), b"3".as_slice());
+    let block = block_of(rt.alloc(), "f=3")?;
+    let value = expanded(rt.alloc(), &block, b"$f")?;
+    assert!(rt; value?.as_slice() == b"3".as_slice());
     Ok(())
 }
 
 // The length of a value that is twice that many bytes and these, or its fault.
 fn doubled(alloc: Global, half: usize, more: &[u8]) -> Result<Result<usize, ValueFault>, Fail> {
-    let scopes = two_scopes(alloc)?;
     let mut block = Bindings::new(alloc);
     block.bind(alloc, b"a", vec![in alloc; b'x'; half]?)?;
-    if scopes.len() == 0 {
-        return Err(Fail::from("no scope"));
-    }
-    Ok(expand_in_block(alloc, Text::new(more)?, &block, &scopes, 0).map(|value| value.len()))
+    Ok(expanded(alloc, &block, more)?.map(|value| value.len()))
 }
 
 #[test]
 fn the_largest_value_is_accepted(rt: HostRuntime) -> Result<(), Fail> {
-    let alloc = rt.alloc();
-    assert_eq!(rt; doubled(alloc, 524_288, b"$a$a")?, Ok(1_048_576));
+    assert!(rt; doubled(rt.alloc(), 524_288, b"$a$a")? == Ok(1_048_576));
     Ok(())
 }
 
 #[test]
 fn one_byte_more_is_too_large(rt: HostRuntime) -> Result<(), Fail> {
-    let alloc = rt.alloc();
-    let value = doubled(alloc, 524_288, b"$a.$a")?;
-    assert_eq!(rt; value.map_err(ValueFault::code), Err(Some(23)));
+    let value = doubled(rt.alloc(), 524_288, b"$a.$a")?;
+    assert!(rt; value.map_err(ValueFault::code) == Err(Some(23)));
     Ok(())
 }
 
-#[test]
-fn paths_are_quoted(rt: HostRuntime) -> Result<(), Fail> {
-    let alloc = rt.alloc();
-    let text = command(
-        alloc,
-        &[b"a b", b"c"],
-        &[(RuleVariable::Command, b"$in > $out; ${in_newline}")],
-    )?;
-    assert_eq!(rt; text?.as_slice(), b"'a b' c > o; 'a b'\nc".as_slice());
-    Ok(())
+// An edge to `o`: its rule, its block, what its scope's parent binds beside `f`, its inputs with bars between them, and
+// its scope.
+#[derive(Clone, Copy)]
+struct Edge {
+    rule: &'static str,
+    block: &'static str,
+    outer: &'static str,
+    ins: &'static str,
+    scope: usize,
+    // Its command, depfile, restat and generator, with bars between them, or its fault.
+    wanted: &'static str,
 }
 
-#[test]
-fn an_edge_looks_up_in_its_own_scope(rt: HostRuntime) -> Result<(), Fail> {
-    let alloc = rt.alloc();
-    let scopes = two_scopes(alloc)?;
-    let rule = rule_of(alloc, &[(RuleVariable::Command, b"r $f $in")])?;
-    let block = Bindings::new(alloc);
-    let inner = variables(alloc, &[b"a"], &block, &rule, &scopes, 1)??;
-    assert_eq!(rt; inner.command.as_slice(), b"r 2 a".as_slice());
-    let outer = variables(alloc, &[b"b"], &block, &rule, &scopes, 0)??;
-    assert_eq!(rt; outer.command.as_slice(), b"r 1 b".as_slice());
-    Ok(())
+const EDGE: Edge = Edge {
+    rule: "command=cc",
+    block: "",
+    outer: "",
+    ins: "a",
+    scope: 0,
+    wanted: "cc|||",
+};
+
+const EDGES: &[Edge] = &[
+    // Paths are quoted.
+    Edge {
+        rule: "command=$in > $out; ${in_newline}",
+        ins: "a b|c",
+        wanted: "'a b' c > o; 'a b'\nc|||",
+        ..EDGE
+    },
+    // An edge looks up in its own scope.
+    Edge {
+        rule: "command=r $f $in",
+        scope: 1,
+        wanted: "r 2 a|||",
+        ..EDGE
+    },
+    Edge {
+        rule: "command=r $f $in",
+        ins: "b",
+        wanted: "r 1 b|||",
+        ..EDGE
+    },
+    // Rule variables lead to one another.
+    Edge {
+        rule: "command=cc @$rspfile # $description\nrspfile=$out.rsp\ndescription=$f $rspfile",
+        wanted: "cc @o.rsp # 1 o.rsp|||",
+        ..EDGE
+    },
+    // A rule that needs itself is refused.
+    Edge {
+        rule: "command=cc $description\ndescription=of $command",
+        wanted: "fault Some(17)",
+        ..EDGE
+    },
+    // What no edge needs may need itself.
+    Edge {
+        rule: "command=cc\ndescription=of $description",
+        ..EDGE
+    },
+    // A block hides the rule.
+    Edge {
+        rule: "command=cc $depfile\ndepfile=$depfile",
+        block: "depfile=o.d",
+        wanted: "cc o.d|o.d||",
+        ..EDGE
+    },
+    // A scope gives rule variables too.
+    Edge {
+        outer: "restat=1",
+        scope: 1,
+        wanted: "cc||1|",
+        ..EDGE
+    },
+];
+
+fn values_text(alloc: Global, values: &EdgeVariables) -> Result<Vec<u8>, AllocError> {
+    let mut text = Vec::from_slice(alloc, &values.command)?;
+    for value in [&values.depfile, &values.restat, &values.generator] {
+        text.push(b'|')?;
+        text.extend_from_slice(value)?;
+    }
+    Ok(text)
 }
 
-#[test]
-fn rule_variables_lead_to_one_another(rt: HostRuntime) -> Result<(), Fail> {
-    let alloc = rt.alloc();
-    let text = command(
-        alloc,
-        &[b"a"],
-        &[
-            (RuleVariable::Command, b"cc @$rspfile # $description"),
-            (RuleVariable::Rspfile, b"$out.rsp"),
-            (RuleVariable::Description, b"$f $rspfile"),
-        ],
-    )?;
-    assert_eq!(rt; text?.as_slice(), b"cc @o.rsp # 1 o.rsp".as_slice());
-    Ok(())
+fn edge_text(alloc: Global, edge: &EdgeEnv<'_>) -> Result<Vec<u8>, AllocError> {
+    match &edge_variables(alloc, edge) {
+        Ok(values) => values_text(alloc, values),
+        Err(fault) => {
+            let told = format!(in alloc; "fault {:?}", fault.code())?;
+            Vec::from_slice(alloc, told.as_bytes())
+        }
+    }
 }
 
-#[test]
-fn a_rule_that_needs_itself_is_refused(rt: HostRuntime) -> Result<(), Fail> {
-    let alloc = rt.alloc();
-    let text = command(
-        alloc,
-        &[b"a"],
-        &[
-            (RuleVariable::Command, b"cc $description"),
-            (RuleVariable::Description, b"of $command"),
-        ],
-    )?;
-    assert_eq!(rt; text.map_err(ValueFault::code).err(), Some(Some(17)));
-    Ok(())
+fn names_of(alloc: Global, paths: &str) -> Result<Vec<Name>, Fail> {
+    let mut names = Vec::new(alloc);
+    for path in paths.split('|') {
+        names.push(Name::new(alloc, path.as_bytes())?)?;
+    }
+    Ok(names)
 }
 
-#[test]
-fn what_no_edge_needs_may_need_itself(rt: HostRuntime) -> Result<(), Fail> {
-    let alloc = rt.alloc();
-    let text = command(
-        alloc,
-        &[b"a"],
-        &[
-            (RuleVariable::Command, b"cc"),
-            (RuleVariable::Description, b"of $description"),
-        ],
-    )?;
-    assert_eq!(rt; text?.as_slice(), b"cc".as_slice());
-    Ok(())
-}
-
-#[test]
-fn a_block_hides_the_rule(rt: HostRuntime) -> Result<(), Fail> {
-    let alloc = rt.alloc();
-    let scopes = two_scopes(alloc)?;
-    let rule = rule_of(
-        alloc,
-        &[
-            (RuleVariable::Command, b"cc $depfile"),
-            (RuleVariable::Depfile, b"$depfile"),
-        ],
-    )?;
-    let mut block = Bindings::new(alloc);
-    block.bind(alloc, b"depfile", bytes(alloc, b"o.d")?)?;
-    let values = variables(alloc, &[b"a"], &block, &rule, &scopes, 0)??;
-    assert_eq!(rt; values.command.as_slice(), b"cc o.d".as_slice());
-    assert_eq!(rt; values.depfile.as_slice(), b"o.d".as_slice());
-    Ok(())
-}
-
-#[test]
-fn a_scope_gives_rule_variables_too(rt: HostRuntime) -> Result<(), Fail> {
-    let alloc = rt.alloc();
+// Two scopes, of which the outer one has this binding, where there is one.
+fn scopes_of(alloc: Global, outer: &str) -> Result<Scopes, Fail> {
     let mut scopes = two_scopes(alloc)?;
-    assert_eq!(rt; scopes.len(), 2);
-    scopes.bind(alloc, 0, b"restat", bytes(alloc, b"1")?)?;
-    let rule = rule_of(alloc, &[(RuleVariable::Command, b"cc")])?;
-    let values = variables(alloc, &[b"a"], &Bindings::new(alloc), &rule, &scopes, 1)??;
-    assert_eq!(rt; values.restat.as_slice(), b"1".as_slice());
-    assert_eq!(rt; values.generator.as_slice(), b"".as_slice());
+    let (name, value) = cut(outer.as_bytes(), b'=');
+    if scopes.len() == 0 {
+        return Err(Fail::from("no scope"));
+    }
+    scopes.bind(alloc, 0, name, Vec::from_slice(alloc, value)?)?;
+    Ok(scopes)
+}
+
+fn told_of(
+    alloc: Global,
+    edge: &Edge,
+    rule: &Rule,
+    block: &Bindings,
+    scopes: &Scopes,
+) -> Result<Vec<u8>, Fail> {
+    let scope = edge.scope;
+    if scope >= scopes.len() {
+        return Err(Fail::from("no scope of that number"));
+    }
+    let ins = names_of(alloc, edge.ins)?;
+    let outs = names_of(alloc, "o")?;
+    let env = EdgeEnv {
+        ins: &ins,
+        outs: &outs,
+        block,
+        rule,
+        scopes,
+        scope,
+    };
+    Ok(edge_text(alloc, &env)?)
+}
+
+fn told_of_edge(alloc: Global, edge: &Edge) -> Result<Vec<u8>, Fail> {
+    let rule = rule_of(alloc, edge.rule)?;
+    let block = block_of(alloc, edge.block)?;
+    let scopes = scopes_of(alloc, edge.outer)?;
+    told_of(alloc, edge, &rule, &block, &scopes)
+}
+
+#[test]
+fn variables_of_edges(rt: HostRuntime) -> Result<(), Fail> {
+    for edge in EDGES {
+        let told = told_of_edge(rt.alloc(), edge)?;
+        assert!(rt; told.as_slice() == edge.wanted.as_bytes(), "{}", edge.rule);
+    }
     Ok(())
 }
 
 #[test]
 fn rule_variables_are_found_by_their_names(rt: HostRuntime) {
-    assert_eq!(rt;
-        RuleVariable::named(b"rspfile_content"),
-        Some(RuleVariable::RspfileContent)
-    );
-    assert_eq!(rt; RuleVariable::named(b"dyndep"), None);
-    assert_eq!(rt;
-        RuleVariable::MsvcDepsPrefix.name(),
-        b"msvc_deps_prefix".as_slice()
-    );
+    let found = RuleVariable::named(b"rspfile_content");
+    assert!(rt; found == Some(RuleVariable::RspfileContent));
+    assert!(rt; RuleVariable::named(b"dyndep") == None);
+    assert!(rt; RuleVariable::MsvcDepsPrefix.name() == b"msvc_deps_prefix".as_slice());
+}
+
+fn compared(alloc: Global, content: &[u8]) -> Result<Vec<u8>, AllocError> {
+    compared_command(Vec::from_slice(alloc, b"cc")?, content)
 }
 
 #[test]
 fn content_of_a_response_file_is_compared(rt: HostRuntime) -> Result<(), Fail> {
-    let alloc = rt.alloc();
-    let without = compared_command(bytes(alloc, b"cc")?, b"")?;
-    assert_eq!(rt; without.as_slice(), b"cc".as_slice());
-    let with = compared_command(bytes(alloc, b"cc")?, b"a b")?;
-    assert_eq!(rt; with.as_slice(), b"cc;rspfile=a b".as_slice());
+    assert!(rt; compared(rt.alloc(), b"")?.as_slice() == b"cc".as_slice());
+    assert!(rt; compared(rt.alloc(), b"a b")?.as_slice() == b"cc;rspfile=a b".as_slice());
     Ok(())
 }

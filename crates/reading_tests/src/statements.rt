@@ -153,84 +153,88 @@ fn agree(rt: &impl Abort, alloc: Global, cases: &[(&[u8], &[u8])]) -> Result<(),
     Ok(())
 }
 
+const STATEMENTS: &[(&[u8], &[u8])] = &[
+    (b"", b""),
+    (
+        b"rule cc\n  command = cc $in -o ${out.x}\n  command = $$\n",
+        b"1:rule cc command=cc <in> -o <out.x> command=$;",
+    ),
+    (
+        b"build a $\n    b|c: cc d e|f||g h |@i\n  x = 1\n",
+        b"1:build [a][b] | [c] : cc [d][e] | [f] || [g][h] |@ [i] x=1;",
+    ),
+    (
+        b"build | a: phony\nbuild$ b:phony |||@\n",
+        b"1:build  | [a] : phony  |  ||  |@ ;2:build [ b] |  : phony  |  ||  |@ ;",
+    ),
+    (
+        b"\n# none\npool p\n  depth = 4\n  \ndefault a$:b $x.y\n",
+        b"3:pool p depth=4;6:default [a:b][<x>.y];",
+    ),
+    (
+        b"include a/b.ninja \nsubninja${d}/c",
+        b"1:include a/b.ninja;2:subninja <d>/c;",
+    ),
+    (b"a=  b c \nrule.x = $ y", b"1: a=b c ;2: rule.x= y;"),
+    (b"a$\nb = 1\r\nc = $\n  #2\r\n", b"1: ab=1;3: c=#2;"),
+];
+
 #[test]
 fn statements(rt: HostRuntime) -> Result<(), Fail> {
-    let cases: [(&[u8], &[u8]); 8] = [
-        (b"", b""),
-        (
-            b"rule cc\n  command = cc $in -o ${out.x}\n  command = $$\n",
-            b"1:rule cc command=cc <in> -o <out.x> command=$;",
-        ),
-        (
-            b"build a $\n    b|c: cc d e|f||g h |@i\n  x = 1\n",
-            b"1:build [a][b] | [c] : cc [d][e] | [f] || [g][h] |@ [i] x=1;",
-        ),
-        (
-            b"build | a: phony\nbuild$ b:phony |||@\n",
-            b"1:build  | [a] : phony  |  ||  |@ ;2:build [ b] |  : phony  |  ||  |@ ;",
-        ),
-        (
-            b"\n# none\npool p\n  depth = 4\n  \ndefault a$:b $x.y\n",
-            b"3:pool p depth=4;6:default [a:b][<x>.y];",
-        ),
-        (
-            b"include a/b.ninja \nsubninja${d}/c",
-            b"1:include a/b.ninja;2:subninja <d>/c;",
-        ),
-        (b"a=  b c \nrule.x = $ y", b"1: a=b c ;2: rule.x= y;"),
-        (b"a$\nb = 1\r\nc = $\n  #2\r\n", b"1: ab=1;3: c=#2;"),
-    ];
-    agree(&rt, rt.alloc(), &cases)
+    agree(&rt, rt.alloc(), STATEMENTS)
 }
+
+const TABS_AND_ESCAPES: &[(&[u8], &[u8])] = &[
+    (b"rule r\n\tcommand = r\n", b"fault 2 11"),
+    (b"rule r\n \t$%\n", b"fault 2 11"),
+    (b"\tx", b"fault 1 11"),
+    (b"a = $%\n", b"fault 1 12"),
+    (b"a = \0 $%\n", b"fault 1 10"),
+    (b"a = $% \0\n", b"fault 1 12"),
+    (b"a = ${b\n", b"fault 1 12"),
+    (b"build $^: r\n", b"fault 1 12"),
+];
 
 #[test]
 fn tabs_and_escapes(rt: HostRuntime) -> Result<(), Fail> {
-    let cases: [(&[u8], &[u8]); 8] = [
-        (b"rule r\n\tcommand = r\n", b"fault 2 11"),
-        (b"rule r\n \t$%\n", b"fault 2 11"),
-        (b"\tx", b"fault 1 11"),
-        (b"a = $%\n", b"fault 1 12"),
-        (b"a = \0 $%\n", b"fault 1 10"),
-        (b"a = $% \0\n", b"fault 1 12"),
-        (b"a = ${b\n", b"fault 1 12"),
-        (b"build $^: r\n", b"fault 1 12"),
-    ];
-    agree(&rt, rt.alloc(), &cases)
+    agree(&rt, rt.alloc(), TABS_AND_ESCAPES)
 }
+
+const ENDS_OF_FILES: &[(&[u8], &[u8])] = &[
+    (b"rule $", b"fault 1 12"),
+    (b"build x$", b"fault 1 12"),
+    (b"foo bar$", b"fault 1 10"),
+    (b"build a: r | b |$", b"fault 1 12"),
+    (b"build a: r || b |\n", b"fault 1 10"),
+    (b"a = $\n", b"fault 1 12"),
+    (b"a = $\n\n", b"1: a=;"),
+    (b"a = b\r", b"fault 1 10"),
+    (
+        b"rule r\n  command = r $in\nbuild o",
+        b"1:rule r command=r <in>;fault 3 10",
+    ),
+    (b"rule r\n  command", b"fault 2 10"),
+];
 
 #[test]
 fn ends_of_files(rt: HostRuntime) -> Result<(), Fail> {
-    let cases: [(&[u8], &[u8]); 10] = [
-        (b"rule $", b"fault 1 12"),
-        (b"build x$", b"fault 1 12"),
-        (b"foo bar$", b"fault 1 10"),
-        (b"build a: r | b |$", b"fault 1 12"),
-        (b"build a: r || b |\n", b"fault 1 10"),
-        (b"a = $\n", b"fault 1 12"),
-        (b"a = $\n\n", b"1: a=;"),
-        (b"a = b\r", b"fault 1 10"),
-        (
-            b"rule r\n  command = r $in\nbuild o",
-            b"1:rule r command=r <in>;fault 3 10",
-        ),
-        (b"rule r\n  command", b"fault 2 10"),
-    ];
-    agree(&rt, rt.alloc(), &cases)
+    agree(&rt, rt.alloc(), ENDS_OF_FILES)
 }
+
+const PLACES_OF_FAULTS: &[(&[u8], &[u8])] = &[
+    (b"rule $%\n", b"fault 1 10"),
+    (b"foo $%\n", b"fault 1 10"),
+    (b"include a $%\n", b"fault 1 10"),
+    (b"build : r $%\n", b"fault 1 10"),
+    (b"build a || b: r\n", b"fault 1 10"),
+    (b"default\n", b"fault 1 10"),
+    (b"default a\n  x = 1\n", b"fault 2 10"),
+    (b"pool = p\n", b"fault 1 10"),
+];
 
 #[test]
 fn places_of_faults(rt: HostRuntime) -> Result<(), Fail> {
-    let cases: [(&[u8], &[u8]); 8] = [
-        (b"rule $%\n", b"fault 1 10"),
-        (b"foo $%\n", b"fault 1 10"),
-        (b"include a $%\n", b"fault 1 10"),
-        (b"build : r $%\n", b"fault 1 10"),
-        (b"build a || b: r\n", b"fault 1 10"),
-        (b"default\n", b"fault 1 10"),
-        (b"default a\n  x = 1\n", b"fault 2 10"),
-        (b"pool = p\n", b"fault 1 10"),
-    ];
-    agree(&rt, rt.alloc(), &cases)
+    agree(&rt, rt.alloc(), PLACES_OF_FAULTS)
 }
 
 #[test]

@@ -7,8 +7,8 @@ use clap::error::ErrorKind;
 use fault::{ProgramFault, Unread};
 use rev_input::{TakeFault, take_up_to};
 use rev_options::{Options, options};
-use rev_parallel::run_parallel;
-use rev_report::{RunFault, Status, run_serial, write_migrated};
+use rev_parallel::run_parallel_in;
+use rev_report::{RunFault, RunMemory, Status, run_serial_in, write_migrated};
 use rev_sentences::{Inputs, sentence};
 use std::alloc::Global;
 use std::io::{BufWriter, Write};
@@ -16,7 +16,7 @@ use std::process::ExitCode;
 use std::rt::{Env, Files};
 use std::sync::Wait;
 use std::thread::Threads;
-use std::{fs, io};
+use std::{fs, io, mem};
 
 // The status of a command line that asks for help or is wrong.
 const USAGE: u8 = 2;
@@ -126,6 +126,11 @@ fn migrate<'a, R: Files + Print + Eprint + AllocGlobal>(
     end(rt, &mut writer, inputs, status)
 }
 
+// Leaves what a run has in memory to the system, which takes all of it back when the program ends.
+fn leave(memory: RunMemory) {
+    mem::forget(memory);
+}
+
 // Reads the files and writes the report to the standard output.
 fn report<'a, R: Files + Print + Eprint + AllocGlobal + Threads + Wait + Sync>(
     rt: &R,
@@ -138,11 +143,14 @@ fn report<'a, R: Files + Print + Eprint + AllocGlobal + Threads + Wait + Sync>(
     let Ok(mut writer) = BufWriter::new(alloc, io::writer(rt)) else {
         return Err(ProgramFault::Run(RunFault::Memory));
     };
-    let status = if options.workers {
-        run_parallel(rt, alloc, &files, &trace, &script, &mut writer)?
+    let mut memory = RunMemory::new();
+    let ran = if options.workers {
+        run_parallel_in(rt, alloc, &files, &trace, &script, &mut writer, &mut memory)
     } else {
-        run_serial(alloc, &files, &trace, &script, &mut writer)?
+        run_serial_in(alloc, &files, &trace, &script, &mut writer, &mut memory)
     };
+    leave(memory);
+    let status = ran?;
     let inputs = Inputs {
         files: &files,
         trace: (options.trace.as_bytes(), &trace),

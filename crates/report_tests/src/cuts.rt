@@ -1,22 +1,13 @@
 // What is answered to a text that was cut short.
 
-use rev_report::{RunFault, Status, run_serial};
-use std::alloc::Global;
+use crate::runs::report_in_turn;
+use rev_report::Status;
 use std::test::Fail;
 
-const MANIFEST: &[u8] = b"rule r\n  command = r $in\nbuild o: r a\n";
+const MANIFEST: &str = "rule r\n  command = r $in\nbuild o: r a\n";
 
 // What marks the edge that there is and tells what it waits for.
-const TRACE: &[u8] = b"rebug-trace 1\nlane 0\nplan o\n";
-
-// The report of a manifest that was cut after so many bytes.
-fn report_of_cut(alloc: Global, end: usize) -> Result<(Vec<u8>, Status), RunFault> {
-    let content = Vec::from_slice(alloc, MANIFEST.get(..end).unwrap_or(MANIFEST))?;
-    let files = [(Vec::from_slice(alloc, b"build.ninja")?, content)];
-    let mut report = Vec::new(alloc);
-    let status = run_serial(alloc, &files, TRACE, b"run\n", &mut report)?;
-    Ok((report, status))
-}
+const TRACE: &str = "rebug-trace 1\nlane 0\nplan o\n";
 
 // No edge has the output; its edge has no input, so that it is planned; its input is missing and nothing makes it.
 fn due(end: usize) -> (&'static str, Status) {
@@ -35,10 +26,10 @@ fn due(end: usize) -> (&'static str, Status) {
 #[test]
 fn cut_manifests(rt: HostRuntime) -> Result<(), Fail> {
     for end in 0..39 {
-        let (report, status) = report_of_cut(rt.alloc(), end)?;
-        let (wanted, wanted_status) = due(end);
-        assert_eq!(rt; report.as_slice(), wanted.as_bytes());
-        assert!(rt; status == wanted_status);
+        let (wanted, status) = due(end);
+        let manifest = MANIFEST.get(..end).unwrap_or(MANIFEST);
+        let told = report_in_turn(rt.alloc(), manifest, TRACE, "run\n")?;
+        assert!(rt; told.is(wanted, status), "after {end} bytes");
     }
     Ok(())
 }

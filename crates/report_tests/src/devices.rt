@@ -1,23 +1,24 @@
 // Writers that fail, once or for good, and writers that take little at a time.
 
-use rev_parallel::run_parallel;
-use rev_report::{RunFault, Status, run_serial};
+use crate::runs::{run_in_turn, run_on_threads};
+use rev_report::{RunFault, Status};
 use std::alloc::Global;
 use std::io;
 use std::io::Write;
 use std::sync::Wait;
-use std::test::Fail;
 use std::thread::Threads;
 
-const MANIFEST: &[u8] = b"rule r\n  command = r $in\nbuild o: r a\n";
+const MANIFEST: &str =
+    "rule cc\n  command = cc -c $in -o $out\nrule ld\n  command = ld $in -o $out\n\
+build a.o: cc a.c\nbuild b.o: cc b.c\nbuild app: ld a.o b.o\n";
 
-const TRACE: &[u8] =
-    b"rebug-trace 1\nstamp a.c 10\nlane 0\ntouch a.c 11\ntouch b.c 21\ntouch a.c 12\n";
+const TRACE: &str =
+    "rebug-trace 1\nstamp a.c 10\nlane 0\ntouch a.c 11\ntouch b.c 21\ntouch a.c 12\n";
 
-const SCRIPT: &[u8] = b"run\nundo 1\nundo 2\nstamps\nredo 2\nback\nstamps\n";
+const SCRIPT: &str = "run\nundo 1\nundo 2\nstamps\nredo 2\nback\nstamps\n";
 
-const REPORT: &[u8] =
-    b"1 0 ok\n2 0 ok\n3 0 ok\n4 1 refused 82 3\n5 1 ok\nstamp a.c 12\n6 1 ok\n7 1 ok\n\
+const REPORT: &str =
+    "1 0 ok\n2 0 ok\n3 0 ok\n4 1 refused 82 3\n5 1 ok\nstamp a.c 12\n6 1 ok\n7 1 ok\n\
 stamp a.c 11\nstamp b.c 21\n";
 // So many writes the report takes.
 const WRITES: u32 = 9;
@@ -71,26 +72,49 @@ fn device_with(alloc: Global, trouble: Trouble) -> Device {
     }
 }
 
-// The run of the touches, in turn, to a writer.
-fn in_turn(alloc: Global, writer: &mut Device) -> Result<Status, RunFault> {
-    let files = [(
-        Vec::from_slice(alloc, b"build.ninja")?,
-        Vec::from_slice(alloc, MANIFEST)?,
-    )];
-    run_serial(alloc, &files, TRACE, SCRIPT, writer)
+// What came of a run to a device, and what the device took.
+struct Taken {
+    result: Result<Status, RunFault>,
+    device: Device,
+}
+
+// Written, so that a test drops it by one call.
+impl Drop for Taken {
+    fn drop(self) {
+        let Taken {
+            result: _result,
+            device: _device,
+        } = self;
+    }
+}
+
+impl Taken {
+    // Whether the run failed, and the device took a true prefix of the report.
+    fn is_cut(&self) -> bool {
+        let taken = self.device.taken.as_slice();
+        self.result == Err(RunFault::Write)
+            && REPORT.as_bytes().starts_with(taken)
+            && taken.len() < REPORT.len()
+    }
+
+    // Whether the run succeeded, and the device took the whole report.
+    fn is_whole(&self) -> bool {
+        self.result == Ok(Status::Success) && self.device.taken.as_slice() == REPORT.as_bytes()
+    }
+}
+
+// The run of the touches, in turn.
+fn in_turn(alloc: Global, trouble: Trouble) -> Taken {
+    let mut device = device_with(alloc, trouble);
+    let result = run_in_turn(alloc, MANIFEST, TRACE, SCRIPT, &mut device);
+    Taken { result, device }
 }
 
 // The same run with its lanes on threads.
-fn on_threads<R: Threads + Wait + Sync>(
-    rt: &R,
-    alloc: Global,
-    writer: &mut Device,
-) -> Result<Status, RunFault> {
-    let files = [(
-        Vec::from_slice(alloc, b"build.ninja")?,
-        Vec::from_slice(alloc, MANIFEST)?,
-    )];
-    run_parallel(rt, alloc, &files, TRACE, SCRIPT, writer)
+fn on_threads<R: Threads + Wait + Sync>(rt: &R, alloc: Global, trouble: Trouble) -> Taken {
+    let mut device = device_with(alloc, trouble);
+    let result = run_on_threads(rt, alloc, MANIFEST, TRACE, SCRIPT, &mut device);
+    Taken { result, device }
 }
 
 // The troubles that begin with a write.
@@ -107,11 +131,7 @@ fn troubles(write: u32) -> [Trouble; 3] {
 fn each_write_fails(rt: HostRuntime) {
     for write in 0..WRITES {
         for trouble in troubles(write) {
-            let mut writer = device_with(rt.alloc(), trouble);
-            let result = in_turn(rt.alloc(), &mut writer);
-            assert!(rt; result == Err(RunFault::Write));
-            assert!(rt; REPORT.starts_with(&writer.taken));
-            assert!(rt; writer.taken.len() < REPORT.len());
+            assert!(rt; in_turn(rt.alloc(), trouble).is_cut());
         }
     }
 }
@@ -120,24 +140,13 @@ fn each_write_fails(rt: HostRuntime) {
 fn each_write_fails_on_threads(rt: HostRuntime) {
     for write in 0..WRITES {
         for trouble in troubles(write) {
-            let mut writer = device_with(rt.alloc(), trouble);
-            let result = on_threads(&rt, rt.alloc(), &mut writer);
-            assert!(rt; result == Err(RunFault::Write));
-            assert!(rt; REPORT.starts_with(&writer.taken));
-            assert!(rt; writer.taken.len() < REPORT.len());
+            assert!(rt; on_threads(&rt, rt.alloc(), trouble).is_cut());
         }
     }
 }
 
 #[test]
-fn one_byte_at_a_time(rt: HostRuntime) -> Result<(), Fail> {
-    let mut writer = device_with(rt.alloc(), Trouble::OneByte);
-    let status = in_turn(rt.alloc(), &mut writer)?;
-    assert!(rt; status == Status::Success);
-    assert_eq!(rt; writer.taken.as_slice(), REPORT);
-    let mut other = device_with(rt.alloc(), Trouble::OneByte);
-    let status = on_threads(&rt, rt.alloc(), &mut other)?;
-    assert!(rt; status == Status::Success);
-    assert_eq!(rt; other.taken.as_slice(), REPORT);
-    Ok(())
+fn one_byte_at_a_time(rt: HostRuntime) {
+    assert!(rt; in_turn(rt.alloc(), Trouble::OneByte).is_whole());
+    assert!(rt; on_threads(&rt, rt.alloc(), Trouble::OneByte).is_whole());
 }

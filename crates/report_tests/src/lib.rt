@@ -9,6 +9,10 @@ mod devices;
 #[cfg(test)]
 mod limits;
 #[cfg(test)]
+mod memory;
+#[cfg(test)]
 mod reports;
+#[cfg(test)]
+mod runs;
 #[cfg(test)]
 mod versions;

@@ -1,13 +1,8 @@
 // Whole runs, from bytes to bytes.
 
-use rev_parallel::run_parallel;
-use rev_report::{RunFault, Status, run_serial};
-use std::alloc::Global;
-use std::io;
-use std::io::Write;
-use std::sync::Wait;
+use crate::runs::{report_in_turn, report_of, report_on_threads};
+use rev_report::Status;
 use std::test::Fail;
-use std::thread::Threads;
 
 // A run, with what it has to write.
 #[derive(Clone, Copy)]
@@ -426,158 +421,99 @@ const RESIZE_TO_NO_NUMBER: Row = Row {
     status: Status::Fault,
 };
 
-// A writer that takes some writes, and then fails or takes no byte.
-#[derive(Drop)]
-struct Failing {
-    left: u32,
-    takes_none: bool,
-    written: Vec<u8>,
-}
-
-impl Write for Failing {
-    fn write(&mut self, buf: &[u8]) -> io::Result<usize> {
-        if self.left > 0 {
-            self.left -= 1;
-            return self.written.write(buf);
-        }
-        if self.takes_none {
-            return Ok(0);
-        }
-        Err(io::Error::from(io::ErrorKind::BrokenPipe))
-    }
-
-    fn flush(&mut self) -> io::Result<()> {
-        Ok(())
-    }
-}
+const ROWS: &[Row] = &[
+    EMPTY,
+    ORDER,
+    ORDER_RESIZE,
+    OVERTAKEN,
+    TOUCHES,
+    KEPT,
+    BAD_MANIFEST,
+    TWO_PRODUCERS,
+    CYCLE,
+    BAD_SCRIPT,
+    PLAN_REFUSED,
+    MARKS_STAMPS_LOGS,
+    WHY_CHAIN,
+    TOUCHES_CONFLICT,
+    UNDO_OUT_OF_ORDER,
+    NEAREST_DEPENDENT,
+    CONE,
+    INTERRUPT_READS,
+    REDO_IN_ORDER,
+    RESTAT_PER_OUTPUT,
+    THROUGH_PHONY,
+    POOLS,
+    RESPONSE_FILE,
+    RESPONSE_FILE_OF_A_GENERATOR,
+    VALIDATION,
+    INTERRUPT_ABORT,
+    DEPFILE,
+    OLD_DEPS,
+    LIST_WITHOUT_DEPS,
+    REDO_READS_THE_PRESENT,
+    LANE_OUT_OF_TURN,
+    BAD_NUMBER,
+    DOUBLE_RECORD,
+    BREAK_PAUSE_LABEL,
+    TURNS_GO_ON,
+    DEPENDENTS_BY_LABEL,
+    STALL_IN_TURN,
+    UNDO_OF_THE_OTHERS,
+    LEAST_BREAK,
+    PLACE_OF_A_LINE,
+    LANE_IN_A_SCRIPT,
+    NAME_OF_NO_EVENT,
+    RESIZE,
+    RESIZES_OF_TWO_POOLS,
+    GROWING_READS_NO_SLOT,
+    CLEAN_READS_NO_DEPTH,
+    RESIZE_IN_A_FIRST_TRACE,
+    RESIZE_WITHOUT_A_DEPTH,
+    RESIZE_TO_NO_NUMBER,
+];
 
 #[test]
 fn rows(rt: HostRuntime) -> Result<(), Fail> {
-    let alloc = rt.alloc();
-    let rows = [
-        EMPTY,
-        ORDER,
-        ORDER_RESIZE,
-        OVERTAKEN,
-        TOUCHES,
-        KEPT,
-        BAD_MANIFEST,
-        TWO_PRODUCERS,
-        CYCLE,
-        BAD_SCRIPT,
-        PLAN_REFUSED,
-        MARKS_STAMPS_LOGS,
-        WHY_CHAIN,
-        TOUCHES_CONFLICT,
-        UNDO_OUT_OF_ORDER,
-        NEAREST_DEPENDENT,
-        CONE,
-        INTERRUPT_READS,
-        REDO_IN_ORDER,
-        RESTAT_PER_OUTPUT,
-        THROUGH_PHONY,
-        POOLS,
-        RESPONSE_FILE,
-        RESPONSE_FILE_OF_A_GENERATOR,
-        VALIDATION,
-        INTERRUPT_ABORT,
-        DEPFILE,
-        OLD_DEPS,
-        LIST_WITHOUT_DEPS,
-        REDO_READS_THE_PRESENT,
-        LANE_OUT_OF_TURN,
-        BAD_NUMBER,
-        DOUBLE_RECORD,
-        BREAK_PAUSE_LABEL,
-        TURNS_GO_ON,
-        DEPENDENTS_BY_LABEL,
-        STALL_IN_TURN,
-        UNDO_OF_THE_OTHERS,
-        LEAST_BREAK,
-        PLACE_OF_A_LINE,
-        LANE_IN_A_SCRIPT,
-        NAME_OF_NO_EVENT,
-        RESIZE,
-        RESIZES_OF_TWO_POOLS,
-        GROWING_READS_NO_SLOT,
-        CLEAN_READS_NO_DEPTH,
-        RESIZE_IN_A_FIRST_TRACE,
-        RESIZE_WITHOUT_A_DEPTH,
-        RESIZE_TO_NO_NUMBER,
-    ];
-    for row in &rows {
-        let name = Vec::from_slice(alloc, b"build.ninja")?;
-        let manifest = Vec::from_slice(alloc, row.manifest.as_bytes())?;
-        let files = [(name, manifest)];
-        let mut report = Vec::new(alloc);
-        let status = run_serial(
-            alloc,
-            &files,
-            row.trace.as_bytes(),
-            row.script.as_bytes(),
-            &mut report,
-        )?;
-        assert_eq!(rt; report.as_slice(), row.report.as_bytes());
-        assert!(rt; status == row.status);
+    for row in ROWS {
+        let told = report_in_turn(rt.alloc(), row.manifest, row.trace, row.script)?;
+        assert!(rt; told.is(row.report, row.status), "{}", row.trace);
     }
     Ok(())
 }
 
+const CUT: &str = "rebug-trace 1\nstamp a 10\n";
+
+// What is reported of a trace that was cut after so many bytes.
+fn due_of_cut(end: usize) -> (&'static str, Status) {
+    match end {
+        0..=12 => ("fault trace 1 104\n", Status::Fault),
+        13 | 14 => ("", Status::Success),
+        15..=22 => ("fault trace 2 100\n", Status::Fault),
+        23 => ("stamp a 1\n", Status::Success),
+        _ => ("stamp a 10\n", Status::Success),
+    }
+}
+
 #[test]
 fn cut_traces(rt: HostRuntime) -> Result<(), Fail> {
-    let alloc = rt.alloc();
-    let trace = b"rebug-trace 1\nstamp a 10\n";
     for end in 0..26 {
-        let (report, status) = match end {
-            0..=12 => ("fault trace 1 104\n", Status::Fault),
-            13 | 14 => ("", Status::Success),
-            15..=22 => ("fault trace 2 100\n", Status::Fault),
-            23 => ("stamp a 1\n", Status::Success),
-            _ => ("stamp a 10\n", Status::Success),
-        };
-        let files = [(Vec::from_slice(alloc, b"build.ninja")?, Vec::new(alloc))];
-        let mut written = Vec::new(alloc);
-        let end_status = run_serial(alloc, &files, &trace[..end], b"run\nstamps\n", &mut written)?;
-        assert_eq!(rt; written.as_slice(), report.as_bytes());
-        assert!(rt; end_status == status);
+        let (report, status) = due_of_cut(end);
+        let told = report_in_turn(
+            rt.alloc(),
+            "",
+            CUT.get(..end).unwrap_or(CUT),
+            "run\nstamps\n",
+        )?;
+        assert!(rt; told.is(report, status), "after {end} bytes");
     }
     Ok(())
 }
 
 #[test]
 fn no_file(rt: HostRuntime) -> Result<(), Fail> {
-    let mut report = Vec::new(rt.alloc());
-    let status = run_serial(rt.alloc(), &[], b"", b"", &mut report)?;
-    assert_eq!(rt; report.as_slice(), b"fault manifest - 0 20\n".as_slice());
-    assert!(rt; status == Status::Fault);
-    Ok(())
-}
-
-// The report of the touches goes out in nine writes.
-#[test]
-fn failing_writers(rt: HostRuntime) -> Result<(), Fail> {
-    let alloc = rt.alloc();
-    for writes in 0..9 {
-        for takes_none in [false, true] {
-            let manifest = Vec::from_slice(alloc, TOUCHES.manifest.as_bytes())?;
-            let files = [(Vec::from_slice(alloc, b"build.ninja")?, manifest)];
-            let mut writer = Failing {
-                left: writes,
-                takes_none,
-                written: Vec::new(alloc),
-            };
-            let result = run_serial(
-                alloc,
-                &files,
-                TOUCHES.trace.as_bytes(),
-                TOUCHES.script.as_bytes(),
-                &mut writer,
-            );
-            assert!(rt; result == Err(RunFault::Write));
-            assert!(rt; TOUCHES.report.as_bytes().starts_with(&writer.written));
-            assert!(rt; writer.written.len() < TOUCHES.report.len());
-        }
-    }
+    let told = report_of(rt.alloc(), &[], b"", b"")?;
+    assert!(rt; told.is("fault manifest - 0 20\n", Status::Fault));
     Ok(())
 }
 
@@ -590,58 +526,29 @@ kept 4 touch b 0\n5 1 ok\nstamp c 4\n",
     status: Status::Success,
 };
 
-// What a row is on threads.
-fn run_on_threads<R: Threads + Wait + Sync, W: Write>(
-    rt: &R,
-    alloc: Global,
-    row: &Row,
-    writer: &mut W,
-) -> Result<Status, RunFault> {
-    let name = Vec::from_slice(alloc, b"build.ninja")?;
-    let manifest = Vec::from_slice(alloc, row.manifest.as_bytes())?;
-    let files = [(name, manifest)];
-    let (trace, script) = (row.trace.as_bytes(), row.script.as_bytes());
-    run_parallel(rt, alloc, &files, trace, script, writer)
-}
+const ROWS_ON_THREADS: &[Row] = &[
+    EMPTY,
+    OVERTAKEN,
+    TOUCHES,
+    LATER_RUNS,
+    BAD_MANIFEST,
+    CYCLE,
+    BAD_SCRIPT,
+    LANE_OUT_OF_TURN,
+    PLAN_REFUSED,
+    MARKS_STAMPS_LOGS,
+    WHY_CHAIN,
+    UNDO_OUT_OF_ORDER,
+    NEAREST_DEPENDENT,
+    CONE,
+    INTERRUPT_ABORT,
+];
 
 #[test]
 fn rows_on_threads(rt: HostRuntime) -> Result<(), Fail> {
-    let rows = [
-        EMPTY,
-        OVERTAKEN,
-        TOUCHES,
-        LATER_RUNS,
-        BAD_MANIFEST,
-        CYCLE,
-        BAD_SCRIPT,
-        LANE_OUT_OF_TURN,
-        PLAN_REFUSED,
-        MARKS_STAMPS_LOGS,
-        WHY_CHAIN,
-        UNDO_OUT_OF_ORDER,
-        NEAREST_DEPENDENT,
-        CONE,
-        INTERRUPT_ABORT,
-    ];
-    for row in &rows {
-        let mut report = Vec::new(rt.alloc());
-        let status = run_on_threads(&rt, rt.alloc(), row, &mut report)?;
-        assert_eq!(rt; report.as_slice(), row.report.as_bytes());
-        assert!(rt; status == row.status);
+    for row in ROWS_ON_THREADS {
+        let told = report_on_threads(&rt, rt.alloc(), row.manifest, row.trace, row.script)?;
+        assert!(rt; told.is(row.report, row.status), "{}", row.trace);
     }
     Ok(())
-}
-
-#[test]
-fn failing_writers_on_threads(rt: HostRuntime) {
-    for writes in 0..9 {
-        let mut writer = Failing {
-            left: writes,
-            takes_none: false,
-            written: Vec::new(rt.alloc()),
-        };
-        let result = run_on_threads(&rt, rt.alloc(), &TOUCHES, &mut writer);
-        assert!(rt; result == Err(RunFault::Write));
-        assert!(rt; TOUCHES.report.as_bytes().starts_with(&writer.written));
-    }
 }

@@ -1,6 +1,7 @@
 // Traces of both versions: what they report, and what a trace is in version 2.
 
-use rev_report::{RunFault, Status, run_serial, write_migrated};
+use crate::runs::{Told, report_in_turn};
+use rev_report::{RunFault, Status, write_migrated};
 use std::alloc::Global;
 use std::test::Fail;
 
@@ -104,33 +105,29 @@ const OPENING_BEHIND_A_LANE: Row = Row {
 };
 
 // The report of a row.
-fn report_of(alloc: Global, row: &Row) -> Result<(Vec<u8>, Status), RunFault> {
-    let mut trace = Vec::from_slice(alloc, row.first.as_bytes())?;
-    trace.extend_from_slice(row.lines.as_bytes())?;
-    let name = Vec::from_slice(alloc, b"build.ninja")?;
-    let files = [(name, Vec::from_slice(alloc, row.manifest.as_bytes())?)];
-    let mut report = Vec::new(alloc);
-    let status = run_serial(alloc, &files, &trace, row.script.as_bytes(), &mut report)?;
-    Ok((report, status))
+fn told_of(alloc: Global, row: &Row) -> Result<Told, RunFault> {
+    let mut trace = String::from_str(alloc, row.first)?;
+    trace.push_str(row.lines)?;
+    report_in_turn(alloc, row.manifest, &trace, row.script)
 }
+
+const VERSIONS: &[Row] = &[
+    NAMED_AGAIN,
+    NAMED_AGAIN_IN_VERSION_ONE,
+    VERSION_THREE,
+    VERSION_WITH_A_ZERO,
+    NO_FIRST_LINE,
+    RESIZE_IN_VERSION_ONE,
+    RESIZE_OF_NO_NUMBER,
+    LANE_PAST_THE_NEXT,
+    OPENING_BEHIND_A_LANE,
+];
 
 #[test]
 fn versions(rt: HostRuntime) -> Result<(), Fail> {
-    let rows = [
-        NAMED_AGAIN,
-        NAMED_AGAIN_IN_VERSION_ONE,
-        VERSION_THREE,
-        VERSION_WITH_A_ZERO,
-        NO_FIRST_LINE,
-        RESIZE_IN_VERSION_ONE,
-        RESIZE_OF_NO_NUMBER,
-        LANE_PAST_THE_NEXT,
-        OPENING_BEHIND_A_LANE,
-    ];
-    for row in &rows {
-        let (report, status) = report_of(rt.alloc(), row)?;
-        assert_eq!(rt; report.as_slice(), row.report.as_bytes());
-        assert!(rt; status == row.status);
+    for row in VERSIONS {
+        let told = told_of(rt.alloc(), row)?;
+        assert!(rt; told.is(row.report, row.status), "{}", row.report);
     }
     Ok(())
 }
@@ -156,56 +153,62 @@ lane 0\nplan\nlane 1\nbreak finish a.o\nlane 0\nstart a.o 0\n\nlane 1\nstart b.o
     ..LANE_BY_LANE
 };
 
+const IN_PARTS: &[Row] = &[LANE_BY_LANE, IN_THE_ORDER_OF_TIME];
+
 /// A command's place counts the commands of its lane in the whole trace, and a lane's list is that of all its parts.
 #[test]
 fn lanes_in_parts(rt: HostRuntime) -> Result<(), Fail> {
-    for row in &[LANE_BY_LANE, IN_THE_ORDER_OF_TIME] {
-        let (report, status) = report_of(rt.alloc(), row)?;
-        assert_eq!(rt; report.as_slice(), row.report.as_bytes());
-        assert!(rt; status == row.status);
+    for row in IN_PARTS {
+        let told = told_of(rt.alloc(), row)?;
+        assert!(rt; told.is(row.report, row.status), "{}", row.report);
     }
     Ok(())
 }
 
 /// Each text with what is written of it.
+const TEXTS: &[(&str, &str, Status)] = &[
+    ("rebug-trace 1", "rebug-trace 2", Status::Success),
+    ("rebug-trace 1\n", "rebug-trace 2\n", Status::Success),
+    (
+        "rebug-trace 1\n\njobs 2\nlane 0\n\ntouch a\\sb 1\n\n\nlane 1\ntouch b 2",
+        "rebug-trace 2\n\njobs 2\nlane 0\n\ntouch a\\sb 1\n\n\nlane 1\ntouch b 2",
+        Status::Success,
+    ),
+    (
+        "rebug-trace 2\nlane 0\nlane 1\nlane 0\nresize 1 2",
+        "rebug-trace 2\nlane 0\nlane 1\nlane 0\nresize 1 2",
+        Status::Success,
+    ),
+    ("", "fault trace 1 104\n", Status::Fault),
+    ("rebug-trace 1\r\n", "fault trace 1 104\n", Status::Fault),
+    (
+        "rebug-trace 1\nlane 0\nlane 0\n",
+        "fault trace 3 102\n",
+        Status::Fault,
+    ),
+    (
+        "rebug-trace 1\nstamp a 1\nstamp a 1\n",
+        "fault trace 3 103\n",
+        Status::Fault,
+    ),
+    (
+        "rebug-trace 1\nlane 0\ntouch a\r 1\n",
+        "fault trace 3 100\n",
+        Status::Fault,
+    ),
+];
+
+fn migrated_text(alloc: Global, text: &str) -> Result<Told, RunFault> {
+    let mut report = Vec::new(alloc);
+    let status = write_migrated(alloc, text.as_bytes(), &mut report)?;
+    Ok(Told { report, status })
+}
+
 #[test]
 fn migrated(rt: HostRuntime) -> Result<(), Fail> {
-    let texts = [
-        ("rebug-trace 1", "rebug-trace 2", Status::Success),
-        ("rebug-trace 1\n", "rebug-trace 2\n", Status::Success),
-        (
-            "rebug-trace 1\n\njobs 2\nlane 0\n\ntouch a\\sb 1\n\n\nlane 1\ntouch b 2",
-            "rebug-trace 2\n\njobs 2\nlane 0\n\ntouch a\\sb 1\n\n\nlane 1\ntouch b 2",
-            Status::Success,
-        ),
-        (
-            "rebug-trace 2\nlane 0\nlane 1\nlane 0\nresize 1 2",
-            "rebug-trace 2\nlane 0\nlane 1\nlane 0\nresize 1 2",
-            Status::Success,
-        ),
-        ("", "fault trace 1 104\n", Status::Fault),
-        ("rebug-trace 1\r\n", "fault trace 1 104\n", Status::Fault),
-        (
-            "rebug-trace 1\nlane 0\nlane 0\n",
-            "fault trace 3 102\n",
-            Status::Fault,
-        ),
-        (
-            "rebug-trace 1\nstamp a 1\nstamp a 1\n",
-            "fault trace 3 103\n",
-            Status::Fault,
-        ),
-        (
-            "rebug-trace 1\nlane 0\ntouch a\r 1\n",
-            "fault trace 3 100\n",
-            Status::Fault,
-        ),
-    ];
-    for (text, wanted, due) in &texts {
-        let mut written = Vec::new(rt.alloc());
-        let status = write_migrated(rt.alloc(), text.as_bytes(), &mut written)?;
-        assert_eq!(rt; written.as_slice(), wanted.as_bytes());
-        assert!(rt; status == *due);
+    for (text, wanted, due) in TEXTS {
+        let told = migrated_text(rt.alloc(), text)?;
+        assert!(rt; told.is(wanted, *due), "{text}");
     }
     Ok(())
 }

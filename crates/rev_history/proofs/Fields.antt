@@ -1,26 +1,25 @@
 -- What the fields of a history show.
-use Rattle.std.proofs.Common.{◌≡◌, ℕ, ◌<◌, Bool, true, false, cond, Option, None, Some, IsSome, option_map, Contains, map, slice_get, length, get_or, set, List, [], ◌∷◌, ◌++◌, refl, sym, ap, ap₂, subst, subst₂, is_some, true≢false, nat_eq, ◌∙◌, inl, inr, arith, zero, suc}
+use Rattle.std.proofs.Common.{◌≡◌, ℕ, ◌<◌, true, false, cond, Option, None, Some, IsSome, option_map, Contains, map, slice_get, length, length-set, get_or, set, List, [], ◌∷◌, ◌++◌, refl, sym, ap, ap₂, subst, subst₂, is_some, true≢false, nat_eq, ◌∙◌, inl, inr, arith, zero, suc}
+use Rattle.std.specs.Prelude.{IfSome}
 use Rattle.std.specs.List.{AllByRecursion}
 use Rattle.std.specs.Map.{lookup}
 use Rattle.std.proofs.lemmas.List.{map-set, length-map}
-use Rattle.std.proofs.Math.Seq.{map-set_same}
 use Rattle.std.proofs.lemmas.Option.{slice_get-map, slice_get-get_or}
 use Rattle.rev_causal.specs.Chosen.{chosen}
 use Rattle.rev_causal.specs.History as causal
 use Rattle.rev_causal.specs.KeptHistory.{nearest_in}
 use Rattle.rev_causal.specs.Stepped.{IsStepped}
-use Rattle.rev_causal.specs.Store.{Footprint, replaced, replaced_by_number}
-use Rattle.rev_causal.proofs.Beside.{IsPlace, place_within, beside_at, all_beside}
-use Rattle.rev_causal.proofs.Chosen.{AllAccepted, last_of-push, some_is, accepted_among, lookup-event_at, event_at-chosen, event_at-not_chosen}
+use Rattle.rev_causal.specs.Store.{Footprint, Table as TableOf, replaced, replaced_by_number}
+use Rattle.rev_causal.proofs.Beside.{IsPlace, place_within, beside_at, chosen_other}
+use Rattle.rev_causal.proofs.Chosen.{last_of-push, some_is, accepted_among, without-not_among, lookup-event_at, event_at-chosen, event_at-not_chosen}
 use Rattle.rev_causal.proofs.Runs.{either}
 use Rattle.rev_causal.proofs.KeptTables as kept_tables
 use Rattle.rev_causal.proofs.Steps as stepping
 use Rattle.rev_cells.specs.declared.cell.Cell.{Cell}
 use Rattle.rev_cells.specs.declared.value.Value.{Value}
-use Rattle.rev_cells.specs.Effects.{former_values}
 use Rattle.rev_cells.specs.Keys.{cell_cmp}
+use Rattle.rev_cells.specs.State.{State}
 use Rattle.rev_cells.specs.Table.{Records, Table, raised_by, written_all}
-use Rattle.rev_cells.specs.Values.{Fits}
 use Rattle.rev_cells.proofs.EntryLemmas.{cells_total, cells_exact}
 use Rattle.rev_events.specs.declared.event.Event.{Event}
 use Rattle.rev_events.specs.declared.refusal.Refusal.TheVariants.{NotKept, AlreadyKept}
@@ -36,13 +35,14 @@ use Rattle.rev_footprint.proofs.Local.{table-local}
 use Rattle.rev_graph.specs.Graph.{GraphValue}
 use Rattle.rev_history.specs.declared.history.History.TheInside.{Inside}
 use Rattle.rev_history.specs.declared.steps.Step.{Step}
-use Rattle.rev_history.specs.Sound.{timeline_of, CanPutBack, IsFootprintOf, HaveFootprints, IsSound}
-use Rattle.rev_history.specs.Steps.{footprint_of, print_of, values_of, footprints_of, prints_of}
+use Rattle.rev_history.specs.Sound.{timeline_of, CanPutBack, IsFootprintOf, HaveFootprints, StandBesideKept, IsSound}
+use Rattle.rev_history.specs.Steps.{Beside, step_at, footprint_in, footprint_beside, HasFootprints, print_of, values_of, prints_of}
 use Rattle.rev_history.specs.Timeline.{Timeline, IsHistory, event_at, kept_events, kept_entries, last_of, state_at, is_among, depended_on, undo_refusal_of, undo_refusal, undone, without, placed, overtaken, redo_refusal_now, redo_refusal_of, redo_refusal, redone, accept_refusal, kept_footprint, nearest_conflict}
 use Rattle.rev_history.specs.Value.{cells_written}
+use Rattle.rev_history.proofs.BesideKept.{all_among, has_footprints, print_beside, stand_undone, stand_redone, stand_accepted}
 use Rattle.rev_history.proofs.Commands.{IsFree, is_free, IsReady, is_ready}
-use Rattle.rev_history.proofs.Effects.{set_all-is, length_stored, has_former}
-use Rattle.rev_history.proofs.Footprints.{along_is, along_none, footprints_at, footprints_set, footprints_end}
+use Rattle.rev_history.proofs.Effects.{set_all-is, length_stored}
+use Rattle.rev_history.proofs.Footprints.{along_is, along_none, footprints_set, footprints_end}
 
 pub history_of : (a : Inside) → IsSound a → IsHistory (timeline_of a)
 history_of a s = record { rising = s.stepped.rising; accepted = s.stepped.each; legal = s.stepped.history.legal }
@@ -80,26 +80,16 @@ redo_refusal_free t n e o at apart accepts is =
     ∙ ap (λ b. cond b (Some AlreadyKept) (redo_refusal_now t n e (refusal t.manifest t.jobs (state_at t) e))) apart
     ∙ ap (redo_refusal_now t n e) accepts)
 
--- what the theory of undo sees beside a number is made of the footprint beside it
-pub prints-footprints : (n : ℕ) (es : List (ℕ × Event)) (steps : List Step) → causal.event_at n (prints_of es steps) ≡ option_map footprints.print_of (causal.event_at n (footprints_of es steps))
-prints-footprints n [] steps = refl
-prints-footprints n (e ∷ es) [] = refl
-prints-footprints n (e ∷ es) (s ∷ steps) = by (nat_eq e.0 n) s.footprint (causal.event_at n (prints_of es steps)) (causal.event_at n (footprints_of es steps)) (prints-footprints n es steps)
-  where
-    by : (b : Bool) (f : FootprintValue) (o : Option (Footprint Cell)) (q : Option FootprintValue) → o ≡ option_map footprints.print_of q → cond b (Some (footprints.print_of f)) o ≡ option_map footprints.print_of (cond b (Some f) q)
-    by true f o q h = refl
-    by false f o q h = h
-
 -- the same, as the code finds it: the footprint beside the number, and the nearest conflict with it
-pub undo_refusal_found : (a : Inside) → IsSound a → (t : Timeline) → timeline_of a ≡ t → (n : ℕ) (f : FootprintValue) (ks : List ℕ) (steps : List Step) →
-    ks ≡ a.kept.items → is_among ks n ≡ true → steps ≡ a.steps.items → Some f ≡ causal.event_at n (footprints_of a.accepted.entries steps) →
+pub undo_refusal_found : (a : Inside) → IsSound a → (t : Timeline) → timeline_of a ≡ t → (n : ℕ) (f : FootprintValue) (ks : List ℕ) (steps : List Beside) →
+    ks ≡ a.kept.items → is_among ks n ≡ true → steps ≡ a.steps.items → Some f ≡ footprint_beside n a.accepted.entries steps →
     IsSome (event_at t n) → (o : Option ℕ) → o ≡ nearest_conflict n f t → depended_on o ≡ undo_refusal t n
 undo_refusal_found a s t view n f ks steps kept among same_steps is some o found =
     let u : Timeline = timeline_of a in
     let e = some_is (event_at u n) (subst (λ (v : Timeline). IsSome (event_at v n)) (sym view) some) in
     let among_kept : is_among a.kept.items n ≡ true = ap (λ xs. is_among xs n) (sym kept) ∙ among in
     let print : causal.event_at n (prints_of a.accepted.entries a.steps.items) ≡ Some (footprints.print_of f) =
-    prints-footprints n a.accepted.entries a.steps.items ∙ ap (option_map footprints.print_of) (ap (λ xs. causal.event_at n (footprints_of a.accepted.entries xs)) (sym same_steps) ∙ sym is) in
+    print_beside n a.accepted.entries a.steps.items f (ap (λ xs. footprint_beside n a.accepted.entries xs) (sym same_steps) ∙ sym is) in
     undo_refusal_kept u n e.0 o e.1 among_kept
     (found ∙ ap (nearest_conflict n f) (sym view) ∙ sym (found_above a s n (footprints.print_of f)) ∙ found_dependent a s n (footprints.print_of f) among_kept print)
     ∙ ap (λ (v : Timeline). undo_refusal v n) view
@@ -154,28 +144,59 @@ more_places : (old new : List Cell) (ws : List (Cell × Value)) → ((c : Cell) 
 more_places old new [] more h = tt
 more_places old new (w ∷ ws) more h = (more w.0 h.0, more_places old new ws more h.1)
 
-still_ready : (old new : List Cell) (steps : List Step) → ((c : Cell) → Contains old c → Contains new c) → AllByRecursion (CanPutBack old) steps → AllByRecursion (CanPutBack new) steps
+-- what stands beside an event, where anything does, can be put back
+abbrev IsReadyBeside : List Cell → Beside → Type 0
+IsReadyBeside places s = IfSome s (CanPutBack places)
+
+still_ready : (old new : List Cell) (steps : List Beside) → ((c : Cell) → Contains old c → Contains new c) → AllByRecursion (IsReadyBeside old) steps → AllByRecursion (IsReadyBeside new) steps
 still_ready old new [] more h = tt
-still_ready old new (s ∷ steps) more h = (record { has = more_places old new s.replaced.items more h.0.has; fits = h.0.fits }, still_ready old new steps more h.1)
+still_ready old new (None ∷ steps) more h = (tt, still_ready old new steps more h.1)
+still_ready old new (Some s ∷ steps) more h = (record { has = more_places old new s.replaced.items more h.0.has; fits = h.0.fits }, still_ready old new steps more h.1)
 
 pub map_end : {A B : Type 0} (f : A → B) (xs : List A) (x : A) → map f (xs ++ x ∷ []) ≡ map f xs ++ f x ∷ []
 map_end f [] x = refl
 map_end f (y ∷ xs) x = ap (λ zs. f y ∷ zs) (map_end f xs x)
 
+-- the step that was taken from a place
+pub taken_at : (a : Inside) (i : ℕ) (d : Step) (o : Beside) → Some d ≡ o → o ≡ get_or a.steps.items i o → Some d ≡ get_or a.steps.items i (Some d)
+taken_at a i d o is at = is ∙ at ∙ ap (get_or a.steps.items i) (sym is)
+
 -- what can be put back of a place
-pub ready_at : (a : Inside) → IsSound a → (n i : ℕ) (d : Step) → IsPlace n a.accepted.entries i → d ≡ get_or a.steps.items i d → CanPutBack a.cells.places d
+pub ready_at : (a : Inside) → IsSound a → (n i : ℕ) (d : Step) → IsPlace n a.accepted.entries i → Some d ≡ get_or a.steps.items i (Some d) → CanPutBack a.cells.places d
 ready_at a s n i d place is =
     let lt : i < length a.accepted.entries = place_within n a.accepted.entries i place in
     let same : length a.steps.items ≡ length a.accepted.entries = as_many a s in
-    subst (CanPutBack a.cells.places) (sym is) (all_get (CanPutBack a.cells.places) a.steps.items i d s.ready (omega arith))
+    subst (IsReadyBeside a.cells.places) (sym is) (all_get (IsReadyBeside a.cells.places) a.steps.items i (Some d) s.ready (omega arith))
+
+-- of equal fields
+same_beside : (es' : List (ℕ × Event)) (steps' : List Beside) (ks' : List ℕ) {es : List (ℕ × Event)} {steps : List Beside} {ks : List ℕ} → es' ≡ es → steps' ≡ steps → ks' ≡ ks → StandBesideKept es steps ks → StandBesideKept es' steps' ks'
+same_beside es' steps' ks' {es} {steps} {ks} e s k h =
+    subst (λ x. StandBesideKept x steps' ks') (sym e) (subst (λ x. StandBesideKept es x ks') (sym s) (subst (StandBesideKept es steps) (sym k) h))
+
+-- beside an event that is not kept may stand any footprint
+reprinted : (t : TableOf Cell Value Event Refusal cell_cmp) (opening cells : State) (es : List (ℕ × Event)) (ks : List ℕ) (fs : List (Footprint Cell)) (vs : List (List (Cell × Option Value))) (n i : ℕ) (f : Footprint Cell) → IsPlace n es i → is_among ks n ≡ false → IsStepped t opening cells es ks fs vs → IsStepped t opening cells es ks (set fs i f) vs
+reprinted t opening cells es ks fs vs n i f place apart h = record {
+  rising = h.rising;
+  each = h.each;
+  as_many_prints = length-set fs i f ∙ h.as_many_prints;
+  as_many_values = h.as_many_values;
+  history = record {
+    rising = h.history.rising;
+    legal = h.history.legal;
+    cells_are = h.history.cells_are;
+    footprints_are = chosen_other n es fs i f ks place apart ∙ h.history.footprints_are;
+    replaced_are = h.history.replaced_are;
+  };
+}
 
 -- what holds of fields that stand by the manifest and the jobs of others
 sound_by : (a b : Inside) → b.graph ≡ a.graph → b.opening ≡ a.opening
     → IsStepped (table a.graph.manifest a.opening.jobs) b.opening.state b.cells.state b.accepted.entries b.kept.items (map print_of b.steps.items) (map values_of b.steps.items)
-    → HaveFootprints a.graph.manifest b.accepted.entries b.steps.items → AllByRecursion (CanPutBack b.cells.places) b.steps.items → b.cells.jobs ≡ a.opening.jobs → b.last ≡ last_of b.accepted.entries → IsSound b
-sound_by a b graph opening stepped own ready jobs last = record {
+    → HaveFootprints a.graph.manifest b.accepted.entries b.steps.items → StandBesideKept b.accepted.entries b.steps.items b.kept.items → AllByRecursion (IsReadyBeside b.cells.places) b.steps.items → b.cells.jobs ≡ a.opening.jobs → b.last ≡ last_of b.accepted.entries → IsSound b
+sound_by a b graph opening stepped own beside ready jobs last = record {
   stepped = subst₂ (λ (g : GraphValue) (r : Records). IsStepped (table g.manifest r.jobs) b.opening.state b.cells.state b.accepted.entries b.kept.items (map print_of b.steps.items) (map values_of b.steps.items)) (sym graph) (sym opening) stepped;
   footprints = subst (λ (g : GraphValue). HaveFootprints g.manifest b.accepted.entries b.steps.items) (sym graph) own;
+  beside = beside;
   ready = ready;
   jobs = jobs ∙ ap (λ (r : Records). r.jobs) (sym opening);
   last = last;
@@ -183,8 +204,8 @@ sound_by a b graph opening stepped own ready jobs last = record {
 
 -- an accepted event
 pub accepted_sound : (a b : Inside) (n : ℕ) (e : Event) (step : Step) → IsSound a → last_of a.accepted.entries < n → refusal a.graph.manifest a.cells.jobs a.cells.state e ≡ None → b.graph ≡ a.graph → b.opening ≡ a.opening
-    → b.accepted.entries ≡ a.accepted.entries ++ (n, e) ∷ [] → b.kept.items ≡ a.kept.items ++ n ∷ [] → b.steps.items ≡ a.steps.items ++ step ∷ []
-    → step.footprint ≡ footprint a.graph.manifest a.cells.state e → values_of step ≡ replaced a.cells.state (effect a.graph.manifest a.cells.state e) → CanPutBack b.cells.places step → ((c : Cell) → Contains a.cells.places c → Contains b.cells.places c)
+    → b.accepted.entries ≡ a.accepted.entries ++ (n, e) ∷ [] → b.kept.items ≡ a.kept.items ++ n ∷ [] → b.steps.items ≡ a.steps.items ++ Some step ∷ []
+    → step.footprint ≡ footprint a.graph.manifest a.cells.state e → values_of (Some step) ≡ replaced a.cells.state (effect a.graph.manifest a.cells.state e) → CanPutBack b.cells.places step → ((c : Cell) → Contains a.cells.places c → Contains b.cells.places c)
     → b.cells.state ≡ after a.graph.manifest a.cells.state e → b.cells.jobs ≡ a.cells.jobs → b.last ≡ n → IsSound b
 accepted_sound a b n e step s lt accepts graph opening accepted kept steps print values ready more state jobs last =
     let m : ManifestValue = a.graph.manifest in
@@ -193,12 +214,13 @@ accepted_sound a b n e step s lt accepts graph opening accepted kept steps print
     let accepts_now : refusal m a.opening.jobs a.cells.state e ≡ None = ap (λ j. refusal m j a.cells.state e) (sym s.jobs) ∙ accepts in
     let done : IsStepped (table m a.opening.jobs) a.opening.state (after m a.cells.state e) (a.accepted.entries ++ (n, e) ∷ []) (a.kept.items ++ n ∷ []) (map print_of a.steps.items ++ f ∷ []) (map values_of a.steps.items ++ ws ∷ []) =
     stepping.accept_stepped cells_total cells_exact (table m a.opening.jobs) (table-local m a.opening.jobs) a.opening.state a.cells.state a.accepted.entries a.kept.items (map print_of a.steps.items) (map values_of a.steps.items) s.stepped n e lt accepts_now in
-    let prints_are : map print_of b.steps.items ≡ map print_of a.steps.items ++ f ∷ [] = ap (map print_of) steps ∙ map_end print_of a.steps.items step ∙ ap (λ g. map print_of a.steps.items ++ footprints.print_of g ∷ []) print in
-    let values_are : map values_of b.steps.items ≡ map values_of a.steps.items ++ ws ∷ [] = ap (map values_of) steps ∙ map_end values_of a.steps.items step ∙ ap (λ vs. map values_of a.steps.items ++ vs ∷ []) values in
+    let prints_are : map print_of b.steps.items ≡ map print_of a.steps.items ++ f ∷ [] = ap (map print_of) steps ∙ map_end print_of a.steps.items (Some step) ∙ ap (λ g. map print_of a.steps.items ++ footprints.print_of g ∷ []) print in
+    let values_are : map values_of b.steps.items ≡ map values_of a.steps.items ++ ws ∷ [] = ap (map values_of) steps ∙ map_end values_of a.steps.items (Some step) ∙ ap (λ vs. map values_of a.steps.items ++ vs ∷ []) values in
     sound_by a b graph opening
     (stepping.restepped (table m a.opening.jobs) _ _ _ _ _ _ _ _ _ _ _ _ done (ap (λ r. r.state) opening) state accepted kept prints_are values_are)
-    (subst₂ (HaveFootprints m) (sym accepted) (sym steps) (footprints_end m a.accepted.entries a.steps.items n step e s.footprints (as_many a s) (record { state = a.cells.state; is = print })))
-    (subst (AllByRecursion (CanPutBack b.cells.places)) (sym steps) (all_end (CanPutBack b.cells.places) a.steps.items step (still_ready a.cells.places b.cells.places a.steps.items more s.ready) ready))
+    (subst₂ (HaveFootprints m) (sym accepted) (sym steps) (footprints_end m a.accepted.entries a.steps.items n (Some step) e s.footprints (as_many a s) (record { state = a.cells.state; is = print })))
+    (same_beside b.accepted.entries b.steps.items b.kept.items accepted steps kept (stand_accepted a.accepted.entries a.steps.items a.kept.items s.beside n e step (as_many a s) lt))
+    (subst (AllByRecursion (IsReadyBeside b.cells.places)) (sym steps) (all_end (IsReadyBeside b.cells.places) a.steps.items (Some step) (still_ready a.cells.places b.cells.places a.steps.items more s.ready) ready))
     (jobs ∙ s.jobs)
     (last ∙ sym (ap last_of accepted ∙ last_of-push a.accepted.entries n e lt))
 
@@ -208,36 +230,34 @@ pub record IsTakenOut (a b : Inside) (n : ℕ) : Type 0 where
   pub timeline : timeline_of b ≡ undone n (timeline_of a)
   pub writes : b.cells.writes ≡ raised_by (cells_written n (timeline_of a)) a.cells.writes
 
-pub taken_out : (a b : Inside) (n i : ℕ) (d step : Step) → IsSound a → IsPlace n a.accepted.entries i → undo_refusal (timeline_of a) n ≡ None → d ≡ get_or a.steps.items i d
-    → b.graph ≡ a.graph → b.opening ≡ a.opening → b.accepted.entries ≡ a.accepted.entries → b.last ≡ a.last → b.cells ≡ written_all a.cells d.replaced.items → b.steps.items ≡ set a.steps.items i step
-    → step.footprint ≡ d.footprint → step.replaced.items ≡ former_values a.cells.state d.replaced.items → AllByRecursion (λ (w : Cell × Value). Fits w.0 w.1) step.replaced.items → b.kept.items ≡ without n a.kept.items → IsTakenOut a b n
-taken_out a b n i d step s place free is graph opening accepted last cells steps print former fits kept =
+pub taken_out : (a b : Inside) (n i : ℕ) (d : Step) → IsSound a → IsPlace n a.accepted.entries i → undo_refusal (timeline_of a) n ≡ None → Some d ≡ get_or a.steps.items i (Some d)
+    → b.graph ≡ a.graph → b.opening ≡ a.opening → b.accepted.entries ≡ a.accepted.entries → b.last ≡ a.last → b.cells ≡ written_all a.cells d.replaced.items → b.steps.items ≡ set a.steps.items i None
+    → b.kept.items ≡ without n a.kept.items → IsTakenOut a b n
+taken_out a b n i d s place free is graph opening accepted last cells steps kept =
     let t : Timeline = timeline_of a in
     let m : ManifestValue = a.graph.manifest in
     let f : IsFree t n = is_free t n free in
     let lt : i < length a.steps.items = let within : i < length a.accepted.entries = place_within n a.accepted.entries i place in let same : length a.steps.items ≡ length a.accepted.entries = as_many a s in omega arith in
-    let here : slice_get (map values_of a.steps.items) i ≡ Some (values_of d) = slice_get-map values_of a.steps.items i ∙ ap (λ o. elim o [ None ↦ None | Some x ↦ Some (values_of x) ]) (slice_get-get_or a.steps.items i d lt) ∙ ap (λ x. Some (values_of x)) (sym is) in
-    let done : IsStepped (table m a.opening.jobs) a.opening.state _ a.accepted.entries (without n a.kept.items) (map print_of a.steps.items) (set (map values_of a.steps.items) i (values_of step)) =
-    stepping.undo_stepped cells_total cells_exact (table m a.opening.jobs) (table-local m a.opening.jobs) a.opening.state a.cells.state a.accepted.entries a.kept.items (map print_of a.steps.items) (map values_of a.steps.items) s.stepped n i f.event (values_of d) (values_of step) place f.at f.among f.none here in
-    let prints_are : map print_of b.steps.items ≡ map print_of a.steps.items = ap (map print_of) steps ∙ map-set_same print_of a.steps.items i step d (ap footprints.print_of print ∙ ap print_of is) in
-    let values_are : map values_of b.steps.items ≡ set (map values_of a.steps.items) i (values_of step) = ap (map values_of) steps ∙ map-set values_of a.steps.items i step in
+    let here : slice_get (map values_of a.steps.items) i ≡ Some (values_of (Some d)) = slice_get-map values_of a.steps.items i ∙ ap (option_map values_of) (slice_get-get_or a.steps.items i (Some d) lt) ∙ ap (λ x. Some (values_of x)) (sym is) in
+    let done : IsStepped (table m a.opening.jobs) a.opening.state _ a.accepted.entries (without n a.kept.items) (set (map print_of a.steps.items) i (print_of None)) (set (map values_of a.steps.items) i (values_of None)) =
+    reprinted (table m a.opening.jobs) _ _ _ _ _ _ n i (print_of None) place (without-not_among n a.kept.items) (stepping.undo_stepped cells_total cells_exact (table m a.opening.jobs) (table-local m a.opening.jobs) a.opening.state a.cells.state a.accepted.entries a.kept.items (map print_of a.steps.items) (map values_of a.steps.items) s.stepped n i f.event (values_of (Some d)) (values_of None) place f.at f.among f.none here) in
+    let prints_are : map print_of b.steps.items ≡ set (map print_of a.steps.items) i (print_of None) = ap (map print_of) steps ∙ map-set print_of a.steps.items i None in
+    let values_are : map values_of b.steps.items ≡ set (map values_of a.steps.items) i (values_of None) = ap (map values_of) steps ∙ map-set values_of a.steps.items i None in
     let state : b.cells.state ≡ _ = ap (λ (c : Table). c.state) cells ∙ set_all-is a.cells.state d.replaced.items in
-    let before : CanPutBack a.cells.places d = ready_at a s n i d place is in
-    let ready : CanPutBack a.cells.places step = record { has = subst (AllByRecursion (λ (w : Cell × Value). Contains a.cells.places w.0)) (sym former) (has_former a.cells.places a.cells.state d.replaced.items before.has); fits = fits } in
-    let own : IsFootprintOf m f.event d.footprint = subst (λ (x : Step). IsFootprintOf m f.event x.footprint) (sym is) (footprints_at m a.accepted.entries a.steps.items n i d f.event s.footprints place f.at lt) in
-    let stored : causal.event_at n (replaced_by_number (table m a.opening.jobs) a.opening.state (kept_events t)) ≡ Some (values_of d) =
+    let stored : causal.event_at n (replaced_by_number (table m a.opening.jobs) a.opening.state (kept_events t)) ≡ Some (values_of (Some d)) =
     ap (causal.event_at n) (sym s.stepped.history.replaced_are)
-    ∙ event_at-chosen (causal.numbered_by a.accepted.entries (map values_of a.steps.items)) a.kept.items n (values_of d) f.among (beside_at n a.accepted.entries (map values_of a.steps.items) i place ∙ here) in
+    ∙ event_at-chosen (causal.numbered_by a.accepted.entries (map values_of a.steps.items)) a.kept.items n (values_of (Some d)) f.among (beside_at n a.accepted.entries (map values_of a.steps.items) i place ∙ here) in
     record {
       sound = sound_by a b graph opening
           (stepping.restepped (table m a.opening.jobs) _ _ _ _ _ _ _ _ _ _ _ _ done (ap (λ r. r.state) opening) state accepted kept prints_are values_are)
-          (subst₂ (HaveFootprints m) (sym accepted) (sym steps) (footprints_set m a.accepted.entries a.steps.items n i step f.event s.footprints place f.at (subst (IsFootprintOf m f.event) (sym print) own)))
-          (subst₂ (λ (c : Table) xs. AllByRecursion (CanPutBack c.places) xs) (sym cells) (sym steps) (all_set (CanPutBack a.cells.places) a.steps.items i step s.ready ready))
+          (subst₂ (HaveFootprints m) (sym accepted) (sym steps) (footprints_set m a.accepted.entries a.steps.items n i None f.event s.footprints place f.at tt))
+          (same_beside b.accepted.entries b.steps.items b.kept.items accepted steps kept (stand_undone a.accepted.entries a.steps.items a.kept.items s.beside n i place lt))
+          (subst₂ (λ (c : Table) xs. AllByRecursion (IsReadyBeside c.places) xs) (sym cells) (sym steps) (all_set (IsReadyBeside a.cells.places) a.steps.items i None s.ready tt))
           (ap (λ (c : Table). c.jobs) cells ∙ s.jobs)
           (last ∙ s.last ∙ ap last_of (sym accepted));
       timeline = λ j. record { manifest = (graph j).manifest; jobs = (opening j).jobs; opening = (opening j).state; accepted = accepted j; kept = kept j };
       writes = ap (λ (c : Table). c.writes) cells
-          ∙ ap (λ k. raised_by k a.cells.writes) (sym (length_stored d.replaced.items) ∙ kept_tables.as_many_written cells_total cells_exact (table m a.opening.jobs) (table-local m a.opening.jobs) n a.opening.state (kept_events t) (values_of d) stored);
+          ∙ ap (λ k. raised_by k a.cells.writes) (sym (length_stored d.replaced.items) ∙ kept_tables.as_many_written cells_total cells_exact (table m a.opening.jobs) (table-local m a.opening.jobs) n a.opening.state (kept_events t) (values_of (Some d)) stored);
     }
 
 -- an event that is put in
@@ -246,8 +266,8 @@ pub record IsPutIn (a b : Inside) (n : ℕ) : Type 0 where
   pub timeline : timeline_of b ≡ redone n (timeline_of a)
 
 pub put_in : (a b : Inside) (n i : ℕ) (e : Event) (step : Step) → IsSound a → IsPlace n a.accepted.entries i → causal.event_at n a.accepted.entries ≡ Some e → redo_refusal (timeline_of a) n ≡ None
-    → b.graph ≡ a.graph → b.opening ≡ a.opening → b.accepted.entries ≡ a.accepted.entries → b.last ≡ a.last → b.steps.items ≡ set a.steps.items i step
-    → step.footprint ≡ footprint a.graph.manifest a.cells.state e → values_of step ≡ replaced a.cells.state (effect a.graph.manifest a.cells.state e) → CanPutBack b.cells.places step → ((c : Cell) → Contains a.cells.places c → Contains b.cells.places c)
+    → b.graph ≡ a.graph → b.opening ≡ a.opening → b.accepted.entries ≡ a.accepted.entries → b.last ≡ a.last → b.steps.items ≡ set a.steps.items i (Some step)
+    → step.footprint ≡ footprint a.graph.manifest a.cells.state e → values_of (Some step) ≡ replaced a.cells.state (effect a.graph.manifest a.cells.state e) → CanPutBack b.cells.places step → ((c : Cell) → Contains a.cells.places c → Contains b.cells.places c)
     → b.cells.state ≡ after a.graph.manifest a.cells.state e → b.cells.jobs ≡ a.cells.jobs → b.kept.items ≡ placed n a.kept.items → IsPutIn a b n
 put_in a b n i e step s place at free graph opening accepted last steps print values ready more state jobs kept =
     let t : Timeline = timeline_of a in
@@ -257,18 +277,20 @@ put_in a b n i e step s place at free graph opening accepted last steps print va
     let r : IsReady t n = is_ready t n free in
     let one : Some r.event ≡ Some e = sym r.at ∙ at in
     let same : r.event ≡ e = cc in
+    let lt : i < length a.steps.items = let within : i < length a.accepted.entries = place_within n a.accepted.entries i place in let many : length a.steps.items ≡ length a.accepted.entries = as_many a s in omega arith in
     let now : state_at t ≡ a.cells.state = sym (state_of a s) in
     let accepts : refusal m a.opening.jobs a.cells.state e ≡ None = ap₂ (refusal m a.opening.jobs) (sym now) (sym same) ∙ r.accepts in
     let none : causal.nearest_above (machine m a.opening.jobs) n g (kept_entries t) ≡ None = ap₂ (λ u x. causal.nearest_above (machine m a.opening.jobs) n (footprints.print_of (footprint m u x)) (kept_entries t)) (sym now) (sym same) ∙ r.none in
     let done : IsStepped (table m a.opening.jobs) a.opening.state (after m a.cells.state e) a.accepted.entries (placed n a.kept.items) (set (map print_of a.steps.items) i g) (set (map values_of a.steps.items) i ws) =
     stepping.redo_stepped cells_total cells_exact (table m a.opening.jobs) (table-local m a.opening.jobs) a.opening.state a.cells.state a.accepted.entries a.kept.items (map print_of a.steps.items) (map values_of a.steps.items) s.stepped n i e place at r.apart accepts none in
-    let prints_are : map print_of b.steps.items ≡ set (map print_of a.steps.items) i g = ap (map print_of) steps ∙ map-set print_of a.steps.items i step ∙ ap (λ f. set (map print_of a.steps.items) i (footprints.print_of f)) print in
-    let values_are : map values_of b.steps.items ≡ set (map values_of a.steps.items) i ws = ap (map values_of) steps ∙ map-set values_of a.steps.items i step ∙ ap (set (map values_of a.steps.items) i) values in
+    let prints_are : map print_of b.steps.items ≡ set (map print_of a.steps.items) i g = ap (map print_of) steps ∙ map-set print_of a.steps.items i (Some step) ∙ ap (λ f. set (map print_of a.steps.items) i (footprints.print_of f)) print in
+    let values_are : map values_of b.steps.items ≡ set (map values_of a.steps.items) i ws = ap (map values_of) steps ∙ map-set values_of a.steps.items i (Some step) ∙ ap (set (map values_of a.steps.items) i) values in
     record {
       sound = sound_by a b graph opening
           (stepping.restepped (table m a.opening.jobs) _ _ _ _ _ _ _ _ _ _ _ _ done (ap (λ r. r.state) opening) state accepted kept prints_are values_are)
-          (subst₂ (HaveFootprints m) (sym accepted) (sym steps) (footprints_set m a.accepted.entries a.steps.items n i step e s.footprints place at (record { state = a.cells.state; is = print })))
-          (subst (AllByRecursion (CanPutBack b.cells.places)) (sym steps) (all_set (CanPutBack b.cells.places) a.steps.items i step (still_ready a.cells.places b.cells.places a.steps.items more s.ready) ready))
+          (subst₂ (HaveFootprints m) (sym accepted) (sym steps) (footprints_set m a.accepted.entries a.steps.items n i (Some step) e s.footprints place at (record { state = a.cells.state; is = print })))
+          (same_beside b.accepted.entries b.steps.items b.kept.items accepted steps kept (stand_redone a.accepted.entries a.steps.items a.kept.items s.beside n i step place lt))
+          (subst (AllByRecursion (IsReadyBeside b.cells.places)) (sym steps) (all_set (IsReadyBeside b.cells.places) a.steps.items i (Some step) (still_ready a.cells.places b.cells.places a.steps.items more s.ready) ready))
           (jobs ∙ s.jobs)
           (last ∙ s.last ∙ ap last_of (sym accepted));
       timeline = λ j. record { manifest = (graph j).manifest; jobs = (opening j).jobs; opening = (opening j).state; accepted = accepted j; kept = kept j };
@@ -281,7 +303,8 @@ same_sound a b s graph opening accepted steps kept state jobs last more =
     sound_by a b graph opening
     (stepping.restepped (table a.graph.manifest a.opening.jobs) _ _ _ _ _ _ _ _ _ _ _ _ s.stepped (ap (λ r. r.state) opening) state accepted kept (ap (map print_of) steps) (ap (map values_of) steps))
     (subst₂ (HaveFootprints a.graph.manifest) (sym accepted) (sym steps) s.footprints)
-    (subst (AllByRecursion (CanPutBack b.cells.places)) (sym steps) (still_ready a.cells.places b.cells.places a.steps.items more s.ready))
+    (same_beside b.accepted.entries b.steps.items b.kept.items accepted steps kept s.beside)
+    (subst (AllByRecursion (IsReadyBeside b.cells.places)) (sym steps) (still_ready a.cells.places b.cells.places a.steps.items more s.ready))
     (jobs ∙ s.jobs)
     (last ∙ s.last ∙ ap last_of (sym accepted))
 
@@ -289,14 +312,22 @@ same_sound a b s graph opening accepted steps kept state jobs last more =
 pub has_index : (a : Inside) (n : ℕ) (e : Event) → event_at (timeline_of a) n ≡ Some e → false ≡ is_some (lookup (nat_eq n) a.accepted.entries) → ⊥
 has_index a n e at none = true≢false (sym (none ∙ ap is_some (lookup-event_at n a.accepted.entries ∙ at)))
 
--- a kept number has a footprint
-pub has_print : (a : Inside) → IsSound a → (n : ℕ) → is_among a.kept.items n ≡ true → None ≡ causal.event_at n (footprints_of a.accepted.entries a.steps.items) → ⊥
+-- kept numbers have footprints
+pub all_footprints : (a : Inside) → IsSound a → HasFootprints a.accepted.entries a.steps.items a.kept.items
+all_footprints a s = has_footprints a.accepted.entries a.steps.items a.kept.items s.beside (as_many a s) s.stepped.each
+
+pub has_print : (a : Inside) → IsSound a → (n : ℕ) → is_among a.kept.items n ≡ true → None ≡ footprint_beside n a.accepted.entries a.steps.items → ⊥
 has_print a s n among none =
-    let many : length (map footprint_of a.steps.items) ≡ length a.accepted.entries = length-map a.steps.items footprint_of ∙ as_many a s in
-    let all : AllAccepted (footprints_of a.accepted.entries a.steps.items) a.kept.items = all_beside a.accepted.entries (map footprint_of a.steps.items) a.kept.items many s.stepped.each in
-    let some = accepted_among (footprints_of a.accepted.entries a.steps.items) a.kept.items n all among in
-    let never : None ≡ Some some.0 = none ∙ some.1 in
-    cc
+    true≢false (sym (all_among (λ k. IsSome (footprint_beside k a.accepted.entries a.steps.items)) a.kept.items n (all_footprints a s) among) ∙ ap is_some (sym none))
+
+-- and a step
+pub has_step : (a : Inside) → IsSound a → (n i : ℕ) (o : Beside) → is_among a.kept.items n ≡ true → IsPlace n a.accepted.entries i → o ≡ get_or a.steps.items i o → None ≡ o → ⊥
+has_step a s n i o among place is none =
+    let within : i < length a.accepted.entries = place_within n a.accepted.entries i place in
+    let same : length a.steps.items ≡ length a.accepted.entries = as_many a s in
+    let lt : i < length a.steps.items = omega arith in
+    let here : step_at n a.accepted.entries a.steps.items ≡ Some o = beside_at n a.accepted.entries a.steps.items i place ∙ slice_get-get_or a.steps.items i o lt ∙ ap Some (sym is) in
+    true≢false (sym (s.beside n o here ∙ among) ∙ ap is_some (sym none))
 
 -- an event whose redo is not refused is accepted now
 pub accepted_now : (a : Inside) → IsSound a → (n : ℕ) (e : Event) → redo_refusal (timeline_of a) n ≡ None → causal.event_at n a.accepted.entries ≡ Some e → refusal a.graph.manifest a.cells.jobs a.cells.state e ≡ None
@@ -307,44 +338,46 @@ accepted_now a s n e free at =
     ap₂ (λ j v. refusal a.graph.manifest j v e) s.jobs (state_of a s) ∙ ap (refusal a.graph.manifest a.opening.jobs (state_at (timeline_of a))) (sym same) ∙ r.accepts
 
 -- what stands beside an event is a footprint of its own
-own_footprint : (m : ManifestValue) (es : List (ℕ × Event)) (steps : List Step) (n : ℕ) (f : FootprintValue) (e : Event) → HaveFootprints m es steps → Some f ≡ causal.event_at n (footprints_of es steps) → causal.event_at n es ≡ Some e → IsFootprintOf m e f
+own_footprint : (m : ManifestValue) (es : List (ℕ × Event)) (steps : List Beside) (n : ℕ) (f : FootprintValue) (e : Event) → HaveFootprints m es steps → Some f ≡ footprint_beside n es steps → causal.event_at n es ≡ Some e → IsFootprintOf m e f
 own_footprint m [] steps n f e h is at = cc
 own_footprint m (x ∷ xs) [] n f e h is at = cc
 own_footprint m (x ∷ xs) (s ∷ steps) n f e h is at = elim (either (nat_eq x.0 n)) [
   | inl t ↦
       let one : Some x.1 ≡ Some e = sym (ap (λ b. cond b (Some x.1) (causal.event_at n xs)) t) ∙ at in
       let same : x.1 ≡ e = cc in
-      let two : Some f ≡ Some s.footprint = is ∙ ap (λ b. cond b (Some s.footprint) (causal.event_at n (footprints_of xs steps))) t in
-      let print : f ≡ s.footprint = cc in
-      subst₂ (IsFootprintOf m) same (sym print) h.0
+      by s e (subst (λ y. IfSome s (λ z. IsFootprintOf m y z.footprint)) same h.0) (is ∙ ap (λ b. footprint_in (cond b (Some s) (step_at n xs steps))) t)
   | inr o ↦
-      own_footprint m xs steps n f e h.1 (is ∙ ap (λ b. cond b (Some s.footprint) (causal.event_at n (footprints_of xs steps))) o) (sym (ap (λ b. cond b (Some x.1) (causal.event_at n xs)) o) ∙ at)
+      own_footprint m xs steps n f e h.1 (is ∙ ap (λ b. footprint_in (cond b (Some s) (step_at n xs steps))) o) (sym (ap (λ b. cond b (Some x.1) (causal.event_at n xs)) o) ∙ at)
 ]
+  where
+    by : (o : Beside) (y : Event) → IfSome o (λ z. IsFootprintOf m y z.footprint) → Some f ≡ footprint_in (Some o) → IsFootprintOf m y f
+    by None y own h = cc
+    by (Some z) y own h = let print : f ≡ z.footprint = cc in subst (IsFootprintOf m y) (sym print) own
 
 -- what stands beside a kept number is the footprint of its place
-pub kept_print : (a : Inside) → IsSound a → (t : Timeline) → timeline_of a ≡ t → (n : ℕ) (f : FootprintValue) (ks : List ℕ) (steps : List Step) → ks ≡ a.kept.items → is_among ks n ≡ true → steps ≡ a.steps.items
-    → Some f ≡ causal.event_at n (footprints_of a.accepted.entries steps) → Some f ≡ kept_footprint t n
+pub kept_print : (a : Inside) → IsSound a → (t : Timeline) → timeline_of a ≡ t → (n : ℕ) (f : FootprintValue) (ks : List ℕ) (steps : List Beside) → ks ≡ a.kept.items → is_among ks n ≡ true → steps ≡ a.steps.items
+    → Some f ≡ footprint_beside n a.accepted.entries steps → Some f ≡ kept_footprint t n
 kept_print a s t view n f ks steps kept among_ks same_steps is_steps =
     let u : Timeline = timeline_of a in
     let m : ManifestValue = a.graph.manifest in
     let among : is_among a.kept.items n ≡ true = ap (λ xs. is_among xs n) (sym kept) ∙ among_ks in
-    let is : Some f ≡ causal.event_at n (footprints_of a.accepted.entries a.steps.items) = is_steps ∙ ap (λ xs. causal.event_at n (footprints_of a.accepted.entries xs)) same_steps in
+    let is : Some f ≡ footprint_beside n a.accepted.entries a.steps.items = is_steps ∙ ap (λ xs. footprint_beside n a.accepted.entries xs) same_steps in
     let e = accepted_among a.accepted.entries a.kept.items n s.stepped.each among in
     let print : causal.event_at n (causal.footprints_by_number (machine m a.opening.jobs) a.opening.state (kept_events u)) ≡ Some (footprints.print_of f) =
     ap (causal.event_at n) (sym s.stepped.history.footprints_are)
-    ∙ event_at-chosen (prints_of a.accepted.entries a.steps.items) a.kept.items n (footprints.print_of f) among (prints-footprints n a.accepted.entries a.steps.items ∙ ap (option_map footprints.print_of) (sym is)) in
+    ∙ event_at-chosen (prints_of a.accepted.entries a.steps.items) a.kept.items n (footprints.print_of f) among (print_beside n a.accepted.entries a.steps.items f (sym is)) in
     sym (along_is m a.opening.jobs a.opening.state (kept_events u) n e.0 f (own_footprint m a.accepted.entries a.steps.items n f e.0 s.footprints is e.1) (event_at-chosen a.accepted.entries a.kept.items n e.0 among e.1) print)
     ∙ ap (λ (v : Timeline). kept_footprint v n) view
 
 -- what is found there
-pub print_found : (a : Inside) → IsSound a → (t : Timeline) → timeline_of a ≡ t → (n : ℕ) (ks : List ℕ) (steps : List Step) → ks ≡ a.kept.items → is_among ks n ≡ true → steps ≡ a.steps.items
-    → causal.event_at n (footprints_of a.accepted.entries steps) ≡ kept_footprint t n
+pub print_found : (a : Inside) → IsSound a → (t : Timeline) → timeline_of a ≡ t → (n : ℕ) (ks : List ℕ) (steps : List Beside) → ks ≡ a.kept.items → is_among ks n ≡ true → steps ≡ a.steps.items
+    → footprint_beside n a.accepted.entries steps ≡ kept_footprint t n
 print_found a s t view n ks steps kept among same_steps =
-    by (causal.event_at n (footprints_of a.accepted.entries steps)) refl
+    by (footprint_beside n a.accepted.entries steps) refl
   where
-    by : (o : Option FootprintValue) → causal.event_at n (footprints_of a.accepted.entries steps) ≡ o → causal.event_at n (footprints_of a.accepted.entries steps) ≡ kept_footprint t n
+    by : (o : Option FootprintValue) → footprint_beside n a.accepted.entries steps ≡ o → footprint_beside n a.accepted.entries steps ≡ kept_footprint t n
     by None none =
-        absurd (has_print a s n (ap (λ xs. is_among xs n) (sym kept) ∙ among) (sym none ∙ ap (λ xs. causal.event_at n (footprints_of a.accepted.entries xs)) same_steps))
+        absurd (has_print a s n (ap (λ xs. is_among xs n) (sym kept) ∙ among) (sym none ∙ ap (λ xs. footprint_beside n a.accepted.entries xs) same_steps))
     by (Some f) some = some ∙ kept_print a s t view n f ks steps kept among same_steps (sym some)
 
 -- and a number that is not kept has none

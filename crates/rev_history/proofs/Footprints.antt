@@ -1,6 +1,6 @@
 -- The footprints of kept events at their places.
 use Rattle.std.proofs.Common.{◌≡◌, ◌≢◌, ℕ, ◌<◌, Bool, true, false, cond, List, [], ◌∷◌, ◌++◌, Option, None, Some, option_map, length, get_or, set, refl, sym, ap, subst, if◌then◌else◌, ◌∙◌, inl, inr, eqb-true, ne_eqb, arith, zero, suc}
-use Rattle.std.specs.Prelude.{nat_eq, nat_lt}
+use Rattle.std.specs.Prelude.{IfSome, nat_eq, nat_lt}
 use Rattle.std.specs.FinSet as finset
 use Rattle.rev_causal.specs.Entries.{entries}
 use Rattle.rev_causal.specs.History as causal
@@ -23,7 +23,7 @@ use Rattle.rev_footprint.specs.Value.{FootprintValue, print_of}
 use Rattle.rev_footprint.specs.Footprint.{footprint}
 use Rattle.rev_footprint.specs.Machine.{machine}
 use Rattle.rev_footprint.proofs.Local.{machine-local}
-use Rattle.rev_history.specs.declared.steps.Step.{Step}
+use Rattle.rev_history.specs.Steps.{Beside}
 use Rattle.rev_history.specs.Sound.{IsFootprintOf, HaveFootprints}
 use Rattle.rev_history.specs.Timeline.{Numbered, footprints_along}
 
@@ -158,27 +158,27 @@ module _ (m : ManifestValue) (jobs : ℕ) where
       ∙ event_at-put n k (print_of (footprint m (run (machine m jobs) s kept) e)) (causal.footprints_by_number (machine m jobs) s kept) other)
 
 -- what stands beside the events
-pub footprints_at : (m : ManifestValue) (es : Numbered) (steps : List Step) (n i : ℕ) (d : Step) (e : Event) → HaveFootprints m es steps → IsPlace n es i → causal.event_at n es ≡ Some e → i < length steps → IsFootprintOf m e (get_or steps i d).footprint
+pub footprints_at : (m : ManifestValue) (es : Numbered) (steps : List Beside) (n i : ℕ) (d : Beside) (e : Event) → HaveFootprints m es steps → IsPlace n es i → causal.event_at n es ≡ Some e → i < length steps → IfSome (get_or steps i d) (λ s. IsFootprintOf m e s.footprint)
 footprints_at m [] steps n i d e h place at lt = absurd place
 footprints_at m (x ∷ xs) [] n i d e h place at lt = absurd (omega arith)
 footprints_at m (x ∷ xs) (s ∷ steps) n zero d e h place at lt =
     let one : Some x.1 ≡ Some e = sym (ap (λ b. cond b (Some x.1) (causal.event_at n xs)) place) ∙ at in
     let same : x.1 ≡ e = cc in
-    subst (λ y. IsFootprintOf m y s.footprint) same h.0
+    subst (λ y. IfSome s (λ x. IsFootprintOf m y x.footprint)) same h.0
 footprints_at m (x ∷ xs) (s ∷ steps) n (suc i) d e h place at lt =
     footprints_at m xs steps n i d e h.1 place.1 (sym (ap (λ b. cond b (Some x.1) (causal.event_at n xs)) place.0) ∙ at) (omega arith)
 
-pub footprints_set : (m : ManifestValue) (es : Numbered) (steps : List Step) (n i : ℕ) (step : Step) (e : Event) → HaveFootprints m es steps → IsPlace n es i → causal.event_at n es ≡ Some e → IsFootprintOf m e step.footprint → HaveFootprints m es (set steps i step)
+pub footprints_set : (m : ManifestValue) (es : Numbered) (steps : List Beside) (n i : ℕ) (step : Beside) (e : Event) → HaveFootprints m es steps → IsPlace n es i → causal.event_at n es ≡ Some e → IfSome step (λ s. IsFootprintOf m e s.footprint) → HaveFootprints m es (set steps i step)
 footprints_set m [] steps n i step e h place at own = absurd place
 footprints_set m (x ∷ xs) [] n i step e h place at own = tt
 footprints_set m (x ∷ xs) (s ∷ steps) n zero step e h place at own =
     let one : Some x.1 ≡ Some e = sym (ap (λ b. cond b (Some x.1) (causal.event_at n xs)) place) ∙ at in
     let same : x.1 ≡ e = cc in
-    (subst (λ y. IsFootprintOf m y step.footprint) (sym same) own, h.1)
+    (subst (λ y. IfSome step (λ x. IsFootprintOf m y x.footprint)) (sym same) own, h.1)
 footprints_set m (x ∷ xs) (s ∷ steps) n (suc i) step e h place at own =
     (h.0, footprints_set m xs steps n i step e h.1 place.1 (sym (ap (λ b. cond b (Some x.1) (causal.event_at n xs)) place.0) ∙ at) own)
 
-pub footprints_end : (m : ManifestValue) (es : Numbered) (steps : List Step) (n : ℕ) (step : Step) (e : Event) → HaveFootprints m es steps → length steps ≡ length es → IsFootprintOf m e step.footprint → HaveFootprints m (es ++ (n, e) ∷ []) (steps ++ step ∷ [])
+pub footprints_end : (m : ManifestValue) (es : Numbered) (steps : List Beside) (n : ℕ) (step : Beside) (e : Event) → HaveFootprints m es steps → length steps ≡ length es → IfSome step (λ s. IsFootprintOf m e s.footprint) → HaveFootprints m (es ++ (n, e) ∷ []) (steps ++ step ∷ [])
 footprints_end m [] [] n step e h many own = (own, tt)
 footprints_end m [] (s ∷ steps) n step e h many own = absurd (omega arith)
 footprints_end m (x ∷ xs) [] n step e h many own = absurd (omega arith)

@@ -1,3 +1,4 @@
+pub mod BesideKept
 pub mod Commands
 pub mod Cones
 pub mod Effects

@@ -3,8 +3,7 @@ use Rattle.std.proofs.Common.{◌≡◌, ℕ, ◌<◌, true, false, cond, if◌t
 use Rattle.std.specs.Prelude.{nat_lt}
 use Rattle.std.specs.List.{AllByRecursion}
 use Rattle.std.specs.FinSet as cells
-use Rattle.std.proofs.lemmas.List.{map-set, length-map}
-use Rattle.std.proofs.Math.Seq.{map-set_same}
+use Rattle.std.proofs.lemmas.List.{map-set}
 use Rattle.std.proofs.lemmas.Option.{slice_get-map, slice_get-get_or}
 use Rattle.rev_accesses.specs.Value.{AccessesValue, Prints, Names, Shows}
 use Rattle.rev_causal.specs.AccessLists.{numbers_by}
@@ -14,7 +13,7 @@ use Rattle.rev_causal.specs.KeptHistory.{nearest_in}
 use Rattle.rev_causal.specs.Store.{Footprint, Footprint.Whole, Footprint.Cells, among}
 use Rattle.rev_causal.proofs.Beside.{IsPlace, place_within, beside_at, beside_set, chosen_other, all_beside, beside_push, last_of_beside}
 use Rattle.rev_causal.proofs.ByNumber.{put_rises}
-use Rattle.rev_causal.proofs.Chosen.{AllAccepted, All-chosen, some_is, all_below, chosen-push, chosen-without, chosen-placed, chosen-rises, event_at-chosen, event_at-not_chosen, not_among_below}
+use Rattle.rev_causal.proofs.Chosen.{AllAccepted, All-chosen, some_is, all_below, chosen-push, chosen-without, chosen-placed, chosen-rises, event_at-chosen, event_at-not_chosen, not_among_below, without-not_among}
 use Rattle.rev_causal.proofs.KeptTables.{put_last}
 use Rattle.rev_causal.proofs.Runs.{either}
 use Rattle.rev_cells.specs.declared.cell.Cell.{Cell}
@@ -24,11 +23,10 @@ use Rattle.rev_events.specs.declared.event.Event.{Event}
 use Rattle.rev_footprint.specs.Value as footprints
 use Rattle.rev_footprint.specs.Value.{FootprintValue}
 use Rattle.rev_history.specs.declared.history.History.TheInside.{Inside}
-use Rattle.rev_history.specs.declared.steps.Step.{Step}
 use Rattle.rev_footprint.specs.Footprint.{footprint}
 use Rattle.rev_history.specs.Checked.{HasNow}
 use Rattle.rev_history.specs.Sound.{IsSound, kept_prints, timeline_of}
-use Rattle.rev_history.specs.Steps.{print_of, prints_of}
+use Rattle.rev_history.specs.Steps.{Beside, print_of, prints_of}
 use Rattle.rev_history.specs.Timeline.{Timeline, event_at, state_at, nearest_conflict}
 use Rattle.rev_history.proofs.Fields.{as_many, map_end, found_above, state_of}
 
@@ -90,10 +88,7 @@ pub shows_again : (a m b : AccessesValue) (n : ℕ) (f : Footprint Cell) (ps : P
 shows_again a m b n f ps rising none put taken =
     subst (Shows b) (without-put n f ps none) (taken (causal.put n f ps) (put_rises n f ps rising none) (event_at-put n f ps none) put)
 
--- numbers that were accepted have footprints
-pub prints_accepted : (es : List (ℕ × Event)) (steps : List Step) (ks : List ℕ) → length steps ≡ length es → AllAccepted es ks → AllAccepted (prints_of es steps) ks
-prints_accepted es steps ks many all = all_beside es (map print_of steps) ks (length-map steps print_of ∙ many) all
-
+-- numbers that are kept have footprints
 pub all_prints : (a : Inside) → IsSound a → AllAccepted (prints_of a.accepted.entries a.steps.items) a.kept.items
 all_prints a s = all_beside a.accepted.entries (map print_of a.steps.items) a.kept.items s.stepped.as_many_prints s.stepped.each
 
@@ -113,7 +108,7 @@ pub print_apart : (a : Inside) (n : ℕ) → is_among a.kept.items n ≡ false �
 print_apart a n apart = event_at-not_chosen (prints_of a.accepted.entries a.steps.items) a.kept.items n apart
 
 -- a kept one has that of its place
-pub print_there : (a : Inside) → IsSound a → (n i : ℕ) (d : Step) → IsPlace n a.accepted.entries i → is_among a.kept.items n ≡ true → d ≡ get_or a.steps.items i d → causal.event_at n (kept_prints a) ≡ Some (print_of d)
+pub print_there : (a : Inside) → IsSound a → (n i : ℕ) (d : Beside) → IsPlace n a.accepted.entries i → is_among a.kept.items n ≡ true → d ≡ get_or a.steps.items i d → causal.event_at n (kept_prints a) ≡ Some (print_of d)
 print_there a s n i d place among is =
     let within : i < length a.accepted.entries = place_within n a.accepted.entries i place in
     let same : length a.steps.items ≡ length a.accepted.entries = as_many a s in
@@ -123,7 +118,7 @@ print_there a s n i d place among is =
     event_at-chosen (prints_of a.accepted.entries a.steps.items) a.kept.items n (print_of d) among (beside_at n a.accepted.entries (map print_of a.steps.items) i place ∙ here)
 
 -- the footprints after an event was accepted
-pub accepted_prints : (a b : Inside) (n : ℕ) (e : Event) (step : Step) → IsSound a → last_of a.accepted.entries < n → b.accepted.entries ≡ a.accepted.entries ++ (n, e) ∷ [] → b.kept.items ≡ a.kept.items ++ n ∷ [] → b.steps.items ≡ a.steps.items ++ step ∷ []
+pub accepted_prints : (a b : Inside) (n : ℕ) (e : Event) (step : Beside) → IsSound a → last_of a.accepted.entries < n → b.accepted.entries ≡ a.accepted.entries ++ (n, e) ∷ [] → b.kept.items ≡ a.kept.items ++ n ∷ [] → b.steps.items ≡ a.steps.items ++ step ∷ []
     → causal.put n (print_of step) (kept_prints a) ≡ kept_prints b
 accepted_prints a b n e step s lt accepted kept steps =
     let es : Prints = prints_of a.accepted.entries a.steps.items in
@@ -135,15 +130,16 @@ accepted_prints a b n e step s lt accepted kept steps =
     ∙ (λ j. chosen (prints_of (sym accepted j) (sym steps j)) (sym kept j))
 
 -- after one was taken out
-pub taken_prints : (a b : Inside) (n i : ℕ) (d step : Step) → IsSound a → d ≡ get_or a.steps.items i d → step.footprint ≡ d.footprint → b.accepted.entries ≡ a.accepted.entries → b.steps.items ≡ set a.steps.items i step → b.kept.items ≡ without n a.kept.items
+pub taken_prints : (a b : Inside) (n i : ℕ) (step : Beside) → IsSound a → IsPlace n a.accepted.entries i → b.accepted.entries ≡ a.accepted.entries → b.steps.items ≡ set a.steps.items i step → b.kept.items ≡ without n a.kept.items
     → causal.without n (kept_prints a) ≡ kept_prints b
-taken_prints a b n i d step s is print accepted steps kept =
+taken_prints a b n i step s place accepted steps kept =
     sym (chosen-without (prints_of a.accepted.entries a.steps.items) a.kept.items n s.stepped.rising (all_prints a s))
-    ∙ ap (λ xs. chosen (causal.numbered_by a.accepted.entries xs) (without n a.kept.items)) (sym (map-set_same print_of a.steps.items i step d (ap footprints.print_of print ∙ ap print_of is)))
+    ∙ sym (chosen_other n a.accepted.entries (map print_of a.steps.items) i (print_of step) (without n a.kept.items) place (without-not_among n a.kept.items))
+    ∙ ap (λ xs. chosen (causal.numbered_by a.accepted.entries xs) (without n a.kept.items)) (sym (map-set print_of a.steps.items i step))
     ∙ (λ j. chosen (prints_of (sym accepted j) (sym steps j)) (sym kept j))
 
 -- after one was put in
-pub put_prints : (a b : Inside) (n i : ℕ) (e : Event) (step : Step) → IsSound a → IsPlace n a.accepted.entries i → is_among a.kept.items n ≡ false → b.accepted.entries ≡ a.accepted.entries → b.steps.items ≡ set a.steps.items i step → b.kept.items ≡ placed n a.kept.items
+pub put_prints : (a b : Inside) (n i : ℕ) (e : Event) (step : Beside) → IsSound a → IsPlace n a.accepted.entries i → is_among a.kept.items n ≡ false → b.accepted.entries ≡ a.accepted.entries → b.steps.items ≡ set a.steps.items i step → b.kept.items ≡ placed n a.kept.items
     → causal.put n (print_of step) (kept_prints a) ≡ kept_prints b
 put_prints a b n i e step s place apart accepted steps kept =
     let fs : List (Footprint Cell) = map print_of a.steps.items in

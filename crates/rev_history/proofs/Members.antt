@@ -14,10 +14,9 @@ use Rattle.rev_cells.specs.Keys.{cell_cmp}
 use Rattle.rev_manifest.specs.Manifest.{ManifestValue}
 use Rattle.rev_footprint.specs.Machine.{machine}
 use Rattle.rev_history.specs.declared.history.History.TheInside.{Inside}
-use Rattle.rev_history.specs.declared.steps.Step.{Step}
 use Rattle.rev_history.specs.Sound.{timeline_of, IsSound}
 use Rattle.rev_accesses.specs.Closing.{conflicts_before, conflicts_with_any, cone_behind}
-use Rattle.rev_history.specs.Steps.{prints_of}
+use Rattle.rev_history.specs.Steps.{Beside, prints_of}
 use Rattle.rev_history.specs.Timeline.{Timeline, kept_events, cone_refusal, cone_numbers}
 use Rattle.rev_history.proofs.Cones.{IsKept, some_kept}
 use Rattle.rev_history.proofs.Listed.{all_prints}
@@ -44,7 +43,7 @@ module _ (m : ManifestValue) (jobs : ℕ) where
       ∙ sym (ap (λ o. kept_cones.cone_in (machine m jobs) n fs (under k o rest)) g.1)
 
 -- the members that are found are the cone
-pub cone_is_found : (a : Inside) → IsSound a → (t : Timeline) → timeline_of a ≡ t → (n : ℕ) (ks : List ℕ) (steps : List Step) → ks ≡ a.kept.items → steps ≡ a.steps.items → cone_refusal t n ≡ None
+pub cone_is_found : (a : Inside) → IsSound a → (t : Timeline) → timeline_of a ≡ t → (n : ℕ) (ks : List ℕ) (steps : List Beside) → ks ≡ a.kept.items → steps ≡ a.steps.items → cone_refusal t n ≡ None
     → n ∷ cone_behind n (prints_of a.accepted.entries steps) (n ∷ []) ks ≡ cone_numbers n t
 cone_is_found a s t view n ks steps kept same_steps free =
     let u : Timeline = timeline_of a in

@@ -1,35 +1,31 @@
 -- The answer of the order check is exact.
-use Rattle.std.proofs.Common.{◌≡◌, ◌↔◌, ◌<◌, ◌≤◌, ◌&&◌, ℕ, Bool, true, false, cond, is_some, IsSome, List, [], ◌∷◌, map, length, Option, None, Some, option_map, refl, true≢false, sym, ap, ap₂, subst, ◌∙◌, nat_eq, eq-eqb, arith}
+use Rattle.std.proofs.Common.{◌≡◌, ◌↔◌, ◌≤◌, ◌&&◌, ℕ, Bool, true, false, cond, is_some, IsSome, List, [], ◌∷◌, Option, None, Some, option_map, refl, true≢false, sym, ap, ap₂, subst, ◌∙◌, nat_eq, eq-eqb}
 use Rattle.std.specs.List.{AllByRecursion}
 use Rattle.rev_accesses.specs.Value.{Prints}
-use Rattle.rev_causal.specs.Chosen.{IsRising as IsRisingNumbers, chosen, is_among, last_of}
-use Rattle.rev_causal.specs.History.{IsRising, event_at, footprints_by_number}
+use Rattle.rev_causal.specs.Chosen.{chosen, is_among, last_of}
+use Rattle.rev_causal.specs.History.{event_at}
 use Rattle.rev_causal.specs.Store.{Footprint, conflict}
-use Rattle.rev_causal.specs.OrderCheck.{IsEquality, IsOrderAnswer, OrderAnswer, EventsDiffer, SameOrder, Turned, bare, matched_answer, order_check, pair_answer, renumbered}
-use Rattle.rev_causal.proofs.Chosen.{AllAccepted, accepted_among, chosen-rises, event_at-below, event_at-chosen, event_at-not_chosen}
+use Rattle.rev_causal.specs.OrderCheck.{IsEquality, IsOrderAnswer, OrderAnswer, EventsDiffer, SameOrder, Turned, bare, matched_answer, pair_answer, renumbered}
+use Rattle.rev_causal.proofs.Chosen.{AllAccepted, chosen-rises, event_at-below, event_at-chosen, event_at-not_chosen}
 use Rattle.rev_causal.proofs.Turned.{order_check_is_exact}
 use Rattle.rev_cells.specs.declared.cell.Cell.{Cell}
 use Rattle.rev_cells.specs.Alike as cells
 use Rattle.rev_cells.specs.Keys.{cell_cmp}
-use Rattle.rev_cells.specs.Table.{Records}
 use Rattle.rev_events.specs.declared.event.Event.{Event}
 use Rattle.rev_events.specs.Same.{event_eq}
 use Rattle.rev_footprint.specs.Value.{FootprintValue, print_of}
 use Rattle.rev_footprint.proofs.EqualLemmas.{equal-conflict}
 use Rattle.rev_footprint.proofs.Local.{machine-local}
 use Rattle.rev_graph.specs.Alike.{LendAlike}
-use Rattle.rev_graph.specs.Graph.{GraphValue}
 use Rattle.rev_order.specs.Matched.{ArePlacesOf}
 use Rattle.rev_order.specs.Overtaken.{first_where, first_turned_of}
 use Rattle.rev_order.specs.Pairs.{partner_of, with_partner, pair_of, turned_pair}
 use Rattle.rev_order.proofs.OrderAnswers.{answer_by_places}
 use Rattle.rev_history.specs.declared.history.History.TheInside.{Inside}
-use Rattle.rev_history.specs.declared.steps.Step.{Step}
 use Rattle.rev_history.specs.Sound.{IsSound, kept_prints, timeline_of}
-use Rattle.rev_history.specs.Steps.{footprints_of, prints_of}
+use Rattle.rev_history.specs.Steps.{Beside, footprint_beside, HasFootprints, prints_of}
 use Rattle.rev_history.specs.Timeline.{Timeline, IsHistory, kept_events, machine_at}
-use Rattle.rev_history.proofs.Fields.{prints-footprints}
-use Rattle.rev_history.proofs.Listed.{prints_accepted}
+use Rattle.rev_history.proofs.BesideKept.{all_among, print_beside}
 use Rattle.rev_history.specs.Order.{IsSameOpening, IsOrder, OrderIsExact, kept_in_order, order_of}
 
 exact_here : (same : Event → Event → Bool) (t u : Timeline) → IsEquality same → IsHistory t → IsSameOpening t u → IsOrder same t u (order_of same true t u)
@@ -72,7 +68,7 @@ module _ {A : Type 0} where
           absurd (true≢false (sym (eq-eqb p.0 n is) ∙ u))
       by false false t u more = ap (λ b. is_some (cond b (Some p.1) (event_at n ps))) u ∙ more (sym (ap (λ b. cond b (Some p.0) (first_where x ps)) t) ∙ e)
 
-module _ (places : List ℕ) (es : List (ℕ × Event)) (steps : List Step) (kept : List ℕ) where
+module _ (places : List ℕ) (es : List (ℕ × Event)) (steps : List Beside) (kept : List ℕ) where
   -- the first that is turned is kept
   turned_among : (n : ℕ) → Some n ≡ first_turned_of (conflict cell_cmp) places (chosen (prints_of es steps) kept) → is_among kept n ≡ true
   turned_among n found = by (is_among kept n) refl
@@ -85,12 +81,10 @@ module _ (places : List ℕ) (es : List (ℕ × Event)) (steps : List Step) (kep
       by false e = absurd (true≢false (sym there ∙ ap is_some (event_at-not_chosen (prints_of es steps) kept n e)))
 
   -- so that it has a footprint
-  pub turned_print : length steps ≡ length es → AllAccepted es kept → (n : ℕ) → Some n ≡ first_turned_of (conflict cell_cmp) places (chosen (prints_of es steps) kept)
-      → None ≡ event_at n (footprints_of es steps) → ⊥
-  turned_print many all n found none =
-      let some = accepted_among (prints_of es steps) kept n (prints_accepted es steps kept many all) (turned_among n found) in
-      let never : None ≡ Some some.0 = ap (option_map print_of) none ∙ sym (prints-footprints n es steps) ∙ some.1 in
-      cc
+  pub turned_print : HasFootprints es steps kept → (n : ℕ) → Some n ≡ first_turned_of (conflict cell_cmp) places (chosen (prints_of es steps) kept)
+      → None ≡ footprint_beside n es steps → ⊥
+  turned_print all n found none =
+      true≢false (sym (all_among (λ k. IsSome (footprint_beside k es steps)) kept n all (turned_among n found)) ∙ ap is_some (sym none))
 
   -- none is turned
   pub pair_none : None ≡ first_turned_of (conflict cell_cmp) places (chosen (prints_of es steps) kept) → SameOrder ≡ pair_answer (turned_pair (conflict cell_cmp) places (chosen (prints_of es steps) kept))
@@ -98,12 +92,12 @@ module _ (places : List ℕ) (es : List (ℕ × Event)) (steps : List Step) (kep
 
   -- the first that is turned, with the first that overtakes it
   pub pair_some : (n : ℕ) (f : FootprintValue) (o : Option ℕ) → Some n ≡ first_turned_of (conflict cell_cmp) places (chosen (prints_of es steps) kept)
-      → Some f ≡ event_at n (footprints_of es steps)
+      → Some f ≡ footprint_beside n es steps
       → o ≡ partner_of (conflict cell_cmp) places (chosen (prints_of es steps) kept) n (print_of f)
       → pair_answer (option_map (λ j. (n, j)) o) ≡ pair_answer (turned_pair (conflict cell_cmp) places (chosen (prints_of es steps) kept))
   pair_some n f o found at is =
       let print : event_at n (chosen (prints_of es steps) kept) ≡ Some (print_of f) =
-      event_at-chosen (prints_of es steps) kept n (print_of f) (turned_among n found) (prints-footprints n es steps ∙ ap (option_map print_of) (sym at)) in
+      event_at-chosen (prints_of es steps) kept n (print_of f) (turned_among n found) (print_beside n es steps f (sym at)) in
       ap (λ (p : Option ℕ). pair_answer (option_map (λ j. (n, j)) p)) is
       ∙ sym (ap (λ (q : Option (Footprint Cell)). pair_answer (with_partner (conflict cell_cmp) places (chosen (prints_of es steps) kept) n q)) print)
       ∙ ap (λ (q : Option ℕ). pair_answer (pair_of (conflict cell_cmp) places (chosen (prints_of es steps) kept) q)) found

@@ -8,7 +8,7 @@ ghost use Rattle.rev_causal.specs.Chosen.{IsRising, chosen, is_among};
 ghost use Rattle.rev_causal.specs.History.{event_at};
 ghost use Rattle.rev_causal.specs.Store.{Footprint as Print};
 ghost use Rattle.rev_cells.specs.declared.cell.Cell.{Cell};
-ghost use Rattle.rev_history.specs.Steps.{prints_of};
+ghost use Rattle.rev_history.specs.Steps.{HasFootprints, prints_of};
 
 use crate::prints::follow;
 use crate::steps::{Step, footprint_at};
@@ -23,12 +23,13 @@ fn follow_member(
     member: u32,
     kept: &[u32],
     accepted: &IndexMap<u32, Event>,
-    steps: &[Step],
+    steps: &[Option<Step>],
     accesses: &Accesses,
 ) -> Result<(), AllocError>
     requires many { length steps.now ≡ length accepted.now.entries }
     requires rising { IsRising kept.now }
-    requires accepted { AllByRecursion (λ n. IsSome (event_at n accepted.now.entries)) kept.now }
+    requires beside { HasFootprints accepted.now.entries steps.now kept.now }
+    requires among { is_among kept.now member ≡ true }
     requires shown { Shows accesses.now (chosen (prints_of accepted.now.entries steps.now) kept.now) }
     ensures { OnOk result ((f : Print Cell)
         → event_at member (prints_of accepted.now.entries steps.now) ≡ Some f
@@ -48,12 +49,12 @@ pub(crate) fn cone(
     number: u32,
     kept: &[u32],
     accepted: &IndexMap<u32, Event>,
-    steps: &[Step],
+    steps: &[Option<Step>],
     accesses: &Accesses,
 ) -> Result<Vec<u32>, AllocError>
     requires many { length steps.now ≡ length accepted.now.entries }
     requires rising { IsRising kept.now }
-    requires accepted { AllByRecursion (λ n. IsSome (event_at n accepted.now.entries)) kept.now }
+    requires beside { HasFootprints accepted.now.entries steps.now kept.now }
     requires shown { Shows accesses.now (chosen (prints_of accepted.now.entries steps.now) kept.now) }
     requires among { is_among kept.now number ≡ true }
     ensures { IfOk result (λ members. members.items

@@ -26,15 +26,15 @@ use std::alloc::{AllocError, Global};
 use std::marker::Model;
 
 /// A graph, an opening, the events that were accepted since under rising numbers, and those of them that are kept. The
-/// state is that which the kept events lead to from the opening, in the order of their numbers. Beside each event stand
-/// its footprint and what it replaced, so that an undo puts that back; and under each cell stand the kept numbers that
-/// access it.
+/// state is that which the kept events lead to from the opening, in the order of their numbers. Beside each kept event
+/// stand its footprint and what it replaced, so that an undo puts that back, and beside an event that is not kept
+/// nothing; and under each cell stand the kept numbers that access it.
 pub struct History {
     alloc: Global,
     graph: Graph,
     opening: Opening,
     accepted: IndexMap<u32, Event>,
-    steps: Vec<Step>,
+    steps: Vec<Option<Step>>,
     kept: Vec<u32>,
     accesses: Accesses,
     cells: Cells,
@@ -175,10 +175,10 @@ impl History {
             writes,
         )?;
         self.accepted.insert(number, event)?;
-        self.steps.push(Step {
+        self.steps.push(Some(Step {
             footprint,
             replaced,
-        })?;
+        }))?;
         self.kept.push(number)?;
         self.last = number;
         Ok(())
@@ -448,7 +448,7 @@ impl History {
         Ok(history)
     }
 
-    // Takes a kept event out on which none depends.
+    // Takes a kept event out on which none depends, and with it what stands beside it.
     fn put_back(&mut self, number: u32)
         requires { undo_refusal self.old.timeline number ≡ None }
         ensures timeline { self.new.timeline ≡ undone number self.old.timeline }
@@ -457,7 +457,9 @@ impl History {
         let Some(index) = self.accepted.get_index_of(&number) else {
             unreachable!()
         };
-        let step = &mut self.steps[index];
+        let Some(mut step) = self.steps[index].take() else {
+            unreachable!()
+        };
         self.cells.exchange(&mut step.replaced);
         take_print(&mut self.accesses, number, &step.footprint);
         take_out(&mut self.kept, number);
@@ -486,10 +488,10 @@ impl History {
             writes,
         )?;
         put_in(&mut self.kept, number)?;
-        self.steps[index] = Step {
+        self.steps[index] = Some(Step {
             footprint,
             replaced,
-        };
+        });
         Ok(())
     }
 }

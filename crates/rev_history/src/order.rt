@@ -9,7 +9,7 @@ ghost use Rattle.rev_causal.specs.Store.{conflict};
 ghost use Rattle.rev_cells.specs.Keys.{cell_cmp};
 ghost use Rattle.rev_order.specs.Pairs.{turned_pair};
 ghost use Rattle.rev_history.specs.Order.{answer_of};
-ghost use Rattle.rev_history.specs.Steps.{prints_of};
+ghost use Rattle.rev_history.specs.Steps.{HasFootprints, prints_of};
 
 use crate::prints::partner;
 use crate::steps::{Step, footprint_at};
@@ -35,12 +35,12 @@ pub(crate) fn first_pair(
     places: &[u32],
     kept: &[u32],
     accepted: &IndexMap<u32, Event>,
-    steps: &[Step],
+    steps: &[Option<Step>],
     accesses: &Accesses,
 ) -> Order
     requires many { length steps.now ≡ length accepted.now.entries }
     requires rising { IsRising kept.now }
-    requires accepted { AllByRecursion (λ n. IsSome (event_at n accepted.now.entries)) kept.now }
+    requires beside { HasFootprints accepted.now.entries steps.now kept.now }
     requires shown { Shows accesses.now (chosen (prints_of accepted.now.entries steps.now) kept.now) }
     ensures { answer_of result ≡ pair_answer (turned_pair (conflict cell_cmp) places.now
         (chosen (prints_of accepted.now.entries steps.now) kept.now)) }

@@ -1,16 +1,15 @@
-//! What is kept beside each accepted event.
+//! What is kept beside each kept event.
 ghost use Rattle.std.specs.Prelude.{◌≡◌, length};
 ghost use Rattle.std.specs.Option.{option_copied};
-ghost use Rattle.rev_causal.specs.History.{event_at};
-ghost use Rattle.rev_history.specs.Steps.{footprints_of};
+ghost use Rattle.rev_history.specs.Steps.{footprint_beside};
 
 use indexmap::IndexMap;
 use rev_cells::{Cell, Value};
 use rev_events::Event;
 use rev_footprint::Footprint;
 
-/// What is kept beside an accepted event: the cells that it reads and writes, and what those that it writes held before
-/// it. As long as the event is not kept these are of no use, and the memory that they take waits for a redo.
+/// What stands beside a kept event: the cells that it reads and writes, and what those that it writes held before it.
+/// Beside an event that is not kept stands none: a redo makes both anew.
 pub(crate) struct Step {
     pub(crate) footprint: Footprint,
     pub(crate) replaced: Vec<(Cell, Value)>,
@@ -26,17 +25,20 @@ impl Drop for Step {
     }
 }
 
-/// The footprint of the event that was accepted under a number.
+/// The footprint that stands beside the event of a number, where one does.
 pub(crate) fn footprint_at<'a>(
     accepted: &IndexMap<u32, Event>,
-    steps: &'a [Step],
+    steps: &'a [Option<Step>],
     number: u32,
 ) -> Option<&'a Footprint>
     requires { length steps.now ≡ length accepted.now.entries }
-    ensures { option_copied result ≡ event_at number (footprints_of accepted.now.entries steps.now) }
+    ensures { option_copied result ≡ footprint_beside number accepted.now.entries steps.now }
 {
     let Some(index) = accepted.get_index_of(&number) else {
         return None;
     };
-    Some(&steps[index].footprint)
+    match &steps[index] {
+        Some(step) => Some(&step.footprint),
+        None => None,
+    }
 }

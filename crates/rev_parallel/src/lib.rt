@@ -3,4 +3,4 @@
 
 mod parallel;
 
-pub use parallel::run_parallel;
+pub use parallel::{run_parallel, run_parallel_in};

@@ -6,7 +6,7 @@ use rev_desk::{Desk, Entry};
 use rev_fields::ReadFault;
 use rev_graph::Graph;
 use rev_manifest::{Manifest, read};
-use rev_report::{answer_line, open_desk, run_words};
+use rev_report::{RunMemory, answer_line, open_desk, run_words};
 use rev_script::{
     RunFault, Status, Word, close_line, read_script, report_fault, report_graph_fault,
     report_manifest_fault, send,
@@ -119,13 +119,22 @@ fn run_and_finish<R: Threads + Wait + Sync, W: Write>(
     trace: Trace,
     words: &[Word],
     writer: &mut W,
+    memory: &mut RunMemory,
 ) -> Result<Status, RunFault>
     requires { length trace.lanes.items ≤ desk.lanes }
 {
     let before = desk.journal().len();
     match run_lanes(rt, alloc, desk, trace)? {
-        Ok(mut desk) => finish(alloc, &mut desk, before, words, writer),
-        Err(fault) => report_close_fault(alloc, &fault, before, writer),
+        Ok(mut desk) => {
+            let finished = finish(alloc, &mut desk, before, words, writer);
+            memory.desk = Some(desk);
+            finished
+        }
+        Err(fault) => {
+            let reported = report_close_fault(alloc, &fault, before, writer);
+            memory.desk = Some(fault.into_desk());
+            reported
+        }
     }
 }
 
@@ -137,17 +146,21 @@ fn run_on_threads<R: Threads + Wait + Sync, W: Write>(
     trace: Trace,
     words: &[Word],
     writer: &mut W,
+    memory: &mut RunMemory,
 ) -> Result<Status, RunFault>
     requires { length trace.lanes.items ≤ Trace.MAX_LANES }
 {
     let (before, after) = split_at_run(words);
     let lane = trace.lanes.len() as u32;
     let mut desk = open_desk(alloc, graph, &trace.opening, &trace.lanes)?;
-    run_words(alloc, &mut desk, lane, &[], before, writer)?;
-    match after {
-        Some(words) => run_and_finish(rt, alloc, desk, trace, words, writer),
-        None => Ok(Status::Success),
+    let ran = run_words(alloc, &mut desk, lane, &[], before, writer);
+    if let (Ok(()), Some(words)) = (ran, after) {
+        return run_and_finish(rt, alloc, desk, trace, words, writer, memory);
     }
+    memory.trace = Some(trace);
+    memory.desk = Some(desk);
+    ran?;
+    Ok(Status::Success)
 }
 
 // Reports on a script, for a trace that has been read.
@@ -158,11 +171,12 @@ fn report_script<R: Threads + Wait + Sync, W: Write>(
     trace: Trace,
     script: &[u8],
     writer: &mut W,
+    memory: &mut RunMemory,
 ) -> Result<Status, RunFault>
     requires { length trace.lanes.items ≤ Trace.MAX_LANES }
 {
     match read_script(alloc, script) {
-        Ok(words) => run_on_threads(rt, alloc, graph, trace, &words, writer),
+        Ok(words) => run_on_threads(rt, alloc, graph, trace, &words, writer, memory),
         Err(ReadFault::Numbered(fault)) => report_fault(alloc, b"script", fault, writer),
         Err(ReadFault::Memory) => Err(RunFault::Memory),
     }
@@ -176,9 +190,10 @@ fn report_trace<R: Threads + Wait + Sync, W: Write>(
     trace: &[u8],
     script: &[u8],
     writer: &mut W,
+    memory: &mut RunMemory,
 ) -> Result<Status, RunFault> {
     match rev_trace::read(alloc, trace) {
-        Ok(trace) => report_script(rt, alloc, graph, trace, script, writer),
+        Ok(trace) => report_script(rt, alloc, graph, trace, script, writer, memory),
         Err(ReadFault::Numbered(fault)) => report_fault(alloc, b"trace", fault, writer),
         Err(ReadFault::Memory) => Err(RunFault::Memory),
     }
@@ -192,10 +207,31 @@ fn report_edges<R: Threads + Wait + Sync, W: Write>(
     trace: &[u8],
     script: &[u8],
     writer: &mut W,
+    memory: &mut RunMemory,
 ) -> Result<Status, RunFault> {
     match Graph::build(alloc, manifest) {
-        Ok(graph) => report_trace(rt, alloc, graph, trace, script, writer),
+        Ok(graph) => report_trace(rt, alloc, graph, trace, script, writer, memory),
         Err(fault) => report_graph_fault(alloc, &fault, writer),
+    }
+}
+
+/// As `run_parallel`, but the desk, and the trace where no thread took it, stand in `memory` at the end, whether the run
+/// went to its end or not, so that the caller chooses when they are freed.
+pub fn run_parallel_in<R: Threads + Wait + Sync, W: Write>(
+    rt: &R,
+    alloc: Global,
+    files: &[(Vec<u8>, Vec<u8>)],
+    trace: &[u8],
+    script: &[u8],
+    writer: &mut W,
+    memory: &mut RunMemory,
+) -> Result<Status, RunFault> {
+    match read(alloc, files) {
+        Ok(manifest) => report_edges(rt, alloc, &manifest, trace, script, writer, memory),
+        Err(rev_manifest::ReadFault::Manifest(fault)) => {
+            report_manifest_fault(alloc, files, fault, writer)
+        }
+        Err(rev_manifest::ReadFault::Memory) => Err(RunFault::Memory),
     }
 }
 
@@ -203,6 +239,8 @@ fn report_edges<R: Threads + Wait + Sync, W: Write>(
 /// whatever number stands behind `run`, and then writes the new entries in the journal's order. A later `run` finds
 /// nothing left and writes nothing. Where the lanes do not fit the journal, or one could not say all that it had to
 /// say, `fault close CODE LANE` is the report's last line.
+///
+/// What it read and made is freed when it ends.
 ///
 /// Answers `Write` where the writer fails in any way or takes no byte, and `Memory` where the system refused memory.
 pub fn run_parallel<R: Threads + Wait + Sync, W: Write>(
@@ -213,11 +251,13 @@ pub fn run_parallel<R: Threads + Wait + Sync, W: Write>(
     script: &[u8],
     writer: &mut W,
 ) -> Result<Status, RunFault> {
-    match read(alloc, files) {
-        Ok(manifest) => report_edges(rt, alloc, &manifest, trace, script, writer),
-        Err(rev_manifest::ReadFault::Manifest(fault)) => {
-            report_manifest_fault(alloc, files, fault, writer)
-        }
-        Err(rev_manifest::ReadFault::Memory) => Err(RunFault::Memory),
-    }
+    run_parallel_in(
+        rt,
+        alloc,
+        files,
+        trace,
+        script,
+        writer,
+        &mut RunMemory::new(),
+    )
 }

@@ -3,10 +3,12 @@
 
 mod answers;
 mod dependents;
+mod memory;
 mod report;
 mod runs;
 mod text;
 
-pub use report::{open_desk, run_serial, run_words};
+pub use memory::RunMemory;
+pub use report::{open_desk, run_serial, run_serial_in, run_words};
 pub use rev_script::{RunFault, Status, write_migrated};
 pub use text::answer_line;

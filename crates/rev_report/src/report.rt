@@ -15,6 +15,7 @@ ghost use Rattle.rev_listing.specs.Stamps as stamps;
 ghost use Rattle.rev_manifest.specs.Seen.{seen_files};
 
 use crate::dependents::named_text;
+use crate::memory::RunMemory;
 use crate::runs::{run_command, run_taken};
 use rev_cells::Opening;
 use rev_commands::Command;
@@ -256,13 +257,16 @@ fn run_script<W: Write>(
     lanes: &[Vec<Command>],
     words: &[Word],
     writer: &mut W,
+    memory: &mut RunMemory,
 ) -> Result<(), RunFault>
     requires { length lanes.now ≤ Trace.MAX_LANES }
     ensures { Writes result (W.contents writer.old) (W.contents writer.new)
         (session_text graph.manifest opening.now (lanes_of lanes.now) words.now) }
 {
     let mut desk = open_desk(alloc, graph, opening, lanes)?;
-    run_opened(alloc, &mut desk, lanes, words, writer)
+    let ran = run_opened(alloc, &mut desk, lanes, words, writer);
+    memory.desk = Some(desk);
+    ran
 }
 
 // Reports on a script, for a trace that has been read.
@@ -272,6 +276,7 @@ fn report_script<W: Write>(
     trace: &Trace,
     script: &[u8],
     writer: &mut W,
+    memory: &mut RunMemory,
 ) -> Result<Status, RunFault>
     requires { length trace.now.lanes.items ≤ Trace.MAX_LANES }
     ensures text { Writes result (W.contents writer.old) (W.contents writer.new)
@@ -283,7 +288,15 @@ fn report_script<W: Write>(
 {
     match read_script(alloc, script) {
         Ok(words) => {
-            run_script(alloc, graph, &trace.opening, &trace.lanes, &words, writer)?;
+            run_script(
+                alloc,
+                graph,
+                &trace.opening,
+                &trace.lanes,
+                &words,
+                writer,
+                memory,
+            )?;
             Ok(Status::Success)
         }
         Err(ReadFault::Numbered(fault)) => report_fault(alloc, b"script", fault, writer),
@@ -298,13 +311,18 @@ fn report_trace<W: Write>(
     trace: &[u8],
     script: &[u8],
     writer: &mut W,
+    memory: &mut RunMemory,
 ) -> Result<Status, RunFault>
     ensures text { Writes result (W.contents writer.old) (W.contents writer.new)
         (trace_report graph.manifest trace.now script.now).text }
     ensures status { IfOk result (λ status. status ≡ (trace_report graph.manifest trace.now script.now).status) }
 {
     match rev_trace::read(alloc, trace) {
-        Ok(trace) => report_script(alloc, graph, &trace, script, writer),
+        Ok(trace) => {
+            let reported = report_script(alloc, graph, &trace, script, writer, memory);
+            memory.trace = Some(trace);
+            reported
+        }
         Err(ReadFault::Numbered(fault)) => report_fault(alloc, b"trace", fault, writer),
         Err(ReadFault::Memory) => Err(RunFault::Memory),
     }
@@ -317,19 +335,45 @@ fn report_edges<W: Write>(
     trace: &[u8],
     script: &[u8],
     writer: &mut W,
+    memory: &mut RunMemory,
 ) -> Result<Status, RunFault>
     ensures text { Writes result (W.contents writer.old) (W.contents writer.new)
         (edges_report manifest.now trace.now script.now).text }
     ensures status { IfOk result (λ status. status ≡ (edges_report manifest.now trace.now script.now).status) }
 {
     match Graph::build(alloc, manifest) {
-        Ok(graph) => report_trace(alloc, graph, trace, script, writer),
+        Ok(graph) => report_trace(alloc, graph, trace, script, writer, memory),
         Err(fault) => report_graph_fault(alloc, &fault, writer),
     }
 }
 
+/// As `run_serial`, but the trace that was read and the desk that its commands were said to stand in `memory` at the
+/// end, whether the run went to its end or not, so that the caller chooses when they are freed.
+pub fn run_serial_in<W: Write>(
+    alloc: Global,
+    files: &[(Vec<u8>, Vec<u8>)],
+    trace: &[u8],
+    script: &[u8],
+    writer: &mut W,
+    memory: &mut RunMemory,
+) -> Result<Status, RunFault>
+    ensures text { Writes result (W.contents writer.old) (W.contents writer.new)
+        (report (seen_files files.now) trace.now script.now).text }
+    ensures status { IfOk result (λ status. status ≡ (report (seen_files files.now) trace.now script.now).status) }
+{
+    let manifest = match read(alloc, files) {
+        Ok(manifest) => manifest,
+        Err(rev_manifest::ReadFault::Manifest(fault)) => {
+            return report_manifest_fault(alloc, files, fault, writer);
+        }
+        Err(rev_manifest::ReadFault::Memory) => return Err(RunFault::Memory),
+    };
+    report_edges(alloc, &manifest, trace, script, writer, memory)
+}
+
 /// Reads a manifest, builds its graph, reads a trace and a script, runs the script, and writes the report, which ends
 /// at the first fault of the four. `files` are pairs of a name and a content, and the first is the manifest itself.
+/// What it read and made is freed when it ends.
 ///
 /// Answers `Write` where the writer fails in any way or takes no byte, and `Memory` where the system refused memory.
 /// After either a prefix of the report was written.
@@ -344,12 +388,5 @@ pub fn run_serial<W: Write>(
         (report (seen_files files.now) trace.now script.now).text }
     ensures status { IfOk result (λ status. status ≡ (report (seen_files files.now) trace.now script.now).status) }
 {
-    let manifest = match read(alloc, files) {
-        Ok(manifest) => manifest,
-        Err(rev_manifest::ReadFault::Manifest(fault)) => {
-            return report_manifest_fault(alloc, files, fault, writer);
-        }
-        Err(rev_manifest::ReadFault::Memory) => return Err(RunFault::Memory),
-    };
-    report_edges(alloc, &manifest, trace, script, writer)
+    run_serial_in(alloc, files, trace, script, writer, &mut RunMemory::new())
 }

@@ -1,5 +1,4 @@
 // Command lines, read.
-use clap::error::ErrorKind;
 use rev_options::{Options, options};
 use std::alloc::{AllocError, Global};
 use std::test::Fail;
@@ -13,66 +12,56 @@ fn words_of(alloc: Global, line: &str) -> Result<Vec<String>, AllocError> {
     Ok(words)
 }
 
-// The kind of the error, if there is one.
-fn refused_as(answer: Result<Options<'_>, clap::Error>) -> Option<ErrorKind> {
-    match answer {
-        Ok(_) => None,
-        Err(error) => Some(error.kind()),
+// Manifest, trace and script, whether lanes are on threads and a trace is migrated, and the files.
+fn options_text(alloc: Global, read: &Options<'_>) -> Result<String, AllocError> {
+    format!(in alloc;
+        "{} {} {} {} {} {:?}",
+        read.manifest, read.trace, read.script, read.workers, read.migrate, read.files
+    )
+}
+
+// What is read of a command line, or the kind of its error.
+fn told(alloc: Global, line: &str) -> Result<String, AllocError> {
+    let words = words_of(alloc, line)?;
+    match &options(alloc, &words) {
+        Ok(read) => options_text(alloc, read),
+        Err(error) => format!(in alloc; "{:?}", error.kind()),
     }
 }
 
-#[test]
-fn files_and_options_are_read(rt: HostRuntime) -> Result<(), Fail> {
-    let line = "rebug b.ninja --trace=t --workers --manifest m c.ninja --script s";
-    let words = words_of(rt.alloc(), line)?;
-    let read = options(rt.alloc(), &words)?;
-    assert!(rt; (read.manifest, read.trace, read.script) == ("m", "t", "s"));
-    assert!(rt; read.workers && !read.migrate);
-    assert!(rt; read.files.as_slice() == ["b.ninja", "c.ninja"].as_slice());
-    Ok(())
-}
-
-#[test]
-fn workers_and_files_may_be_left_out(rt: HostRuntime) -> Result<(), Fail> {
-    let words = words_of(rt.alloc(), "rebug --manifest m --trace t --script s")?;
-    let read = options(rt.alloc(), &words)?;
-    assert!(rt; !read.workers && read.files.is_empty());
-    Ok(())
-}
-
-#[test]
-fn a_trace_may_be_migrated(rt: HostRuntime) -> Result<(), Fail> {
-    let words = words_of(
-        rt.alloc(),
+const LINES: &[(&str, &str)] = &[
+    // Files and options are read.
+    (
+        "rebug b.ninja --trace=t --workers --manifest m c.ninja --script s",
+        "m t s true false [\"b.ninja\", \"c.ninja\"]",
+    ),
+    // Workers and files may be left out.
+    (
+        "rebug --manifest m --trace t --script s",
+        "m t s false false []",
+    ),
+    // A trace may be migrated.
+    (
         "rebug --migrate --manifest m --trace t --script s",
-    )?;
-    let read = options(rt.alloc(), &words)?;
-    assert!(rt; read.migrate && !read.workers && read.files.is_empty());
-    Ok(())
-}
+        "m t s false true []",
+    ),
+    // A trace has to be given.
+    ("rebug --manifest m --script s", "MissingRequiredArgument"),
+    // An option stands once.
+    (
+        "rebug --manifest m --trace t --script s --workers --workers",
+        "ArgumentConflict",
+    ),
+    // Help and version are asked for.
+    ("rebug --help", "DisplayHelp"),
+    ("rebug -V", "DisplayVersion"),
+];
 
 #[test]
-fn a_trace_has_to_be_given(rt: HostRuntime) -> Result<(), Fail> {
-    let words = words_of(rt.alloc(), "rebug --manifest m --script s")?;
-    let kind = refused_as(options(rt.alloc(), &words));
-    assert!(rt; kind == Some(ErrorKind::MissingRequiredArgument));
-    Ok(())
-}
-
-#[test]
-fn an_option_stands_once(rt: HostRuntime) -> Result<(), Fail> {
-    let line = "rebug --manifest m --trace t --script s --workers --workers";
-    let words = words_of(rt.alloc(), line)?;
-    let kind = refused_as(options(rt.alloc(), &words));
-    assert!(rt; kind == Some(ErrorKind::ArgumentConflict));
-    Ok(())
-}
-
-#[test]
-fn help_and_version_are_asked_for(rt: HostRuntime) -> Result<(), Fail> {
-    let help = words_of(rt.alloc(), "rebug --help")?;
-    assert!(rt; refused_as(options(rt.alloc(), &help)) == Some(ErrorKind::DisplayHelp));
-    let version = words_of(rt.alloc(), "rebug -V")?;
-    assert!(rt; refused_as(options(rt.alloc(), &version)) == Some(ErrorKind::DisplayVersion));
+fn command_lines_are_read(rt: HostRuntime) -> Result<(), Fail> {
+    for (line, wanted) in LINES {
+        let told = told(rt.alloc(), line)?;
+        assert!(rt; told.as_str() == *wanted, "{line} {told}");
+    }
     Ok(())
 }

@@ -242,143 +242,61 @@ fn tell(
     Ok(())
 }
 
-// The answers to these lines, and behind them the journal's report.
-fn answers(alloc: Global, desk: &mut Desk, lines: &[(u32, &[u8])]) -> Result<Vec<u8>, Fail> {
+// A line with the digit of its lane before it.
+fn tell_line(alloc: Global, desk: &mut Desk, text: &mut Vec<u8>, line: &[u8]) -> Result<(), Fail> {
+    let (lane, said) = cut(line, b' ');
+    tell(alloc, desk, text, number(lane), said)
+}
+
+// The answers to lines that stand apart by `; `, and behind them the journal's report.
+fn answers(alloc: Global, desk: &mut Desk, lines: &str) -> Result<Vec<u8>, Fail> {
     let mut text = Vec::new(alloc);
-    for (lane, line) in lines {
-        tell(alloc, desk, &mut text, *lane, line)?;
+    for line in lines.split("; ") {
+        tell_line(alloc, desk, &mut text, line.as_bytes())?;
     }
     push_report(&mut text, desk.journal())?;
     Ok(text)
 }
 
 // What a new desk answers to these lines.
-fn answered(alloc: Global, lines: &[(u32, &[u8])]) -> Result<Vec<u8>, Fail> {
+fn answered(alloc: Global, lines: &str) -> Result<Vec<u8>, Fail> {
     let mut desk = desk_of(alloc)?;
     answers(alloc, &mut desk, lines)
 }
 
-// Whether a new desk answers this.
-fn reports(alloc: Global, lines: &[(u32, &[u8])], text: &[u8]) -> Result<bool, Fail> {
-    let answers = answered(alloc, lines)?;
-    Ok(answers.as_slice() == text)
-}
+const DESKS: &[(&str, &str)] = &[
+    // A break pauses, and continue goes on.
+    (
+        "0 plan app; 1 break finish a.o; 0 start a.o 0; 1 start b.o 1; 0 finish a.o 100; 1 finish b.o 110; 2 undo 5; 2 continue; 2 finish b.o 110",
+        " 0 ok\n 1 ok\n 0 ok\n 1 ok\n 0 ok break 2\n 1 refused 92\n 2 ok\n 2 ok\n 2 ok\n",
+    ),
+    // A refused undo names the nearest.
+    (
+        "0 plan app; 0 start a.o 0; 0 start b.o 1; 0 finish a.o 100; 0 finish b.o 110; 0 start app 0; 1 verdict undo 4; 1 verdict undo 1; 1 verdict cone 3",
+        " refused 82 6\n refused 82 2\n cone 3\n 0 ok\n 0 ok\n 0 ok\n 0 ok\n 0 ok\n 0 ok\n",
+    ),
+    // A label names an accepted event.
+    (
+        "0 plan app; 1 break finish a.o; 0 start a.o 0; 1 start b.o 1; 0 finish a.o 100; 1 finish b.o 110; 2 state; 2 named 0:3; 2 named 1:1; 2 named 1:2; 2 named 1:3; 2 named 3:1",
+        " 1 1 1 3 4 5\n 5\n -\n 4\n -\n -\n 0 ok\n 1 ok\n 0 ok\n 1 ok\n 0 ok break 2\n 1 refused 92\n",
+    ),
+    // Redoing comes in the order of undoing.
+    (
+        "0 plan app; 0 start a.o 0; 0 start b.o 1; 0 finish a.o 100; 0 finish b.o 110; 1 undo 0:5; 1 undo 3; 1 redo 5; 1 redo 3; 1 redo 5; 1 redo 5",
+        " 0 ok\n 0 ok\n 0 ok\n 0 ok\n 0 ok\n 1 ok\n 1 ok\n 1 refused 84 67\n 1 ok\n 1 ok\n 1 refused 83\n",
+    ),
+    // A cone, and a break that stands no more.
+    (
+        "0 plan app; 0 start a.o 0; 1 break finish a.o; 1 unbreak 3; 0 finish a.o 100; 1 cone 2; 1 back; 1 unbreak 3",
+        " 0 ok\n 0 ok\n 1 ok\n 1 ok\n 0 ok\n 1 cone 2\n 1 ok\n 1 refused 93\n",
+    ),
+];
 
 #[test]
-fn a_break_pauses_and_continue_goes_on(rt: HostRuntime) -> Result<(), Fail> {
-    let alloc = rt.alloc();
-    assert!(rt;
-        reports(
-            alloc,
-            &[
-                (0, b"plan app"),
-                (1, b"break finish a.o"),
-                (0, b"start a.o 0"),
-                (1, b"start b.o 1"),
-                (0, b"finish a.o 100"),
-                (1, b"finish b.o 110"),
-                (2, b"undo 5"),
-                (2, b"continue"),
-                (2, b"finish b.o 110"),
-            ],
-            b" 0 ok\n 1 ok\n 0 ok\n 1 ok\n 0 ok break 2\n 1 refused 92\n 2 ok\n 2 ok\n 2 ok\n"
-        )?
-    );
-    Ok(())
-}
-
-#[test]
-fn a_refused_undo_names_the_nearest(rt: HostRuntime) -> Result<(), Fail> {
-    let alloc = rt.alloc();
-    assert!(rt;
-        reports(
-            alloc,
-            &[
-                (0, b"plan app"),
-                (0, b"start a.o 0"),
-                (0, b"start b.o 1"),
-                (0, b"finish a.o 100"),
-                (0, b"finish b.o 110"),
-                (0, b"start app 0"),
-                (1, b"verdict undo 4"),
-                (1, b"verdict undo 1"),
-                (1, b"verdict cone 3"),
-            ],
-            b" refused 82 6\n refused 82 2\n cone 3\n 0 ok\n 0 ok\n 0 ok\n 0 ok\n 0 ok\n 0 ok\n"
-        )?
-    );
-    Ok(())
-}
-
-#[test]
-fn a_label_names_an_accepted_event(rt: HostRuntime) -> Result<(), Fail> {
-    let alloc = rt.alloc();
-    assert!(rt;
-        reports(
-            alloc,
-            &[
-                (0, b"plan app"),
-                (1, b"break finish a.o"),
-                (0, b"start a.o 0"),
-                (1, b"start b.o 1"),
-                (0, b"finish a.o 100"),
-                (1, b"finish b.o 110"),
-                (2, b"state"),
-                (2, b"named 0:3"),
-                (2, b"named 1:1"),
-                (2, b"named 1:2"),
-                (2, b"named 1:3"),
-                (2, b"named 3:1"),
-            ],
-            b" 1 1 1 3 4 5\n 5\n -\n 4\n -\n -\n 0 ok\n 1 ok\n 0 ok\n 1 ok\n 0 ok break 2\n 1 refused 92\n"
-        )?
-    );
-    Ok(())
-}
-
-#[test]
-fn redoing_comes_in_the_order_of_undoing(rt: HostRuntime) -> Result<(), Fail> {
-    let alloc = rt.alloc();
-    assert!(rt;
-        reports(
-            alloc,
-            &[
-                (0, b"plan app"),
-                (0, b"start a.o 0"),
-                (0, b"start b.o 1"),
-                (0, b"finish a.o 100"),
-                (0, b"finish b.o 110"),
-                (1, b"undo 0:5"),
-                (1, b"undo 3"),
-                (1, b"redo 5"),
-                (1, b"redo 3"),
-                (1, b"redo 5"),
-                (1, b"redo 5"),
-            ],
-            b" 0 ok\n 0 ok\n 0 ok\n 0 ok\n 0 ok\n 1 ok\n 1 ok\n 1 refused 84 67\n 1 ok\n 1 ok\n 1 refused 83\n"
-        )?
-    );
-    Ok(())
-}
-
-#[test]
-fn a_cone_and_a_break_that_stands_no_more(rt: HostRuntime) -> Result<(), Fail> {
-    let alloc = rt.alloc();
-    assert!(rt;
-        reports(
-            alloc,
-            &[
-                (0, b"plan app"),
-                (0, b"start a.o 0"),
-                (1, b"break finish a.o"),
-                (1, b"unbreak 3"),
-                (0, b"finish a.o 100"),
-                (1, b"cone 2"),
-                (1, b"back"),
-                (1, b"unbreak 3"),
-            ],
-            b" 0 ok\n 0 ok\n 1 ok\n 1 ok\n 0 ok\n 1 cone 2\n 1 ok\n 1 refused 93\n"
-        )?
-    );
+fn desks_told_line_by_line(rt: HostRuntime) -> Result<(), Fail> {
+    for (lines, wanted) in DESKS {
+        let told = answered(rt.alloc(), lines)?;
+        assert!(rt; told.as_slice() == wanted.as_bytes(), "{lines}");
+    }
     Ok(())
 }

@@ -335,20 +335,21 @@ const RESIZED: Row = Row {
     accepted: 7,
 };
 
+const ROWS: &[Row] = &[
+    STARTED,
+    PLANNED,
+    TOUCHED,
+    OUT_OF_ORDER,
+    INTERRUPTED,
+    OVERTAKEN,
+    RESTATED,
+    THROUGH_PHONY,
+    RESIZED,
+];
+
 #[test]
 fn the_lists_find_what_a_look_at_each_finds(rt: HostRuntime) -> Result<(), Fail> {
-    let rows = [
-        STARTED,
-        PLANNED,
-        TOUCHED,
-        OUT_OF_ORDER,
-        INTERRUPTED,
-        OVERTAKEN,
-        RESTATED,
-        THROUGH_PHONY,
-        RESIZED,
-    ];
-    for row in &rows {
+    for row in ROWS {
         let agreed = agreed_on(rt.alloc(), row)?;
         assert!(rt; agreed == Some(row.accepted));
     }

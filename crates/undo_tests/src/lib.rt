@@ -14,6 +14,8 @@ mod desks;
 #[cfg(test)]
 mod histories;
 #[cfg(test)]
+mod orders;
+#[cfg(test)]
 mod pools;
 #[cfg(test)]
 mod registers;

@@ -1,10 +1,11 @@
-use Rattle.std.proofs.Common.{◌≡◌, ℕ, List, Some, None, ap, sym, ◌∙◌}
+use Rattle.std.proofs.Common.{ℕ, List, Some, None}
 use Rattle.rev_accesses.specs.Value.{Prints}
 use Rattle.rev_causal.specs.Chosen.{chosen}
 use Rattle.rev_causal.specs.History as causal
 use Rattle.rev_causal.proofs.Chosen.{chosen-rises}
 use Rattle.rev_history.specs.Steps.{prints_of}
-use Rattle.rev_history.proofs.Listed.{numbers_chosen, prints_accepted}
+use Rattle.rev_history.proofs.BesideKept.{prints_accepted}
+use Rattle.rev_history.proofs.Listed.{numbers_chosen}
 use Rattle.rev_history.proofs.OrderLemmas.{pair_none, pair_some, turned_print}
 use Rattle.rev_history.proofs.order.first_pair.Goals as goal
 
@@ -13,7 +14,7 @@ returns-in_default c =
     let all : Prints = prints_of c.args.accepted.now.entries c.args.steps.now in
     let kept : List ℕ = c.args.kept.now in
     let rising : causal.IsRising (chosen all kept) = chosen-rises all kept c.requires.rising in
-    let numbers = numbers_chosen all kept (prints_accepted c.args.accepted.now.entries c.args.steps.now kept c.requires.many c.requires.accepted) in
+    let numbers = numbers_chosen all kept (prints_accepted c.args.accepted.now.entries c.args.steps.now kept c.requires.beside) in
     pair_none c.args.places.now c.args.accepted.now.entries c.args.steps.now kept (c.in_default.ensures (chosen all kept) rising numbers c.requires.shown)
 
 pub unreachable-requires : goal.unreachable-requires
@@ -21,8 +22,8 @@ unreachable-requires c =
     let all : Prints = prints_of c.args.accepted.now.entries c.args.steps.now in
     let kept : List ℕ = c.args.kept.now in
     let rising : causal.IsRising (chosen all kept) = chosen-rises all kept c.requires.rising in
-    let numbers = numbers_chosen all kept (prints_accepted c.args.accepted.now.entries c.args.steps.now kept c.requires.many c.requires.accepted) in
-    turned_print c.args.places.now c.args.accepted.now.entries c.args.steps.now kept c.requires.many c.requires.accepted c.in-Some.first
+    let numbers = numbers_chosen all kept (prints_accepted c.args.accepted.now.entries c.args.steps.now kept c.requires.beside) in
+    turned_print c.args.places.now c.args.accepted.now.entries c.args.steps.now kept c.requires.beside c.in-Some.first
     (c.in-Some.ensures (chosen all kept) rising numbers c.requires.shown) c.in_default-footprint_at.ensures
 
 pub returns-in-Some-partner : goal.returns-in-Some-partner
@@ -30,7 +31,7 @@ returns-in-Some-partner c =
     let all : Prints = prints_of c.args.accepted.now.entries c.args.steps.now in
     let kept : List ℕ = c.args.kept.now in
     let rising : causal.IsRising (chosen all kept) = chosen-rises all kept c.requires.rising in
-    let numbers = numbers_chosen all kept (prints_accepted c.args.accepted.now.entries c.args.steps.now kept c.requires.many c.requires.accepted) in
+    let numbers = numbers_chosen all kept (prints_accepted c.args.accepted.now.entries c.args.steps.now kept c.requires.beside) in
     pair_some c.args.places.now c.args.accepted.now.entries c.args.steps.now kept c.in-Some.first c.in-Some-footprint_at.footprint.now (Some c.in-Some-partner.second)
     (c.in-Some.ensures (chosen all kept) rising numbers c.requires.shown) c.in-Some-footprint_at.ensures (c.in-Some-partner.ensures (chosen all kept) rising numbers c.requires.shown)
 
@@ -39,6 +40,6 @@ returns-in-None c =
     let all : Prints = prints_of c.args.accepted.now.entries c.args.steps.now in
     let kept : List ℕ = c.args.kept.now in
     let rising : causal.IsRising (chosen all kept) = chosen-rises all kept c.requires.rising in
-    let numbers = numbers_chosen all kept (prints_accepted c.args.accepted.now.entries c.args.steps.now kept c.requires.many c.requires.accepted) in
+    let numbers = numbers_chosen all kept (prints_accepted c.args.accepted.now.entries c.args.steps.now kept c.requires.beside) in
     pair_some c.args.places.now c.args.accepted.now.entries c.args.steps.now kept c.in-Some.first c.in-Some-footprint_at.footprint.now None
     (c.in-Some.ensures (chosen all kept) rising numbers c.requires.shown) c.in-Some-footprint_at.ensures (c.in-None.ensures (chosen all kept) rising numbers c.requires.shown)

@@ -1,4 +1,4 @@
-use Rattle.std.proofs.Common.{◌≡◌, ◌<◌, ◌++◌, ◌∷◌, [], ℕ, ap, sym, subst, ◌∙◌, refl, nat_eq}
+use Rattle.std.proofs.Common.{◌≡◌, ◌<◌, ◌++◌, ◌∷◌, [], Some, ℕ, ap, sym, subst, ◌∙◌, refl, nat_eq}
 use Rattle.std.specs.Map.{lookup}
 use Rattle.indexmap.specs.IndexMap.{IndexMap, insert_entry}
 use Rattle.indexmap.proofs.CallerLemmas.{insert_entry-new}
@@ -38,10 +38,10 @@ invariant_of-self-2 c =
     let accepted : c.insert.new.self.entries ≡ c.self.inside.accepted.entries ++ (c.args.number, c.args.event.now) ∷ [] =
     inserted c.reserve.new.self c.self.inside.accepted.entries c.insert.new.self.entries c.args.number c.in_ok-event.event c.args.event.now c.in_ok-insert.ensures.entries c.reserve.ensures.entries c.in_ok-event.ensures above in
     let kept : c.push-2.new.self.items ≡ c.self.inside.kept.items ++ c.args.number ∷ [] = c.in_ok-push-2.ensures.items ∙ ap (λ ks. ks ++ c.args.number ∷ []) c.reserve-3.ensures.items in
-    let steps : c.push.new.self.items ≡ c.self.inside.steps.items ++ step ∷ [] = c.in_ok-push.ensures.items ∙ ap (λ ss. ss ++ step ∷ []) c.reserve-2.ensures.items in
+    let steps : c.push.new.self.items ≡ c.self.inside.steps.items ++ Some step ∷ [] = c.in_ok-push.ensures.items ∙ ap (λ ss. ss ++ Some step ∷ []) c.reserve-2.ensures.items in
     let after : Inside = record c.self.inside { accepted = c.insert.new.self; steps = c.push.new.self; kept = c.push-2.new.self; accesses = c.write_noted.new.accesses; cells = c.write_noted.new.cells; last = c.args.number } in
     record {
-      shown = subst (Shows c.write_noted.new.accesses) (accepted_prints c.self.inside after c.args.number c.args.event.now step c.self.invariant.sound above accepted kept steps)
+      shown = subst (Shows c.write_noted.new.accesses) (accepted_prints c.self.inside after c.args.number c.args.event.now (Some step) c.self.invariant.sound above accepted kept steps)
           (c.in_ok-replaced.ensures.noted (kept_prints c.self.inside) (prints_rise c.self.inside c.self.invariant.sound) (print_missing c.self.inside c.self.invariant.sound c.args.number above) c.self.invariant.shown);
       sound = accepted_sound c.self.inside after c.args.number c.args.event.now step c.self.invariant.sound above c.in_ok-writes.ensures.accepted refl refl
           accepted kept steps

@@ -45,9 +45,9 @@ invariant_of-self-2 c =
     let place : IsPlace c.args.number c.self.inside.accepted.entries c.in-Some.index = place_found c.args.number c.self.inside.accepted.entries c.in-Some.index (sym c.in-Some.ensures.index) in
     let apart : is_among c.self.inside.kept.items c.args.number ≡ false = (is_ready (timeline_of c.self.inside) c.args.number free).apart in
     let kept : c.put_in.new.numbers.items ≡ placed c.args.number c.self.inside.kept.items = c.in_ok-put_in.ensures.ok ∙ ap (placed c.args.number) c.reserve.ensures.items in
-    let after : Inside = record c.self.inside { steps = with_item c.self.inside.steps c.in-Some.index step; kept = c.put_in.new.numbers; accesses = c.write_noted.new.accesses; cells = c.write_noted.new.cells } in
+    let after : Inside = record c.self.inside { steps = with_item c.self.inside.steps c.in-Some.index (Some step); kept = c.put_in.new.numbers; accesses = c.write_noted.new.accesses; cells = c.write_noted.new.cells } in
     record {
-      shown = subst (Shows c.write_noted.new.accesses) (put_prints c.self.inside after c.args.number c.in-Some.index c.in-Some-get.event.now step c.self.invariant.sound place apart refl refl kept)
+      shown = subst (Shows c.write_noted.new.accesses) (put_prints c.self.inside after c.args.number c.in-Some.index c.in-Some-get.event.now (Some step) c.self.invariant.sound place apart refl refl kept)
           (c.in_ok-replaced.ensures.noted (kept_prints c.self.inside) (prints_rise c.self.inside c.self.invariant.sound) (print_apart c.self.inside c.args.number apart) c.self.invariant.shown);
       sound = (put_in c.self.inside after c.args.number c.in-Some.index c.in-Some-get.event.now step c.self.invariant.sound place at free
           refl refl refl refl refl print

@@ -1,31 +1,29 @@
-use Rattle.std.proofs.Common.{◌≡◌, true, ap, sym, ◌∙◌, subst, IfOk, IsSome, List, ℕ, length}
-use Rattle.std.specs.List.{AllByRecursion}
+use Rattle.std.proofs.Common.{◌≡◌, ap, sym, ◌∙◌, subst, IfOk, List, ℕ, length}
 use Rattle.rev_accesses.specs.Value.{Shows}
 use Rattle.rev_causal.specs.Chosen.{IsRising, chosen, is_among}
-use Rattle.rev_causal.specs.History as causal
-use Rattle.rev_history.specs.declared.steps.Step.{Step}
-use Rattle.rev_history.specs.Steps.{prints_of}
-use Rattle.rev_history.specs.Timeline.{IsHistory, Timeline, cone_refusal}
+use Rattle.rev_history.specs.Steps.{Beside, HasFootprints, prints_of}
+use Rattle.rev_history.specs.Timeline.{IsHistory}
 use Rattle.rev_history.specs.Value.{HistoryValue}
 use Rattle.rev_history.proofs.Cones.{IsKept, some_kept}
-use Rattle.rev_history.proofs.Fields.{as_many, history_of}
+use Rattle.rev_history.proofs.Fields.{all_footprints, as_many, history_of}
 use Rattle.rev_history.proofs.Members.{cone_is_found}
 use Rattle.rev_history.proofs.history.History.members.Goals as goal
 
 pub cone-requires-clause-many : goal.cone-requires-clause-many
-cone-requires-clause-many c = ap (λ (xs : List Step). length xs) c.deref-2.ensures.value ∙ as_many c.self.inside c.self.invariant.sound
+cone-requires-clause-many c = ap (λ (xs : List Beside). length xs) c.deref-2.ensures.value ∙ as_many c.self.inside c.self.invariant.sound
 
 pub cone-requires-clause-rising : goal.cone-requires-clause-rising
 cone-requires-clause-rising c = subst IsRising (sym c.deref.ensures.value) c.self.invariant.sound.stepped.rising
 
-pub cone-requires-clause-accepted : goal.cone-requires-clause-accepted
-cone-requires-clause-accepted c =
-    subst (λ (ks : List ℕ). AllByRecursion (λ n. IsSome (causal.event_at n c.self.inside.accepted.entries)) ks) (sym c.deref.ensures.value) c.self.invariant.sound.stepped.each
+pub cone-requires-clause-beside : goal.cone-requires-clause-beside
+cone-requires-clause-beside c =
+    subst (λ (ks : List ℕ). HasFootprints c.self.inside.accepted.entries c.deref-2.result.now ks) (sym c.deref.ensures.value)
+    (subst (λ (xs : List Beside). HasFootprints c.self.inside.accepted.entries xs c.self.inside.kept.items) (sym c.deref-2.ensures.value) (all_footprints c.self.inside c.self.invariant.sound))
 
 pub cone-requires-clause-shown : goal.cone-requires-clause-shown
 cone-requires-clause-shown c =
     subst (λ (ks : List ℕ). Shows c.self.inside.accesses (chosen (prints_of c.self.inside.accepted.entries c.deref-2.result.now) ks)) (sym c.deref.ensures.value)
-    (subst (λ (xs : List Step). Shows c.self.inside.accesses (chosen (prints_of c.self.inside.accepted.entries xs) c.self.inside.kept.items)) (sym c.deref-2.ensures.value) c.self.invariant.shown)
+    (subst (λ (xs : List Beside). Shows c.self.inside.accesses (chosen (prints_of c.self.inside.accepted.entries xs) c.self.inside.kept.items)) (sym c.deref-2.ensures.value) c.self.invariant.shown)
 
 pub cone-requires-clause-among : goal.cone-requires-clause-among
 cone-requires-clause-among c =

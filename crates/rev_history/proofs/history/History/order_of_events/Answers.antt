@@ -1,4 +1,4 @@
-use Rattle.std.proofs.Common.{◌≡◌, ◌≤◌, ap, sym, ◌∙◌, subst, subst₂, List, ℕ, Option, option_map}
+use Rattle.std.proofs.Common.{◌≤◌, ap, sym, ◌∙◌, subst, subst₂, List, ℕ, Option, option_map}
 use Rattle.std.specs.Global.{Vec}
 use Rattle.std.specs.List.{AllByRecursion}
 use Rattle.rev_causal.specs.Chosen.{chosen}
@@ -10,8 +10,9 @@ use Rattle.rev_events.proofs.SameLemmas.{equal_events_are_one}
 use Rattle.rev_order.specs.Matched.{ArePlacesOf, MatchedPlaces}
 use Rattle.rev_order.specs.Pairs.{turned_pair}
 use Rattle.rev_history.specs.Order.{answer_of}
-use Rattle.rev_history.specs.Steps.{prints_of}
+use Rattle.rev_history.specs.Steps.{HasFootprints, prints_of}
 use Rattle.rev_history.specs.Value.{HistoryValue}
+use Rattle.rev_history.proofs.Fields.{all_footprints}
 use Rattle.rev_history.proofs.OrderLemmas.{kept_within, pair_found}
 use Rattle.rev_history.proofs.history.History.order_of_events.Goals as goal
 
@@ -21,6 +22,10 @@ matched_places-requires-clause-equality c = equal_events_are_one
 pub matched_places-requires-clause-within : goal.matched_places-requires-clause-within
 matched_places-requires-clause-within c =
     subst (λ (ks : List ℕ). AllByRecursion (λ n. n ≤ c.self.inside.last) ks) (sym c.deref.ensures.value) (kept_within c.self.inside c.self.invariant.sound)
+
+pub first_pair-requires-clause-beside : goal.first_pair-requires-clause-beside
+first_pair-requires-clause-beside c =
+    subst₂ (HasFootprints c.self.inside.accepted.entries) (sym c.deref-in-Some-3.ensures.value) (sym c.deref-in-Some-2.ensures.value) (all_footprints c.self.inside c.self.invariant.sound)
 
 pub returns-in-Some : goal.returns-in-Some
 returns-in-Some c =

@@ -1,7 +1,5 @@
 use Rattle.std.proofs.Common.{◌≡◌, true, List, ℕ, Some, None, IsSome, ap, subst, ◌∙◌, rules}
-use Rattle.rev_causal.specs.History as causal
-use Rattle.rev_history.specs.declared.steps.Step.{Step}
-use Rattle.rev_history.specs.Steps.{footprints_of}
+use Rattle.rev_history.specs.Steps.{Beside, footprint_beside}
 use Rattle.rev_history.specs.Timeline.{event_at, is_among}
 use Rattle.rev_history.specs.Value.{HistoryValue}
 use Rattle.rev_history.proofs.Fields.{has_print, undo_refusal_found}
@@ -10,7 +8,7 @@ use Rattle.rev_history.proofs.history.History.undo_refused.Goals as goal
 pub unreachable-requires : goal.unreachable-requires
 unreachable-requires c =
     has_print c.self.inside c.self.invariant.sound c.args.number (subst (λ (ks : List ℕ). is_among ks c.args.number ≡ true) c.deref.ensures.value c.in-Some.ensures.among)
-    (c.in_default-footprint_at.ensures ∙ ap (λ (xs : List Step). causal.event_at c.args.number (footprints_of c.self.inside.accepted.entries xs)) c.deref-2.ensures.value)
+    (c.in_default-footprint_at.ensures ∙ ap (λ (xs : List Beside). footprint_beside c.args.number c.self.inside.accepted.entries xs) c.deref-2.ensures.value)
 
 pub returns-in_err-dependent : goal.returns-in_err-dependent
 returns-in_err-dependent c =

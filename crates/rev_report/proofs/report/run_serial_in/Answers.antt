@@ -5,7 +5,7 @@ use Rattle.rev_manifest.specs.Seen.{seen_files}
 use Rattle.rev_script.specs.Output.{Writes}
 use Rattle.rev_report.specs.Report.{manifest_report, unless_fault}
 use Rattle.rev_script.specs.Lines.{manifest_fault_line}
-use Rattle.rev_report.proofs.report.run_serial.Goals as goal
+use Rattle.rev_report.proofs.report.run_serial_in.Goals as goal
 
 pub returns-in-Err-Manifest-clause-text : goal.returns-in-Err-Manifest-clause-text
 returns-in-Err-Manifest-clause-text g c =

@@ -1,0 +1,23 @@
+//! What a run has in memory.
+use rev_desk::Desk;
+use rev_trace::Trace;
+
+/// What a run read and made, and handed back in place of freeing it: the trace, and the desk with its graph. A value that
+/// is dropped frees both piece by piece.
+#[derive(Drop)]
+pub struct RunMemory {
+    /// The trace, where it was read without a fault.
+    pub trace: Option<Trace>,
+    /// The desk, where one was opened.
+    pub desk: Option<Desk>,
+}
+
+impl RunMemory {
+    /// That of a run which has not begun.
+    pub fn new() -> RunMemory {
+        RunMemory {
+            trace: None,
+            desk: None,
+        }
+    }
+}
