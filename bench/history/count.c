@@ -1,5 +1,6 @@
-// Counts the live memory of the program into which it is loaded (LD_PRELOAD): at its end it writes a line "SIZE COUNT" for
-// each size of which blocks are live, to the file that COUNT_TO names. A size is what the C library holds for the block.
+// Counts the live memory of the program into which it is loaded (LD_PRELOAD): at its end it writes a line "SIZE COUNT"
+// for each size of which blocks are live, to the file that COUNT_TO names. A size is what the C library holds for the
+// block.
 #define _GNU_SOURCE
 #include <malloc.h>
 #include <pthread.h>

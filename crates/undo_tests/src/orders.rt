@@ -208,25 +208,26 @@ const EQUAL_RESIZES: Row = Row {
     order: Order::Pair(2, 3),
 };
 
+const ROWS: &[Row] = &[
+    MATCHED_BY_OCCURRENCE,
+    NEIGHBOURS_EXCHANGED,
+    LEAST_FIRST,
+    LEAST_SECOND,
+    COUNTED_WITH_REPEATS,
+    ONE_MORE,
+    KEPT_ALONE,
+    OPENINGS_DIFFER,
+    OPENINGS_OF_ONE_STATE,
+    GRAPHS_DIFFER,
+    GRAPHS_LEND_ALIKE,
+    COMMANDS_EXCHANGED,
+    PLAN_OVERTAKEN,
+    EQUAL_RESIZES,
+];
+
 #[test]
 fn histories_are_compared(rt: HostRuntime) -> Result<(), Fail> {
-    let rows = [
-        MATCHED_BY_OCCURRENCE,
-        NEIGHBOURS_EXCHANGED,
-        LEAST_FIRST,
-        LEAST_SECOND,
-        COUNTED_WITH_REPEATS,
-        ONE_MORE,
-        KEPT_ALONE,
-        OPENINGS_DIFFER,
-        OPENINGS_OF_ONE_STATE,
-        GRAPHS_DIFFER,
-        GRAPHS_LEND_ALIKE,
-        COMMANDS_EXCHANGED,
-        PLAN_OVERTAKEN,
-        EQUAL_RESIZES,
-    ];
-    for row in &rows {
+    for row in ROWS {
         let order = answered(rt.alloc(), row)?;
         assert!(rt; order == Some(row.order));
     }
