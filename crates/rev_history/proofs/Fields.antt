@@ -157,10 +157,6 @@ pub map_end : {A B : Type 0} (f : A → B) (xs : List A) (x : A) → map f (xs +
 map_end f [] x = refl
 map_end f (y ∷ xs) x = ap (λ zs. f y ∷ zs) (map_end f xs x)
 
--- the step that was taken from a place
-pub taken_at : (a : Inside) (i : ℕ) (d : Step) (o : Beside) → Some d ≡ o → o ≡ get_or a.steps.items i o → Some d ≡ get_or a.steps.items i (Some d)
-taken_at a i d o is at = is ∙ at ∙ ap (get_or a.steps.items i) (sym is)
-
 -- what can be put back of a place
 pub ready_at : (a : Inside) → IsSound a → (n i : ℕ) (d : Step) → IsPlace n a.accepted.entries i → Some d ≡ get_or a.steps.items i (Some d) → CanPutBack a.cells.places d
 ready_at a s n i d place is =

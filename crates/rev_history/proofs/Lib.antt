@@ -8,4 +8,5 @@ pub mod Listed
 pub mod Members
 pub mod OrderLemmas
 pub mod Promises
+pub mod TakenLemmas
 pub mod Written

@@ -7,14 +7,15 @@ ghost use Rattle.rev_events.specs.declared.refusal.Refusal.{Refusal};
 ghost use Rattle.rev_events.specs.Same.{event_eq};
 ghost use Rattle.rev_history.specs.Checked.{HasNow, IsChecked};
 ghost use Rattle.rev_history.specs.Order.{IsOrder, IsSameOpening, answer_of, order_of};
-ghost use Rattle.rev_history.specs.Timeline.{IsHistory, Timeline, accept_refusal, accepted_as, back_refusal, cone_numbers, cone_refusal, coned, event_at, greatest_kept, kept_footprint, last_of, nearest_conflict, opened, redo_refusal, redone, state_at, undo_refusal, undone};
+ghost use Rattle.rev_history.specs.Timeline.{IsHistory, IsRising, Timeline, accept_refusal, accepted_as, back_refusal, cone_numbers, cone_refusal, coned, event_at, greatest_kept, kept_footprint, last_of, nearest_conflict, opened, redo_refusal, redone, state_at, undo_refusal, undone};
 ghost use Rattle.rev_history.specs.Value.{cells_written};
 
 use crate::closing::cone;
 use crate::order::{Order, both, first_pair};
-use crate::prints::{nearest, take_print, write_noted};
+use crate::prints::{nearest, write_noted};
 use crate::step::{Checked, effect, effect_if_accepted, refusal};
 use crate::steps::{Step, footprint_at};
+use crate::taken::{put_all_back, put_back, take_all_out};
 use indexmap::IndexMap;
 use rev_accesses::{Accesses, place_of, put_in, take_out};
 use rev_cells::{Cells, Opening};
@@ -292,6 +293,7 @@ impl History {
     pub fn members(&self, number: u32) -> Result<Vec<u32>, AllocError>
         requires { cone_refusal self.now.timeline number ≡ None }
         ensures members { IfOk result (λ members. members.items ≡ cone_numbers number self.now.timeline) }
+        ensures rising { IfOk result (λ members. IsRising members.items) }
         ensures legal { IsHistory self.now.timeline }
     {
         cone(
@@ -304,18 +306,20 @@ impl History {
         )
     }
 
-    // Takes the members of a cone out, from the last down: on the last none depends, and without it the others are the
-    // cone.
+    // Takes the members of a cone out, and their numbers in one pass over the kept ones.
     fn take_down(&mut self, number: u32, members: &[u32])
-        requires legal { IsHistory self.old.timeline }
+        requires rising { IsRising members.now }
         requires members { members.now ≡ cone_numbers number self.old.timeline }
         ensures { self.new.timeline ≡ coned number self.old.timeline }
     {
-        let mut left = members.len();
-        while left > 0 {
-            left -= 1;
-            self.put_back(members[left]);
-        }
+        put_all_back(
+            members,
+            &self.accepted,
+            &mut self.steps,
+            &mut self.cells,
+            &mut self.accesses,
+        );
+        take_all_out(&mut self.kept, members);
     }
 
     // The greatest kept number.
@@ -454,14 +458,13 @@ impl History {
         ensures timeline { self.new.timeline ≡ undone number self.old.timeline }
         ensures writes { self.new.writes ≡ raised_by (cells_written number self.old.timeline) self.old.writes }
     {
-        let Some(index) = self.accepted.get_index_of(&number) else {
-            unreachable!()
-        };
-        let Some(mut step) = self.steps[index].take() else {
-            unreachable!()
-        };
-        self.cells.exchange(&mut step.replaced);
-        take_print(&mut self.accesses, number, &step.footprint);
+        put_back(
+            number,
+            &self.accepted,
+            &mut self.steps,
+            &mut self.cells,
+            &mut self.accesses,
+        );
         take_out(&mut self.kept, number);
     }
 

@@ -9,6 +9,7 @@ mod order;
 mod prints;
 mod step;
 mod steps;
+mod taken;
 
 pub use history::History;
 pub use order::Order;

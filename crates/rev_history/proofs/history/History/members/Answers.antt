@@ -1,5 +1,7 @@
-use Rattle.std.proofs.Common.{◌≡◌, ap, sym, ◌∙◌, subst, IfOk, List, ℕ, length}
-use Rattle.rev_accesses.specs.Value.{Shows}
+use Rattle.std.proofs.Common.{◌≡◌, ap, sym, ◌∙◌, subst, IfOk, List, [], ◌∷◌, ℕ, length, Result, Ok, Err}
+use Rattle.std.specs.Global.{Vec}
+use Rattle.rev_accesses.specs.Closing.{cone_behind}
+use Rattle.rev_accesses.specs.Value.{Prints, Shows}
 use Rattle.rev_causal.specs.Chosen.{IsRising, chosen, is_among}
 use Rattle.rev_history.specs.Steps.{Beside, HasFootprints, prints_of}
 use Rattle.rev_history.specs.Timeline.{IsHistory}
@@ -7,7 +9,12 @@ use Rattle.rev_history.specs.Value.{HistoryValue}
 use Rattle.rev_history.proofs.Cones.{IsKept, some_kept}
 use Rattle.rev_history.proofs.Fields.{all_footprints, as_many, history_of}
 use Rattle.rev_history.proofs.Members.{cone_is_found}
+use Rattle.rev_history.proofs.TakenLemmas.{cone_rises}
 use Rattle.rev_history.proofs.history.History.members.Goals as goal
+
+ok_rises : {E : Type 0} (r : Result (Vec ℕ) E) (n : ℕ) (prints : Prints) (ks : List ℕ) → IsRising ks → IfOk r (λ members. members.items ≡ n ∷ cone_behind n prints (n ∷ []) ks) → IfOk r (λ members. IsRising members.items)
+ok_rises (Ok members) n prints ks rising is = subst IsRising (sym is) (cone_rises n prints ks rising)
+ok_rises (Err e) n prints ks rising is = is
 
 pub cone-requires-clause-many : goal.cone-requires-clause-many
 cone-requires-clause-many c = ap (λ (xs : List Beside). length xs) c.deref-2.ensures.value ∙ as_many c.self.inside c.self.invariant.sound
@@ -35,6 +42,10 @@ returns-clause-members c =
     subst (λ (ns : List ℕ). IfOk c.cone.result (λ members. members.items ≡ ns))
     (cone_is_found c.self.inside c.self.invariant.sound c.args.self.now.timeline (ap (λ (h : HistoryValue). h.timeline) c.self.view_is) c.args.number c.deref.result.now c.deref-2.result.now c.deref.ensures.value c.deref-2.ensures.value c.requires)
     c.cone.ensures
+
+pub returns-clause-rising : goal.returns-clause-rising
+returns-clause-rising c =
+    ok_rises c.cone.result c.args.number (prints_of c.self.inside.accepted.entries c.deref-2.result.now) c.deref.result.now (subst IsRising (sym c.deref.ensures.value) c.self.invariant.sound.stepped.rising) c.cone.ensures
 
 pub returns-clause-legal : goal.returns-clause-legal
 returns-clause-legal c = subst (λ (h : HistoryValue). IsHistory h.timeline) c.self.view_is (history_of c.self.inside c.self.invariant.sound)

@@ -1,0 +1,11 @@
+use Rattle.std.proofs.Common.{rules, not, sym}
+use Rattle.std.proofs.lemmas.Fn.{filter_same}
+use Rattle.rev_causal.specs.Chosen.{is_among}
+use Rattle.rev_history.proofs.TakenLemmas.{without_nobody}
+use Rattle.rev_history.proofs.taken.take_out_in_one.Goals as goal
+
+pub returns-in-Some : goal.returns-in-Some
+returns-in-Some c = filter_same _ (λ k. not (is_among c.args.members.now k)) _ (λ x b f k. search rules) _ _ c.retain.ensures.filtered
+
+pub returns-in-None : goal.returns-in-None
+returns-in-None c = sym (without_nobody c.args.members.now c.args.numbers.now.items (sym c.in-None.ensures.value))
