@@ -1,8 +1,8 @@
 // Scopes, rules and the variables of edges, as generators write them.
 use rev_paths::Name;
 use rev_scopes::{
-    Bindings, EdgeEnv, EdgeVariables, Rule, RuleFault, RuleTexts, RuleVariable, Scopes, ValueFault,
-    compared_command, edge_variables, expand, expand_in_block,
+    Bindings, EdgeEnv, EdgeVariables, Rule, RuleFault, RuleTexts, RuleVariable, Scopes, SharedText,
+    ValueFault, compared_command, edge_variables, expand, expand_in_block,
 };
 use rev_syntax::Text;
 use std::alloc::{AllocError, Global};
@@ -17,13 +17,17 @@ fn cut(text: &[u8], byte: u8) -> (&[u8], &[u8]) {
     }
 }
 
+fn shared(alloc: Global, bytes: &[u8]) -> Result<SharedText, AllocError> {
+    SharedText::new(Vec::from_slice(alloc, bytes)?)
+}
+
 // A scope where `f` is 1, and one below it where `f` is 2.
 fn two_scopes(alloc: Global) -> Result<Scopes, AllocError> {
     let mut scopes = Scopes::new(alloc);
     let outer = scopes.add(alloc, None)?;
-    scopes.bind(alloc, outer, b"f", Vec::from_slice(alloc, b"1")?)?;
+    scopes.bind(alloc, outer, b"f", shared(alloc, b"1")?)?;
     let inner = scopes.add(alloc, Some(outer))?;
-    scopes.bind(alloc, inner, b"f", Vec::from_slice(alloc, b"2")?)?;
+    scopes.bind(alloc, inner, b"f", shared(alloc, b"2")?)?;
     Ok(scopes)
 }
 
@@ -56,7 +60,7 @@ fn block_of(alloc: Global, lines: &str) -> Result<Bindings, AllocError> {
     let mut block = Bindings::new(alloc);
     for line in lines.as_bytes().split(|byte| *byte == b'\n') {
         let (name, value) = cut(line, b'=');
-        block.bind(alloc, name, Vec::from_slice(alloc, value)?)?;
+        block.bind(alloc, name, shared(alloc, value)?)?;
     }
     Ok(block)
 }
@@ -92,7 +96,7 @@ fn push_expanded(
         return Err(Fail::from("no scope of that number"));
     }
     let value = expand(alloc, Text::new(said)?, scopes, scope)?;
-    push_answer(text, &value)?;
+    push_answer(text, value.as_bytes())?;
     Ok(())
 }
 
@@ -110,7 +114,7 @@ fn tell(alloc: Global, scopes: &mut Scopes, text: &mut Vec<u8>, line: &[u8]) -> 
         b"has" => push_answer(text, b"none")?,
         b"bind" => {
             let (name, value) = cut(said, b'=');
-            scopes.bind(alloc, scope, name, Vec::from_slice(alloc, value)?)?;
+            scopes.bind(alloc, scope, name, shared(alloc, value)?)?;
         }
         b"rule" => {
             let rule = rule_of(alloc, "")?;
@@ -151,6 +155,8 @@ const SCOPES: &[(&str, &str)] = &[
     ("rule 0 r; has 1 r; has 1 s", "ok; a rule; none; "),
     // Texts are expanded as they are read.
     ("expand 1 $f/${f}.$$f$g", "2/2.$f; "),
+    // A variable alone has its value, and nothing where it is nowhere.
+    ("expand 1 ${f}; expand 0 $f; expand 1 $g", "2; 1; ; "),
 ];
 
 #[test]
@@ -211,7 +217,7 @@ fn a_block_comes_before_the_scopes(rt: HostRuntime) -> Result<(), Fail> {
 // The length of a value that is twice that many bytes and these, or its fault.
 fn doubled(alloc: Global, half: usize, more: &[u8]) -> Result<Result<usize, ValueFault>, Fail> {
     let mut block = Bindings::new(alloc);
-    block.bind(alloc, b"a", vec![in alloc; b'x'; half]?)?;
+    block.bind(alloc, b"a", SharedText::new(vec![in alloc; b'x'; half]?)?)?;
     Ok(expanded(alloc, &block, more)?.map(|value| value.len()))
 }
 
@@ -338,7 +344,7 @@ fn scopes_of(alloc: Global, outer: &str) -> Result<Scopes, Fail> {
     if scopes.len() == 0 {
         return Err(Fail::from("no scope"));
     }
-    scopes.bind(alloc, 0, name, Vec::from_slice(alloc, value)?)?;
+    scopes.bind(alloc, 0, name, shared(alloc, value)?)?;
     Ok(scopes)
 }
 

@@ -85,8 +85,8 @@ pub fn producers_of(
     Ok(producers)
 }
 
-// The edge that produces a path, where it is phony.
-fn phony_producer(graph: &Graph, producer: Option<u32>) -> Option<u32>
+/// A path's producer where it is phony, the edge through which the path is seen.
+pub fn phony_producer(graph: &Graph, producer: Option<u32>) -> Option<u32>
     requires { IfSome producer (λ edge. edge < length graph.now.manifest.builds) }
     ensures { result ≡ phony_only graph.now.manifest.builds producer }
 {

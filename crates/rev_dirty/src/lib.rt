@@ -11,6 +11,6 @@ mod scan;
 mod walk;
 
 pub use dirtiness::{deps_record, listed_inputs};
-pub use input::{InputKind, producers_of};
+pub use input::{InputKind, phony_producer, producers_of};
 pub use reason::Reason;
 pub use scan::{DependencyScan, reasons};

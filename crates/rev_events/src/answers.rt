@@ -1,7 +1,7 @@
 //! Events that are asked and answered at once.
 ghost use Rattle.std.specs.Prelude.{◌≡◌, [], None, IfOk, IsErrOf, OnOk, Some, option_map};
 ghost use Rattle.rev_plan.specs.Plan.{plan_refusal as plan_refusal_in};
-ghost use Rattle.rev_events.specs.Refusal.{of_plan};
+ghost use Rattle.rev_events.specs.Refusal.{of_plan as of_plan_in};
 ghost use Rattle.rev_events.specs.declared.event.Event.TheVariants.{Plan};
 ghost use Rattle.rev_events.specs.declared.fault.Fault.{Fault};
 ghost use Rattle.rev_events.specs.declared.refusal.Refusal.{Refusal};
@@ -11,13 +11,12 @@ ghost use Rattle.rev_events.specs.Machine.{effect as effect_in, refusal as refus
 use crate::checks::check;
 use crate::effects::{effect, marks_written};
 use crate::event::Event;
-use crate::fault::Fault;
-use crate::refusal::Refusal;
+use crate::fault::{Fault, of_plan};
 use crate::writes::Writes;
 use rev_cells::{Cell, Cells, Value};
 use rev_graph::Graph;
 use rev_paths::Name;
-use rev_plan::{PlanFault, plan};
+use rev_plan::plan;
 use std::alloc::Global;
 
 // What a plan writes, or why it is refused.
@@ -28,7 +27,7 @@ fn plan_answer(
     targets: &[Name],
 ) -> Result<Writes, Fault>
     ensures refused { (r : Refusal) → IsErrOf result (Fault.Refused r)
-        → option_map of_plan (plan_refusal_in graph.now.manifest cells.now.state targets.now) ≡ Some r }
+        → option_map of_plan_in (plan_refusal_in graph.now.manifest cells.now.state targets.now) ≡ Some r }
     ensures accepted { OnOk result (plan_refusal_in graph.now.manifest cells.now.state targets.now ≡ None) }
     ensures writes { IfOk result (λ writes.
         Adds [] writes.items (effect_in graph.now.manifest cells.now.state (Plan targets.now))) }
@@ -40,13 +39,7 @@ fn plan_answer(
             let writes = marks_written(alloc, &marks)?;
             Ok(writes)
         }
-        Err(PlanFault::Memory) => Err(Fault::Memory),
-        Err(PlanFault::StillRunning(edge)) => Err(Fault::Refused(Refusal::StillRunning(edge))),
-        Err(PlanFault::UnknownTarget(at)) => Err(Fault::Refused(Refusal::UnknownTarget(at))),
-        Err(PlanFault::MissingInput(at, edge)) => {
-            Err(Fault::Refused(Refusal::MissingInput(at, edge)))
-        }
-        Err(PlanFault::DepsCycle(edge)) => Err(Fault::Refused(Refusal::DepsCycle(edge))),
+        Err(fault) => Err(of_plan(fault)),
     }
 }
 

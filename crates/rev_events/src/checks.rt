@@ -7,14 +7,14 @@ ghost use Rattle.rev_events.specs.declared.refusal.Refusal.{Refusal};
 ghost use Rattle.rev_events.specs.Edge.{slot_holder as slot_holder_in};
 ghost use Rattle.rev_events.specs.Kinds.{abort_refusal as abort_refusal_in, clean_refusal as clean_refusal_in, fail_refusal as fail_refusal_in, finish_refusal as finish_refusal_in, pass_refusal as pass_refusal_in, start_refusal as start_refusal_in};
 ghost use Rattle.rev_events.specs.Machine.{refusal as refusal_in};
-ghost use Rattle.rev_events.specs.Refusal.{already_halted, bad_depfile as bad_depfile_in, of_plan, pool_slot as pool_slot_in, unexpected_listing as unexpected_listing_in, wrong_outputs as wrong_outputs_in};
+ghost use Rattle.rev_events.specs.Refusal.{already_halted, bad_depfile as bad_depfile_in, of_plan as of_plan_in, pool_slot as pool_slot_in, unexpected_listing as unexpected_listing_in, wrong_outputs as wrong_outputs_in};
 ghost use Rattle.rev_events.specs.Pools.{present_pool as present_pool_in};
 ghost use Rattle.rev_plan.specs.Plan.{plan_refusal as plan_refusal_in};
 ghost use Rattle.std.specs.Option.{option_map};
 
 use crate::edge::{all_outputs, blocking_input, named};
 use crate::event::{Event, Listing};
-use crate::fault::Fault;
+use crate::fault::{Fault, of_plan};
 use crate::pools::{present_pool, resize_refusal};
 use crate::refusal::Refusal;
 use crate::words::{is_halted, is_through, is_wanted, job_holder, running, slot_holder};
@@ -23,7 +23,7 @@ use rev_depfile::{DepfileFault, read};
 use rev_dirty::{DependencyScan, reasons};
 use rev_graph::Graph;
 use rev_paths::Name;
-use rev_plan::{PlanFault, plan};
+use rev_plan::plan;
 use std::alloc::{AllocError, Global};
 
 // Whether a slot is named wrongly: where the edge has no pool with slots, or none is named where it has one, or one is
@@ -317,15 +317,14 @@ fn plan_refusal(
     targets: &[Name],
 ) -> Result<Option<Refusal>, AllocError>
     ensures { IfOk result (λ refusal. refusal
-        ≡ option_map of_plan (plan_refusal_in graph.now.manifest cells.now.state targets.now)) }
+        ≡ option_map of_plan_in (plan_refusal_in graph.now.manifest cells.now.state targets.now)) }
 {
     match plan(alloc, graph, cells, targets) {
         Ok(_) => Ok(None),
-        Err(PlanFault::Memory) => Err(AllocError),
-        Err(PlanFault::StillRunning(edge)) => Ok(Some(Refusal::StillRunning(edge))),
-        Err(PlanFault::UnknownTarget(at)) => Ok(Some(Refusal::UnknownTarget(at))),
-        Err(PlanFault::MissingInput(at, edge)) => Ok(Some(Refusal::MissingInput(at, edge))),
-        Err(PlanFault::DepsCycle(edge)) => Ok(Some(Refusal::DepsCycle(edge))),
+        Err(fault) => match of_plan(fault) {
+            Fault::Memory => Err(AllocError),
+            Fault::Refused(refusal) => Ok(Some(refusal)),
+        },
     }
 }
 

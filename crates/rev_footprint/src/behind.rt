@@ -1,29 +1,12 @@
 //! The phony edges behind the inputs of an edge.
 ghost use Rattle.std.specs.Prelude.{◌≡◌, ◌<◌, [], length, IfSome, OnOk};
 ghost use Rattle.std.specs.List.{cons_option};
-ghost use Rattle.rev_dirty.specs.Facts.{phony_only};
 ghost use Rattle.rev_footprint.specs.Behind.{phony_among, next_edges, AreBehind, ArePhony, AreProducers, Grows};
 
 use indexmap::IndexSet;
+use rev_dirty::phony_producer;
 use rev_graph::Graph;
 use std::alloc::AllocError;
-
-// The edge that produces a path, where it is phony.
-fn phony_producer(graph: &Graph, producer: Option<u32>) -> Option<u32>
-    requires { IfSome producer (λ edge. edge < length graph.now.manifest.builds) }
-    ensures { result ≡ phony_only graph.now.manifest.builds producer }
-{
-    match producer {
-        Some(edge) => {
-            if graph.is_phony(edge) {
-                Some(edge)
-            } else {
-                None
-            }
-        }
-        None => None,
-    }
-}
 
 // Adds an edge, if there is one.
 fn add_edge(edges: &mut IndexSet<u32>, edge: Option<u32>) -> Result<(), AllocError>

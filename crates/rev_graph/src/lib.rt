@@ -12,3 +12,4 @@ mod table;
 
 pub use fault::GraphFault;
 pub use graph::{Graph, Inputs, Outputs};
+pub use steps::edges_among;

@@ -80,8 +80,11 @@ pub(crate) fn all_producers(
     Ok(all)
 }
 
-// The edges among producers.
-fn edges_among(alloc: Global, producers: &[Option<u32>]) -> Result<Vec<u32>, AllocError>
+/// The edges among producers, in their order; a path that nothing produces has none.
+///
+/// # Errors
+/// [`AllocError`] where an allocation was refused.
+pub fn edges_among(alloc: Global, producers: &[Option<u32>]) -> Result<Vec<u32>, AllocError>
     ensures { IfOk result (λ edges. edges.items ≡ filter_map (λ producer. producer) producers.now) }
 {
     producers

@@ -5,7 +5,7 @@ ghost use Rattle.rev_scopes.specs.Scopes.{variable_in};
 ghost use Rattle.rev_scopes.specs.Expansion.{expanded, is_too_large};
 ghost use Rattle.rev_manifest.specs.Blocks.{binds, are_depths, with_earlier, values_of, has_large, kept, kept_values, is_large_above, IsRuleWith};
 
-use rev_scopes::{Bindings, Rule, RuleTexts, RuleVariable, Scopes, ValueFault, expand};
+use rev_scopes::{Bindings, Rule, RuleTexts, RuleVariable, Scopes, SharedText, ValueFault, expand};
 use rev_syntax::{Binding, Text};
 use std::alloc::{AllocError, Global};
 
@@ -63,9 +63,9 @@ fn kept_value(
     text: Text<'_>,
     scopes: &Scopes,
     scope: usize,
-) -> Result<(Vec<u8>, bool), AllocError>
+) -> Result<(SharedText, bool), AllocError>
     requires { scope < length scopes.now }
-    ensures value { IfOk result (λ found. found.0.items
+    ensures value { IfOk result (λ found. found.0
         ≡ kept (expanded (variable_in scopes.now scope) text.entry)) }
     ensures large { IfOk result (λ found. found.1
         ≡ is_too_large (expanded (variable_in scopes.now scope) text.entry)) }
@@ -75,7 +75,7 @@ fn kept_value(
         Err(ValueFault::Memory) => Err(AllocError),
         Err(ValueFault::TooLarge) => {
             let stand_in = vec![in alloc; b'x'; 4097]?;
-            Ok((stand_in, true))
+            Ok((SharedText::new(stand_in)?, true))
         }
         Err(ValueFault::NeedsItself) => unreachable!(),
     }

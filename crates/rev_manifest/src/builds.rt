@@ -1,8 +1,8 @@
 //! The edges of a manifest.
 ghost use Rattle.std.specs.Prelude.{◌≡◌};
 
-use crate::shared_text::SharedText;
 use rev_paths::Name;
+use rev_scopes::SharedText;
 use std::marker::Model;
 
 /// An edge of a manifest: the paths of its build line, and the values of its rule's variables.

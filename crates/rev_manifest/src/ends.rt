@@ -14,10 +14,12 @@ use crate::fault::{FaultKind, Place, ReadFault};
 use crate::manifest::{Manifest, Parts};
 use crate::names::{add_names, push_others};
 use crate::pools::Pools;
-use crate::shared_text::{SharedText, shared};
+use crate::shared_text::shared;
 use indexmap::IndexSet;
 use rev_paths::Name;
-use rev_scopes::{EdgeVariables, Rule, Scopes, ValueFault, compared_command, edge_variables};
+use rev_scopes::{
+    EdgeVariables, Rule, Scopes, SharedText, ValueFault, compared_command, edge_variables,
+};
 use std::alloc::{AllocError, Global};
 
 // The names of two lists.

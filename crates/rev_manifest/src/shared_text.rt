@@ -1,88 +1,9 @@
-//! Texts whose copies share their bytes.
-ghost use Rattle.std.specs.Prelude.{◌≡◌, ◌∷◌, [], IfOk, bytes_eq};
-ghost use Rattle.std.specs.Hash.{same_Alike};
-ghost use Rattle.std.proofs.lemmas.Slice.Eq.{bytes_eq-Decides};
-ghost use Rattle.std.specs.Cmp.{partial_equiv_from_equiv};
-ghost use Rattle.std.specs.Cmp.Lexicographic.{nat_list_eq_equiv};
-ghost use Rattle.std.specs.Cmp.Rules.{comparing};
+//! Texts that stand once.
+ghost use Rattle.std.specs.Prelude.{◌≡◌, IfOk};
 
 use indexmap::IndexSet;
+use rev_scopes::SharedText;
 use std::alloc::AllocError;
-use std::hash::{Hash, Hasher};
-use std::marker::Model;
-use std::sync::ArcSlice;
-
-/// A text whose copies share its bytes. Two are equal where their bytes are.
-pub(crate) struct SharedText {
-    bytes: ArcSlice<u8>,
-}
-
-// Written, since a derived drop is proved again at each exit of each caller.
-impl Drop for SharedText {
-    fn drop(self) {
-        let SharedText { bytes: _bytes } = self;
-    }
-}
-
-impl Model for SharedText {
-    ghost use Rattle.std.specs.Prelude.{List, ℕ};
-    ghost use Rattle.std.specs.Arc.{arc_slice_items};
-
-    ghost Value = { List ℕ };
-
-    ghost view = { λ text. arc_slice_items text.bytes };
-}
-
-impl SharedText {
-    /// The text of these bytes.
-    pub(crate) fn new(bytes: Vec<u8>) -> Result<SharedText, AllocError>
-        ensures { IfOk result (λ text. text ≡ bytes.items) }
-    {
-        let bytes = ArcSlice::from_vec(bytes)?;
-        Ok(SharedText { bytes })
-    }
-
-    /// Its bytes.
-    pub(crate) fn as_bytes(&self) -> &[u8]
-        ensures { result.now ≡ self.now }
-    {
-        self.bytes.as_slice()
-    }
-
-    /// An equal text, which shares the bytes of this one.
-    pub(crate) fn copy(&self) -> Result<SharedText, AllocError>
-        ensures { IfOk result (λ copy. copy ≡ self.now) }
-    {
-        Ok(SharedText {
-            bytes: self.bytes.clone()?,
-        })
-    }
-}
-
-impl PartialEq for SharedText {
-    ghost eq = { bytes_eq };
-
-    ghost laws = { partial_equiv_from_equiv nat_list_eq_equiv };
-
-    fn eq(&self, other: &SharedText) -> bool {
-        self.bytes == other.bytes
-    }
-}
-
-impl Eq for SharedText {
-    ghost laws = { nat_list_eq_equiv };
-}
-
-impl Hash for SharedText {
-    // All bytes in one write, of which the hasher takes many at a time.
-    ghost hash_input = { λ text. text ∷ [] };
-
-    ghost respects_eq = { (same_Alike (λ text. text ∷ []) bytes_eq-Decides).fed };
-
-    fn hash<H: Hasher>(&self, state: &mut H) {
-        state.write(self.as_bytes());
-    }
-}
 
 /// A text that shares its bytes with an equal one among those given before, if there is one.
 pub(crate) fn shared(

@@ -20,7 +20,7 @@ use crate::files::Files;
 use crate::inclusion::Inclusion;
 use crate::names::{first_mentions, name_in_scope, names_in_scope, names_of, without};
 use rev_paths::{Name, Paths};
-use rev_scopes::{Bindings, Rule, RuleFault, Scopes, ValueFault, expand};
+use rev_scopes::{Bindings, Rule, RuleFault, Scopes, SharedText, ValueFault, expand};
 use rev_syntax::{Binding, BuildLine, Form, Text};
 use std::alloc::{AllocError, Global};
 
@@ -63,10 +63,10 @@ fn value_of(
     text: &Text<'_>,
     scopes: &Scopes,
     scope: usize,
-) -> Result<Vec<u8>, ReadFault>
+) -> Result<SharedText, ReadFault>
     requires { scope < length scopes.now }
     ensures { MatchResult result
-        (λ value. value_limited place (expanded (variable_in scopes.now scope) text.now) ≡ Ok value.items)
+        (λ value. value_limited place (expanded (variable_in scopes.now scope) text.now) ≡ Ok value)
         (λ fault. IsFault fault (value_limited place (expanded (variable_in scopes.now scope) text.now))) }
 {
     match expand(alloc, text.copy(), scopes, scope) {
@@ -97,7 +97,7 @@ fn depth_given(
         return Err(place.fault(FaultKind::BadDepth));
     };
     let value = value_of(alloc, place, &binding.value, scopes, scope)?;
-    if is_empty(&value) {
+    if is_empty(value.as_bytes()) {
         return Err(place.fault(FaultKind::BadDepth));
     }
     Ok(depth)

@@ -10,7 +10,7 @@ ghost use Rattle.rev_plan.specs.Steps.{paths_along, order_only_of, validations_o
 
 use rev_cells::Cells;
 use rev_dirty::listed_inputs;
-use rev_graph::Graph;
+use rev_graph::{Graph, edges_among};
 use rev_paths::Name;
 use std::alloc::{AllocError, Global};
 
@@ -23,16 +23,6 @@ pub(crate) enum Along {
     Counted,
     /// The inputs of all kinds, and the validations.
     Needs,
-}
-
-// The edges among producers.
-fn edges_among(alloc: Global, producers: &[Option<u32>]) -> Result<Vec<u32>, AllocError>
-    ensures { IfOk result (λ edges. edges.items ≡ filter_map (λ producer. producer) producers.now) }
-{
-    producers
-        .iter()
-        .filter_map(|producer| *producer)
-        .collect(alloc)
 }
 
 /// The edges that produce paths.

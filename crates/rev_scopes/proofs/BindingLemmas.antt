@@ -1,30 +1,10 @@
 -- Bindings as maps hold them.
-use Rattle.std.proofs.Common.{◌≡◌, ℕ, true, false, List, [], ◌∷◌, Some, option_map, cond, bytes_eq, refl, ap, if◌then◌else◌}
+use Rattle.std.proofs.Common.{◌≡◌, ℕ, true, false, List, [], ◌∷◌, Some, cond, bytes_eq, refl, ap, if◌then◌else◌}
 use Rattle.std.specs.Global.{Vec}
 use Rattle.std.specs.Map.{lookup}
 use Rattle.indexmap.specs.IndexMap.{insert_entry}
-use Rattle.rev_scopes.specs.Bindings.{value_of, bound, seen_entries, seen_bindings}
+use Rattle.rev_scopes.specs.Bindings.{value_of, bound, seen_entries}
 
-pub value_of-seen : (name : List ℕ) (entries : List (Vec ℕ × Vec ℕ)) → option_map (λ v. v.items) (lookup (λ key. bytes_eq name key.items) entries) ≡ value_of name (seen_bindings entries)
-value_of-seen name [] = refl
-value_of-seen name (e ∷ es) =
-    elim (bytes_eq name e.0.items) as (λ t. option_map (λ (v : Vec ℕ). v.items) (cond t (Some e.1) (lookup (λ key. bytes_eq name key.items) es))
-    ≡ (if t then Some e.1.items else value_of name (seen_bindings es))) [
-      | true ↦ refl
-      | false ↦ value_of-seen name es
-    ]
-
-pub bound-seen : (name value : Vec ℕ) (entries : List (Vec ℕ × Vec ℕ))
-    → seen_bindings (insert_entry (λ (a b : Vec ℕ). bytes_eq a.items b.items) entries name value) ≡ bound name.items value.items (seen_bindings entries)
-bound-seen name value [] = refl
-bound-seen name value (e ∷ es) =
-    elim (bytes_eq name.items e.0.items) as (λ t. seen_bindings (if t then (e.0, value) ∷ es else e ∷ insert_entry (λ (a b : Vec ℕ). bytes_eq a.items b.items) es name value)
-    ≡ (if t then (e.0.items, value.items) ∷ seen_bindings es else (e.0.items, e.1.items) ∷ bound name.items value.items (seen_bindings es))) [
-      | true ↦ refl
-      | false ↦ ap (λ t. (e.0.items, e.1.items) ∷ t) (bound-seen name value es)
-    ]
-
--- the same, where what is bound is seen as it is
 module _ {A : Type 0} where
   pub value_of-seen_entries : (name : List ℕ) (entries : List (Vec ℕ × A)) → lookup (λ key. bytes_eq name key.items) entries ≡ value_of name (seen_entries entries)
   value_of-seen_entries name [] = refl

@@ -1,8 +1,8 @@
 -- Look-ups through scopes.
-use Rattle.std.proofs.Common.{◌≡◌, ℕ, zero, suc, ◌<◌, ◌≤◌, List, length, Option, Some, None, get_or, [], refl, sym, ap, ◌∙◌, arith}
+use Rattle.std.proofs.Common.{◌≡◌, ℕ, zero, suc, ◌<◌, ◌≤◌, List, length, Option, Some, None, get_or, refl, sym, ap, ◌∙◌, arith}
 use Rattle.std.proofs.lemmas.List.{get_or_default, get_or_past}
 use Rattle.std.specs.Option.{option_or}
-use Rattle.rev_scopes.specs.Scopes.{ScopeValue, empty_scope, scope_at, AreNested, or_empty, find_up, found_in, variable_in, rule_in}
+use Rattle.rev_scopes.specs.Scopes.{ScopeValue, empty_scope, scope_at, AreNested, binding_in, find_up, found_in, rule_in}
 use Rattle.rev_scopes.specs.Bindings.{value_of}
 
 module _ {A : Type 0} (own : ScopeValue → Option A) (scopes : List ScopeValue) where
@@ -64,8 +64,8 @@ found-past own scopes i none past =
     let empty : scope_at scopes i ≡ empty_scope None = get_or_past scopes i (empty_scope None) past in
     ap (λ scope. option_or (own scope) (find_up own scopes i scope.parent)) empty ∙ ap (λ o. option_or o (find_up own scopes i None)) none ∙ find_up-none own scopes i
 
-pub no_variable : (scopes : List ScopeValue) (i : ℕ) (name : List ℕ) → length scopes ≤ i → variable_in scopes i name ≡ []
-no_variable scopes i name past = ap or_empty (found-past (λ scope. value_of name scope.variables) scopes i refl past)
+pub no_binding : (scopes : List ScopeValue) (i : ℕ) (name : List ℕ) → length scopes ≤ i → binding_in scopes i name ≡ None
+no_binding scopes i name past = found-past (λ scope. value_of name scope.variables) scopes i refl past
 
 pub no_rule : (scopes : List ScopeValue) (i : ℕ) (name : List ℕ) → length scopes ≤ i → rule_in scopes i name ≡ None
 no_rule scopes i name past = found-past (λ scope. value_of name scope.rules) scopes i refl past

@@ -17,7 +17,3 @@ module _ {A : Type 0} where
   -- what a map holds
   abbrev pub seen_entries : List (Vec ℕ × A) → List (List ℕ × A)
   seen_entries entries = map (λ entry. (entry.0.items, entry.1)) entries
-
--- what a map of texts holds
-abbrev pub seen_bindings : List (Vec ℕ × Vec ℕ) → List (List ℕ × List ℕ)
-seen_bindings entries = map (λ entry. (entry.0.items, entry.1.items)) entries

@@ -43,9 +43,13 @@ abbrev pub or_empty : Option (List ℕ) → List ℕ
 or_empty None = []
 or_empty (Some value) = value
 
--- the value of a variable: in the scope, else in its parents
+-- what a variable is bound to, if it is bound anywhere: in the scope, else in its parents
+abbrev pub binding_in : List ScopeValue → ℕ → List ℕ → Option (List ℕ)
+binding_in scopes i name = found_in (λ scope. value_of name scope.variables) scopes i
+
+-- the value of a variable
 abbrev pub variable_in : List ScopeValue → ℕ → List ℕ → List ℕ
-variable_in scopes i name = or_empty (found_in (λ scope. value_of name scope.variables) scopes i)
+variable_in scopes i name = or_empty (binding_in scopes i name)
 
 -- the rule of a name: in the scope, else in its parents
 abbrev pub rule_in : List ScopeValue → ℕ → List ℕ → Option RuleValue

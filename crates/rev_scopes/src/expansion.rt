@@ -1,5 +1,7 @@
 //! Expansion of texts as they are read.
-ghost use Rattle.std.specs.Prelude.{◌≡◌, ◌≢◌, ◌<◌, ◌≤◌, length, IfOk, OnOk, IsErrOf};
+ghost use Rattle.std.specs.Prelude.{◌≡◌, ◌≢◌, ◌<◌, ◌≤◌, ◌∷◌, [], length, IfOk, IfSome, OnOk, IsErrOf};
+ghost use Rattle.std.specs.Option.{option_copied};
+ghost use Rattle.rev_syntax.specs.Texts.{Variable};
 ghost use Rattle.rev_syntax.specs.Pieces.{seen_piece};
 ghost use Rattle.rev_scopes.specs.Scopes.{variable_in};
 ghost use Rattle.rev_scopes.specs.Expansion.{expanded, in_block, appended};
@@ -7,8 +9,9 @@ ghost use Rattle.rev_scopes.specs.declared.growth.TheConstants.{MAX_VALUE_BYTES}
 
 use crate::bindings::Bindings;
 use crate::fault::ValueFault;
-use crate::growth::Growth;
+use crate::growth::{Growth, MAX_VALUE_BYTES};
 use crate::scopes::Scopes;
+use crate::shared_text::SharedText;
 use rev_syntax::{Piece, Text};
 use std::alloc::{AllocError, Global};
 
@@ -71,8 +74,32 @@ pub fn expand_in_block(
     growth.into_value().ok_or(ValueFault::TooLarge)
 }
 
+// The name of the variable that a text is, where it is one variable and nothing else.
+fn lone_variable<'a>(text: &Text<'a>) -> Option<&'a [u8]>
+    ensures { IfSome result (λ name. text.now ≡ Variable name.now ∷ []) }
+{
+    let (piece, rest) = text.first_piece()?;
+    match piece {
+        Piece::Variable(name) if rest.is_empty() => Some(name),
+        _ => None,
+    }
+}
+
+// What a text is bound to that is one variable and nothing else, where that is bound and no more than a value may be.
+fn lone_binding<'a>(text: &Text<'_>, scopes: &'a Scopes, scope: usize) -> Option<&'a SharedText>
+    ensures value { IfSome (option_copied result) (λ value. value
+        ≡ expanded (variable_in scopes.now scope) text.now) }
+    ensures within { IfSome (option_copied result) (λ value. length value ≤ MAX_VALUE_BYTES) }
+{
+    let value = scopes.binding(scope, lone_variable(text)?)?;
+    if value.as_bytes().len() > MAX_VALUE_BYTES {
+        return None;
+    }
+    Some(value)
+}
+
 /// The value of a text in a scope: a variable is looked up in the scope, then in its parents. A variable that is
-/// nowhere is empty.
+/// nowhere is empty. A text that is one variable and nothing else shares the bytes of its value.
 ///
 /// # Errors
 /// As [`expand_in_block`].
@@ -81,12 +108,18 @@ pub fn expand(
     text: Text<'_>,
     scopes: &Scopes,
     scope: usize,
-) -> Result<Vec<u8>, ValueFault>
-    ensures value { IfOk result (λ value. value.items ≡ expanded (variable_in scopes.now scope) text.entry) }
-    ensures within { IfOk result (λ value. length value.items ≤ MAX_VALUE_BYTES) }
+) -> Result<SharedText, ValueFault>
+    ensures value { IfOk result (λ value. value ≡ expanded (variable_in scopes.now scope) text.entry) }
+    ensures within { IfOk result (λ value. length value ≤ MAX_VALUE_BYTES) }
     ensures too_large { IsErrOf result ValueFault.TooLarge
         → MAX_VALUE_BYTES < length (expanded (variable_in scopes.now scope) text.entry) }
     ensures finite { result ≢ Err ValueFault.NeedsItself }
 {
-    expand_in_block(alloc, text, &Bindings::new(alloc), scopes, scope)
+    if let Some(value) = lone_binding(&text, scopes, scope) {
+        let shared = value.copy()?;
+        return Ok(shared);
+    }
+    let value = expand_in_block(alloc, text, &Bindings::new(alloc), scopes, scope)?;
+    let made = SharedText::new(value)?;
+    Ok(made)
 }

@@ -11,6 +11,7 @@ pub mod laws;
 mod rule;
 mod rule_variable;
 mod scopes;
+mod shared_text;
 mod slots;
 
 pub use bindings::Bindings;
@@ -22,3 +23,4 @@ pub use growth::MAX_VALUE_BYTES;
 pub use rule::{Rule, RuleTexts};
 pub use rule_variable::RuleVariable;
 pub use scopes::Scopes;
+pub use shared_text::SharedText;

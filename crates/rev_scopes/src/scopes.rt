@@ -1,12 +1,13 @@
 //! Scopes of variables and rules.
 ghost use Rattle.std.specs.Prelude.{◌≡◌, ◌<◌, ◌↔◌, ◌++◌, ◌∷◌, [], None, length, IsTrue, IfOk, OnOk, OnErr, IsErrOf, IfSome};
 ghost use Rattle.std.specs.Option.{option_copied};
-ghost use Rattle.rev_scopes.specs.Scopes.{AreNested, empty_scope, scope_at, variable_in, rule_in, with_variable, with_rule, with_scope, is_taken};
+ghost use Rattle.rev_scopes.specs.Scopes.{AreNested, binding_in, empty_scope, scope_at, variable_in, rule_in, with_variable, with_rule, with_scope, is_taken};
 ghost use Rattle.rev_scopes.specs.Bindings.{value_of};
 
 use crate::bindings::Bindings;
 use crate::fault::RuleFault;
 use crate::rule::Rule;
+use crate::shared_text::SharedText;
 use indexmap::IndexMap;
 use std::alloc::{AllocError, Global};
 use std::marker::Model;
@@ -58,10 +59,10 @@ impl Scope {
     }
 
     // Its own variable.
-    fn variable(&self, name: &[u8]) -> Option<&[u8]>
+    fn variable(&self, name: &[u8]) -> Option<&SharedText>
         ensures { option_copied result ≡ value_of name.now self.now.variables }
     {
-        self.variables.value(name)
+        self.variables.shared(name)
     }
 
     // Its own rule.
@@ -72,8 +73,8 @@ impl Scope {
     }
 
     // Binds a variable.
-    fn bind(&mut self, alloc: Global, name: &[u8], value: Vec<u8>) -> Result<(), AllocError>
-        ensures bound { OnOk result (self.new ≡ with_variable name.now value.items self.old) }
+    fn bind(&mut self, alloc: Global, name: &[u8], value: SharedText) -> Result<(), AllocError>
+        ensures bound { OnOk result (self.new ≡ with_variable name.now value self.old) }
         ensures err { OnErr result (self.new ≡ self.old) }
     {
         self.variables.bind(alloc, name, value)?;
@@ -163,10 +164,10 @@ impl Scopes {
         alloc: Global,
         scope: usize,
         name: &[u8],
-        value: Vec<u8>,
+        value: SharedText,
     ) -> Result<(), AllocError>
         requires { scope < length self.old }
-        ensures bound { OnOk result (self.new ≡ with_scope scope (with_variable name.now value.items) self.old) }
+        ensures bound { OnOk result (self.new ≡ with_scope scope (with_variable name.now value) self.old) }
         ensures err { OnErr result (self.new ≡ self.old) }
     {
         let here = &mut self.scopes[scope];
@@ -176,12 +177,22 @@ impl Scopes {
 
     /// The value of a variable: in the scope, else in its parents, the nearest first. A variable that is nowhere is
     /// empty, and a scope that is not there has none.
-    #[tactic(auto, using(crate::proofs::ScopeLemmas::no_variable))]
     pub fn variable(&self, scope: usize, name: &[u8]) -> &[u8]
         ensures { result.now ≡ variable_in self.now scope name.now }
     {
+        match self.binding(scope, name) {
+            Some(value) => value.as_bytes(),
+            None => b"",
+        }
+    }
+
+    // What a variable is bound to, to be shared.
+    #[tactic(auto, using(crate::proofs::ScopeLemmas::no_binding))]
+    pub(crate) fn binding(&self, scope: usize, name: &[u8]) -> Option<&SharedText>
+        ensures { option_copied result ≡ binding_in self.now scope name.now }
+    {
         if scope >= self.len() {
-            return b"";
+            return None;
         }
         variable_from(&self.scopes, scope, name)
     }
@@ -224,21 +235,21 @@ impl Scopes {
     }
 }
 
-// The value of a variable.
-fn variable_from<'a>(scopes: &'a [Scope], scope: usize, name: &[u8]) -> &'a [u8]
+// What a variable is bound to.
+fn variable_from<'a>(scopes: &'a [Scope], scope: usize, name: &[u8]) -> Option<&'a SharedText>
     requires within { scope < length scopes.now }
     requires nested { AreNested scopes.now }
-    ensures { result.now ≡ variable_in scopes.now scope name.now }
+    ensures { option_copied result ≡ binding_in scopes.now scope name.now }
 {
     let mut number = scope;
     loop {
         let here = &scopes[number];
         if let Some(value) = here.variable(name) {
-            return value;
+            return Some(value);
         }
         match here.parent() {
             Some(parent) => number = parent,
-            None => return b"",
+            None => return None,
         }
     }
 }

@@ -1,6 +1,5 @@
 use Rattle.std.proofs.Common.{◌<◌, length, ap, sym, ◌∙◌, arith}
 use Rattle.rev_scopes.specs.Bindings.{value_of}
-use Rattle.rev_scopes.specs.Scopes.{or_empty}
 use Rattle.rev_scopes.proofs.ScopeLemmas.{at_number, found-own, found-above, found-nowhere}
 use Rattle.rev_scopes.proofs.scopes.variable_from.Goals as goal
 
@@ -12,7 +11,7 @@ returns-in-Some c =
     let within = c.loop-value.invariant.0 in
     let at = at_number scopes i c.index-scopes-number.result within c.index-scopes-number.is in
     let own = ap (λ scope. value_of name scope.variables) (sym at) ∙ sym c.in-Some.ensures in
-    sym (ap or_empty (found-own (λ scope. value_of name scope.variables) scopes c.requires.nested i within c.in-Some.value.now own)) ∙ c.loop-value.invariant.1
+    sym (found-own (λ scope. value_of name scope.variables) scopes c.requires.nested i within c.in-Some.value.now own) ∙ c.loop-value.invariant.1
 
 pub loop-value-smaller : goal.loop-value-smaller
 loop-value-smaller c =
@@ -33,7 +32,7 @@ loop-value-preserved c =
     let none = ap (λ scope. value_of name scope.variables) (sym at) ∙ sym c.in_default.ensures in
     let parent = ap (λ scope. scope.parent) (sym at) ∙ sym c.in-Some-parent.ensures in
     let below : p < i = c.requires.nested i p within parent in
-    (omega arith, sym (ap or_empty (found-above (λ scope. value_of name scope.variables) scopes c.requires.nested i p within none parent)) ∙ c.loop-value.invariant.1)
+    (omega arith, sym (found-above (λ scope. value_of name scope.variables) scopes c.requires.nested i p within none parent) ∙ c.loop-value.invariant.1)
 
 pub returns-in-None : goal.returns-in-None
 returns-in-None c =
@@ -44,4 +43,4 @@ returns-in-None c =
     let at = at_number scopes i c.index-scopes-number.result within c.index-scopes-number.is in
     let none = ap (λ scope. value_of name scope.variables) (sym at) ∙ sym c.in_default.ensures in
     let parent = ap (λ scope. scope.parent) (sym at) ∙ sym c.in-None.ensures in
-    sym (ap or_empty (found-nowhere (λ scope. value_of name scope.variables) scopes c.requires.nested i within none parent)) ∙ c.loop-value.invariant.1
+    sym (found-nowhere (λ scope. value_of name scope.variables) scopes c.requires.nested i within none parent) ∙ c.loop-value.invariant.1
