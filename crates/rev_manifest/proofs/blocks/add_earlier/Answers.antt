@@ -13,7 +13,7 @@ returns-then-is_large-clause-values c =
     let name = c.args.binding.now.name.now in
     let value = λ (text : List PieceValue). kept (expanded (variable_in c.args.scopes.now c.args.scope) text) in
     let absent : value_of name values ≡ None = sym c.value.ensures ∙ copied_none _ c.if-is_some.ensures in
-    c.in_ok-bind.ensures.bound ∙ bound-new name c.in_ok-value.value.items values absent
+    c.in_ok-bind.ensures.bound ∙ bound-new name c.in_ok-value.value values absent
     ∙ ap (λ v. values ++ (name, v) ∷ []) (c.in_ok-value.ensures.value ∙ ap value c.copy.ensures)
     ∙ sym (ap (λ t. if t then values else values ++ (name, value c.args.binding.now.value) ∷ []) (ap is_some absent))
 
@@ -23,6 +23,6 @@ returns-else-is_large-clause-values c =
     let name = c.args.binding.now.name.now in
     let value = λ (text : List PieceValue). kept (expanded (variable_in c.args.scopes.now c.args.scope) text) in
     let absent : value_of name values ≡ None = sym c.value.ensures ∙ copied_none _ c.if-is_some.ensures in
-    c.in_ok-bind.ensures.bound ∙ bound-new name c.in_ok-value.value.items values absent
+    c.in_ok-bind.ensures.bound ∙ bound-new name c.in_ok-value.value values absent
     ∙ ap (λ v. values ++ (name, v) ∷ []) (c.in_ok-value.ensures.value ∙ ap value c.copy.ensures)
     ∙ sym (ap (λ t. if t then values else values ++ (name, value c.args.binding.now.value) ∷ []) (ap is_some absent))

@@ -39,12 +39,12 @@ returns-then-is_empty c =
     rw c.fault-then-is_empty.ensures
     (ap (depth_given c.args.place look_up) (last c.args.bindings.now c.in-Some.field-0-1.now x c.in-Some.ensures.cases.0)
     ∙ depth_empty c.args.place look_up x.value
-    (ap is_empty (value_is c.args.place look_up x.value c.in_ok-value.value.items c.in_ok-value.ensures ∙ sym c.deref.ensures.value) ∙ sym c.if-is_empty.ensures))
+    (ap is_empty (value_is c.args.place look_up x.value c.in_ok-value.value c.in_ok-value.ensures ∙ sym c.as_bytes.ensures) ∙ sym c.if-is_empty.ensures))
 
 pub returns : goal.returns
 returns c =
     let look_up = variable_in c.args.scopes.now c.args.scope in
     let x = c.in-Some.binding.now in
     ap (depth_given c.args.place look_up) (last c.args.bindings.now c.in-Some.field-0-1.now x c.in-Some.ensures.cases.0)
-    ∙ depth_ok c.args.place look_up x.value c.in-Some-depth_of_text.depth c.in_ok-value.value.items c.in-Some-depth_of_text.ensures c.in_ok-value.ensures
-    (ap is_empty (sym c.deref.ensures.value) ∙ sym c.if-is_empty.ensures)
+    ∙ depth_ok c.args.place look_up x.value c.in-Some-depth_of_text.depth c.in_ok-value.value c.in-Some-depth_of_text.ensures c.in_ok-value.ensures
+    (ap is_empty (sym c.as_bytes.ensures) ∙ sym c.if-is_empty.ensures)
