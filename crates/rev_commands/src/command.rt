@@ -3,8 +3,7 @@ ghost use Rattle.std.specs.Prelude.{◌≡◌, ◌↔◌, IfOk, IsTrue};
 
 use crate::point::Point;
 use crate::which::Which;
-use rev_cells::Names;
-use rev_events::{Event, Listing};
+use rev_events::Event;
 use std::alloc::AllocError;
 
 /// A command of a lane or of a script.
@@ -82,78 +81,5 @@ impl Command {
 fn same_event(event: &Event, other: &Event) -> bool
     ensures { IsTrue result ↔ (event.now ≡ other.now) }
 {
-    match (event, other) {
-        (Event::Plan(targets), Event::Plan(others)) => same_names(targets, others),
-        (
-            Event::Start { out, job, slot },
-            Event::Start {
-                out: other,
-                job: its_job,
-                slot: its_slot,
-            },
-        ) => { out == other && job == its_job && slot == its_slot }
-        (
-            Event::Finish {
-                out,
-                stamps,
-                listing,
-            },
-            Event::Finish {
-                out: other,
-                stamps: its_stamps,
-                listing: its_listing,
-            },
-        ) => out == other && stamps == its_stamps && same_listing(listing, its_listing),
-        (
-            Event::Fail { out, stamps },
-            Event::Fail {
-                out: other,
-                stamps: its_stamps,
-            },
-        )
-        | (
-            Event::Abort { out, stamps },
-            Event::Abort {
-                out: other,
-                stamps: its_stamps,
-            },
-        ) => { out == other && stamps == its_stamps }
-        (Event::Clean { out }, Event::Clean { out: other })
-        | (Event::Pass { out }, Event::Pass { out: other }) => out == other,
-        (
-            Event::Touch { path, stamp },
-            Event::Touch {
-                path: other,
-                stamp: its_stamp,
-            },
-        ) => { path == other && stamp == its_stamp }
-        (Event::Interrupt, Event::Interrupt) => true,
-        (
-            Event::Resize { pool, depth },
-            Event::Resize {
-                pool: other,
-                depth: its_depth,
-            },
-        ) => { pool == other && depth == its_depth }
-        _ => false,
-    }
-}
-
-// Whether two listings are equal.
-fn same_listing(listing: &Listing, other: &Listing) -> bool
-    ensures { IsTrue result ↔ (listing.now ≡ other.now) }
-{
-    match (listing, other) {
-        (Listing::Nothing, Listing::Nothing) => true,
-        (Listing::Depfile(text), Listing::Depfile(other)) => text == other,
-        (Listing::Paths(paths), Listing::Paths(others)) => same_names(paths, others),
-        _ => false,
-    }
-}
-
-// Whether the same paths stand in the same order.
-fn same_names(names: &Names, others: &Names) -> bool
-    ensures { IsTrue result ↔ (names.now ≡ others.now) }
-{
-    names == others
+    event == other
 }
