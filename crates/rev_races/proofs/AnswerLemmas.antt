@@ -1,0 +1,96 @@
+-- What the kept events note of edges, and which places are first.
+use Rattle.std.proofs.Common.{◌≡◌, ◌≢◌, ℕ, zero, suc, ◌+◌, ◌<◌, ◌==◌, Bool, true, false, ◌||◌, List, [], ◌∷◌, ◌++◌, length, get_or, set, take, Option, Some, None, ◌⊎◌, inl, inr, refl, sym, ap, subst, ◌∙◌, arith, true≢false, Contains}
+use Rattle.std.specs.List.{list_any}
+use Rattle.std.proofs.Math.Seq.{take-length}
+use Rattle.std.proofs.lemmas.Bool.{eqb-true, eqb-false, eq-eqb, cases_eq}
+use Rattle.std.proofs.lemmas.List.{length-set, take_more}
+use Rattle.rev_dirty.specs.Reasons.{holds}
+use Rattle.rev_causal.specs.Chosen.{under, chosen}
+use Rattle.rev_causal.specs.History as causal
+use Rattle.rev_events.specs.declared.event.Event.{Event}
+use Rattle.rev_history.specs.Timeline.{Numbered, Timeline}
+use Rattle.rev_races.specs.Answer.{is_noted, AreNoted}
+use Rattle.rev_races.proofs.Waiting.{decide}
+
+-- THE KEPT EVENTS, ONE AFTER THE OTHER
+chosen-one-more : (es : Numbered) (ks : List ℕ) (n : ℕ) → chosen es (ks ++ n ∷ []) ≡ chosen es ks ++ under n (causal.event_at n es) []
+chosen-one-more es [] n = refl
+chosen-one-more es (k ∷ ks) n = by (causal.event_at k es)
+  where
+    by : (o : Option Event) → under k o (chosen es (ks ++ n ∷ [])) ≡ under k o (chosen es ks) ++ under n (causal.event_at n es) []
+    by None = chosen-one-more es ks n
+    by (Some e) = ap (λ (xs : Numbered). (k, e) ∷ xs) (chosen-one-more es ks n)
+
+any-append : (p : ℕ × Event → Bool) (xs ys : Numbered) → list_any p (xs ++ ys) ≡ (list_any p xs || list_any p ys)
+any-append p [] ys = refl
+any-append p (x ∷ xs) ys = ap (λ b. p x || b) (any-append p xs ys) ∙ assoc (p x) (list_any p xs) (list_any p ys)
+  where
+    assoc : (a b c : Bool) → (a || (b || c)) ≡ ((a || b) || c)
+    assoc true b c = refl
+    assoc false b c = refl
+
+or-false : (b : Bool) → (b || false) ≡ b
+or-false true = refl
+or-false false = refl
+
+or-true : (b : Bool) → (b || true) ≡ true
+or-true true = refl
+or-true false = refl
+
+-- one mark more
+set-or : (marks : List Bool) (x edge : ℕ) → x < length marks → get_or (set marks x true) edge false ≡ (get_or marks edge false || (x == edge))
+set-or [] x edge within = absurd (omega (arith, within))
+set-or (m ∷ ms) zero zero within = sym (or-true m)
+set-or (m ∷ ms) zero (suc edge) within = sym (or-false (get_or ms edge false))
+set-or (m ∷ ms) (suc x) zero within = sym (or-false m)
+set-or (m ∷ ms) (suc x) (suc edge) within = set-or ms x edge (omega (arith, within))
+
+-- marks of what the events of some kept numbers note
+pub record AreNotedBy (t : Timeline) (ended : Bool) (ks : List ℕ) (marks : List Bool) : Type 0 where
+  pub each : length marks ≡ length t.manifest.builds
+  pub exact : (edge : ℕ) → edge < length t.manifest.builds
+      → get_or marks edge false ≡ list_any (λ (e : ℕ × Event). is_noted t.manifest ended edge e.1) (chosen t.accepted ks)
+
+module _ (t : Timeline) (ended : Bool) (ks : List ℕ) (n : ℕ) where
+  abbrev passes : ℕ → ℕ × Event → Bool
+  passes edge e = is_noted t.manifest ended edge e.1
+
+  more : (o : Option Event) → causal.event_at n t.accepted ≡ o → (edge : ℕ)
+      → list_any (passes edge) (chosen t.accepted (ks ++ n ∷ [])) ≡ (list_any (passes edge) (chosen t.accepted ks) || list_any (passes edge) (under n o []))
+  more o is edge =
+      ap (list_any (passes edge)) (chosen-one-more t.accepted ks n)
+      ∙ any-append (passes edge) (chosen t.accepted ks) (under n (causal.event_at n t.accepted) [])
+      ∙ ap (λ q. list_any (passes edge) (chosen t.accepted ks) || list_any (passes edge) (under n q [])) is
+
+  -- no event stands under the number
+  pub noted-none : (marks : List Bool) → causal.event_at n t.accepted ≡ None → AreNotedBy t ended ks marks → AreNotedBy t ended (ks ++ n ∷ []) marks
+  noted-none marks none before = record {
+    each = before.each;
+    exact = λ edge within. before.exact edge within ∙ sym (or-false (list_any (passes edge) (chosen t.accepted ks))) ∙ sym (more None none edge);
+  }
+
+  -- the event notes nothing
+  pub noted-nothing : (marks : List Bool) (e : Event) → causal.event_at n t.accepted ≡ Some e → ((edge : ℕ) → false ≡ is_noted t.manifest ended edge e)
+      → AreNotedBy t ended ks marks → AreNotedBy t ended (ks ++ n ∷ []) marks
+  noted-nothing marks e is none before = record {
+    each = before.each;
+    exact = λ edge within.
+        before.exact edge within ∙ sym (or-false (list_any (passes edge) (chosen t.accepted ks)))
+        ∙ ap (λ b. list_any (passes edge) (chosen t.accepted ks) || b) (none edge ∙ sym (or-false (passes edge (n, e)))) ∙ sym (more (Some e) is edge);
+  }
+
+  -- the event notes an edge
+  pub noted-edge : (marks : List Bool) (e : Event) (x : ℕ) → causal.event_at n t.accepted ≡ Some e → ((edge : ℕ) → (x == edge) ≡ is_noted t.manifest ended edge e) → x < length t.manifest.builds
+      → AreNotedBy t ended ks marks → AreNotedBy t ended (ks ++ n ∷ []) (set marks x true)
+  noted-edge marks e x is notes inside before = record {
+    each = length-set marks x true ∙ before.each;
+    exact = λ edge within.
+        set-or marks x edge (omega (arith, inside, before.each))
+        ∙ ap (λ b. b || (x == edge)) (before.exact edge within)
+        ∙ ap (λ b. list_any (passes edge) (chosen t.accepted ks) || b) (notes edge ∙ sym (or-false (passes edge (n, e)))) ∙ sym (more (Some e) is edge);
+  }
+
+pub noted-all : (t : Timeline) (ended : Bool) (i : ℕ) (marks : List Bool) → i ≡ length t.kept → AreNotedBy t ended (take i t.kept) marks → AreNoted t ended marks
+noted-all t ended i marks all by =
+    let r = subst (λ ks. AreNotedBy t ended ks marks) (ap (λ n. take n t.kept) all ∙ take-length t.kept) by in
+    record { each = r.each; exact = r.exact }
