@@ -12,8 +12,10 @@ pub(crate) fn makes_one_of(graph: &Graph, files: &[Name], edge: u32) -> bool
     ensures { IsTrue result ↔ MakesOneOf graph.now.manifest.builds files.now edge }
 {
     for file in files {
-        if graph.producer(file) == Some(edge) {
-            return true;
+        if let Some(producer) = graph.producer(file) {
+            if producer == edge {
+                return true;
+            }
         }
     }
     false
