@@ -1,16 +1,14 @@
 -- What an edge lists is what its deps record has at the end.
-use Rattle.std.proofs.Common.{◌≡◌, ℕ, ◌<◌, ◌==◌, Bool, true, false, not, ◌||◌, List, [], ◌∷◌, ◌++◌, length, map, get_or, Contains, Option, Some, None, inl, inr, refl, sym, ap, subst, ◌∙◌, arith, true≢false, if◌then◌else◌}
+use Rattle.std.proofs.Common.{◌≡◌, ℕ, ◌<◌, ◌==◌, Bool, true, false, not, ◌||◌, List, [], ◌∷◌, ◌++◌, length, map, Contains, Option, Some, None, inl, inr, refl, sym, ap, subst, ◌∙◌, arith, true≢false, if◌then◌else◌}
 use Rattle.std.specs.Prelude.{is_some}
 use Rattle.std.specs.FinMap.{get}
-use Rattle.std.specs.List.{list_any}
 use Rattle.std.specs.Option.{option_map, option_or}
-use Rattle.std.specs.Ordering.{eq_by_cmp}
 use Rattle.std.specs.Cmp.{eq_by_cmp_equiv}
 use Rattle.std.proofs.lemmas.Bool.{eqb-true, eq-eqb}
 use Rattle.std.proofs.lemmas.List.Elements.{Contains-get_or}
 use Rattle.rev_manifest.specs.Manifest.{BuildValue, ManifestValue}
-use Rattle.rev_graph.specs.Graph.{GraphValue, IsGraph, build_at, no_build, outputs_of, producer_of, pool_of, first_double}
-use Rattle.rev_graph.proofs.ProducerLemmas.{producer-only, one_producer}
+use Rattle.rev_graph.specs.Graph.{build_at, no_build, outputs_of, producer_of, pool_of, first_double}
+use Rattle.rev_graph.proofs.ProducerLemmas.{one_producer}
 use Rattle.rev_cells.specs.declared.cell.Cell.{Cell}
 use Rattle.rev_cells.specs.declared.cell.Cell.TheVariants as cell
 use Rattle.rev_cells.specs.declared.mark.Mark.{Mark}
@@ -25,7 +23,7 @@ use Rattle.rev_causal.specs.Order.{Has}
 use Rattle.rev_causal.specs.Store.{set_cell, set_cells}
 use Rattle.rev_causal.specs.Machine.{run}
 use Rattle.rev_causal.proofs.Store.{get-set_cell}
-use Rattle.rev_dirty.specs.Inputs.{deps_record, first_deps}
+use Rattle.rev_dirty.specs.Inputs.{first_deps}
 use Rattle.rev_dirty.specs.Reasons.{holds}
 use Rattle.rev_dirty.specs.Seen.{stamp_cells, built_cells, first_deps_cell, deps_cells}
 use Rattle.rev_plan.specs.Plan.{edge_numbers}
@@ -42,7 +40,7 @@ use Rattle.rev_footprint.specs.Machine.{machine}
 use Rattle.rev_history.specs.Timeline.{Numbered}
 use Rattle.rev_races.proofs.Waiting.{decide}
 use Rattle.rev_races.specs.Laws.{ListsAreRecorded}
-use Rattle.rev_races.specs.Races.{names, started, finished, list_of, last_list, recorded, lists}
+use Rattle.rev_races.specs.Races.{started, finished, list_of, last_list, recorded, lists}
 
 -- CELLS THAT ARE NOT ONE DEPS RECORD
 module _ (o : List ℕ) where
