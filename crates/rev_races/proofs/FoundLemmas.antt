@@ -38,3 +38,21 @@ added s n key h k = (forth, back)
     back (inr same) =
         new.0 (h k ∙ ap (λ b. cond b true (sorted.contains (slice_cmp nat_cmp) s k))
         (ap (λ q. is_eq (slice_cmp nat_cmp key q)) same ∙ (eq_by_cmp_equiv nat_list_cmp_total).refl key))
+
+-- NUMBERS OF RACES, TAKEN OUT ONE AFTER THE OTHER
+pub three : (k : List ℕ) → length k ≡ 3 → get_or k 0 0 ∷ get_or k 1 0 ∷ get_or k 2 0 ∷ [] ≡ k
+three [] e = absurd (omega (arith, e))
+three (a ∷ []) e = absurd (omega (arith, e))
+three (a ∷ b ∷ []) e = absurd (omega (arith, e))
+three (a ∷ b ∷ c ∷ []) e = refl
+three (a ∷ b ∷ c ∷ d ∷ ks) e = absurd (omega (arith, e))
+
+key-push : (races : List Race) (r : Race) (rest : List (List ℕ)) → map race_key (races ++ r ∷ []) ++ rest ≡ map race_key races ++ (race_key r ∷ rest)
+key-push [] r rest = refl
+key-push (x ∷ xs) r rest = ap (λ (ks : List (List ℕ)). race_key x ∷ ks) (key-push xs r rest)
+
+pub keys-more : (races all : List Race) (r : Race) (k : List ℕ) (old rest keys : List (List ℕ)) → old ≡ k ∷ rest → all ≡ races ++ r ∷ [] → race_key r ≡ k → map race_key races ++ old ≡ keys
+    → map race_key all ++ rest ≡ keys
+keys-more races all r k old rest keys taken pushed same before =
+    ap (λ (rs : List Race). map race_key rs ++ rest) pushed ∙ key-push races r rest ∙ ap (λ x. map race_key races ++ (x ∷ rest)) same
+    ∙ ap (λ (ks : List (List ℕ)). map race_key races ++ ks) (sym taken) ∙ before

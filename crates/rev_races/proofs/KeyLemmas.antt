@@ -5,6 +5,7 @@ use Rattle.std.proofs.lemmas.Bool.{cases_eq}
 use Rattle.std.proofs.lemmas.List.{get_or_default}
 use Rattle.std.proofs.lemmas.List.Elements.{Contains-get_or}
 use Rattle.rev_manifest.specs.Manifest.{BuildValue}
+use Rattle.rev_graph.specs.Graph.{Produces}
 use Rattle.rev_waits.specs.Waits.{Makes}
 use Rattle.rev_races.specs.Answer.{IsFirstPlace, IsUnordered}
 use Rattle.rev_races.specs.Keys.{SomeBelow, IsKeyBy, IsKeyAt}
@@ -60,3 +61,11 @@ keys-at builds files paths user place makers k are = (
       let at : get_or makers c.0 0 ≡ a.maker = get_or_default makers c.0 0 a.maker c.1 ∙ c.2 in
       record { number = c.0; below = c.1; holds = subst (λ m. IsKeyBy builds files paths user place m k) (sym at) a.key },
 )
+
+-- FILES THAT AN EDGE DOES NOT MAKE
+pub none-more : (builds : List BuildValue) (edge : ℕ) (files : List (List ℕ)) (i : ℕ) (file : List ℕ) → i < length files → file ≡ get_or files i file → (Produces builds edge file → ⊥)
+    → ((k : ℕ) → k < i → Produces builds edge (get_or files k []) → ⊥) → (k : ℕ) → k < i + 1 → Produces builds edge (get_or files k []) → ⊥
+none-more builds edge files i file within is none before k below made = elim (cases_eq k i) [
+  | inl same ↦ none (subst (λ p. Produces builds edge p) (ap (λ n. get_or files n []) same ∙ get_or_default files i [] file within ∙ sym is) made)
+  | inr other ↦ before k (omega (arith, below, other)) made
+]

@@ -1,5 +1,5 @@
 -- The answer: each race once, in the order of the numbers of maker and user and of the path's place in the user's list.
-use Rattle.std.specs.Prelude.{◌≡◌, ◌≢◌, ℕ, ◌<◌, ◌↔◌, Bool, false, List, [], ◌∷◌, map, length, is_some, slice_get, slice_index_or, if◌then◌else◌}
+use Rattle.std.specs.Prelude.{◌≡◌, ◌≢◌, ℕ, ◌<◌, ◌↔◌, Bool, false, List, [], ◌∷◌, map, length, is_some, Some, slice_get, slice_index_or, if◌then◌else◌}
 use Rattle.std.specs.List.{Contains, list_any}
 use Rattle.std.specs.List.Sorted.{IsStrictlySortedBy}
 use Rattle.std.specs.Ordering.{nat_cmp}

@@ -1,5 +1,5 @@
 //! Races as they are found.
-ghost use Rattle.std.specs.Prelude.{◌≡◌, ◌↔◌, ◌⊎◌, ℕ, List, ◌∷◌, [], map, All, Contains, IfNone, IfOk, IfSome, OnOk};
+ghost use Rattle.std.specs.Prelude.{◌≡◌, ◌↔◌, ◌⊎◌, ℕ, List, ◌∷◌, [], map, All, Contains, IfOk, OnOk};
 ghost use Rattle.std.specs.Cmp.Lexicographic.{slice_cmp};
 ghost use Rattle.std.specs.List.Sorted.{IsStrictlySortedBy};
 ghost use Rattle.std.specs.Ordering.{nat_cmp};
@@ -44,28 +44,32 @@ impl Found {
         Ok(())
     }
 
-    // Takes the first race out.
-    fn next(&mut self) -> Option<[u64; 3]>
-        ensures first { IfSome result (λ k. self.old ≡ k ∷ self.new) }
-        ensures none { IfNone result (self.old ≡ []) }
-    {
-        self.keys.pop_first()
-    }
-
     /// The races in their order.
-    pub(crate) fn into_races(mut self, alloc: Global) -> Result<Vec<Race>, AllocError>
+    pub(crate) fn into_races(self, alloc: Global) -> Result<Vec<Race>, AllocError>
         requires { All IsOfEdges self }
         ensures keys { IfOk result (λ races. map race_key races.items ≡ self) }
         ensures rising { IfOk result (λ races. IsStrictlySortedBy (slice_cmp nat_cmp) (map race_key races.items)) }
     {
-        let mut races = Vec::new(alloc);
-        while let Some([maker, user, place]) = self.next() {
-            races.push(Race {
-                maker: maker as u32,
-                user: user as u32,
-                place,
-            })?;
-        }
-        Ok(races)
+        let Found { keys } = self;
+        races_of(alloc, keys)
     }
+}
+
+// The races of some numbers, in the order of these.
+fn races_of(alloc: Global, keys: BTreeSet<[u64; 3]>) -> Result<Vec<Race>, AllocError>
+    requires { All IsOfEdges keys.keys }
+    ensures keys { IfOk result (λ races. map race_key races.items ≡ keys.keys) }
+    ensures rising { IfOk result (λ races. IsStrictlySortedBy (slice_cmp nat_cmp) (map race_key races.items)) }
+{
+    let mut left = keys;
+    let _count = left.len();
+    let mut races = Vec::new(alloc);
+    while let Some(key) = left.pop_first() {
+        races.push(Race {
+            maker: key[0] as u32,
+            user: key[1] as u32,
+            place: key[2],
+        })?;
+    }
+    Ok(races)
 }
