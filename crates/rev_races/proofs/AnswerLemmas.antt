@@ -1,25 +1,33 @@
 -- What the kept events note of edges, and which places are first.
 use Rattle.std.proofs.Common.{◌≡◌, ◌≢◌, ℕ, zero, suc, ◌+◌, ◌<◌, ◌==◌, Bool, true, false, ◌||◌, List, [], ◌∷◌, ◌++◌, length, get_or, set, take, Option, Some, None, ◌⊎◌, inl, inr, refl, sym, ap, subst, ◌∙◌, arith, true≢false, Contains}
+use Rattle.std.proofs.Common.{not, if◌then◌else◌}
 use Rattle.std.specs.List.{list_any}
+use Rattle.rev_causal.specs.Machine.{run}
+use Rattle.rev_footprint.specs.Machine.{machine}
+use Rattle.rev_graph.specs.Graph.{GraphValue, IsGraph, build_at}
+use Rattle.rev_manifest.specs.Manifest.{ManifestValue}
+use Rattle.rev_races.specs.Races.{finished, started, recorded, lists}
+use Rattle.rev_races.proofs.ListLemmas.{lists-are-recorded}
 use Rattle.std.proofs.Math.Seq.{take-length}
-use Rattle.std.proofs.lemmas.Bool.{eqb-true, eqb-false, eq-eqb, cases_eq}
-use Rattle.std.proofs.lemmas.List.{length-set, take_more}
+use Rattle.std.proofs.lemmas.Bool.{eq-eqb, ne_eqb, cases_eq}
+use Rattle.std.proofs.lemmas.List.{length-set, take_more, get_or_default, get_or-set_same, get_or-set_other}
 use Rattle.rev_dirty.specs.Reasons.{holds}
 use Rattle.rev_causal.specs.Chosen.{under, chosen}
 use Rattle.rev_causal.specs.History as causal
 use Rattle.rev_events.specs.declared.event.Event.{Event}
-use Rattle.rev_history.specs.Timeline.{Numbered, Timeline}
+use Rattle.rev_history.specs.Timeline.{Numbered, Timeline, kept_events, state_at}
 use Rattle.rev_races.specs.Answer.{is_noted, AreNoted}
 use Rattle.rev_races.proofs.Waiting.{decide}
 
 -- THE KEPT EVENTS, ONE AFTER THE OTHER
 chosen-one-more : (es : Numbered) (ks : List ℕ) (n : ℕ) → chosen es (ks ++ n ∷ []) ≡ chosen es ks ++ under n (causal.event_at n es) []
 chosen-one-more es [] n = refl
-chosen-one-more es (k ∷ ks) n = by (causal.event_at k es)
+chosen-one-more es (k ∷ ks) n = by (causal.event_at k es) (chosen-one-more es ks n)
   where
-    by : (o : Option Event) → under k o (chosen es (ks ++ n ∷ [])) ≡ under k o (chosen es ks) ++ under n (causal.event_at n es) []
-    by None = chosen-one-more es ks n
-    by (Some e) = ap (λ (xs : Numbered). (k, e) ∷ xs) (chosen-one-more es ks n)
+    by : (o : Option Event) → chosen es (ks ++ n ∷ []) ≡ chosen es ks ++ under n (causal.event_at n es) []
+        → under k o (chosen es (ks ++ n ∷ [])) ≡ under k o (chosen es ks) ++ under n (causal.event_at n es) []
+    by None rest = rest
+    by (Some e) rest = ap (λ (xs : Numbered). (k, e) ∷ xs) rest
 
 any-append : (p : ℕ × Event → Bool) (xs ys : Numbered) → list_any p (xs ++ ys) ≡ (list_any p xs || list_any p ys)
 any-append p [] ys = refl
@@ -39,11 +47,14 @@ or-true false = refl
 
 -- one mark more
 set-or : (marks : List Bool) (x edge : ℕ) → x < length marks → get_or (set marks x true) edge false ≡ (get_or marks edge false || (x == edge))
-set-or [] x edge within = absurd (omega (arith, within))
-set-or (m ∷ ms) zero zero within = sym (or-true m)
-set-or (m ∷ ms) zero (suc edge) within = sym (or-false (get_or ms edge false))
-set-or (m ∷ ms) (suc x) zero within = sym (or-false m)
-set-or (m ∷ ms) (suc x) (suc edge) within = set-or ms x edge (omega (arith, within))
+set-or marks x edge within = elim (cases_eq edge x) [
+  | inl same ↦
+      subst (λ n. get_or (set marks x true) n false ≡ (get_or marks n false || (x == n))) (sym same)
+      (get_or-set_same marks x true false within ∙ sym (ap (λ b. get_or marks x false || b) (eq-eqb x x refl) ∙ or-true (get_or marks x false)))
+  | inr other ↦
+      get_or-set_other marks x edge true false other
+      ∙ sym (ap (λ b. get_or marks edge false || b) (ne_eqb x edge (λ e. other (sym e))) ∙ or-false (get_or marks edge false))
+]
 
 -- marks of what the events of some kept numbers note
 pub record AreNotedBy (t : Timeline) (ended : Bool) (ks : List ℕ) (marks : List Bool) : Type 0 where
@@ -94,3 +105,33 @@ pub noted-all : (t : Timeline) (ended : Bool) (i : ℕ) (marks : List Bool) → 
 noted-all t ended i marks all by =
     let r = subst (λ ks. AreNotedBy t ended ks marks) (ap (λ n. take n t.kept) all ∙ take-length t.kept) by in
     record { each = r.each; exact = r.exact }
+
+-- the mark at an edge, whatever stands for what is past the last
+pub mark-at : (marks : List Bool) (n : ℕ) (d b : Bool) → n < length marks → get_or marks n d ≡ b → get_or marks n false ≡ b
+mark-at marks n d b within h = get_or_default marks n false d within ∙ h
+
+-- WHAT AN EDGE LISTS, BY ITS MARKS
+abbrev no-list : Option (List (List ℕ))
+no-list = None
+
+module _ (t : Timeline) (graph : GraphValue) (edge : ℕ) (is : IsGraph graph) (same : graph.manifest ≡ t.manifest) (within : edge < length t.manifest.builds) where
+  listed-is : lists t.manifest t.opening (kept_events t) edge
+      ≡ (if finished t.manifest edge (kept_events t) || not (started t.manifest edge (kept_events t)) then recorded (state_at t) (build_at t.manifest.builds edge) else None)
+  listed-is =
+      subst (λ (m : ManifestValue). lists m t.opening (kept_events t) edge
+      ≡ (if finished m edge (kept_events t) || not (started m edge (kept_events t)) then recorded (run (machine m t.jobs) t.opening (kept_events t)) (build_at m.builds edge) else None)) same
+      (lists-are-recorded graph t.jobs t.opening (kept_events t) edge is (subst (λ (m : ManifestValue). edge < length m.builds) (sym same) within))
+
+  pub lists-none : started t.manifest edge (kept_events t) ≡ true → finished t.manifest edge (kept_events t) ≡ false → no-list ≡ lists t.manifest t.opening (kept_events t) edge
+  lists-none began ended =
+      sym (listed-is ∙ (λ i. if ended i || not (began i) then recorded (state_at t) (build_at t.manifest.builds edge) else None))
+
+  pub lists-by-end : finished t.manifest edge (kept_events t) ≡ true → recorded (state_at t) (build_at t.manifest.builds edge) ≡ lists t.manifest t.opening (kept_events t) edge
+  lists-by-end ended =
+      sym (listed-is ∙ (λ i. if ended i || not (started t.manifest edge (kept_events t)) then recorded (state_at t) (build_at t.manifest.builds edge) else None))
+
+  pub lists-unstarted : started t.manifest edge (kept_events t) ≡ false → recorded (state_at t) (build_at t.manifest.builds edge) ≡ lists t.manifest t.opening (kept_events t) edge
+  lists-unstarted began =
+      sym (listed-is
+      ∙ (λ i. if finished t.manifest edge (kept_events t) || not (began i) then recorded (state_at t) (build_at t.manifest.builds edge) else None)
+      ∙ ap (λ b. if b then recorded (state_at t) (build_at t.manifest.builds edge) else None) (or-true (finished t.manifest edge (kept_events t))))

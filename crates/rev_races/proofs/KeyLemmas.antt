@@ -1,14 +1,16 @@
 -- Races as numbers, as they are found.
 use Rattle.std.proofs.Common.{◌≡◌, ◌≢◌, ℕ, zero, suc, ◌+◌, ◌<◌, Bool, true, false, List, [], ◌∷◌, ◌++◌, length, get_or, take, map, Option, Some, None, ◌⊎◌, inl, inr, refl, sym, ap, subst, ◌∙◌, arith, true≢false, Contains}
-use Rattle.std.specs.Prelude.{◌↔◌, slice_get}
+use Rattle.std.specs.Prelude.{◌↔◌, Result, Ok, Err, OnOk}
 use Rattle.std.proofs.lemmas.Bool.{cases_eq}
 use Rattle.std.proofs.lemmas.List.{get_or_default}
 use Rattle.std.proofs.lemmas.List.Elements.{Contains-get_or}
-use Rattle.rev_manifest.specs.Manifest.{BuildValue}
+use Rattle.rev_manifest.specs.Manifest.{BuildValue, ManifestValue}
+use Rattle.rev_history.specs.Timeline.{Timeline, kept_events}
 use Rattle.rev_graph.specs.Graph.{Produces}
 use Rattle.rev_waits.specs.Waits.{Makes}
 use Rattle.rev_races.specs.Answer.{IsFirstPlace, IsUnordered}
-use Rattle.rev_races.specs.Keys.{SomeBelow, IsKeyBy, IsKeyAt}
+use Rattle.rev_races.specs.Keys.{SomeBelow, IsKeyBy, IsKeyAt, IsKeyAmong, IsKeyOf}
+use Rattle.rev_races.specs.Races.{lists}
 
 -- SOME NUMBER BELOW
 pub some-none : {A : Type 0} (P : ℕ → Type 0) → A ↔ (A ⊎ SomeBelow P 0)
@@ -69,3 +71,19 @@ none-more builds edge files i file within is none before k below made = elim (ca
   | inl same ↦ none (subst (λ p. Produces builds edge p) (ap (λ n. get_or files n []) same ∙ get_or_default files i [] file within ∙ sym is) made)
   | inr other ↦ before k (omega (arith, below, other)) made
 ]
+
+-- ONE USER OF A HISTORY
+pub keys-of : (t : Timeline) (files : List (List ℕ)) (user : ℕ) (paths : List (List ℕ)) (manifest : ManifestValue) → manifest ≡ t.manifest
+    → lists t.manifest t.opening (kept_events t) user ≡ Some paths → (k : List ℕ) → IsKeyAmong manifest.builds files paths user k ↔ IsKeyOf t files user k
+keys-of t files user paths manifest same are k = (
+  λ a. record { paths = paths; lists_are = are; among = subst (λ (m : ManifestValue). IsKeyAmong m.builds files paths user k) same a },
+  λ o.
+      let both : Some o.paths ≡ Some paths = sym o.lists_are ∙ are in
+      let one : o.paths ≡ paths = cc in
+      subst (λ (m : ManifestValue). IsKeyAmong m.builds files paths user k) (sym same) (subst (λ ps. IsKeyAmong t.manifest.builds files ps user k) one o.among),
+)
+
+-- what holds where a call gives Ok
+pub ok-then : {A E : Type 0} (P Q : Type 0) → (P → Q) → (r : Result A E) → OnOk r P → OnOk r Q
+ok-then P Q f (Ok x) h = f h
+ok-then P Q f (Err e) h = h

@@ -40,7 +40,7 @@ impl Found {
         ensures { OnOk result ((k : List ℕ) → Contains self.new k
             ↔ (Contains self.old k ⊎ (k ≡ maker ∷ user ∷ place ∷ []))) }
     {
-        self.keys.insert([u64::from(maker), u64::from(user), place])?;
+        self.keys.insert([maker as u64, user as u64, place])?;
         Ok(())
     }
 

@@ -4,11 +4,11 @@ use Rattle.rev_races.specs.Answer.{race_key}
 use Rattle.rev_races.specs.Keys.{IsOfEdges}
 use Rattle.rev_races.proofs.found.races_of.Given as goal
 
-abbrev pub invariant-loop-left : goal.invariant-loop-left
-invariant-loop-left l = record {
+abbrev pub invariant-loop-key : goal.invariant-loop-key
+invariant-loop-key l = record {
   keys : map race_key l.races.items ++ l.left.keys ≡ l.initial.left.keys;
   fit : All IsOfEdges l.left.keys;
 }
 
-abbrev pub decreases-loop-left : goal.decreases-loop-left
-decreases-loop-left l = length l.left.keys
+abbrev pub decreases-loop-key : goal.decreases-loop-key
+decreases-loop-key l = length l.left.keys
