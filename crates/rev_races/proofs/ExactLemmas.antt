@@ -50,7 +50,7 @@ keys-fit t files n keys few small are k d within = by ((are (get_or keys k d)).0
         let a = s.holds.among.holds in
         let m = (maker-command a.made).0 in
         let u = s.below in
-        subst IsOfEdges (sym a.key.is) (record { maker = omega (arith, m, small); user = omega (arith, u, few, small) })
+        subst IsOfEdges (sym a.key.is) (record { three = refl; maker = omega (arith, m, small); user = omega (arith, u, few, small) })
 
     by : Contains no-keys (get_or keys k d) ⊎ IsKeyBelow t files n (get_or keys k d) → IsOfEdges (get_or keys k d)
     by (inl none) = absurd (none-in (get_or keys k d) none)

@@ -1,6 +1,6 @@
 -- Races as numbers, as they are found.
 use Rattle.std.proofs.Common.{◌≡◌, ◌≢◌, ℕ, zero, suc, ◌+◌, ◌<◌, Bool, true, false, List, [], ◌∷◌, ◌++◌, length, get_or, take, map, Option, Some, None, ◌⊎◌, inl, inr, refl, sym, ap, subst, ◌∙◌, arith, true≢false, Contains}
-use Rattle.std.specs.Prelude.{◌↔◌, Result, Ok, Err, OnOk}
+use Rattle.std.specs.Prelude.{◌↔◌, Result, Ok, Err, IfOk, OnOk}
 use Rattle.std.proofs.lemmas.Bool.{cases_eq}
 use Rattle.std.proofs.lemmas.List.{get_or_default}
 use Rattle.std.proofs.lemmas.List.Elements.{Contains-get_or}
@@ -87,3 +87,12 @@ keys-of t files user paths manifest same are k = (
 pub ok-then : {A E : Type 0} (P Q : Type 0) → (P → Q) → (r : Result A E) → OnOk r P → OnOk r Q
 ok-then P Q f (Ok x) h = f h
 ok-then P Q f (Err e) h = h
+
+pub ok-both : {A E : Type 0} (P Q R : A → Type 0) → ((x : A) → P x → Q x → R x) → (r : Result A E) → IfOk r P → IfOk r Q → IfOk r R
+ok-both P Q R f (Ok x) h k = f x h k
+ok-both P Q R f (Err e) h k = h
+
+-- THE MAKERS OF A PATH
+pub makers-are : (builds : List BuildValue) (items made : List ℕ) (p q : List ℕ) → items ≡ made → p ≡ q → ((m : ℕ) → Contains made m ↔ Makes builds m p) → (m : ℕ) → Contains items m ↔ Makes builds m q
+makers-are builds items made p q e f are m =
+    subst (λ (xs : List ℕ). Contains xs m ↔ Makes builds m q) (sym e) (subst (λ (x : List ℕ). Contains made m ↔ Makes builds m x) f (are m))

@@ -38,7 +38,8 @@ pub record IsKeyOf (t : Timeline) (files : List (List ℕ)) (user : ℕ) (k : Li
 abbrev pub IsKeyBelow : Timeline → List (List ℕ) → ℕ → List ℕ → Type 0
 IsKeyBelow t files n k = SomeBelow (λ user. IsKeyOf t files user k) n
 
--- numbers that fit: two of edges, and one of a place
+-- three numbers, of which the first two fit those of edges
 pub record IsOfEdges (k : List ℕ) : Type 0 where
+  pub three : length k ≡ 3
   pub maker : slice_index_or k 0 0 < 2 ^ 32
   pub user : slice_index_or k 1 0 < 2 ^ 32
