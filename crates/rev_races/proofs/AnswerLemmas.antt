@@ -1,5 +1,5 @@
 -- What the kept events note of edges, and which places are first.
-use Rattle.std.proofs.Common.{◌≡◌, ◌≢◌, ℕ, zero, suc, ◌+◌, ◌<◌, ◌==◌, Bool, true, false, ◌||◌, List, [], ◌∷◌, ◌++◌, length, get_or, set, take, Option, Some, None, ◌⊎◌, inl, inr, refl, sym, ap, subst, ◌∙◌, arith, true≢false, Contains}
+use Rattle.std.proofs.Common.{◌≡◌, ℕ, ◌<◌, ◌==◌, Bool, true, false, ◌||◌, List, [], ◌∷◌, ◌++◌, length, get_or, set, take, Option, Some, None, inl, inr, refl, sym, ap, subst, ◌∙◌, arith}
 use Rattle.std.proofs.Common.{not, if◌then◌else◌}
 use Rattle.std.specs.List.{list_any}
 use Rattle.rev_causal.specs.Machine.{run}
@@ -10,14 +10,12 @@ use Rattle.rev_races.specs.Races.{finished, started, recorded, lists}
 use Rattle.rev_races.proofs.ListLemmas.{lists-are-recorded}
 use Rattle.std.proofs.Math.Seq.{take-length}
 use Rattle.std.proofs.lemmas.Bool.{eq-eqb, ne_eqb, cases_eq}
-use Rattle.std.proofs.lemmas.List.{length-set, take_more, get_or_default, get_or-set_same, get_or-set_other}
-use Rattle.rev_dirty.specs.Reasons.{holds}
+use Rattle.std.proofs.lemmas.List.{length-set, get_or_default, get_or-set_same, get_or-set_other}
 use Rattle.rev_causal.specs.Chosen.{under, chosen}
 use Rattle.rev_causal.specs.History as causal
 use Rattle.rev_events.specs.declared.event.Event.{Event}
 use Rattle.rev_history.specs.Timeline.{Numbered, Timeline, kept_events, state_at}
 use Rattle.rev_races.specs.Answer.{is_noted, AreNoted}
-use Rattle.rev_races.proofs.Waiting.{decide}
 
 -- THE KEPT EVENTS, ONE AFTER THE OTHER
 chosen-one-more : (es : Numbered) (ks : List ℕ) (n : ℕ) → chosen es (ks ++ n ∷ []) ≡ chosen es ks ++ under n (causal.event_at n es) []

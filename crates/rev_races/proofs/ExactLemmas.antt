@@ -1,6 +1,6 @@
 -- The answer lists exactly the races.
-use Rattle.std.proofs.Common.{◌≡◌, ◌≢◌, ℕ, zero, suc, ◌+◌, ◌<◌, ◌≤◌, ◌^◌, Bool, true, false, List, [], ◌∷◌, ◌++◌, length, get_or, map, Option, Some, None, ◌⊎◌, inl, inr, refl, sym, ap, subst, ◌∙◌, arith, true≢false, Contains, if◌then◌else◌}
-use Rattle.std.specs.Prelude.{◌↔◌, slice_get}
+use Rattle.std.proofs.Common.{◌≡◌, ℕ, ◌<◌, ◌≤◌, ◌^◌, true, List, [], length, get_or, map, Some, None, ◌⊎◌, inl, inr, refl, sym, ap, subst, ◌∙◌, arith, true≢false, Contains, if◌then◌else◌}
+use Rattle.std.specs.Prelude.{◌↔◌}
 use Rattle.std.specs.List.{All}
 use Rattle.std.specs.List.Sorted.{IsStrictlySortedBy}
 use Rattle.std.specs.Ordering.{nat_cmp}
@@ -8,7 +8,7 @@ use Rattle.std.specs.Cmp.Lexicographic.{slice_cmp}
 use Rattle.std.specs.Option.{option_or}
 use Rattle.std.proofs.Math.ListN.{get_or-map}
 use Rattle.std.proofs.lemmas.Bool.{cases_lt}
-use Rattle.std.proofs.lemmas.List.{length-map, get_or_default}
+use Rattle.std.proofs.lemmas.List.{length-map}
 use Rattle.std.proofs.lemmas.List.Elements.{Contains-get_or}
 use Rattle.std.proofs.lemmas.Option.{slice_get_within, slice_get-get_or}
 use Rattle.rev_manifest.specs.Manifest.{BuildValue, ManifestValue}
@@ -17,9 +17,9 @@ use Rattle.rev_cells.specs.State.{State}
 use Rattle.rev_history.specs.Timeline.{Numbered, Timeline, kept_events}
 use Rattle.rev_waits.specs.Waits.{Makes}
 use Rattle.rev_races.specs.declared.race.Race.{Race}
-use Rattle.rev_races.specs.Answer.{IsFirstPlace, IsUnordered, IsRaceAt, AreRaces, race_key}
-use Rattle.rev_races.specs.Keys.{SomeBelow, IsKeyBy, IsKeyAt, IsKeyAmong, IsKeyOf, IsKeyBelow, IsOfEdges}
-use Rattle.rev_races.specs.Races.{IsRace, last_list, lists, recorded, started}
+use Rattle.rev_races.specs.Answer.{IsRaceAt, AreRaces, race_key}
+use Rattle.rev_races.specs.Keys.{IsKeyBy, IsKeyBelow, IsOfEdges}
+use Rattle.rev_races.specs.Races.{last_list, lists, recorded, started}
 use Rattle.rev_races.proofs.RaceLemmas.{maker-command, keeps-by}
 use Rattle.rev_races.proofs.Waiting.{past-last}
 

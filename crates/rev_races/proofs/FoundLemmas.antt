@@ -1,16 +1,15 @@
 -- Sets of numbers of races.
-use Rattle.std.proofs.Common.{◌≡◌, ◌≢◌, ℕ, ◌+◌, ◌<◌, Bool, true, false, cond, List, [], ◌∷◌, ◌++◌, length, get_or, map, Some, None, ◌⊎◌, inl, inr, refl, sym, ap, subst, ◌∙◌, arith, true≢false, Contains, Equal}
+use Rattle.std.proofs.Common.{◌≡◌, ℕ, Bool, true, false, cond, List, [], ◌∷◌, ◌++◌, length, get_or, map, ◌⊎◌, inl, inr, refl, sym, ap, ◌∙◌, arith, Contains}
 use Rattle.std.specs.Prelude.{◌↔◌}
 use Rattle.std.specs.BTreeSet as sorted
 use Rattle.std.specs.BTreeSet.{BTreeSet}
 use Rattle.std.specs.Ordering.{is_eq, nat_cmp}
 use Rattle.std.specs.Cmp.Lexicographic.{slice_cmp, nat_list_cmp_total}
 use Rattle.std.specs.FinMap.{slice_cmp-IsAntisymmetric, nat_cmp-IsAntisymmetric}
-use Rattle.std.specs.Cmp.{IsTotalOrder, eq_by_cmp_equiv, Equal-is}
+use Rattle.std.specs.Cmp.{eq_by_cmp_equiv, Equal-is}
 use Rattle.std.proofs.lemmas.Map.Views.{btree_set_contains_iff}
 use Rattle.rev_races.specs.declared.race.Race.{Race}
 use Rattle.rev_races.specs.Answer.{race_key}
-use Rattle.rev_races.proofs.Waiting.{decide}
 
 pub added : (s n : BTreeSet (List ℕ)) (key : List ℕ) → ((q : List ℕ) → sorted.contains (slice_cmp nat_cmp) n q ≡ cond (is_eq (slice_cmp nat_cmp key q)) true (sorted.contains (slice_cmp nat_cmp) s q))
     → (k : List ℕ) → Contains n.keys k ↔ (Contains s.keys k ⊎ (k ≡ key))

@@ -1,15 +1,14 @@
 -- Small builds, computed: what waits, what is listed, and a race.
-use Rattle.std.proofs.Common.{◌≡◌, ◌≢◌, ℕ, zero, suc, ◌<◌, Bool, true, false, List, [], ◌∷◌, length, Option, Some, None, refl, sym, ◌∙◌, arith, true≢false, Contains}
+use Rattle.std.proofs.Common.{◌≡◌, ℕ, true, false, List, [], ◌∷◌, Some, None, refl, sym, ◌∙◌, arith, true≢false}
 use Rattle.std.specs.FinMap.{empty}
 use Rattle.std.proofs.lemmas.List.Elements.{Contains-get_or}
 use Rattle.rev_manifest.specs.Manifest.{BuildValue, ManifestValue}
-use Rattle.rev_graph.specs.Graph.{no_build, producer_of}
+use Rattle.rev_graph.specs.Graph.{no_build}
 use Rattle.rev_ranks.specs.Leads.{leads_to}
-use Rattle.rev_cells.specs.Keys.{cell_cmp}
 use Rattle.rev_events.specs.declared.event.Event.TheVariants.{Start, Finish, Fail}
-use Rattle.rev_events.specs.declared.event.Listing.TheVariants.{Nothing, Paths}
+use Rattle.rev_events.specs.declared.event.Listing.TheVariants.{Paths}
 use Rattle.rev_history.specs.Timeline.{Numbered}
-use Rattle.rev_waits.specs.Waits.{Waits, waits, Makes, Makes.itself, Makes.behind}
+use Rattle.rev_waits.specs.Waits.{waits, Makes, Makes.itself, Makes.behind}
 use Rattle.rev_races.specs.Races.{IsRace, lists}
 use Rattle.rev_races.proofs.RaceLemmas.{waits-is-decided}
 

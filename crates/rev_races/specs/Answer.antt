@@ -8,7 +8,7 @@ use Rattle.rev_manifest.specs.Manifest.{BuildValue, ManifestValue}
 use Rattle.rev_cells.specs.State.{State}
 use Rattle.rev_events.specs.declared.event.Event.{Event}
 use Rattle.rev_history.specs.Timeline.{Numbered, Timeline, kept_events}
-use Rattle.rev_waits.specs.Waits.{Waits, Makes}
+use Rattle.rev_waits.specs.Waits.{Waits}
 use Rattle.rev_races.specs.declared.race.Race.{Race}
 use Rattle.rev_races.specs.Races.{IsRace, MakesOneOf, list_of, starts}
 

@@ -21,20 +21,8 @@ fn noted(graph: &Graph, event: &Event, ended: bool) -> Option<u32>
     ensures within { IfSome result (λ edge. edge < length graph.now.manifest.builds) }
 {
     match event {
-        Event::Start { out, .. } => {
-            if ended {
-                None
-            } else {
-                graph.producer(out)
-            }
-        }
-        Event::Finish { out, .. } => {
-            if ended {
-                graph.producer(out)
-            } else {
-                None
-            }
-        }
+        Event::Start { out, .. } => { if ended { None } else { graph.producer(out) } }
+        Event::Finish { out, .. } => { if ended { graph.producer(out) } else { None } }
         _ => None,
     }
 }

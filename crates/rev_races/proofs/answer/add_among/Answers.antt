@@ -1,4 +1,4 @@
-use Rattle.std.proofs.Common.{◌≡◌, ℕ, List, length, Contains, ◌⊎◌, subst, arith}
+use Rattle.std.proofs.Common.{◌≡◌, length, Contains, ◌⊎◌, subst, arith}
 use Rattle.std.specs.Prelude.{◌↔◌}
 use Rattle.rev_races.specs.Keys.{SomeBelow, IsKeyAt}
 use Rattle.rev_races.proofs.KeyLemmas.{some-more}

@@ -1,10 +1,9 @@
-use Rattle.std.proofs.Common.{◌≡◌, ℕ, ◌+◌, ◌<◌, ◌==◌, Bool, false, List, [], ◌∷◌, ◌++◌, length, get_or, set, take, Option, Some, None, sym, ap, subst, ◌∙◌, arith}
+use Rattle.std.proofs.Common.{◌≡◌, ℕ, ◌+◌, ◌<◌, ◌==◌, Bool, false, List, [], ◌∷◌, ◌++◌, length, get_or, take, sym, ap, subst, ◌∙◌}
 use Rattle.std.specs.Prelude.{IfSome}
 use Rattle.std.specs.Option.{option_copied}
 use Rattle.std.proofs.lemmas.List.{take_more}
 use Rattle.rev_dirty.specs.Reasons.{holds}
 use Rattle.rev_manifest.specs.Manifest.{ManifestValue}
-use Rattle.rev_history.specs.Timeline.{event_at}
 use Rattle.rev_races.specs.Answer.{is_noted}
 use Rattle.rev_races.proofs.AnswerLemmas.{AreNotedBy, noted-none, noted-nothing, noted-edge}
 use Rattle.rev_races.proofs.listing.noted_edges.Goals as goal

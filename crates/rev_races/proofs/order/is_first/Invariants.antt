@@ -1,4 +1,4 @@
-use Rattle.std.proofs.Common.{◌≡◌, ◌≢◌, ℕ, ◌<◌, get_or, []}
+use Rattle.std.proofs.Common.{◌≢◌, ℕ, ◌<◌, get_or, []}
 use Rattle.rev_races.proofs.order.is_first.Given as goal
 
 abbrev pub invariant-loop-before : goal.invariant-loop-before

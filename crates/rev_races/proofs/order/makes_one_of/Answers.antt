@@ -1,7 +1,6 @@
-use Rattle.std.proofs.Common.{◌≡◌, ℕ, ◌<◌, Some, false, true, sym, ◌∙◌, arith, true≢false, subst, get_or, length, []}
+use Rattle.std.proofs.Common.{◌≡◌, Some, sym, ◌∙◌, arith, true≢false, subst, []}
 use Rattle.std.proofs.lemmas.List.{get_or_default}
 use Rattle.rev_graph.specs.Graph.{Produces}
-use Rattle.rev_races.specs.Races.{MakesOneOf}
 use Rattle.rev_races.proofs.KeyLemmas.{none-more}
 use Rattle.rev_races.proofs.order.makes_one_of.Goals as goal
 use Rattle.rev_races.proofs.order.makes_one_of.Goals.{in-Some+else-producer-edge, in_default}
