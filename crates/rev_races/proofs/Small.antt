@@ -1,0 +1,87 @@
+-- Small builds, computed: what waits, what is listed, and a race.
+use Rattle.std.proofs.Common.{◌≡◌, ℕ, true, false, List, [], ◌∷◌, Some, None, refl, sym, ◌∙◌, arith, true≢false}
+use Rattle.std.specs.FinMap.{empty}
+use Rattle.std.proofs.lemmas.List.Elements.{Contains-get_or}
+use Rattle.rev_manifest.specs.Manifest.{BuildValue, ManifestValue}
+use Rattle.rev_graph.specs.Graph.{no_build}
+use Rattle.rev_ranks.specs.Leads.{leads_to}
+use Rattle.rev_events.specs.declared.event.Event.TheVariants.{Start, Finish, Fail}
+use Rattle.rev_events.specs.declared.event.Listing.TheVariants.{Paths}
+use Rattle.rev_history.specs.Timeline.{Numbered}
+use Rattle.rev_waits.specs.Waits.{waits, Makes, Makes.itself, Makes.behind}
+use Rattle.rev_races.specs.Races.{IsRace, lists}
+use Rattle.rev_races.proofs.RaceLemmas.{waits-is-decided}
+
+abbrev file : List ℕ
+file = 97 ∷ []
+
+abbrev object : List ℕ
+object = 98 ∷ []
+
+abbrev group : List ℕ
+group = 99 ∷ []
+
+-- makes the file
+abbrev maker : BuildValue
+maker = record no_build { explicit_outs = (97 ∷ []) ∷ [] }
+
+-- reads it, and says so in its list alone
+abbrev user : BuildValue
+user = record no_build { explicit_outs = (98 ∷ []) ∷ []; keeps_deps = true }
+
+-- the same with the file after `||`, and after `|@`
+abbrev ordered : BuildValue
+ordered = record no_build { explicit_outs = (98 ∷ []) ∷ []; keeps_deps = true; order_only = (97 ∷ []) ∷ [] }
+
+abbrev validating : BuildValue
+validating = record no_build { explicit_outs = (98 ∷ []) ∷ []; keeps_deps = true; validations = (97 ∷ []) ∷ [] }
+
+-- a phony group that has the file, and one who waits for it
+abbrev grouping : BuildValue
+grouping = record no_build { phony = true; explicit_outs = (99 ∷ []) ∷ []; explicit = (97 ∷ []) ∷ [] }
+
+abbrev waiting : BuildValue
+waiting = record no_build { explicit_outs = (98 ∷ []) ∷ []; keeps_deps = true; order_only = (99 ∷ []) ∷ [] }
+
+no-order : waits (maker ∷ user ∷ []) 1 0 ≡ false
+unfolding leads_to
+no-order = refl
+
+an-order : waits (maker ∷ ordered ∷ []) 1 0 ≡ true
+unfolding leads_to
+an-order = refl
+
+no-order-by-validation : waits (maker ∷ validating ∷ []) 1 0 ≡ false
+unfolding leads_to
+no-order-by-validation = refl
+
+order-through-phony : waits (maker ∷ grouping ∷ waiting ∷ []) 2 0 ≡ true
+unfolding leads_to
+order-through-phony = refl
+
+made-behind-phony : Makes (maker ∷ grouping ∷ waiting ∷ []) 0 (99 ∷ [])
+made-behind-phony = behind {phony = 1} {input = 97 ∷ []} refl refl (Contains-get_or ((97 ∷ []) ∷ []) 0 (97 ∷ []) (omega arith)) (itself refl refl)
+
+abbrev build : ManifestValue
+build = record { builds = maker ∷ user ∷ []; pools = []; defaults = [] }
+
+abbrev listing : Numbered
+listing = (1, Start (98 ∷ []) 0 None) ∷ (2, Finish (98 ∷ []) (1 ∷ []) (Paths ((97 ∷ []) ∷ []))) ∷ []
+
+-- it lists what its finish lists; a command that began and failed leaves no list
+listed-by-finish : lists build empty listing 1 ≡ Some ((97 ∷ []) ∷ [])
+listed-by-finish = refl
+
+nothing-of-a-failure : lists build empty ((1, Start (98 ∷ []) 0 None) ∷ (2, Fail (98 ∷ []) (1 ∷ [])) ∷ []) 1 ≡ None
+nothing-of-a-failure = refl
+
+a-race : IsRace build [] empty listing 1 0 (97 ∷ [])
+a-race = record {
+  all = (97 ∷ []) ∷ [];
+  lists_are = refl;
+  is_listed = Contains-get_or ((97 ∷ []) ∷ []) 0 (97 ∷ []) (omega arith);
+  made = itself refl refl;
+  others = λ e. omega (arith, e);
+  unordered = λ way. true≢false (sym ((waits-is-decided build.builds 1 0).1 way) ∙ no-order);
+  comes_later = λ m. let f = m.is_file in omega (arith, f.1);
+}
