@@ -11,14 +11,22 @@ use rev_history::History;
 fn accesses(footprint: &Footprint, cell: &Cell) -> bool
     ensures { result ≡ is_accessed_by footprint.now cell.now }
 {
-    footprint.writes().contains(cell) || footprint.reads().contains(cell)
+    if footprint.writes().contains(cell) {
+        return true;
+    }
+    footprint.reads().contains(cell)
 }
 
 // The first of some cells that a footprint names.
 fn first_accessed<'a>(cells: &'a [Cell], footprint: &Footprint) -> Option<&'a Cell>
     ensures { option_copied result ≡ find (is_accessed_by footprint.now) cells.now }
 {
-    cells.iter().find(|cell| accesses(footprint, cell))
+    for cell in cells {
+        if accesses(footprint, cell) {
+            return Some(cell);
+        }
+    }
+    None
 }
 
 /// Whether the event of a later kept number depends on that of an earlier one: each with the footprint of its place, one

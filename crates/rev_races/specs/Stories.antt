@@ -1,8 +1,8 @@
 -- What happened in a history with the run of a maker and that of a user.
-use Rattle.std.specs.Prelude.{◌≡◌, ℕ, nat_lt, Bool, ◌&&◌, ◌||◌, List, Option, Some, None, IfSome, if◌then◌else◌}
+use Rattle.std.specs.Prelude.{◌≡◌, ℕ, nat_lt, Bool, true, false, ◌&&◌, ◌||◌, List, Option, Some, None, IfSome, if◌then◌else◌}
 use Rattle.std.specs.List.{list_any}
 use Rattle.rev_events.specs.declared.event.Event.{Event}
-use Rattle.rev_history.specs.Timeline.{Timeline, cone_numbers, is_among, kept_events}
+use Rattle.rev_history.specs.Timeline.{Timeline, IsHistory, cone_numbers, coned, is_among, kept_events}
 use Rattle.rev_held.specs.Beside.{held_beside}
 use Rattle.rev_races.specs.declared.race.Race.{Race}
 use Rattle.rev_races.specs.declared.runs.Run.{Run}
@@ -52,6 +52,18 @@ story_of t race =
     let maker = last_run t.manifest race.maker (kept_events t) in
     let user = finished_run t.manifest race.user (kept_events t) in
     record { happened = happened_of t maker user; maker = maker; user = user }
+
+-- Without the cone of f the history is one still, in which s is kept and f is not.
+pub record StaysWithout (t : Timeline) (f s : ℕ) : Type 0 where
+  pub legal : IsHistory (coned f t)
+  pub stays : is_among (coned f t).kept s ≡ true
+  pub gone : is_among (coned f t).kept f ≡ false
+
+-- where nothing held a kept start, it stays without the maker's end
+abbrev pub FreeStays : Type 0
+FreeStays =
+    (t : Timeline) (f s : ℕ) → IsHistory t → is_among t.kept s ≡ true → held_by t f s ≡ happened.Free
+    → StaysWithout t f s
 
 -- AS THEY ARE FOUND
 -- the numbers of the kept plans part what they stand between
