@@ -80,7 +80,7 @@ among-filter p (x ∷ xs) c =
 pub set-same : (xs : List Cell) (s : cells.FinSet cell_cmp) → cells.from_list xs ≡ s → (c : Cell) → among cell_cmp xs c ≡ among cell_cmp (cells.items s) c
 set-same xs s is c = sym (cells.contains-from_list cells_total xs c) ∙ ap (λ t. cells.contains t c) is ∙ cells.contains-items s c
 
-filters-same : (p : Cell → Bool) (xs ys : List Cell) → ((c : Cell) → among cell_cmp xs c ≡ among cell_cmp ys c) → (c : Cell) → among cell_cmp (filter p xs) c ≡ among cell_cmp (filter p ys) c
+pub filters-same : (p : Cell → Bool) (xs ys : List Cell) → ((c : Cell) → among cell_cmp xs c ≡ among cell_cmp ys c) → (c : Cell) → among cell_cmp (filter p xs) c ≡ among cell_cmp (filter p ys) c
 filters-same p xs ys same c = among-filter p xs c ∙ ap (λ b. p c && b) (same c) ∙ sym (among-filter p ys c)
 
 pub any-members : (w xs ys : List Cell) → ((c : Cell) → among cell_cmp xs c ≡ among cell_cmp ys c) → list_any (among cell_cmp w) xs ≡ list_any (among cell_cmp w) ys

@@ -1,5 +1,5 @@
 -- What a kept event holds by cells other than those of jobs and slots.
-use Rattle.std.specs.Prelude.{◌≡◌, ℕ, nat_lt, Bool, true, false, not, List, [], ◌∷◌, ◌++◌, filter, Option, Some, is_some, if◌then◌else◌}
+use Rattle.std.specs.Prelude.{◌≡◌, ℕ, nat_lt, Bool, true, false, not, List, [], ◌∷◌, ◌++◌, filter, drop, Option, Some, is_some, if◌then◌else◌}
 use Rattle.rev_causal.specs.Order.{any_conflict, cone}
 use Rattle.rev_causal.specs.Store.{Footprint, Footprint.Whole, Footprint.Cells, conflict}
 use Rattle.rev_cells.specs.declared.cell.Cell.{Cell}
@@ -53,3 +53,10 @@ pub data IsTaken (t : Timeline) (held : List ℕ) (n : ℕ) (before after : List
       → IsTaken t held n before after joined
   other : any_conflict (clash_beside t) held n ≡ false → IsJoined t held joined → after ≡ before
       → IsTaken t held n before after joined
+
+-- what was found before a place of the kept numbers, and the cone of what is left
+pub record IsPartial (t : Timeline) (n place : ℕ) (members : List ℕ) (joined : Joined) : Type 0 where
+  pub held : List ℕ
+  pub joined_is : IsJoined t held joined
+  pub rest : members ++ cone (clash_beside t) held (filter (λ k. nat_lt n k) (drop place t.kept))
+      ≡ n ∷ cone (clash_beside t) (n ∷ []) (filter (λ k. nat_lt n k) t.kept)

@@ -1,6 +1,6 @@
 //! What a kept event holds by more than jobs and slots.
-ghost use Rattle.std.specs.Prelude.{◌≡◌, ℕ, List, IfOk, OnOk};
-ghost use Rattle.rev_held.specs.Beside.{IsJoined, IsTaken, held_beside as held_beside_of};
+ghost use Rattle.std.specs.Prelude.{◌≡◌, ◌<◌, ◌+◌, ℕ, List, length, slice_index_or, IfOk, OnOk};
+ghost use Rattle.rev_held.specs.Beside.{IsJoined, IsPartial, IsTaken, held_beside as held_beside_of};
 
 use crate::joined::{Joined, join, meets, no_events};
 use rev_history::History;
@@ -19,10 +19,31 @@ fn add_member(
     let Some(footprint) = history.footprint_of(number) else {
         return Ok(());
     };
-    if meets(joined, footprint) {
-        join(joined, footprint)?;
-        members.push(number)?;
+    if !meets(joined, footprint) {
+        return Ok(());
     }
+    join(joined, footprint)?;
+    members.push(number)?;
+    Ok(())
+}
+
+// The same of a kept number that stands above another, and nothing of one that does not.
+fn add_later(
+    history: &History,
+    number: u32,
+    kept: u32,
+    joined: &mut Joined,
+    members: &mut Vec<u32>,
+) -> Result<(), AllocError>
+    ensures { OnOk result ((place : ℕ) → place < length history.now.timeline.kept
+        → kept ≡ slice_index_or history.now.timeline.kept place kept
+        → IsPartial history.now.timeline number place members.old.items joined.old
+        → IsPartial history.now.timeline number (place + 1) members.new.items joined.new) }
+{
+    if kept <= number {
+        return Ok(());
+    }
+    add_member(history, kept, joined, members)?;
     Ok(())
 }
 
@@ -44,9 +65,7 @@ pub fn held_beside(alloc: Global, history: &History, number: u32) -> Result<Vec<
     join(&mut joined, first)?;
     members.push(number)?;
     for kept in history.kept() {
-        if *kept > number {
-            add_member(history, *kept, &mut joined, &mut members)?;
-        }
+        add_later(history, number, *kept, &mut joined, &mut members)?;
     }
     Ok(members)
 }

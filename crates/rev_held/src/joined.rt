@@ -1,5 +1,5 @@
 //! What several events read and write, but for the cells of jobs and slots.
-ghost use Rattle.std.specs.Prelude.{◌≡◌, ◌||◌, ◌&&◌, not, filter, false, [], OnOk};
+ghost use Rattle.std.specs.Prelude.{◌≡◌, ◌||◌, ◌&&◌, ◌∷◌, filter, false, [], OnOk};
 ghost use Rattle.std.specs.List.{list_any};
 ghost use Rattle.rev_causal.specs.Store.{Footprint as Print, among, conflict};
 ghost use Rattle.rev_cells.specs.declared.cell.Cell.{Cell};

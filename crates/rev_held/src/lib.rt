@@ -3,9 +3,9 @@
 #![tactic(auto)]
 
 mod beside;
-mod dependence;
+mod depending;
 mod joined;
 pub mod laws;
 
 pub use beside::held_beside;
-pub use dependence::{dependence, depends};
+pub use depending::{dependence, depends};

@@ -1,4 +1,4 @@
-use Rattle.rev_held.proofs.BesideLemmas.{IsPartial}
+use Rattle.rev_held.specs.Beside.{IsPartial}
 use Rattle.rev_held.proofs.beside.held_beside.Given as goal
 
 abbrev pub invariant-loop-kept : goal.invariant-loop-kept
