@@ -22,7 +22,8 @@ use Rattle.rev_events.specs.declared.event.Listing.TheVariants.{Nothing, Depfile
 use Rattle.rev_events.specs.Edge.{Adds, Effect, changes, free_held, pass_changes, seen_by, where_true, write, write_built, write_deps, write_slot, write_stamps}
 use Rattle.rev_events.specs.Kinds.{start_effect, finish_effect, finish_refusal, end_effect}
 use Rattle.rev_events.specs.Machine.{edge_of, effect, refusal, write_marks}
-use Rattle.rev_events.specs.Refusal.{HasNoFault, bad_depfile, is_wanted_mark, not_running, of_plan, phony_edge, unexpected_listing, wrong_outputs}
+use Rattle.rev_plan.specs.Chain.{is_wanted_mark}
+use Rattle.rev_events.specs.Refusal.{HasNoFault, bad_depfile, not_running, of_plan, phony_edge, unexpected_listing, wrong_outputs}
 use Rattle.rev_events.proofs.AddsLemmas.{adds-more, range-length-of}
 use Rattle.rev_events.proofs.TestLemmas.{first-none, none-mapped}
 

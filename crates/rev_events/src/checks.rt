@@ -17,13 +17,13 @@ use crate::event::{Event, Listing};
 use crate::fault::{Fault, of_plan};
 use crate::pools::{present_pool, resize_refusal};
 use crate::refusal::Refusal;
-use crate::words::{is_halted, is_through, is_wanted, job_holder, running, slot_holder};
+use crate::words::{is_halted, is_through, job_holder, running, slot_holder};
 use rev_cells::Cells;
 use rev_depfile::{DepfileFault, read};
 use rev_dirty::{DependencyScan, reasons};
 use rev_graph::Graph;
 use rev_paths::Name;
-use rev_plan::plan;
+use rev_plan::{is_wanted, plan};
 use std::alloc::{AllocError, Global};
 
 // Whether a slot is named wrongly: where the edge has no pool with slots, or none is named where it has one, or one is
@@ -63,7 +63,7 @@ fn is_clean(alloc: Global, graph: &Graph, cells: &Cells, edge: u32) -> Result<bo
         ≡ (length (reasons_of graph.now.manifest.builds cells.now.state edge) == 0)) }
 {
     let mut scan = DependencyScan::new(alloc, graph, cells);
-    if scan.lacks_first_output(edge)? {
+    if scan.lacks_first_output(edge) {
         return Ok(false);
     }
     let reasons = scan.reasons(edge)?;

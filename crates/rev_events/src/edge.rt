@@ -72,7 +72,7 @@ pub(crate) fn all_producers(
         ≡ producers_of_inputs graph.now.manifest.builds cells.now.state
         (build_at graph.now.manifest.builds edge)) }
 {
-    let listed = listed_inputs(graph, cells, edge)?;
+    let listed = listed_inputs(graph, cells, edge);
     let mut all = Vec::from_slice(alloc, graph.producers(edge))?;
     push_producers(&mut all, graph, listed)?;
     Ok(all)

@@ -17,7 +17,6 @@ ghost use Rattle.rev_events.specs.Refusal.{HasNoFault};
 
 use crate::edge::{all_outputs, has_rebuilt, lacks_inputs, named, stamp_seen};
 use crate::event::{Event, Listing};
-use crate::words::is_wanted;
 use crate::writes::{
     Writes, all_positions, changed_flags, missing_flags, one_write, positions, push_built,
     push_deps, push_freed, push_marks, push_slot, push_stamps, push_write,
@@ -25,7 +24,7 @@ use crate::writes::{
 use rev_cells::{Cell, Cells, Mark, Positions, Value};
 use rev_graph::Graph;
 use rev_paths::Name;
-use rev_plan::{PlanFault, plan};
+use rev_plan::{PlanFault, is_wanted, plan};
 use std::alloc::{AllocError, Global};
 
 // What a start writes: the edge runs in its job and its slot.

@@ -143,7 +143,7 @@ pub(crate) fn changed_flags(
     let restat = graph.restat(edge);
     let mut flags = Vec::new(alloc);
     for (place, path) in outputs.iter().enumerate() {
-        let before = stamp(cells, path)?;
+        let before = stamp(cells, path);
         let changed = has_changed(restat, before, stamp_at(stamps, place));
         flags.push(changed)?;
     }
@@ -160,7 +160,7 @@ pub(crate) fn missing_flags(
 {
     let mut flags = Vec::new(alloc);
     for path in outputs {
-        flags.push(stamp(cells, path)? == 0)?;
+        flags.push(stamp(cells, path) == 0)?;
     }
     Ok(flags)
 }

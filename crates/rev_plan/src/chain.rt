@@ -36,8 +36,8 @@ impl Drop for Chain {
     }
 }
 
-// Whether the mark of an edge is `Wanted`.
-fn is_wanted(cells: &Cells, edge: u32) -> bool
+/// Whether the mark of an edge is `Wanted`.
+pub fn is_wanted(cells: &Cells, edge: u32) -> bool
     ensures { result ≡ has_wanted_mark cells.now.state edge }
 {
     match cells.get(&Cell::Mark(edge)) {
@@ -90,7 +90,7 @@ fn counted_producers(
     let mut producers = Vec::from_slice(alloc, counted)?;
     let skipped = vec![in alloc; None; order_only.len()]?;
     producers.extend_from_slice(&skipped)?;
-    let listed = each_producer(alloc, graph, listed_inputs(graph, cells, edge)?)?;
+    let listed = each_producer(alloc, graph, listed_inputs(graph, cells, edge))?;
     producers.extend_from_slice(&listed)?;
     Ok(producers)
 }

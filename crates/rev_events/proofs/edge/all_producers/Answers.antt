@@ -7,5 +7,5 @@ pub returns : goal.returns
 returns c =
     let builds = c.args.graph.now.manifest.builds in
     c.in_ok-push_producers.ensures
-    ∙ (λ k. (c.in_ok-all.ensures.items ∙ c.producers.ensures) k ++ map (producer_of builds) (c.in_ok-listed.ensures k))
+    ∙ (λ k. (c.in_ok-all.ensures.items ∙ c.producers.ensures) k ++ map (producer_of builds) (c.listed_inputs-listed.ensures k))
     ∙ producers-are builds c.args.cells.now.state (build_at builds c.args.edge)

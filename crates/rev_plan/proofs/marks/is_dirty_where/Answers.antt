@@ -17,4 +17,4 @@ by-first true (r ∷ rs) marked first =
 pub returns-then-branch-clause-dirty : goal.returns-then-branch-clause-dirty
 returns-then-branch-clause-dirty c =
     by-first c.args.is_marked (reasons_of c.args.scan.now.graph.manifest.builds c.args.scan.now.state c.args.edge) c.if-not-is_marked.false
-    (c.in_ok-lacks_first_output.ensures.first c.if-branch.true)
+    (c.lacks_first_output.ensures.first c.if-branch.true)
