@@ -25,8 +25,7 @@ use Rattle.rev_events.specs.Kinds.{start_refusal, start_effect, clean_refusal, c
 use Rattle.rev_events.specs.Machine.{of_edge, refusal, effect, write_marks}
 use Rattle.rev_events.specs.declared.refusal.Refusal.{Refusal}
 use Rattle.rev_events.specs.declared.refusal.Refusal.TheVariants.{NoSuchEdge}
-use Rattle.rev_plan.specs.Chain.{is_wanted_mark}
-use Rattle.rev_events.specs.Refusal.{of_plan, pool_slot, phony_edge, not_phony, halted, not_halted, not_wanted, not_marked, not_running, blocked, not_dirty, no_such_job, job_busy, slot_busy, is_through_mark}
+use Rattle.rev_events.specs.Refusal.{of_plan, pool_slot, phony_edge, not_phony, halted, not_halted, not_wanted, not_marked, not_running, blocked, not_dirty, no_such_job, job_busy, slot_busy, is_wanted_mark, is_through_mark}
 use Rattle.rev_events.specs.Pools.{present_pool}
 use Rattle.rev_events.proofs.HeldLemmas.{IsQuiet, quiet-held, replaced-held}
 use Rattle.rev_events.proofs.HeldSteps.{After, KeepsDepths, holding, files-quiet, files-depths, mark-quiet, mark-depths, depth-quiet, holding-depths, begins, ends}

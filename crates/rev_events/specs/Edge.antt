@@ -18,8 +18,7 @@ use Rattle.rev_depfile.specs.Value.{first_mentions, prerequisites}
 use Rattle.rev_events.specs.declared.event.Listing.{Listing}
 use Rattle.rev_events.specs.declared.event.Listing.TheVariants.{Nothing, Depfile, Paths}
 use Rattle.rev_events.specs.declared.words.Run.{Run}
-use Rattle.rev_plan.specs.Chain.{is_wanted_mark}
-use Rattle.rev_events.specs.Refusal.{is_settled}
+use Rattle.rev_events.specs.Refusal.{is_settled, is_wanted_mark}
 
 -- the cells that are written, with what they then hold
 abbrev pub Effect : Type 0

@@ -10,7 +10,6 @@ use Rattle.rev_dirty.specs.Reasons.{kind_of}
 use Rattle.rev_depfile.specs.declared.fault.DepfileFault.{DepfileFault}
 use Rattle.rev_depfile.specs.Fault as depfile
 use Rattle.rev_depfile.specs.Value.{first_fault}
-use Rattle.rev_plan.specs.Chain.{is_wanted_mark}
 use Rattle.rev_plan.specs.Plan.{PlanRefusal, is_running_mark}
 use Rattle.rev_plan.specs.Plan.{PlanRefusal.StillRunning as Running, PlanRefusal.UnknownTarget as Unknown, PlanRefusal.MissingInput as Lacking, PlanRefusal.DepsCycle as OnCycle}
 use Rattle.rev_events.specs.declared.event.Listing.{Listing}
@@ -94,6 +93,10 @@ of_plan (OnCycle edge) = DepsCycle edge
 abbrev pub refuse_if : Bool → Refusal → Option Refusal
 refuse_if true r = Some r
 refuse_if false r = None
+
+abbrev pub is_wanted_mark : Mark → Bool
+is_wanted_mark mark.Wanted = true
+is_wanted_mark _ = false
 
 abbrev pub is_through_mark : Mark → Bool
 is_through_mark mark.Through = true

@@ -2,7 +2,7 @@
 ghost use Rattle.std.specs.Prelude.{◌≡◌};
 ghost use Rattle.rev_cells.specs.State.{mark_of, job_of, slot_of, given_depth_of, is_halted as is_halted_in};
 ghost use Rattle.rev_events.specs.Edge.{run_of};
-ghost use Rattle.rev_events.specs.Refusal.{is_through_mark, is_settled as is_settled_mark};
+ghost use Rattle.rev_events.specs.Refusal.{is_wanted_mark, is_through_mark, is_settled as is_settled_mark};
 
 use rev_cells::{Cell, Cells, Mark, Value};
 
@@ -13,6 +13,16 @@ pub(crate) struct Run {
     pub(crate) slot: Option<u32>,
     /// The greatest stamp that its inputs had when it was started.
     pub(crate) seen: u64,
+}
+
+/// Whether an edge is wanted.
+pub(crate) fn is_wanted(cells: &Cells, edge: u32) -> bool
+    ensures { result ≡ is_wanted_mark (mark_of cells.now.state edge) }
+{
+    match cells.get(&Cell::Mark(edge)) {
+        Some(Value::Mark(Mark::Wanted)) => true,
+        _ => false,
+    }
 }
 
 /// Whether an edge waits for others alone.

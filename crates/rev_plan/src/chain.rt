@@ -36,8 +36,8 @@ impl Drop for Chain {
     }
 }
 
-/// Whether the mark of an edge is `Wanted`.
-pub fn is_wanted(cells: &Cells, edge: u32) -> bool
+// Whether the mark of an edge is `Wanted`.
+fn is_wanted(cells: &Cells, edge: u32) -> bool
     ensures { result ≡ has_wanted_mark cells.now.state edge }
 {
     match cells.get(&Cell::Mark(edge)) {

@@ -11,6 +11,6 @@ pub mod laws;
 mod marks;
 mod steps;
 
-pub use chain::{Chain, is_wanted, why};
+pub use chain::{Chain, why};
 pub use fault::PlanFault;
 pub use marks::plan;

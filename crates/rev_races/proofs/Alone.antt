@@ -46,8 +46,7 @@ use Rattle.rev_events.specs.Held.{IsHeldExactly}
 use Rattle.rev_events.specs.Kinds.{start_refusal, start_effect, pass_refusal, pass_effect, finish_refusal, finish_effect}
 use Rattle.rev_events.specs.Machine.{of_edge, refusal, effect, after}
 use Rattle.rev_events.specs.Pools.{present_pool, at_present}
-use Rattle.rev_plan.specs.Chain.{is_wanted_mark}
-use Rattle.rev_events.specs.Refusal.{is_settled, is_through_mark, refuse_if, phony_edge, not_phony, halted, not_wanted, not_marked, not_running, blocked, not_dirty, no_such_job, job_busy, pool_slot, slot_busy, wrong_outputs}
+use Rattle.rev_events.specs.Refusal.{is_settled, is_wanted_mark, is_through_mark, refuse_if, phony_edge, not_phony, halted, not_wanted, not_marked, not_running, blocked, not_dirty, no_such_job, job_busy, pool_slot, slot_busy, wrong_outputs}
 use Rattle.rev_events.specs.Written.{start_writes, mark_writes, finish_writes, written}
 use Rattle.rev_events.proofs.EdgeLemmas.{producers-are, blocking-is}
 use Rattle.rev_events.proofs.HeldEvents.{held-is-running}

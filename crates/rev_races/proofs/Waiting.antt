@@ -45,8 +45,7 @@ use Rattle.rev_events.specs.Edge.{first_blocking, slot_cells, held_cells}
 use Rattle.rev_events.specs.Held.{IsOpened}
 use Rattle.rev_events.specs.Kinds.{start_refusal, clean_refusal, pass_refusal, finish_refusal, fail_refusal, abort_refusal}
 use Rattle.rev_events.specs.Machine.{of_edge, refusal, effect, after}
-use Rattle.rev_plan.specs.Chain.{is_wanted_mark}
-use Rattle.rev_events.specs.Refusal.{is_settled, is_through_mark, phony_edge, not_phony, halted, not_halted, not_wanted, not_marked, not_running, blocked}
+use Rattle.rev_events.specs.Refusal.{is_settled, is_wanted_mark, is_through_mark, phony_edge, not_phony, halted, not_halted, not_wanted, not_marked, not_running, blocked}
 use Rattle.rev_events.specs.Written.{start_writes, mark_writes, finish_writes, end_writes, written}
 use Rattle.rev_events.proofs.TestLemmas.{first-none, none-mapped, not-refused}
 use Rattle.rev_events.proofs.WriteLemmas.{unwritten}

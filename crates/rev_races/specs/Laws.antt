@@ -14,8 +14,7 @@ use Rattle.rev_dirty.specs.Reasons.{holds_at, is_missing}
 use Rattle.rev_causal.specs.Machine.{Legal, run}
 use Rattle.rev_events.specs.declared.event.Event.{Event}
 use Rattle.rev_events.specs.Held.{IsHeldExactly, IsOpened}
-use Rattle.rev_plan.specs.Chain.{is_wanted_mark}
-use Rattle.rev_events.specs.Refusal.{is_settled, is_through_mark}
+use Rattle.rev_events.specs.Refusal.{is_settled, is_wanted_mark, is_through_mark}
 use Rattle.rev_footprint.specs.Machine.{machine}
 use Rattle.rev_history.specs.Timeline.{Numbered, Timeline, IsHistory, machine_at, kept_events}
 use Rattle.rev_waits.specs.Waits.{Waits, waits}

@@ -6,7 +6,7 @@ use Rattle.rev_graph.specs.Graph.{build_at, outputs_of}
 use Rattle.rev_cells.specs.State.{mark_of}
 use Rattle.rev_dirty.specs.Inputs.{inputs}
 use Rattle.rev_dirty.specs.Reasons.{is_missing, is_rebuilt}
-use Rattle.rev_plan.specs.Chain.{is_wanted_mark}
+use Rattle.rev_events.specs.Refusal.{is_wanted_mark}
 use Rattle.rev_events.proofs.EffectLemmas.{pass-all, pass-still}
 use Rattle.rev_events.proofs.effects.passed_on.Goals as goal
 

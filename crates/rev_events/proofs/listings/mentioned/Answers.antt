@@ -1,7 +1,7 @@
 use Rattle.std.proofs.Common.{ap, bytes_eq, ◌∙◌}
 use Rattle.indexmap.specs.IndexSet.{insert_all}
 use Rattle.rev_paths.proofs.MentionLemmas.{mentions-all}
-use Rattle.rev_events.proofs.writes.mentioned.Goals as goal
+use Rattle.rev_events.proofs.listings.mentioned.Goals as goal
 
 pub returns : goal.returns
 returns c =
