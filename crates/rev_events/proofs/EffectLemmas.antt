@@ -1,7 +1,6 @@
 -- What the writes of each kind come to.
 use Rattle.std.proofs.Common.{◌≡◌, ℕ, ◌==◌, Bool, true, false, List, [], ◌∷◌, ◌++◌, map, length, Option, Some, None, refl, sym, ap, subst, ◌∙◌, arith, true≢false}
 use Rattle.std.specs.List.{range_with_len}
-use Rattle.std.specs.Option.{option_map}
 use Rattle.std.proofs.lemmas.Bool.{eqb-true}
 use Rattle.std.proofs.lemmas.List.{length-map}
 use Rattle.rev_manifest.specs.Manifest.{BuildValue, ManifestValue}
@@ -23,8 +22,7 @@ use Rattle.rev_events.specs.declared.event.Listing.TheVariants.{Nothing, Depfile
 use Rattle.rev_events.specs.Edge.{Adds, Effect, changes, free_held, pass_changes, seen_by, where_true, write, write_built, write_deps, write_slot, write_stamps}
 use Rattle.rev_events.specs.Kinds.{start_effect, finish_effect, finish_refusal, end_effect}
 use Rattle.rev_events.specs.Machine.{edge_of, effect, refusal, write_marks}
-use Rattle.rev_events.specs.declared.refusal.Refusal.{Refusal}
-use Rattle.rev_events.specs.Refusal.{HasNoFault, bad_depfile, depfile_refusal, is_wanted_mark, not_running, of_plan, phony_edge, unexpected_listing, wrong_outputs}
+use Rattle.rev_events.specs.Refusal.{HasNoFault, bad_depfile, is_wanted_mark, not_running, of_plan, phony_edge, unexpected_listing, wrong_outputs}
 use Rattle.rev_events.proofs.AddsLemmas.{adds-more, range-length-of}
 use Rattle.rev_events.proofs.TestLemmas.{first-none, none-mapped}
 
@@ -101,14 +99,6 @@ no-fault : (build : BuildValue) (listing : Listing) → bad_depfile build listin
 no-fault build Nothing h = tt
 no-fault build (Depfile text) h = none-mapped _ _ h
 no-fault build (Paths paths) h = tt
-
--- what is not refused is not refused for its depfile
-pub no-refusal : (build : BuildValue) (listing : Listing) (r : Refusal) → HasNoFault (outputs_of build) listing → bad_depfile build listing ≡ Some r → ⊥
-no-refusal build Nothing r none some = cc
-no-refusal build (Depfile text) r none some =
-    let no : None ≡ Some r = sym (ap (option_map depfile_refusal) none) ∙ some in
-    cc
-no-refusal build (Paths paths) r none some = cc
 
 pub finish-accepted : (manifest : ManifestValue) (jobs : ℕ) (state : State) (e : Event) (out stamps : List ℕ) (listing : Listing) (edge : ℕ) → e ≡ Finish out stamps listing → edge_of manifest out ≡ Some edge
     → refusal manifest jobs state e ≡ None → HasNoFault (outputs_of (build_at manifest.builds edge)) listing
