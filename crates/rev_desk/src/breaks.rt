@@ -122,6 +122,10 @@ impl Breaks {
         ensures { IfOk result (λ met. met
             ≡ least_met graph.now.manifest event.now self.now.standing.items) }
     {
+        // Where no break stands, the event's edge is not looked up.
+        if self.standing.is_empty() {
+            return Ok(None);
+        }
         match event_spot(graph, event)? {
             Some(spot) => Ok(self.first_at(&spot)),
             None => Ok(None),
