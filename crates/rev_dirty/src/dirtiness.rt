@@ -16,6 +16,7 @@ ghost use Rattle.rev_dirty.specs.Reasons.{reasons_of, holds, newest_stamp, is_re
 
 use crate::change::{Changed, changes_of};
 use crate::input::{Input, InputKind, all_inputs, producers_of};
+use crate::newest::newest_there;
 use crate::output::{Output, first_output, outputs_of};
 use crate::reason::Reason;
 use crate::walk::{Known, greatest_shown, know, shown};
@@ -390,6 +391,9 @@ pub(crate) fn newest_stamp_by(
     ensures knowledge { IsKnowledge graph.now.manifest.builds cells.now.state known.new.entries }
 {
     let listed = listed_inputs(graph, cells, edge);
+    if let Some(stamp) = newest_there(graph, cells, edge, listed) {
+        return Ok(stamp);
+    }
     let producers = producers_of(alloc, graph, listed)?;
     let inputs = all_inputs(alloc, graph, cells, edge, listed, &producers)?;
     know(alloc, graph, cells, known, &inputs)?;
