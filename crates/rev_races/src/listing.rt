@@ -79,7 +79,7 @@ pub(crate) fn listed<'a>(
     if began[edge as usize] && !ended[edge as usize] {
         return Ok(None);
     }
-    let deps = deps_record(history.graph(), history.cells(), edge)?;
+    let deps = deps_record(history.graph(), history.cells(), edge);
     Ok(paths_of(deps))
 }
 
