@@ -106,6 +106,6 @@ pub fn path_of<'a>(history: &'a History, race: &Race) -> Result<Option<&'a Name>
     if race.user >= history.graph().edges() {
         return Ok(None);
     }
-    let deps = deps_record(history.graph(), history.cells(), race.user)?;
+    let deps = deps_record(history.graph(), history.cells(), race.user);
     Ok(path_at(paths_of(deps), race.place))
 }
