@@ -82,8 +82,11 @@ impl History {
               writes = 0;
             }) }
     {
-        // A build starts and ends each edge once: with room for that nothing is moved as the history grows.
-        let usual = (graph.edges() as usize).saturating_mul(2);
+        // A build starts and ends each edge once: with room for that, and for its plans and the like, nothing is moved as
+        // the history grows.
+        let usual = (graph.edges() as usize)
+            .saturating_mul(2)
+            .saturating_add(64);
         Ok(History {
             alloc,
             graph,
