@@ -17,8 +17,8 @@ use Rattle.rev_cells.specs.State.{State}
 use Rattle.rev_history.specs.Timeline.{Numbered, Timeline, kept_events}
 use Rattle.rev_waits.specs.Waits.{Makes}
 use Rattle.rev_races.specs.declared.told.Told.{Told}
-use Rattle.rev_races.specs.Answer.{IsFirstPlace, IsRaceAt, IsOwnAt, IsToTell, IsToTell.itself, IsToTell.another, IsUnordered}
-use Rattle.rev_races.specs.Keys.{AreTold, IsKeyBy, IsKeyBelow, IsOfEdges, IsToldAt, IsToldAt.raced, IsToldAt.owned, told_key}
+use Rattle.rev_races.specs.Answer.{IsFirstPlace, IsToTell, IsToTell.itself, IsToTell.another}
+use Rattle.rev_races.specs.Keys.{AreTold, IsKeyBelow, IsOfEdges, IsToldAt, IsToldAt.raced, IsToldAt.owned, told_key}
 use Rattle.rev_races.specs.Kinds.{IsBetween}
 use Rattle.rev_races.specs.Races.{last_list, lists, recorded, started}
 use Rattle.rev_races.proofs.RaceLemmas.{maker-command, keeps-by}

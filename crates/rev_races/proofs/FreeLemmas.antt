@@ -1,5 +1,5 @@
 -- Where nothing holds a start, it stays without the end.
-use Rattle.std.proofs.Common.{◌≡◌, ℕ, ◌<◌, Bool, true, false, cond, ◌||◌, List, [], ◌∷◌, map, Option, Some, None, refl, sym, ap, subst, ◌∙◌, inl, inr, arith, true≢false, eq-eqb, if◌then◌else◌}
+use Rattle.std.proofs.Common.{◌≡◌, ℕ, ◌<◌, Bool, true, false, cond, ◌||◌, List, [], ◌∷◌, Option, Some, None, refl, sym, ap, subst, ◌∙◌, inl, inr, arith, true≢false, eq-eqb, if◌then◌else◌}
 use Rattle.std.specs.Prelude.{nat_eq, IsSome}
 use Rattle.std.specs.List.{AllByRecursion}
 use Rattle.std.proofs.lemmas.Bool.{ne_eqb, eqb-true}
@@ -10,11 +10,11 @@ use Rattle.rev_causal.specs.Machine.{Machine}
 use Rattle.rev_causal.specs.Order.{any_conflict, cone, outside}
 use Rattle.rev_causal.proofs.Chosen.{chosen-rises}
 use Rattle.rev_causal.proofs.Runs.{either}
-use Rattle.rev_history.specs.Timeline.{Timeline, IsHistory, coned, cone_numbers, is_among, kept_entries, kept_events, machine_at, numbers_of}
+use Rattle.rev_history.specs.Timeline.{cone_numbers, is_among, kept_entries, kept_events, machine_at, numbers_of}
 use Rattle.rev_history.proofs.Cones.{coned_history}
 use Rattle.rev_held.specs.Beside.{held_beside}
 use Rattle.rev_races.specs.declared.story.Happened.TheVariants as happened
-use Rattle.rev_races.specs.Stories.{FreeStays, StaysWithout, held_by}
+use Rattle.rev_races.specs.Stories.{FreeStays, held_by}
 
 module _ (m : Machine) where
   or-some : (b : Bool) {c : Bool} → c ≡ true → (b || c) ≡ true

@@ -1,10 +1,10 @@
 -- What is not judged is one of two, and edges that pass a test, one after the other.
-use Rattle.std.proofs.Common.{◌≡◌, ℕ, ◌+◌, ◌<◌, map, arith, Bool, true, false, not, ◌&&◌, ◌⊎◌, List, [], ◌∷◌, ◌++◌, cond, Option, Some, None, inl, inr, refl, sym, ap, subst, ◌∙◌, true≢false, if◌then◌else◌}
-use Rattle.std.specs.Prelude.{◌↔◌, is_none, filter}
+use Rattle.std.proofs.Common.{◌≡◌, ℕ, ◌+◌, map, arith, Bool, true, false, not, ◌&&◌, List, [], ◌∷◌, ◌++◌, cond, Option, Some, None, inl, inr, refl, sym, ap, ◌∙◌, true≢false, if◌then◌else◌}
+use Rattle.std.specs.Prelude.{is_none, filter}
 use Rattle.std.specs.List.{range_with_len}
 use Rattle.std.proofs.lemmas.List.FromFn.{filter_of_map_range_with_len_more}
 use Rattle.rev_graph.specs.Graph.{build_at, no_build}
-use Rattle.rev_races.specs.Judged.{NotJudgedIsEither, is_unlisted, keeps_none}
+use Rattle.rev_races.specs.Judged.{NotJudgedIsEither}
 use Rattle.std.specs.Option.{option_or}
 use Rattle.rev_races.specs.Races.{last_list, lists, recorded, started}
 use Rattle.rev_races.proofs.Waiting.{decide}

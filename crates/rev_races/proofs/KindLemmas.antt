@@ -1,21 +1,20 @@
 -- What is told with its kind is exactly what is to be told.
-use Rattle.std.proofs.Common.{◌≡◌, ℕ, ◌<◌, ◌==◌, Bool, true, false, List, [], ◌∷◌, length, get_or, map, inl, inr, refl, sym, ap, subst, ◌∙◌, arith, true≢false, Contains, if◌then◌else◌}
-use Rattle.std.specs.Prelude.{◌↔◌}
+use Rattle.std.proofs.Common.{◌≡◌, ℕ, ◌<◌, Bool, true, false, List, [], ◌∷◌, length, get_or, map, inl, inr, refl, sym, ap, subst, ◌∙◌, arith, true≢false, Contains, if◌then◌else◌}
 use Rattle.std.specs.List.Sorted.{IsStrictlySortedBy}
 use Rattle.std.specs.Ordering.{nat_cmp}
 use Rattle.std.specs.Cmp.Lexicographic.{slice_cmp}
 use Rattle.std.proofs.Math.ListN.{get_or-map}
-use Rattle.std.proofs.lemmas.Bool.{cases_eq, eq-eqb, ne_eqb}
+use Rattle.std.proofs.lemmas.Bool.{eq-eqb, ne_eqb}
 use Rattle.std.proofs.lemmas.List.{length-map, get_or_default}
 use Rattle.std.proofs.lemmas.List.Elements.{Contains-get_or}
-use Rattle.rev_manifest.specs.Manifest.{BuildValue, ManifestValue}
+use Rattle.rev_manifest.specs.Manifest.{BuildValue}
 use Rattle.rev_history.specs.Timeline.{Timeline, kept_events}
 use Rattle.rev_waits.specs.Waits.{AreWaitedFor, Waits, waits}
 use Rattle.rev_races.specs.declared.race.Kind.{Kind}
 use Rattle.rev_races.specs.declared.race.Kind.TheVariants as kind
 use Rattle.rev_races.specs.declared.race.Race.{Race}
 use Rattle.rev_races.specs.declared.told.Told.{Told}
-use Rattle.rev_races.specs.Answer.{AreRaces, IsRaceAt, IsTold, IsTold.races, IsTold.cycles, IsTold.owns, race_key}
+use Rattle.rev_races.specs.Answer.{AreRaces, IsTold, IsTold.races, IsTold.cycles, IsTold.owns, race_key}
 use Rattle.rev_races.specs.Keys.{AreTold, IsToldAt, IsToldAt.raced, IsToldAt.owned, told_key}
 use Rattle.rev_races.specs.Kinds.{kind_of, with_kind}
 use Rattle.rev_races.proofs.RaceLemmas.{waits-is-decided}

@@ -1,6 +1,6 @@
 -- The last events of edges, one kept number after the other, and the runs that they make.
-use Rattle.std.proofs.Common.{◌≡◌, ℕ, ◌<◌, ◌==◌, Bool, true, false, ◌||◌, ◌&&◌, List, [], ◌∷◌, ◌++◌, length, get_or, set, take, Option, Some, None, inl, inr, refl, sym, ap, subst, ◌∙◌, arith, true≢false, if◌then◌else◌}
-use Rattle.std.specs.Prelude.{nat_eq, nat_lt, option_and_then}
+use Rattle.std.proofs.Common.{◌≡◌, ℕ, ◌<◌, ◌==◌, Bool, true, false, ◌||◌, List, [], ◌∷◌, ◌++◌, length, get_or, set, take, Option, Some, None, inl, inr, refl, sym, ap, subst, ◌∙◌, arith, true≢false, if◌then◌else◌}
+use Rattle.std.specs.Prelude.{nat_eq, option_and_then}
 use Rattle.std.specs.Option.{option_map, option_or}
 use Rattle.std.proofs.Math.Seq.{take-length}
 use Rattle.std.proofs.lemmas.Bool.{eq-eqb, ne_eqb, cases_eq}
@@ -14,8 +14,7 @@ use Rattle.rev_races.specs.declared.runs.Run.{Run}
 use Rattle.rev_races.specs.declared.runs.Runs.{Runs}
 use Rattle.rev_races.specs.declared.runs.Step.{Step}
 use Rattle.rev_races.specs.declared.runs.Step.TheVariants as step
-use Rattle.rev_races.specs.Runs.{AreLast, AreRuns, counts, finished_run, finishes, is_within, last_number, last_run, run_from, run_until}
-use Rattle.rev_races.specs.Races.{starts}
+use Rattle.rev_races.specs.Runs.{AreLast, AreRuns, counts, finished_run, last_number, last_run, run_from, run_until}
 use Rattle.rev_races.proofs.AnswerLemmas.{chosen-one-more}
 
 -- THE LAST OF SEVERAL

@@ -1,18 +1,14 @@
 -- Marks of direct producers, lists with nothing to tell, and what the last search found.
-use Rattle.std.proofs.Common.{◌≡◌, ◌≢◌, ℕ, ◌+◌, ◌<◌, Bool, true, false, not, List, [], length, get_or, set, Option, Some, None, inl, inr, refl, sym, ap, subst, ◌∙◌, arith, true≢false, Contains, ◌⊎◌}
-use Rattle.std.specs.Prelude.{◌↔◌, IfSome}
-use Rattle.std.specs.List.{All}
-use Rattle.std.specs.Global.{Vec}
+use Rattle.std.proofs.Common.{◌≡◌, ℕ, ◌+◌, ◌<◌, Bool, true, false, not, List, [], length, get_or, set, Option, Some, None, inl, inr, refl, sym, ap, subst, ◌∙◌, arith, true≢false, Contains, ◌⊎◌}
 use Rattle.std.proofs.lemmas.Bool.{cases_eq}
 use Rattle.std.proofs.lemmas.List.{length-set, get_or_default, get_or-set_same, get_or-set_other}
-use Rattle.std.proofs.lemmas.List.Elements.{Contains-get_or}
 use Rattle.rev_manifest.specs.Manifest.{BuildValue}
-use Rattle.rev_graph.specs.Graph.{GraphValue, IsGraph, build_at, producer_of, successor_lists, EdgeSteps, EdgeReaches, EdgeReaches.step as one_edge_step, EdgeReaches.further as then_on_edges, IsRanked, rank_at, inputs_of}
+use Rattle.rev_graph.specs.Graph.{GraphValue, IsGraph, build_at, producer_of, successor_lists, EdgeReaches, EdgeReaches.step as one_edge_step, EdgeReaches.further as then_on_edges, inputs_of}
 use Rattle.rev_graph.proofs.StepLemmas.{edge_way, ranked-acyclic}
 use Rattle.rev_ranks.specs.Graph.{Steps, Reaches.step as one_step}
 use Rattle.rev_history.specs.Timeline.{Timeline, kept_events}
 use Rattle.rev_waits.specs.Waits.{AreWaitedFor, Makes, Makes.itself, Makes.behind, Waits}
-use Rattle.rev_races.specs.Answer.{IsToTell, IsToTell.itself as tells_itself, IsToTell.another as tells_another}
+use Rattle.rev_races.specs.Answer.{IsToTell.itself as tells_itself, IsToTell.another as tells_another}
 use Rattle.rev_races.specs.Keys.{IsKeyOf, IsKeyAmong}
 use Rattle.rev_races.specs.Searches.{AreDirect, IsQuiet, IsKept}
 use Rattle.rev_races.specs.Races.{lists}
@@ -61,7 +57,7 @@ quiet-step builds user producer path is step = record {
   waits = λ maker made. elim (made-by producer is made) [
     | inl same ↦ subst (λ m. Waits builds user m) (sym same) (edge_way (one_step step))
     | inr way ↦ then-way builds user producer maker (edge_way (one_step step)) way
-  ]
+  ];
 }
   where
     then-way : (builds : List BuildValue) (a b c : ℕ) → EdgeReaches builds a b → EdgeReaches builds b c → EdgeReaches builds a c

@@ -1,5 +1,5 @@
 -- The kind of what is told of two edges.
-use Rattle.std.specs.Prelude.{◌≡◌, ℕ, ◌<◌, ◌==◌, List, length, if◌then◌else◌}
+use Rattle.std.specs.Prelude.{ℕ, ◌<◌, ◌==◌, List, length, if◌then◌else◌}
 use Rattle.rev_manifest.specs.Manifest.{BuildValue}
 use Rattle.rev_waits.specs.Waits.{waits}
 use Rattle.rev_races.specs.declared.race.Kind.{Kind}

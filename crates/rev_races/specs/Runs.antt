@@ -1,5 +1,5 @@
 -- The runs of an edge's command in a history.
-use Rattle.std.specs.Prelude.{◌≡◌, ℕ, nat_lt, Bool, true, false, ◌&&◌, List, [], ◌∷◌, Option, Some, None, length, slice_index_or, is_some, option_and_then, if◌then◌else◌}
+use Rattle.std.specs.Prelude.{◌≡◌, ℕ, nat_lt, Bool, true, false, ◌&&◌, List, [], ◌∷◌, Option, Some, None, slice_index_or, is_some, option_and_then, if◌then◌else◌}
 use Rattle.std.specs.Option.{option_map, option_or}
 use Rattle.rev_manifest.specs.Manifest.{ManifestValue}
 use Rattle.rev_events.specs.declared.event.Event.{Event}

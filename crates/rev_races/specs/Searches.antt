@@ -1,5 +1,5 @@
 -- Marks of producers, and what the last search found.
-use Rattle.std.specs.Prelude.{◌≡◌, ℕ, ◌<◌, Bool, List, [], length, Option, Some, None, IfSome, slice_index_or}
+use Rattle.std.specs.Prelude.{◌≡◌, ℕ, ◌<◌, Bool, List, length, Option, Some, None, IfSome, slice_index_or}
 use Rattle.rev_manifest.specs.Manifest.{BuildValue}
 use Rattle.rev_ranks.specs.Graph.{Steps}
 use Rattle.rev_waits.specs.Waits.{AreWaitedFor, Makes, Waits}

@@ -110,7 +110,16 @@ fn add_of(
         return Ok(());
     }
     search_for(alloc, graph, steps, user, search)?;
-    add_among(alloc, graph, phony, files, &search.waited, user, paths, found)?;
+    add_among(
+        alloc,
+        graph,
+        phony,
+        files,
+        &search.waited,
+        user,
+        paths,
+        found,
+    )?;
     Ok(())
 }
 
@@ -134,7 +143,17 @@ fn found_in(
     let mut found = Found::new(alloc);
     for user in 0..graph.edges() {
         add_of(
-            alloc, history, &began, &ended, steps, &phony, files, &mut direct, &mut search, user, &mut found,
+            alloc,
+            history,
+            &began,
+            &ended,
+            steps,
+            &phony,
+            files,
+            &mut direct,
+            &mut search,
+            user,
+            &mut found,
         )?;
     }
     found.into_told(alloc)

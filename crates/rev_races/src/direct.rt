@@ -44,12 +44,7 @@ fn is_suspect(graph: &Graph, direct: &[Option<u32>], user: u32, path: &Name) -> 
 }
 
 /// Whether a list has a path that may be told. `direct` has the marks of the user.
-pub(crate) fn has_suspect(
-    graph: &Graph,
-    direct: &[Option<u32>],
-    user: u32,
-    paths: &[Name],
-) -> bool
+pub(crate) fn has_suspect(graph: &Graph, direct: &[Option<u32>], user: u32, paths: &[Name]) -> bool
     requires { AreDirect (successor_lists graph.now.manifest.builds) direct.now }
     ensures { result ≡ false → (place : ℕ) → place < length paths.now
         → IsQuiet graph.now.manifest.builds user (slice_index_or paths.now place []) }

@@ -153,7 +153,9 @@ fn stands_between(first: u32, second: u32, number: u32) -> bool
 fn are_apart(plans: &[u32], first: u32, second: u32) -> bool
     ensures { result ≡ list_any (is_between first second) plans.now }
 {
-    plans.iter().any(|plan| stands_between(first, second, *plan))
+    plans
+        .iter()
+        .any(|plan| stands_between(first, second, *plan))
 }
 
 // What happened with two runs.

@@ -1,4 +1,4 @@
-use Rattle.std.proofs.Common.{◌≡◌, ℕ, List, Some, Contains, ◌⊎◌, inl, inr, sym, ap, ◌∙◌}
+use Rattle.std.proofs.Common.{◌≡◌, Some, inl, inr, sym, ap, ◌∙◌}
 use Rattle.std.specs.Option.{option_copied}
 use Rattle.rev_graph.proofs.StepLemmas.{all-within}
 use Rattle.rev_history.specs.Timeline.{kept_events}
@@ -14,8 +14,7 @@ pub returns-then-not-has_suspect-clause-found : goal.returns-then-not-has_suspec
 returns-then-not-has_suspect-clause-found c = λ k.
     let t = c.args.history.now.timeline in
     let are : lists c.args.history.now.timeline.manifest c.args.history.now.timeline.opening (kept_events c.args.history.now.timeline) c.args.user ≡ Some c.in-Some.paths.now =
-    sym c.in_ok-paths.ensures ∙ ap option_copied c.in-Some.is in
-    (
+    sym c.in_ok-paths.ensures ∙ ap option_copied c.in-Some.is in (
       λ h. inl h,
       λ e. elim e [
         | inl h ↦ h

@@ -1,4 +1,4 @@
-use Rattle.std.proofs.Common.{◌≡◌, ℕ, List, Option, Some, None, get_or, sym, ap, ◌∙◌}
+use Rattle.std.proofs.Common.{ℕ, List, Option, None, get_or, sym, ap, ◌∙◌}
 use Rattle.rev_races.proofs.RunLemmas.{finished-run-is}
 use Rattle.rev_races.proofs.runs.finished_run.Goals as goal
 

@@ -1,4 +1,4 @@
-use Rattle.std.proofs.Common.{Some, sym, ap, ◌∙◌}
+use Rattle.std.proofs.Common.{sym, ◌∙◌}
 use Rattle.rev_races.proofs.StoryLemmas.{plans-more, plans-none, plans-other}
 use Rattle.rev_races.proofs.story.add_plan.Goals as goal
 
