@@ -32,12 +32,7 @@ fn greatest_there(cells: &Cells, paths: &[Name], least: u64) -> Option<u64>
 
 /// The greatest visible stamp of the inputs of an edge that are not order-only, of which its deps record lists some,
 /// where none of these is missing: then what produces them is not looked at.
-pub(crate) fn newest_there(
-    graph: &Graph,
-    cells: &Cells,
-    edge: u32,
-    listed: &[Name],
-) -> Option<u64>
+pub(crate) fn newest_there(graph: &Graph, cells: &Cells, edge: u32, listed: &[Name]) -> Option<u64>
     requires edge { edge < length graph.now.manifest.builds }
     requires graph { IsGraph graph.now }
     requires listed { listed.now ≡ paths_in
