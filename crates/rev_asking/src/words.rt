@@ -1,0 +1,105 @@
+//! The words of the command line, read.
+ghost use Rattle.std.specs.Prelude.{◌≡◌, ◌↔◌, [], codes, IfOk, IsTrue, Some, map, option_map, string_bytes, unwrap_or};
+ghost use Rattle.clap.specs.Words.{FailsBy, fault_of, first_value, found_of, matched_of, raw_values};
+ghost use Rattle.rev_asking.specs.Asking.{given_name, program, question_in, value_in, word_named};
+
+use crate::command::command;
+use clap::{ArgMatches, Error};
+use std::alloc::{AllocError, Global};
+
+/// What is asked of a recording.
+#[derive(Clone, Copy, Debug, PartialEq, Eq)]
+pub enum Word {
+    /// Its races.
+    Races,
+    /// Whether it replays.
+    Replay,
+    /// A question, or those of a prompt.
+    Ask,
+}
+
+/// What the words of a command line ask for.
+#[derive(Debug, Drop)]
+pub struct Asked<'a> {
+    /// What is asked.
+    pub word: Word,
+    /// The recorder's folder, or its manifest.
+    pub recording: &'a str,
+    /// Whether nothing is left out.
+    pub all: bool,
+    /// Whether a JSON object a line is written in place of words.
+    pub json: bool,
+    /// The words of the question; none for a prompt.
+    pub question: Vec<&'a str>,
+}
+
+/// What the words of a command line ask for, the first of which is the program's name.
+///
+/// # Errors
+/// As `clap` has it: no word, or one that the command line has not, a recording that is missing, a wish for help or for
+/// the version; or the system refused memory.
+pub fn read_words<'a>(alloc: Global, words: &'a [String]) -> Result<Asked<'a>, Error>
+    ensures word { IfOk result (λ a. a.word ≡ word_named (given_name (map string_bytes words.entry.now))) }
+    ensures recording { IfOk result (λ a. a.recording.now
+        ≡ unwrap_or (value_in (map string_bytes words.entry.now) (codes "RECORDING")) []) }
+    ensures all { IfOk result (λ a. IsTrue a.all
+        ↔ value_in (map string_bytes words.entry.now) (codes "all") ≡ Some (codes "true")) }
+    ensures json { IfOk result (λ a. IsTrue a.json
+        ↔ value_in (map string_bytes words.entry.now) (codes "json") ≡ Some (codes "true")) }
+    ensures question { IfOk result (λ a. map (λ w. w.now) a.question.items
+        ≡ question_in (map string_bytes words.entry.now)) }
+    ensures fails { FailsBy (fault_of program (map string_bytes words.entry.now)) result }
+{
+    let command = command(alloc)?;
+    let matches = command.try_get_matches_from(words)?;
+    let Some((name, given)) = matches.subcommand() else {
+        return Ok(Asked {
+            word: Word::Ask,
+            recording: "",
+            all: false,
+            json: false,
+            question: Vec::new(alloc),
+        });
+    };
+    Ok(Asked {
+        word: word_named(name),
+        recording: given.get_str("RECORDING").unwrap_or(""),
+        all: is_on(given, "all"),
+        json: is_on(given, "json"),
+        question: question_of(alloc, given)?,
+    })
+}
+
+// The word of a name.
+fn word_named(name: &str) -> Word
+    ensures { result ≡ word_named name.now }
+{
+    if name == "races" {
+        return Word::Races;
+    }
+    if name == "replay" {
+        return Word::Replay;
+    }
+    Word::Ask
+}
+
+// Whether an option that takes no value was given.
+fn is_on(matches: &ArgMatches<'_>, name: &str) -> bool
+    ensures { IsTrue result ↔ first_value (found_of matches.now) name.now ≡ Some (codes "true") }
+{
+    matches.get_str(name) == Some("true")
+}
+
+// The words of the question.
+fn question_of<'a>(
+    alloc: Global,
+    matches: &ArgMatches<'a>,
+) -> Result<Vec<&'a str>, AllocError>
+    ensures { IfOk result (λ words. map (λ w. w.now) words.items
+        ≡ unwrap_or (option_map raw_values (matched_of (found_of matches.now) (codes "QUESTION"))) []) }
+{
+    match matches.get_strs("QUESTION") {
+        Some(words) => Vec::from_slice(alloc, words),
+        None => Ok(Vec::new(alloc)),
+    }
+}

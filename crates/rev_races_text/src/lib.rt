@@ -1,0 +1,13 @@
+//! What people are told of a build's races.
+#![tactic(auto)]
+
+mod counts;
+mod group;
+mod happened;
+mod places;
+mod text;
+mod told;
+
+pub use places::{Sources, push_edge, push_place, push_placed};
+pub use text::{SOMETHING, races_text, status};
+pub use told::{Happened, Kind, Run, Story, Told};
