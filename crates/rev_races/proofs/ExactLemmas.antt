@@ -1,4 +1,4 @@
--- The answer lists exactly the races.
+-- What is found is exactly what is told.
 use Rattle.std.proofs.Common.{◌≡◌, ℕ, ◌<◌, ◌≤◌, ◌^◌, true, List, [], length, get_or, map, Some, None, ◌⊎◌, inl, inr, refl, sym, ap, subst, ◌∙◌, arith, true≢false, Contains, if◌then◌else◌}
 use Rattle.std.specs.Prelude.{◌↔◌}
 use Rattle.std.specs.List.{All}
@@ -16,9 +16,10 @@ use Rattle.rev_graph.specs.Graph.{build_at}
 use Rattle.rev_cells.specs.State.{State}
 use Rattle.rev_history.specs.Timeline.{Numbered, Timeline, kept_events}
 use Rattle.rev_waits.specs.Waits.{Makes}
-use Rattle.rev_races.specs.declared.race.Race.{Race}
-use Rattle.rev_races.specs.Answer.{IsRaceAt, AreRaces, race_key}
-use Rattle.rev_races.specs.Keys.{IsKeyBy, IsKeyBelow, IsOfEdges}
+use Rattle.rev_races.specs.declared.told.Told.{Told}
+use Rattle.rev_races.specs.Answer.{IsFirstPlace, IsRaceAt, IsOwnAt, IsToTell, IsToTell.itself, IsToTell.another, IsUnordered}
+use Rattle.rev_races.specs.Keys.{AreTold, IsKeyBy, IsKeyBelow, IsOfEdges, IsToldAt, IsToldAt.raced, IsToldAt.owned, told_key}
+use Rattle.rev_races.specs.Kinds.{IsBetween}
 use Rattle.rev_races.specs.Races.{last_list, lists, recorded, started}
 use Rattle.rev_races.proofs.RaceLemmas.{maker-command, keeps-by}
 use Rattle.rev_races.proofs.Waiting.{past-last}
@@ -56,45 +57,53 @@ keys-fit t files n keys few small are k d within = by ((are (get_or keys k d)).0
     by (inl none) = absurd (none-in (get_or keys k d) none)
     by (inr s) = of (get_or keys k d) s
 
--- LISTS OF RACES AND OF THEIR NUMBERS
-one-race : (r s : Race) → race_key r ≡ race_key s → r ≡ s
-one-race r s e =
+-- LISTS OF WHAT IS TOLD AND OF ITS NUMBERS
+one-told : (r s : Told) → told_key r ≡ told_key s → r ≡ s
+one-told r s e =
     let a : r.maker ≡ s.maker = cc in
     let b : r.user ≡ s.user = cc in
     let c : r.place ≡ s.place = cc in
     λ i. record { maker = a i; user = b i; place = c i }
 
-contains-key : (races : List Race) (r : Race) → Contains races r → Contains (map race_key races) (race_key r)
-contains-key races r (k, within, at) = (k, omega (arith, within, length-map races race_key), get_or-map race_key races k r ∙ ap race_key at)
+contains-key : (told : List Told) (r : Told) → Contains told r → Contains (map told_key told) (told_key r)
+contains-key told r (k, within, at) = (k, omega (arith, within, length-map told told_key), get_or-map told_key told k r ∙ ap told_key at)
 
-contains-race : (races : List Race) (r : Race) → Contains (map race_key races) (race_key r) → Contains races r
-contains-race races r (k, within, at) =
-    (k, omega (arith, within, length-map races race_key), one-race (get_or races k r) r (sym (get_or-map race_key races k r) ∙ at))
+contains-told : (told : List Told) (r : Told) → Contains (map told_key told) (told_key r) → Contains told r
+contains-told told r (k, within, at) =
+    (k, omega (arith, within, length-map told told_key), one-told (get_or told k r) r (sym (get_or-map told_key told k r) ∙ at))
 
 module _ (t : Timeline) (files : List (List ℕ)) where
-  abbrev IsAt : ℕ → ℕ → ℕ → Type 0
-  IsAt b a place = IsRaceAt t.manifest files t.opening (kept_events t) b a place
-
-  -- numbers that were found are those of a race
-  race-of : (user maker place : ℕ) (paths : List (List ℕ)) (k : List ℕ) → lists t.manifest t.opening (kept_events t) user ≡ Some paths → place < length paths
-      → Makes t.manifest.builds maker (get_or paths place []) → IsKeyBy t.manifest.builds files paths user place maker k → IsRaceAt t.manifest files t.opening (kept_events t) user maker place
-  race-of user maker place paths k lists_are below made key = record {
+  -- numbers that were found are those of what is told
+  told-by : (user maker place : ℕ) (paths : List (List ℕ)) → lists t.manifest t.opening (kept_events t) user ≡ Some paths → place < length paths
+      → Makes t.manifest.builds maker (get_or paths place []) → IsFirstPlace paths place → IsToTell t.manifest.builds files user maker → IsToldAt t files user maker place
+  told-by user maker place paths lists_are below made first (itself same) = owned same (record {
+    path = get_or paths place [];
+    own = record {
+      all = paths;
+      lists_are = lists_are;
+      is_listed = Contains-get_or paths place [] below;
+      made = subst (λ m. Makes t.manifest.builds m (get_or paths place [])) same made;
+    };
+    stands = slice_get-get_or paths place [] below;
+    first = first;
+  })
+  told-by user maker place paths lists_are below made first (another apart) = raced (record {
     path = get_or paths place [];
     race = record {
       all = paths;
       lists_are = lists_are;
       is_listed = Contains-get_or paths place [] below;
       made = made;
-      others = key.apart.others;
-      unordered = key.apart.unordered;
-      comes_later = key.apart.comes_later;
+      others = apart.others;
+      unordered = apart.unordered;
+      comes_later = apart.comes_later;
     };
     stands = slice_get-get_or paths place [] below;
-    first = key.first;
-  }
+    first = first;
+  })
 
-  found-race : (n : ℕ) (r : Race) → IsKeyBelow t files n (race_key r) → IsRaceAt t.manifest files t.opening (kept_events t) r.user r.maker r.place
-  found-race n r s =
+  found-told : (n : ℕ) (r : Told) → IsKeyBelow t files n (told_key r) → IsToldAt t files r.user r.maker r.place
+  found-told n r s =
       let o = s.holds in
       let p = o.among in
       let a = p.holds in
@@ -102,54 +111,68 @@ module _ (t : Timeline) (files : List (List ℕ)) where
       let m : r.maker ≡ a.maker = cc in
       let u : r.user ≡ s.number = cc in
       let q : r.place ≡ p.number = cc in
-      subst (λ x. IsRaceAt t.manifest files t.opening (kept_events t) x r.maker r.place) (sym u)
-      (subst (λ x. IsRaceAt t.manifest files t.opening (kept_events t) s.number x r.place) (sym m)
-      (subst (λ x. IsRaceAt t.manifest files t.opening (kept_events t) s.number a.maker x) (sym q)
-      (race-of s.number a.maker p.number o.paths (race_key r) o.lists_are p.below a.made a.key)))
+      subst (λ x. IsToldAt t files x r.maker r.place) (sym u)
+      (subst (λ x. IsToldAt t files s.number x r.place) (sym m)
+      (subst (λ x. IsToldAt t files s.number a.maker x) (sym q)
+      (told-by s.number a.maker p.number o.paths o.lists_are p.below a.made a.key.first a.key.told)))
 
-  -- and those of each race are found
-  race-found : (r : Race) → IsRaceAt t.manifest files t.opening (kept_events t) r.user r.maker r.place → IsKeyBelow t files (length t.manifest.builds) (race_key r)
-  race-found r at =
-      let within : r.place < length at.race.all = slice_get_within at.race.all r.place at.path at.stands in
-      let both : Some (get_or at.race.all r.place []) ≡ Some at.path = sym (slice_get-get_or at.race.all r.place [] within) ∙ at.stands in
-      let there : get_or at.race.all r.place [] ≡ at.path = cc in
+  -- and those of all that is told are found
+  key-of : (r : Told) (path : List ℕ) (all : List (List ℕ)) → lists t.manifest t.opening (kept_events t) r.user ≡ Some all → slice_get all r.place ≡ Some path → Makes t.manifest.builds r.maker path
+      → IsFirstPlace all r.place → IsToTell t.manifest.builds files r.user r.maker → IsKeyBelow t files (length t.manifest.builds) (told_key r)
+  key-of r path all lists_are stands made first told =
+      let within : r.place < length all = slice_get_within all r.place path stands in
+      let both : Some (get_or all r.place []) ≡ Some path = sym (slice_get-get_or all r.place [] within) ∙ stands in
+      let there : get_or all r.place [] ≡ path = cc in
       record {
         number = r.user;
-        below = lists-within t.manifest t.opening (kept_events t) r.user at.race.all at.race.lists_are;
+        below = lists-within t.manifest t.opening (kept_events t) r.user all lists_are;
         holds = record {
-          paths = at.race.all;
-          lists_are = at.race.lists_are;
+          paths = all;
+          lists_are = lists_are;
           among = record {
             number = r.place;
             below = within;
             holds = record {
               maker = r.maker;
-              made = subst (λ p. Makes t.manifest.builds r.maker p) (sym there) at.race.made;
-              key = record {
-                is = refl;
-                apart = record { others = at.race.others; unordered = at.race.unordered; comes_later = at.race.comes_later };
-                first = at.first;
-              };
+              made = subst (λ p. Makes t.manifest.builds r.maker p) (sym there) made;
+              key = record { is = refl; told = told; first = first };
             };
           };
         };
       }
 
-  pub are-races : (n : ℕ) (keys : List (List ℕ)) (races : List Race) → n ≡ length t.manifest.builds → ((k : List ℕ) → Contains keys k ↔ (Contains no-keys k ⊎ IsKeyBelow t files n k))
-      → map race_key races ≡ keys → IsStrictlySortedBy (slice_cmp nat_cmp) (map race_key races) → AreRaces t.manifest files t.opening (kept_events t) races
-  are-races n keys races all are same rising = record {
+  told-found : (r : Told) → IsToldAt t files r.user r.maker r.place → IsKeyBelow t files (length t.manifest.builds) (told_key r)
+  told-found r (raced at) =
+      key-of r at.path at.race.all at.race.lists_are at.stands at.race.made at.first
+      (another (record { others = at.race.others; unordered = at.race.unordered; comes_later = at.race.comes_later }))
+  told-found r (owned same at) =
+      key-of r at.path at.own.all at.own.lists_are at.stands (subst (λ m. Makes t.manifest.builds m at.path) (sym same) at.own.made) at.first (itself same)
+
+  pub are-told : (n : ℕ) (keys : List (List ℕ)) (told : List Told) → n ≡ length t.manifest.builds → ((k : List ℕ) → Contains keys k ↔ (Contains no-keys k ⊎ IsKeyBelow t files n k))
+      → map told_key told ≡ keys → IsStrictlySortedBy (slice_cmp nat_cmp) (map told_key told) → AreTold t files told
+  are-told n keys told all are same rising = record {
     exact = λ r. (forth r, back r);
     rising = rising;
   }
     where
-      by : (r : Race) → Contains no-keys (race_key r) ⊎ IsKeyBelow t files n (race_key r) → IsRaceAt t.manifest files t.opening (kept_events t) r.user r.maker r.place
-      by r (inl none) = absurd (none-in (race_key r) none)
-      by r (inr s) = found-race n r s
+      by : (r : Told) → Contains no-keys (told_key r) ⊎ IsKeyBelow t files n (told_key r) → IsToldAt t files r.user r.maker r.place
+      by r (inl none) = absurd (none-in (told_key r) none)
+      by r (inr s) = found-told n r s
 
-      forth : (r : Race) → Contains races r → IsRaceAt t.manifest files t.opening (kept_events t) r.user r.maker r.place
-      forth r h = by r ((are (race_key r)).0 (subst (λ ks. Contains ks (race_key r)) same (contains-key races r h)))
+      forth : (r : Told) → Contains told r → IsToldAt t files r.user r.maker r.place
+      forth r h = by r ((are (told_key r)).0 (subst (λ ks. Contains ks (told_key r)) same (contains-key told r h)))
 
-      back : (r : Race) → IsRaceAt t.manifest files t.opening (kept_events t) r.user r.maker r.place → Contains races r
+      back : (r : Told) → IsToldAt t files r.user r.maker r.place → Contains told r
       back r at =
-          contains-race races r (subst (λ ks. Contains ks (race_key r)) (sym same)
-          ((are (race_key r)).1 (inr (subst (λ m. IsKeyBelow t files m (race_key r)) (sym all) (race-found r at)))))
+          contains-told told r (subst (λ ks. Contains ks (told_key r)) (sym same)
+          ((are (told_key r)).1 (inr (subst (λ m. IsKeyBelow t files m (told_key r)) (sym all) (told-found r at)))))
+
+  -- all that is told is of edges
+  between : (r : Told) → IsToldAt t files r.user r.maker r.place → IsBetween t.manifest.builds r
+  between r (raced at) = record { maker = (maker-command at.race.made).0; user = lists-within t.manifest t.opening (kept_events t) r.user at.race.all at.race.lists_are }
+  between r (owned same at) =
+      let user = lists-within t.manifest t.opening (kept_events t) r.user at.own.all at.own.lists_are in
+      record { maker = subst (λ m. m < length t.manifest.builds) (sym same) user; user = user }
+
+  pub all-between : (told : List Told) → AreTold t files told → All (IsBetween t.manifest.builds) told
+  all-between told are = λ k d within. between (get_or told k d) ((are.exact (get_or told k d)).0 (Contains-get_or told k d within))

@@ -8,8 +8,8 @@ use Rattle.std.specs.Cmp.Lexicographic.{slice_cmp, nat_list_cmp_total}
 use Rattle.std.specs.FinMap.{slice_cmp-IsAntisymmetric, nat_cmp-IsAntisymmetric}
 use Rattle.std.specs.Cmp.{eq_by_cmp_equiv, Equal-is}
 use Rattle.std.proofs.lemmas.Map.Views.{btree_set_contains_iff}
-use Rattle.rev_races.specs.declared.race.Race.{Race}
-use Rattle.rev_races.specs.Answer.{race_key}
+use Rattle.rev_races.specs.declared.told.Told.{Told}
+use Rattle.rev_races.specs.Keys.{told_key}
 
 pub added : (s n : BTreeSet (List ℕ)) (key : List ℕ) → ((q : List ℕ) → sorted.contains (slice_cmp nat_cmp) n q ≡ cond (is_eq (slice_cmp nat_cmp key q)) true (sorted.contains (slice_cmp nat_cmp) s q))
     → (k : List ℕ) → Contains n.keys k ↔ (Contains s.keys k ⊎ (k ≡ key))
@@ -46,12 +46,12 @@ three (a ∷ b ∷ []) e = absurd (omega (arith, e))
 three (a ∷ b ∷ c ∷ []) e = refl
 three (a ∷ b ∷ c ∷ d ∷ ks) e = absurd (omega (arith, e))
 
-key-push : (races : List Race) (r : Race) (rest : List (List ℕ)) → map race_key (races ++ r ∷ []) ++ rest ≡ map race_key races ++ (race_key r ∷ rest)
+key-push : (races : List Told) (r : Told) (rest : List (List ℕ)) → map told_key (races ++ r ∷ []) ++ rest ≡ map told_key races ++ (told_key r ∷ rest)
 key-push [] r rest = refl
-key-push (x ∷ xs) r rest = ap (λ (ks : List (List ℕ)). race_key x ∷ ks) (key-push xs r rest)
+key-push (x ∷ xs) r rest = ap (λ (ks : List (List ℕ)). told_key x ∷ ks) (key-push xs r rest)
 
-pub keys-more : (races all : List Race) (r : Race) (k : List ℕ) (old rest keys : List (List ℕ)) → old ≡ k ∷ rest → all ≡ races ++ r ∷ [] → race_key r ≡ k → map race_key races ++ old ≡ keys
-    → map race_key all ++ rest ≡ keys
+pub keys-more : (races all : List Told) (r : Told) (k : List ℕ) (old rest keys : List (List ℕ)) → old ≡ k ∷ rest → all ≡ races ++ r ∷ [] → told_key r ≡ k → map told_key races ++ old ≡ keys
+    → map told_key all ++ rest ≡ keys
 keys-more races all r k old rest keys taken pushed same before =
-    ap (λ (rs : List Race). map race_key rs ++ rest) pushed ∙ key-push races r rest ∙ ap (λ x. map race_key races ++ (x ∷ rest)) same
-    ∙ ap (λ (ks : List (List ℕ)). map race_key races ++ ks) (sym taken) ∙ before
+    ap (λ (rs : List Told). map told_key rs ++ rest) pushed ∙ key-push races r rest ∙ ap (λ x. map told_key races ++ (x ∷ rest)) same
+    ∙ ap (λ (ks : List (List ℕ)). map told_key races ++ ks) (sym taken) ∙ before

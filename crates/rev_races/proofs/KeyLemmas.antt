@@ -8,7 +8,7 @@ use Rattle.rev_manifest.specs.Manifest.{BuildValue, ManifestValue}
 use Rattle.rev_history.specs.Timeline.{Timeline, kept_events}
 use Rattle.rev_graph.specs.Graph.{Produces}
 use Rattle.rev_waits.specs.Waits.{Makes}
-use Rattle.rev_races.specs.Answer.{IsFirstPlace, IsUnordered}
+use Rattle.rev_races.specs.Answer.{IsFirstPlace, IsToTell}
 use Rattle.rev_races.specs.Keys.{SomeBelow, IsKeyBy, IsKeyAt, IsKeyAmong, IsKeyOf}
 use Rattle.rev_races.specs.Races.{lists}
 
@@ -49,9 +49,9 @@ either-more {A} {C} {P} {Q} before same = (forth, back)
     back (inr q) = before.1 (inr (same.1 q))
 
 -- ONE MAKER, AND ALL OF A PATH'S
-pub key-by : (builds : List BuildValue) (files paths : List (List ℕ)) (user place maker : ℕ) (k : List ℕ) → IsUnordered builds files user maker → IsFirstPlace paths place
+pub key-by : (builds : List BuildValue) (files paths : List (List ℕ)) (user place maker : ℕ) (k : List ℕ) → IsToTell builds files user maker → IsFirstPlace paths place
     → (k ≡ maker ∷ user ∷ place ∷ []) ↔ IsKeyBy builds files paths user place maker k
-key-by builds files paths user place maker k apart first = (λ e. record { is = e; apart = apart; first = first }, λ key. key.is)
+key-by builds files paths user place maker k told first = (λ e. record { is = e; told = told; first = first }, λ key. key.is)
 
 pub keys-at : (builds : List BuildValue) (files paths : List (List ℕ)) (user place : ℕ) (makers : List ℕ) (k : List ℕ)
     → ((maker : ℕ) → Contains makers maker ↔ Makes builds maker (get_or paths place []))

@@ -1,23 +1,29 @@
-//! The races of a history.
-ghost use Rattle.std.specs.Prelude.{◌≡◌, ◌<◌, ◌↔◌, ◌⊎◌, ℕ, List, false, true, length, Contains, IfOk, OnOk};
+//! What is told of a history.
+ghost use Rattle.std.specs.Prelude.{◌≡◌, ◌<◌, ◌↔◌, ◌⊎◌, ℕ, List, false, true, length, All, Contains, IfOk, OnOk};
 ghost use Rattle.rev_graph.specs.Graph.{successor_lists};
 ghost use Rattle.rev_history.specs.Timeline.{kept_events};
 ghost use Rattle.rev_ranks.specs.Graph.{graph_of};
 ghost use Rattle.rev_waits.specs.Waits.{AreWaitedFor, phony_lists};
 ghost use Rattle.rev_races.specs.Answer.{AreNoted, AreRaces};
-ghost use Rattle.rev_races.specs.Keys.{IsKeyAmong, IsKeyAt, IsKeyOf};
+ghost use Rattle.rev_races.specs.Keys.{AreTold, IsKeyAmong, IsKeyAt, IsKeyOf};
+ghost use Rattle.rev_races.specs.Kinds.{IsBetween};
+ghost use Rattle.rev_races.specs.Searches.{AreDirect, IsKept};
 
+use crate::direct::{has_suspect, mark_direct};
 use crate::found::Found;
+use crate::kinds::with_kinds;
 use crate::listing::{listed, noted_edges};
-use crate::order::{is_first, is_unordered};
+use crate::order::{is_first, is_to_tell};
 use crate::race::Race;
+use crate::search::{Search, no_search, search_for};
+use crate::told::Told;
 use rev_graph::Graph;
 use rev_history::History;
 use rev_paths::Name;
-use rev_waits::{makers, phony_steps, steps, waited_for};
+use rev_waits::{makers, phony_steps, steps};
 use std::alloc::{AllocError, Global};
 
-// Adds the races of a user at one place of its list.
+// Adds what is told of a user at one place of its list.
 fn add_at(
     alloc: Global,
     graph: &Graph,
@@ -37,14 +43,14 @@ fn add_at(
 {
     let makers = makers(alloc, graph, phony, &paths[place])?;
     for maker in &makers {
-        if is_unordered(graph, files, waited, user, *maker) && is_first(paths, place) {
+        if is_to_tell(graph, files, waited, user, *maker) && is_first(paths, place) {
             found.add(*maker, user, place as u64)?;
         }
     }
     Ok(())
 }
 
-// Adds the races of a user, whose list has these paths.
+// Adds what is told of a user, whose list has these paths.
 fn add_among(
     alloc: Global,
     graph: &Graph,
@@ -68,7 +74,7 @@ fn add_among(
     Ok(())
 }
 
-// Adds the races of a user.
+// Adds what is told of a user. `direct` has marks of other edges, and of the user afterwards.
 fn add_of(
     alloc: Global,
     history: &History,
@@ -77,6 +83,8 @@ fn add_of(
     steps: &[Vec<u32>],
     phony: &[Vec<u32>],
     files: &[Name],
+    direct: &mut [Option<u32>],
+    search: &mut Search,
     user: u32,
     found: &mut Found,
 ) -> Result<(), AllocError>
@@ -85,20 +93,59 @@ fn add_of(
     requires ended { AreNoted history.now.timeline true ended.now }
     requires steps { graph_of steps.now ≡ successor_lists history.now.timeline.manifest.builds }
     requires phony { graph_of phony.now ≡ phony_lists history.now.timeline.manifest.builds }
-    ensures { OnOk result ((k : List ℕ) → Contains found.new k
+    requires direct { AreDirect (graph_of steps.now) direct.old }
+    requires kept { IsKept history.now.timeline.manifest.builds search.old.edge search.old.waited.items }
+    ensures direct { OnOk result (AreDirect (graph_of steps.now) direct.new) }
+    ensures kept { OnOk result (IsKept history.now.timeline.manifest.builds search.new.edge search.new.waited.items) }
+    ensures found { OnOk result ((k : List ℕ) → Contains found.new k
         ↔ (Contains found.old k ⊎ IsKeyOf history.now.timeline files.now user k)) }
 {
     let Some(paths) = listed(history, began, ended, user)? else {
         return Ok(());
     };
     let graph = history.graph();
-    let waited = waited_for(alloc, graph, steps, user)?;
-    add_among(alloc, graph, phony, files, &waited, user, paths, found)
+    mark_direct(steps, user, direct);
+    if !has_suspect(graph, direct, user, paths) {
+        return Ok(());
+    }
+    search_for(alloc, graph, steps, user, search)?;
+    add_among(alloc, graph, phony, files, &search.waited, user, paths, found)?;
+    Ok(())
 }
 
-/// The races of a history: each path that an edge lists, that another edge makes, and for which it does not wait, with
-/// both edges, in the order of the numbers of the maker, of the user, and of the path's place in the user's list. The
-/// edges that make one of `files`, from which the manifest was read, run before all else, and are in no race.
+// What is told of all users.
+fn found_in(
+    alloc: Global,
+    history: &History,
+    steps: &[Vec<u32>],
+    files: &[Name],
+) -> Result<Vec<Told>, AllocError>
+    requires { graph_of steps.now ≡ successor_lists history.now.timeline.manifest.builds }
+    ensures told { IfOk result (λ told. AreTold history.now.timeline files.now told.items) }
+    ensures between { IfOk result (λ told. All (IsBetween history.now.timeline.manifest.builds) told.items) }
+{
+    let graph = history.graph();
+    let phony = phony_steps(alloc, graph)?;
+    let began = noted_edges(alloc, history, false)?;
+    let ended = noted_edges(alloc, history, true)?;
+    let mut direct = vec![in alloc; None; graph.edges() as usize]?;
+    let mut search = no_search(alloc);
+    let mut found = Found::new(alloc);
+    for user in 0..graph.edges() {
+        add_of(
+            alloc, history, &began, &ended, steps, &phony, files, &mut direct, &mut search, user, &mut found,
+        )?;
+    }
+    found.into_told(alloc)
+}
+
+/// What is told of a history, in the order of the numbers of the maker, of the user, and of the path's place in the
+/// user's list: each path that an edge lists, that another edge makes, and for which it does not wait (a race, or a
+/// cycle where the maker waits for the user), and each path that an edge lists and makes itself (its own). The edges
+/// that make one of `files`, from which the manifest was read, run before all else, and race with none.
+///
+/// Each listed path is looked up once. An edge is searched for what it waits for only where a path that it lists is made
+/// by one that it does not step to, and not where the last search was for an edge that steps to the same ones.
 ///
 /// # Errors
 /// [`AllocError`] only where an allocation was refused.
@@ -106,16 +153,7 @@ pub fn races(alloc: Global, history: &History, files: &[Name]) -> Result<Vec<Rac
     ensures { IfOk result (λ races. AreRaces history.now.timeline.manifest files.now
         history.now.timeline.opening (kept_events history.now.timeline) races.items) }
 {
-    let graph = history.graph();
-    let steps = steps(alloc, graph)?;
-    let phony = phony_steps(alloc, graph)?;
-    let began = noted_edges(alloc, history, false)?;
-    let ended = noted_edges(alloc, history, true)?;
-    let mut found = Found::new(alloc);
-    for user in 0..graph.edges() {
-        add_of(
-            alloc, history, &began, &ended, &steps, &phony, files, user, &mut found,
-        )?;
-    }
-    found.into_races(alloc)
+    let steps = steps(alloc, history.graph())?;
+    let told = found_in(alloc, history, &steps, files)?;
+    with_kinds(alloc, history.graph(), &steps, &told)
 }

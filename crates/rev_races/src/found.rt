@@ -1,17 +1,16 @@
-//! Races as they are found.
+//! What is told, as it is found.
 ghost use Rattle.std.specs.Prelude.{◌≡◌, ◌↔◌, ◌⊎◌, ℕ, List, ◌∷◌, [], map, All, Contains, IfOk, OnOk};
 ghost use Rattle.std.specs.Cmp.Lexicographic.{slice_cmp};
 ghost use Rattle.std.specs.List.Sorted.{IsStrictlySortedBy};
 ghost use Rattle.std.specs.Ordering.{nat_cmp};
-ghost use Rattle.rev_races.specs.Answer.{race_key};
-ghost use Rattle.rev_races.specs.Keys.{IsOfEdges};
+ghost use Rattle.rev_races.specs.Keys.{IsOfEdges, told_key};
 
-use crate::race::Race;
+use crate::told::Told;
 use std::alloc::{AllocError, Global};
 use std::collections::BTreeSet;
 use std::marker::Model;
 
-/// The races that were found, each once, by the numbers of maker and user and by the path's place in the user's list.
+/// What was found, each once, by the numbers of maker and user and by the path's place in the user's list.
 #[derive(Drop)]
 pub(crate) struct Found {
     keys: BTreeSet<[u64; 3]>,
@@ -35,7 +34,7 @@ impl Found {
         }
     }
 
-    /// Adds a race, unless it is there.
+    /// Adds what is told, unless it is there.
     pub(crate) fn add(&mut self, maker: u32, user: u32, place: u64) -> Result<(), AllocError>
         ensures { OnOk result ((k : List ℕ) → Contains self.new k
             ↔ (Contains self.old k ⊎ (k ≡ maker ∷ user ∷ place ∷ []))) }
@@ -44,32 +43,32 @@ impl Found {
         Ok(())
     }
 
-    /// The races in their order.
-    pub(crate) fn into_races(self, alloc: Global) -> Result<Vec<Race>, AllocError>
+    /// What was found, in its order.
+    pub(crate) fn into_told(self, alloc: Global) -> Result<Vec<Told>, AllocError>
         requires { All IsOfEdges self }
-        ensures keys { IfOk result (λ races. map race_key races.items ≡ self) }
-        ensures rising { IfOk result (λ races. IsStrictlySortedBy (slice_cmp nat_cmp) (map race_key races.items)) }
+        ensures keys { IfOk result (λ told. map told_key told.items ≡ self) }
+        ensures rising { IfOk result (λ told. IsStrictlySortedBy (slice_cmp nat_cmp) (map told_key told.items)) }
     {
         let Found { keys } = self;
-        races_of(alloc, keys)
+        told_of(alloc, keys)
     }
 }
 
-// The races of some numbers, in the order of these.
-fn races_of(alloc: Global, keys: BTreeSet<[u64; 3]>) -> Result<Vec<Race>, AllocError>
+// What some numbers tell, in the order of these.
+fn told_of(alloc: Global, keys: BTreeSet<[u64; 3]>) -> Result<Vec<Told>, AllocError>
     requires { All IsOfEdges keys.keys }
-    ensures keys { IfOk result (λ races. map race_key races.items ≡ keys.keys) }
-    ensures rising { IfOk result (λ races. IsStrictlySortedBy (slice_cmp nat_cmp) (map race_key races.items)) }
+    ensures keys { IfOk result (λ told. map told_key told.items ≡ keys.keys) }
+    ensures rising { IfOk result (λ told. IsStrictlySortedBy (slice_cmp nat_cmp) (map told_key told.items)) }
 {
     let mut left = keys;
     let _count = left.len();
-    let mut races = Vec::new(alloc);
+    let mut told = Vec::new(alloc);
     while let Some(key) = left.pop_first() {
-        races.push(Race {
+        told.push(Told {
             maker: key[0] as u32,
             user: key[1] as u32,
             place: key[2],
         })?;
     }
-    Ok(races)
+    Ok(told)
 }

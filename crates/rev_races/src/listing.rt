@@ -1,5 +1,5 @@
 //! What edges list.
-ghost use Rattle.std.specs.Prelude.{◌≡◌, ◌<◌, ◌==◌, ℕ, false, true, length, IfOk, IfSome};
+ghost use Rattle.std.specs.Prelude.{◌≡◌, ◌<◌, ◌==◌, ℕ, List, Some, false, true, length, slice_get, option_and_then, IfOk, IfSome};
 ghost use Rattle.std.specs.Option.{option_copied, option_map};
 ghost use Rattle.rev_cells.specs.declared.value.DepsRecord.{DepsRecord};
 ghost use Rattle.rev_dirty.specs.Reasons.{holds};
@@ -7,6 +7,7 @@ ghost use Rattle.rev_history.specs.Timeline.{kept_events};
 ghost use Rattle.rev_races.specs.Answer.{AreNoted, is_noted};
 ghost use Rattle.rev_races.specs.Races.{lists};
 
+use crate::race::Race;
 use rev_cells::DepsRecord;
 use rev_dirty::deps_record;
 use rev_events::Event;
@@ -80,4 +81,31 @@ pub(crate) fn listed<'a>(
     }
     let deps = deps_record(history.graph(), history.cells(), edge)?;
     Ok(paths_of(deps))
+}
+
+// The path at a place of a list.
+fn path_at(paths: Option<&[Name]>, place: u64) -> Option<&Name>
+    ensures { option_copied result ≡ option_and_then (λ paths. slice_get paths place) (option_copied paths.entry) }
+{
+    let paths = paths?;
+    if place >= paths.len() as u64 {
+        return None;
+    }
+    paths.get(place as usize)
+}
+
+/// The path of one answer of [`races`](crate::races): that at its place of what its user lists.
+///
+/// # Errors
+/// [`AllocError`] only where an allocation was refused.
+pub fn path_of<'a>(history: &'a History, race: &Race) -> Result<Option<&'a Name>, AllocError>
+    ensures { IfOk result (λ path. (all : List (List ℕ)) → lists history.now.timeline.manifest
+        history.now.timeline.opening (kept_events history.now.timeline) race.now.user ≡ Some all
+        → option_copied path ≡ slice_get all race.now.place) }
+{
+    if race.user >= history.graph().edges() {
+        return Ok(None);
+    }
+    let deps = deps_record(history.graph(), history.cells(), race.user)?;
+    Ok(path_at(paths_of(deps), race.place))
 }

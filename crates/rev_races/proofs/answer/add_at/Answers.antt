@@ -6,10 +6,10 @@ use Rattle.rev_races.specs.Keys.{SomeBelow, IsKeyBy}
 use Rattle.rev_races.proofs.KeyLemmas.{some-more, some-skip, either-more, key-by, keys-at, makers-are}
 use Rattle.rev_races.proofs.RaceLemmas.{maker-command}
 use Rattle.rev_races.proofs.answer.add_at.Goals as goal
-use Rattle.rev_races.proofs.answer.add_at.Goals.{then-is_unordered+then-is_first+in_ok-add, else-is_unordered, else-is_unordered-via-then-is_unordered+else-is_first, else-is_unordered-via-else-is_unordered}
+use Rattle.rev_races.proofs.answer.add_at.Goals.{then-is_to_tell+then-is_first+in_ok-add, else-is_to_tell, else-is_to_tell-via-then-is_to_tell+else-is_first, else-is_to_tell-via-else-is_to_tell}
 
-pub is_unordered-requires-clause-maker : goal.is_unordered-requires-clause-maker
-is_unordered-requires-clause-maker c =
+pub is_to_tell-requires-clause-maker : goal.is_to_tell-requires-clause-maker
+is_to_tell-requires-clause-maker c =
     let are = makers-are c.args.graph.now.manifest.builds c.deref-maker-items.result.now c.in_ok-makers.makers.items c.index-paths-place.result (get_or c.args.paths.now c.args.place []) c.deref-maker-items.ensures.value
     (c.index-paths-place.is ∙ get_or_default c.args.paths.now c.args.place c.index-paths-place.result [] c.requires.place) c.in_ok-makers.ensures in
     (maker-command ((are (get_or c.deref-maker-items.result.now c.loop-maker.maker-index 0)).0 (Contains-get_or c.deref-maker-items.result.now c.loop-maker.maker-index 0 c.loop-maker-test.true))).0
@@ -23,16 +23,16 @@ loop-maker-preserved c =
     let place = c.args.place in
     let items = c.deref-maker-items.result.now in
     let i = c.loop-maker.maker-index in
-    elim c.if-is_unordered.branch [
-      | then-is_unordered+then-is_first+in_ok-add w ↦ λ k.
+    elim c.if-is_to_tell.branch [
+      | then-is_to_tell+then-is_first+in_ok-add w ↦ λ k.
           subst (λ (fs : List (List ℕ)). Contains fs k ↔ (Contains c.args.found.now k ⊎ SomeBelow (λ j. IsKeyBy builds files paths user place (get_or items j 0) k) (i + 1))) (sym w.found-is)
           (some-more (λ j. IsKeyBy builds files paths user place (get_or items j 0) k) i (c.loop-maker.invariant k)
-          (either-more (w.in_ok-add.ensures k) (key-by builds files paths user place (get_or items i 0) k (c.is_unordered.ensures.0 w.if-is_unordered.true) (w.is_first.ensures.0 w.if-is_first.true))))
-      | else-is_unordered w ↦ λ k.
+          (either-more (w.in_ok-add.ensures k) (key-by builds files paths user place (get_or items i 0) k (c.is_to_tell.ensures.0 w.if-is_to_tell.true) (w.is_first.ensures.0 w.if-is_first.true))))
+      | else-is_to_tell w ↦ λ k.
           subst (λ (fs : List (List ℕ)). Contains fs k ↔ (Contains c.args.found.now k ⊎ SomeBelow (λ j. IsKeyBy builds files paths user place (get_or items j 0) k) (i + 1))) (sym w.found-is)
-          (some-skip (λ j. IsKeyBy builds files paths user place (get_or items j 0) k) i (c.loop-maker.invariant k) (λ key. elim w.else-is_unordered.branch [
-            | else-is_unordered-via-then-is_unordered+else-is_first v ↦ true≢false (sym (v.is_first.ensures.1 key.first) ∙ v.if-is_first.false)
-            | else-is_unordered-via-else-is_unordered v ↦ true≢false (sym (c.is_unordered.ensures.1 key.apart) ∙ v.if-is_unordered.false)
+          (some-skip (λ j. IsKeyBy builds files paths user place (get_or items j 0) k) i (c.loop-maker.invariant k) (λ key. elim w.else-is_to_tell.branch [
+            | else-is_to_tell-via-then-is_to_tell+else-is_first v ↦ true≢false (sym (v.is_first.ensures.1 key.first) ∙ v.if-is_first.false)
+            | else-is_to_tell-via-else-is_to_tell v ↦ true≢false (sym (c.is_to_tell.ensures.1 key.told) ∙ v.if-is_to_tell.false)
           ]))
     ]
 

@@ -1,0 +1,19 @@
+-- Marks of producers, and what the last search found.
+use Rattle.std.specs.Prelude.{◌≡◌, ℕ, ◌<◌, Bool, List, [], length, Option, Some, None, IfSome, slice_index_or}
+use Rattle.rev_manifest.specs.Manifest.{BuildValue}
+use Rattle.rev_ranks.specs.Graph.{Steps}
+use Rattle.rev_waits.specs.Waits.{AreWaitedFor, Makes, Waits}
+
+-- a mark for each node; a mark with a number says that this one steps to the node
+pub record AreDirect (graph : List (List ℕ)) (marks : List (Option ℕ)) : Type 0 where
+  pub each : length marks ≡ length graph
+  pub sound : (node from : ℕ) → slice_index_or marks node None ≡ Some from → Steps graph from node
+
+-- an edge waits for whatever makes the path
+pub record IsQuiet (builds : List BuildValue) (user : ℕ) (path : List ℕ) : Type 0 where
+  pub waits : (maker : ℕ) → Makes builds maker path → Waits builds user maker
+
+-- where there was a search, its marks are those of its edge
+pub record IsKept (builds : List BuildValue) (edge : Option ℕ) (marks : List Bool) : Type 0 where
+  pub within : IfSome edge (λ e. e < length builds)
+  pub waited : IfSome edge (λ e. AreWaitedFor builds e marks)
