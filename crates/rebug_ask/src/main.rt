@@ -3,16 +3,17 @@
 
 mod fault;
 mod files;
+mod found;
 mod races;
 
 use clap::error::ErrorKind;
 use fault::ProgramFault;
-use races::races;
-use rev_asking::{Question, asked};
+use races::{How, races};
+use rev_asking::{Asked, Word, read_words};
 use std::alloc::Global;
 use std::io;
 use std::process::ExitCode;
-use std::rt::Env;
+use std::rt::{Env, Files};
 
 // The status of a command line that asks for help or is wrong.
 const USAGE: u8 = 2;
@@ -40,6 +41,22 @@ fn words<R: Env + Alloc<A = Global>>(rt: &R) -> io::Result<Vec<String>> {
     Ok(words)
 }
 
+// Answers what is asked, and gives the status.
+fn answer<'a, R: Files + Print + Eprint + AllocGlobal>(
+    rt: &R,
+    asked: &Asked<'a>,
+) -> Result<u8, ProgramFault<'a>> {
+    let how = How {
+        all: asked.all,
+        json: asked.json,
+    };
+    match asked.word {
+        Word::Races => races(rt, asked.recording, how),
+        Word::Replay => races(rt, asked.recording, how),
+        Word::Ask => races(rt, asked.recording, how),
+    }
+}
+
 fn main(rt: HostRuntime) -> ExitCode {
     let words = match words(&rt) {
         Ok(words) => words,
@@ -51,18 +68,11 @@ fn main(rt: HostRuntime) -> ExitCode {
         }
         Err(_) => return fail(&rt, ProgramFault::Memory),
     };
-    let asked = match asked(rt.alloc(), &words) {
+    let asked = match read_words(rt.alloc(), &words) {
         Ok(asked) => asked,
         Err(error) => return explain(&rt, &error),
     };
-    let ended = match asked {
-        Question::Races {
-            recording,
-            all,
-            json,
-        } => races(&rt, recording, all, json),
-    };
-    match ended {
+    match answer(&rt, &asked) {
         Ok(status) => ExitCode::from(status),
         Err(fault) => fail(&rt, fault),
     }

@@ -1,10 +1,11 @@
 //! The races of a recording.
 use crate::fault::ProgramFault;
+use crate::found::{not_judged, told_races};
 use crate::files::{place_of, read_manifest, read_trace};
 use rev_desk::Desk;
 use rev_manifest::Manifest;
 use rev_paths::{Name, PathFault};
-use rev_races_text::{Sources, found, races_text, status};
+use rev_races_text::{Sources, races_json, races_text, status};
 use rev_recording::{RecordingFault, fault_line, open, replay};
 use rev_script::RunFault;
 use rev_sentences::{Inputs, sentence};
@@ -12,6 +13,15 @@ use rev_trace::Trace;
 use std::alloc::Global;
 use std::rt::Files;
 use std::{io, mem};
+
+/// How the races are told.
+#[derive(Clone, Copy)]
+pub struct How {
+    /// Whether nothing is left out.
+    pub all: bool,
+    /// Whether they are JSON.
+    pub json: bool,
+}
 
 // The status of a recording that has a fault.
 const FAULT: u8 = 1;
@@ -47,7 +57,7 @@ fn tell<'a, R: Print + AllocGlobal>(
     files: &[(Vec<u8>, Vec<u8>)],
     manifest: &Manifest,
     desk: &Desk,
-    all: bool,
+    how: How,
 ) -> Result<u8, ProgramFault<'a>> {
     let alloc = rt.alloc();
     let sources = Sources {
@@ -55,10 +65,15 @@ fn tell<'a, R: Print + AllocGlobal>(
         files,
     };
     let names = names_of(alloc, files)?;
-    let found = found(alloc, desk.history(), &names)?;
-    let text = races_text(alloc, &sources, desk.history(), &found, all)?;
+    let races = told_races(alloc, desk.history(), &names)?;
+    let unjudged = not_judged(alloc, desk.history())?;
+    let text = if how.json {
+        races_json(alloc, &sources, &races, &unjudged)?
+    } else {
+        races_text(alloc, &sources, &races, &unjudged, how.all)?
+    };
     write(rt, &text)?;
-    Ok(status(&found))
+    Ok(status(&races))
 }
 
 // The races of a trace that was read.
@@ -67,11 +82,11 @@ fn replayed<'a, R: Print + AllocGlobal>(
     files: &[(Vec<u8>, Vec<u8>)],
     manifest: &Manifest,
     trace: &Trace,
-    all: bool,
+    how: How,
 ) -> Result<Result<u8, ProgramFault<'a>>, RecordingFault> {
     let mut desk = open(rt.alloc(), manifest, trace)?;
     replay(rt.alloc(), &mut desk, trace)?;
-    let told = tell(rt, files, manifest, &desk, all);
+    let told = tell(rt, files, manifest, &desk, how);
     mem::forget(desk);
     Ok(told)
 }
@@ -81,7 +96,7 @@ fn read<'a, R: Print + AllocGlobal>(
     rt: &R,
     files: &[(Vec<u8>, Vec<u8>)],
     trace: &[u8],
-    all: bool,
+    how: How,
 ) -> Result<Result<u8, ProgramFault<'a>>, RecordingFault> {
     let alloc = rt.alloc();
     let manifest = match rev_manifest::read(alloc, files) {
@@ -96,7 +111,7 @@ fn read<'a, R: Print + AllocGlobal>(
         Err(rev_fields::ReadFault::Numbered(fault)) => return Err(RecordingFault::Trace(fault)),
         Err(rev_fields::ReadFault::Memory) => return Err(RecordingFault::Memory),
     };
-    let told = replayed(rt, files, &manifest, &trace, all);
+    let told = replayed(rt, files, &manifest, &trace, how);
     mem::forget(trace);
     told
 }
@@ -129,13 +144,12 @@ fn refuse<'a, R: Eprint + AllocGlobal>(
 pub fn races<'a, R: Files + Print + Eprint + AllocGlobal>(
     rt: &R,
     recording: &'a str,
-    all: bool,
-    _json: bool,
+    how: How,
 ) -> Result<u8, ProgramFault<'a>> {
     let place = place_of(rt, recording);
     let files = read_manifest(rt, recording, &place)?;
     let trace = read_trace(rt, recording, &place)?;
-    match read(rt, &files, &trace, all) {
+    match read(rt, &files, &trace, how) {
         Ok(told) => told,
         Err(fault) => refuse(rt, &files, &trace, &fault),
     }

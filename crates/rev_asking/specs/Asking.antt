@@ -38,11 +38,13 @@ replay_shape = shape_with (codes "replay") (recording_rule ∷ [])
 abbrev pub ask_shape : Shape
 ask_shape = shape_with (codes "ask") (flag_rule (codes "json") ∷ recording_rule ∷ question_rule ∷ [])
 
--- the program: one of these words has to be given
+-- the program without its words: one has to be given
+abbrev pub bare_program : App
+bare_program = on_top (λ s. record s { has_version = true; subcommand_required = true }) (new_app (codes "rebug"))
+
+-- the program
 abbrev pub program : App
-program = with_subcommand (with_subcommand (with_subcommand
-    (on_top (λ s. record s { has_version = true; subcommand_required = true }) (new_app (codes "rebug")))
-    races_shape) replay_shape) ask_shape
+program = with_subcommand (with_subcommand (with_subcommand bare_program races_shape) replay_shape) ask_shape
 
 -- the word that a name is, `ask` where it is none of the others
 abbrev pub word_named : Text → Word

@@ -3,7 +3,7 @@ ghost use Rattle.std.specs.Prelude.{◌≡◌, ◌∷◌, [], codes, false, IfOk
 ghost use Rattle.clap.specs.Words.{app_of, rule_of, shape_of};
 ghost use Rattle.clap.specs.Simple.{new_shape};
 ghost use Rattle.clap.specs.declared.builder.command.Command.TheViews.{out-Command};
-ghost use Rattle.rev_asking.specs.Asking.{ask_shape, flag_rule, program, question_rule, races_shape, recording_rule, replay_shape};
+ghost use Rattle.rev_asking.specs.Asking.{ask_shape, bare_program, flag_rule, program, question_rule, races_shape, recording_rule, replay_shape};
 
 use clap::{Arg, ArgAction, Command};
 use std::alloc::{AllocError, Global};
@@ -86,7 +86,9 @@ fn ask<'a>(alloc: Global) -> Result<Command<'a>, AllocError>
 }
 
 // The program without its words.
-fn bare_command<'a>(alloc: Global) -> Command<'a> {
+fn bare_command<'a>(alloc: Global) -> Command<'a>
+    ensures { app_of result ≡ bare_program }
+{
     Command::new(alloc, "rebug")
         .version("0.1.0")
         .about("Answers questions about a recorded Ninja build, over the recording replayed")

@@ -1,6 +1,6 @@
 //! The words of the command line, read.
-ghost use Rattle.std.specs.Prelude.{◌≡◌, ◌↔◌, [], codes, IfOk, IsTrue, Some, map, option_map, string_bytes, unwrap_or};
-ghost use Rattle.clap.specs.Words.{FailsBy, fault_of, first_value, found_of, matched_of, raw_values};
+ghost use Rattle.std.specs.Prelude.{◌≡◌, ◌↔◌, [], codes, false, IfOk, IsTrue, Some, map, option_map, string_bytes, unwrap_or};
+ghost use Rattle.clap.specs.Words.{FailsBy, fault_of, first_value, found_of, matched_of, raw_values, subcommand_of, subcommand_rows_of};
 ghost use Rattle.rev_asking.specs.Asking.{given_name, program, question_in, value_in, word_named};
 
 use crate::command::command;
@@ -50,24 +50,74 @@ pub fn read_words<'a>(alloc: Global, words: &'a [String]) -> Result<Asked<'a>, E
         ≡ question_in (map string_bytes words.entry.now)) }
     ensures fails { FailsBy (fault_of program (map string_bytes words.entry.now)) result }
 {
+    let matches = matches_of(alloc, words)?;
+    match matches.subcommand() {
+        Some((name, given)) => Ok(asked_of(alloc, name, given)?),
+        None => Ok(nothing_asked(alloc)),
+    }
+}
+
+// What `clap` makes of the words.
+fn matches_of<'a>(alloc: Global, words: &'a [String]) -> Result<ArgMatches<'a>, Error>
+    ensures rows { IfOk result (λ m. subcommand_rows_of m
+        ≡ subcommand_of program (map string_bytes words.entry.now)) }
+    ensures fails { FailsBy (fault_of program (map string_bytes words.entry.now)) result }
+{
     let command = command(alloc)?;
-    let matches = command.try_get_matches_from(words)?;
-    let Some((name, given)) = matches.subcommand() else {
-        return Ok(Asked {
-            word: Word::Ask,
-            recording: "",
-            all: false,
-            json: false,
-            question: Vec::new(alloc),
-        });
-    };
+    command.try_get_matches_from(words)
+}
+
+// What is asked by a word of this name, to which this was given.
+fn asked_of<'a>(
+    alloc: Global,
+    name: &str,
+    given: &ArgMatches<'a>,
+) -> Result<Asked<'a>, AllocError>
+    ensures word { IfOk result (λ a. a.word ≡ word_named name.now) }
+    ensures recording { IfOk result (λ a. a.recording.now
+        ≡ unwrap_or (first_value (found_of given.now) (codes "RECORDING")) []) }
+    ensures all { IfOk result (λ a. IsTrue a.all
+        ↔ first_value (found_of given.now) (codes "all") ≡ Some (codes "true")) }
+    ensures json { IfOk result (λ a. IsTrue a.json
+        ↔ first_value (found_of given.now) (codes "json") ≡ Some (codes "true")) }
+    ensures question { IfOk result (λ a. map (λ w. w.now) a.question.items
+        ≡ unwrap_or (option_map raw_values (matched_of (found_of given.now) (codes "QUESTION"))) []) }
+{
+    let question = question_of(alloc, given)?;
     Ok(Asked {
         word: word_named(name),
-        recording: given.get_str("RECORDING").unwrap_or(""),
+        recording: recording_of(given),
         all: is_on(given, "all"),
         json: is_on(given, "json"),
-        question: question_of(alloc, given)?,
+        question,
     })
+}
+
+// What is asked by no word.
+fn nothing_asked<'a>(alloc: Global) -> Asked<'a>
+    ensures word { result.word ≡ word_named [] }
+    ensures recording { result.recording.now ≡ [] }
+    ensures all { result.all ≡ false }
+    ensures json { result.json ≡ false }
+    ensures question { result.question.items ≡ [] }
+{
+    Asked {
+        word: Word::Ask,
+        recording: "",
+        all: false,
+        json: false,
+        question: Vec::new(alloc),
+    }
+}
+
+// The recording that was given.
+fn recording_of<'a>(given: &ArgMatches<'a>) -> &'a str
+    ensures { result.now ≡ unwrap_or (first_value (found_of given.now) (codes "RECORDING")) [] }
+{
+    match given.get_str("RECORDING") {
+        Some(recording) => recording,
+        None => "",
+    }
 }
 
 // The word of a name.

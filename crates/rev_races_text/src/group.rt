@@ -146,8 +146,8 @@ fn push_race(
     };
     let more = (races.len() as u64).saturating_sub(1);
     push_user(text, sources, first.kind, told, first.path, more, first.user)?;
-    if first.kind != Kind::Own {
-        push_here(text, first.story)?;
+    if let Some(story) = first.story {
+        push_here(text, story)?;
     }
     push_mend(text, sources, first.user, first.mend)
 }

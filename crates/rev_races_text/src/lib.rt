@@ -4,10 +4,12 @@
 mod counts;
 mod group;
 mod happened;
+mod json;
 mod places;
 mod text;
 mod told;
 
+pub use json::races_json;
 pub use places::{Sources, push_edge, push_place, push_placed};
 pub use text::{SOMETHING, races_text, status};
 pub use told::{Happened, Kind, Run, Story, Told};

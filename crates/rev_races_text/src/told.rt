@@ -60,8 +60,8 @@ pub struct Told<'a> {
     pub user: u32,
     /// The path.
     pub path: &'a Name,
-    /// What happened.
-    pub story: Story,
+    /// What happened, where that was looked at.
+    pub story: Option<Story>,
     /// The output that is to be added to the user's order-only inputs, where that mends it.
     pub mend: Option<&'a Name>,
 }
