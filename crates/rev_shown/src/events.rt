@@ -79,7 +79,8 @@ fn push_resize(text: &mut Vec<u8>, pool: u32, depth: u32) -> Result<(), AllocErr
         ++ (codes "resize pool " ++ decimal pool ++ codes " to " ++ decimal depth)) }
 {
     push_counted(text, b"resize pool ", u64::from(pool))?;
-    push_counted(text, b" to ", u64::from(depth))
+    push_counted(text, b" to ", u64::from(depth))?;
+    Ok(())
 }
 
 // Adds a plan.
