@@ -127,7 +127,7 @@ pub(crate) fn named_event(
                 )?)),
             };
         }
-        EventName::Kind(kind, out) => (last_at(history, out, Some(kind)), out),
+        EventName::Kind(kind, out) => (last_at(history, out, Some(kind.as_slice())), out),
         EventName::Last(out) => (last_at(history, out, None), out),
     };
     match found {

@@ -58,6 +58,12 @@ fn is_blank(byte: u8) -> bool {
     matches!(byte, b' ' | b'\t' | b'\r')
 }
 
+// Adds a text of no bytes.
+fn push_text(texts: &mut Vec<Vec<u8>>, alloc: Global) -> Result<(), AllocError> {
+    texts.push(Vec::new(alloc))?;
+    Ok(())
+}
+
 // Adds a byte to the last text.
 fn push_byte(texts: &mut Vec<Vec<u8>>, byte: u8) -> Result<(), AllocError> {
     match texts.last_mut() {
@@ -101,7 +107,7 @@ pub fn texts_of(alloc: Global, line: &[u8]) -> Result<Vec<Vec<u8>>, LineFault> {
         let written = if place == Place::Quoted(b'\'') { None } else { written_byte(&line[at..]) };
         let (next, byte, is_in) = match written {
             Some((byte, count)) => {
-                skipped = count - 1;
+                skipped = count.saturating_sub(1);
                 (if place == Place::Between { Place::Inside } else { place }, byte, true)
             }
             None => {
@@ -110,7 +116,7 @@ pub fn texts_of(alloc: Global, line: &[u8]) -> Result<Vec<Vec<u8>>, LineFault> {
             }
         };
         if place == Place::Between && next != Place::Between {
-            texts.push(Vec::new(alloc)).map_err(AllocError::from)?;
+            push_text(&mut texts, alloc)?;
         }
         if is_in {
             push_byte(&mut texts, byte)?;

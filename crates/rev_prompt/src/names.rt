@@ -6,9 +6,9 @@ use std::alloc::AllocError;
 
 // The last part of a path.
 fn last_part(path: &[u8]) -> &[u8] {
-    match path.iter().rposition(|byte| *byte == b'/') {
-        Some(at) if at < path.len() => &path[at + 1..],
-        _ => path,
+    match path.rsplit(|byte| *byte == b'/').next() {
+        Some(last) => last,
+        None => path,
     }
 }
 

@@ -1,13 +1,12 @@
 //! What a line of the prompt asks.
+use rev_cells::Names;
 use rev_commands::{Command, Which};
 use rev_fields::{FaultKind, LineFault, number};
 use rev_paths::{Name, PathFault};
 use rev_trace::{command_of_texts, which_of};
-use rev_cells::Names;
 use std::alloc::Global;
 
 /// How an event is named at the prompt.
-#[derive(Debug, PartialEq, Eq)]
 pub enum EventName {
     /// By its number or its label.
     Which(Which),
@@ -29,7 +28,6 @@ impl Drop for EventName {
 }
 
 /// What is asked.
-#[derive(Debug, PartialEq, Eq)]
 pub enum Question {
     /// `run`: what is left of the recording is replayed.
     Run,

@@ -2,21 +2,17 @@
 use crate::advance::{advance, run, until};
 use crate::causes::{dependents, needs};
 use crate::commands::{apply, cone, without, would_cone};
-use crate::edges::{edge_of, push_edge};
 use crate::events::{named_event, push_numbered, who, with};
 use crate::help::HELP;
-use crate::question::{EventName, Question};
+use crate::question::Question;
 use crate::reasons::why;
-use rev_cells::Cells;
 use rev_commands::{Command, Which};
 use rev_desk::Desk;
-use rev_events::Event;
 use rev_history::History;
 use rev_listing::{logs_text, marks_text, stamps_text};
 use rev_manifest::Build;
 use rev_paths::Name;
 use rev_script::Turn;
-use rev_shown::push_shown;
 use std::alloc::{AllocError, Global};
 
 /// What a session has: the turns of the recording, how many of them were taken, the lane of what is typed, and the
@@ -126,30 +122,30 @@ fn done(
     alloc: Global,
     session: &Session<'_>,
     desk: &mut Desk,
-    question: Question,
+    question: &Question,
 ) -> Result<Vec<u8>, AllocError> {
     match question {
-        Question::Undo(event) => match named_event(alloc, session, desk, &event)? {
+        Question::Undo(event) => match named_event(alloc, session, desk, event)? {
             Ok(number) => {
                 let command = Command::Undo(Which::Number(number));
                 apply(alloc, session, desk, command, Some(number))
             }
             Err(text) => Ok(text),
         },
-        Question::Redo(event) => match named_event(alloc, session, desk, &event)? {
+        Question::Redo(event) => match named_event(alloc, session, desk, event)? {
             Ok(number) => {
                 let command = Command::Redo(Which::Number(number));
                 apply(alloc, session, desk, command, Some(number))
             }
             Err(text) => Ok(text),
         },
-        Question::Cone(event) => match named_event(alloc, session, desk, &event)? {
+        Question::Cone(event) => match named_event(alloc, session, desk, event)? {
             Ok(number) => cone(alloc, session, desk, number),
             Err(text) => Ok(text),
         },
-        Question::Without(out) => without(alloc, session, desk, &out),
-        Question::Command(command) => apply(alloc, session, desk, command, None),
-        other => asked(alloc, session, desk, &other),
+        Question::Without(out) => without(alloc, session, desk, out),
+        Question::Command(command) => apply(alloc, session, desk, command.copy()?, None),
+        other => asked(alloc, session, desk, other),
     }
 }
 
@@ -161,13 +157,13 @@ pub fn answer(
     alloc: Global,
     session: &Session<'_>,
     desk: &mut Desk,
-    question: Question,
+    question: &Question,
 ) -> Result<Reply, AllocError> {
     let ends = matches!(question, Question::Quit);
     let (text, taken) = match question {
         Question::Run => run(alloc, session, desk)?,
-        Question::Next(count) => advance(alloc, session, desk, count)?,
-        Question::Until(out) => until(alloc, session, desk, &out)?,
+        Question::Next(count) => advance(alloc, session, desk, *count)?,
+        Question::Until(out) => until(alloc, session, desk, out)?,
         other => (done(alloc, session, desk, other)?, session.taken),
     };
     Ok(Reply { text, taken, ends })
