@@ -18,7 +18,7 @@ use Rattle.rev_history.specs.Timeline.{Numbered, Timeline, kept_events, state_at
 use Rattle.rev_races.specs.Answer.{is_noted, AreNoted}
 
 -- THE KEPT EVENTS, ONE AFTER THE OTHER
-chosen-one-more : (es : Numbered) (ks : List ℕ) (n : ℕ) → chosen es (ks ++ n ∷ []) ≡ chosen es ks ++ under n (causal.event_at n es) []
+pub chosen-one-more : (es : Numbered) (ks : List ℕ) (n : ℕ) → chosen es (ks ++ n ∷ []) ≡ chosen es ks ++ under n (causal.event_at n es) []
 chosen-one-more es [] n = refl
 chosen-one-more es (k ∷ ks) n = by (causal.event_at k es) (chosen-one-more es ks n)
   where

@@ -1,0 +1,4 @@
+pub mod CellLemmas
+pub mod BesideLemmas
+pub mod NameLemmas
+pub mod ExactLemmas

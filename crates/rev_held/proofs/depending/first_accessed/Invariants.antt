@@ -1,0 +1,7 @@
+use Rattle.std.proofs.Common.{◌≡◌, drop}
+use Rattle.std.specs.Prelude.{find}
+use Rattle.rev_held.specs.Dependence.{is_accessed_by}
+use Rattle.rev_held.proofs.depending.first_accessed.Given as goal
+
+abbrev pub invariant-loop-cell : goal.invariant-loop-cell
+invariant-loop-cell l = find (is_accessed_by l.footprint) l.cells ≡ find (is_accessed_by l.footprint) (drop l.cell-index l.cells)

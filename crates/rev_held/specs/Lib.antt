@@ -1,0 +1,3 @@
+pub mod Beside
+pub mod Dependence
+pub mod Laws

@@ -1,0 +1,70 @@
+//! Whether and why one kept event depends on another.
+ghost use Rattle.std.specs.Prelude.{◌≡◌, find};
+ghost use Rattle.std.specs.Option.{option_copied};
+ghost use Rattle.rev_held.specs.Dependence.{dependence_of, depends_on, is_accessed_by};
+
+use rev_cells::Cell;
+use rev_footprint::{Footprint, conflict};
+use rev_history::History;
+
+// Whether a footprint names a cell, as read or written.
+fn accesses(footprint: &Footprint, cell: &Cell) -> bool
+    ensures { result ≡ is_accessed_by footprint.now cell.now }
+{
+    if footprint.writes().contains(cell) {
+        return true;
+    }
+    footprint.reads().contains(cell)
+}
+
+// The first of some cells that a footprint names.
+fn first_accessed<'a>(cells: &'a [Cell], footprint: &Footprint) -> Option<&'a Cell>
+    ensures { option_copied result ≡ find (is_accessed_by footprint.now) cells.now }
+{
+    for cell in cells {
+        if accesses(footprint, cell) {
+            return Some(cell);
+        }
+    }
+    None
+}
+
+/// Whether the event of a later kept number depends on that of an earlier one: each with the footprint of its place, one
+/// is a plan, or a cell that one writes is read or written by the other. Not where a number is not kept, or the second
+/// is not the later one.
+///
+/// It takes no memory, and time linear in the cells that the two write, up to hashing.
+pub fn depends(history: &History, one: u32, other: u32) -> bool
+    ensures { result ≡ depends_on history.now.timeline one other }
+{
+    if one >= other {
+        return false;
+    }
+    let Some(first) = history.footprint_of(one) else {
+        return false;
+    };
+    let Some(second) = history.footprint_of(other) else {
+        return false;
+    };
+    conflict(first, second)
+}
+
+/// The first cell by which the event of a later kept number depends on that of an earlier one: of those that the earlier
+/// one writes, in the order of its effect, the first that the later one reads or writes; else, of those that the later
+/// one writes, the first that the earlier one reads. None where it does not depend ([`depends`]), and where it does for
+/// no named cell, since one of the two is a plan, which reads every cell.
+///
+/// It takes no memory. Each cell that one of the two writes is looked for among those that the other names, one by one.
+pub fn dependence<'a>(history: &'a History, one: u32, other: u32) -> Option<&'a Cell>
+    ensures { option_copied result ≡ dependence_of history.now.timeline one other }
+{
+    if one >= other {
+        return None;
+    }
+    let first = history.footprint_of(one)?;
+    let second = history.footprint_of(other)?;
+    match first_accessed(first.writes(), second) {
+        Some(cell) => Some(cell),
+        None => first_accessed(second.writes(), first),
+    }
+}

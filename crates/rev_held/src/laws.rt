@@ -1,0 +1,13 @@
+//! Laws of dependence.
+ghost use Rattle.rev_held.specs.Laws.{CellsAreNamed, DependsIsExact};
+
+/// The test of dependence is exact: the event of a later kept number conflicts with that of an earlier one.
+pub fn depends_is_exact()
+    ensures { DependsIsExact }
+{}
+
+/// Where a cell is named the later event depends on the earlier one, and where it depends a cell is named, unless one of
+/// the two is a plan.
+pub fn cells_are_named()
+    ensures { CellsAreNamed }
+{}

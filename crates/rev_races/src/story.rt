@@ -1,0 +1,254 @@
+//! What happened here with a maker and a user.
+ghost use Rattle.std.specs.Prelude.{◌≡◌, None, Some, map, IfOk, IfSome, OnOk};
+ghost use Rattle.std.specs.List.{list_any};
+ghost use Rattle.rev_history.specs.Timeline.{cone_refusal};
+ghost use Rattle.rev_races.specs.Races.{is_plan as is_plan_of};
+ghost use Rattle.rev_races.specs.Runs.{AreRuns};
+ghost use Rattle.rev_races.specs.Stories.{ArePlans, IsConeOf, after_end as after_end_of, happened_of, held_in, in_order as in_order_of, is_between, story_of};
+
+use crate::race::Race;
+use crate::runs::{Run, Runs, finished_run, last_run, runs};
+use rev_events::Event;
+use rev_held::held_beside;
+use rev_history::History;
+use std::alloc::{AllocError, Global};
+
+/// What happened here with the maker's last run and with the user's, of which its list is.
+#[derive(Clone, Copy, Debug, PartialEq, Eq)]
+pub enum Happened {
+    /// One of the two did not run, or a kept plan stands between their starts.
+    Apart,
+    /// The user's run ended before the maker's began: it read an older file.
+    Before,
+    /// Neither run ended before the other began.
+    AtOnce,
+    /// The maker ended before the user began, and the user's start depends on that end, by way of others too, by more
+    /// than jobs and slots.
+    HeldRecord,
+    /// The maker ended before the user began, and the user's start depends on that end by way of jobs and slots alone.
+    HeldPlace,
+    /// The maker ended before the user began, and nothing held the user's start: the end can be taken out with all that
+    /// depends on it, and the start stays.
+    Free,
+}
+
+/// What happened here, and the two runs.
+#[derive(Clone, Copy, Debug, PartialEq, Eq)]
+pub struct Story {
+    /// What happened.
+    pub happened: Happened,
+    /// The maker's last run, where it began here.
+    pub maker: Option<Run>,
+    /// The user's last run that ended well, where there is one here.
+    pub user: Option<Run>,
+}
+
+// The cone of an event, and what that event holds by more than jobs and slots; of none at first.
+#[derive(Drop)]
+struct Cone {
+    event: Option<u32>,
+    members: Vec<u32>,
+    beside: Vec<u32>,
+}
+
+// That of no event.
+fn no_cone(alloc: Global) -> Cone
+    ensures { result.event ≡ None }
+{
+    Cone {
+        event: None,
+        members: Vec::new(alloc),
+        beside: Vec::new(alloc),
+    }
+}
+
+// Has the cone be that of a kept event, unless it is.
+fn cone_for(
+    alloc: Global,
+    history: &History,
+    number: u32,
+    cone: &mut Cone,
+) -> Result<(), AllocError>
+    requires kept { cone_refusal history.now.timeline number ≡ None }
+    requires cone { IsConeOf history.now.timeline cone.old.event cone.old.members.items cone.old.beside.items }
+    ensures cone { OnOk result (IsConeOf history.now.timeline cone.new.event cone.new.members.items cone.new.beside.items) }
+    ensures event { OnOk result (cone.new.event ≡ Some number) }
+{
+    if cone.event == Some(number) {
+        return Ok(());
+    }
+    cone.members = history.members(number)?;
+    cone.beside = held_beside(alloc, history, number)?;
+    cone.event = Some(number);
+    Ok(())
+}
+
+// How an event of a cone is held.
+fn held(cone: &Cone, number: u32) -> Happened
+    ensures { result ≡ held_in cone.now.members.items cone.now.beside.items number }
+{
+    if !cone.members.contains(&number) {
+        return Happened::Free;
+    }
+    if cone.beside.contains(&number) {
+        return Happened::HeldRecord;
+    }
+    Happened::HeldPlace
+}
+
+// What happened where the user's run did not end before the maker's began.
+fn after_end(
+    alloc: Global,
+    history: &History,
+    ended: Option<u32>,
+    began: u32,
+    cone: &mut Cone,
+) -> Result<Happened, AllocError>
+    requires kept { IfSome ended (λ number. cone_refusal history.now.timeline number ≡ None) }
+    requires cone { IsConeOf history.now.timeline cone.old.event cone.old.members.items cone.old.beside.items }
+    ensures cone { OnOk result (IsConeOf history.now.timeline cone.new.event cone.new.members.items cone.new.beside.items) }
+    ensures happened { IfOk result (λ happened. happened ≡ after_end_of history.now.timeline ended began) }
+{
+    let Some(number) = ended else {
+        return Ok(Happened::AtOnce);
+    };
+    if number >= began {
+        return Ok(Happened::AtOnce);
+    }
+    cone_for(alloc, history, number, cone)?;
+    Ok(held(cone, began))
+}
+
+// What happened with two runs that no plan parts.
+fn in_order(
+    alloc: Global,
+    history: &History,
+    maker: &Run,
+    user: &Run,
+    cone: &mut Cone,
+) -> Result<Happened, AllocError>
+    requires kept { IfSome maker.now.ended (λ number. cone_refusal history.now.timeline number ≡ None) }
+    requires cone { IsConeOf history.now.timeline cone.old.event cone.old.members.items cone.old.beside.items }
+    ensures cone { OnOk result (IsConeOf history.now.timeline cone.new.event cone.new.members.items cone.new.beside.items) }
+    ensures happened { IfOk result (λ happened. happened
+        ≡ in_order_of history.now.timeline maker.now user.now user.now.ended) }
+{
+    if let Some(ended) = user.ended {
+        if ended < maker.began {
+            return Ok(Happened::Before);
+        }
+    }
+    let happened = after_end(alloc, history, maker.ended, user.began, cone)?;
+    Ok(happened)
+}
+
+// Whether a number stands between two others.
+fn stands_between(first: u32, second: u32, number: u32) -> bool
+    ensures { result ≡ is_between first second number }
+{
+    (first < number && number < second) || (second < number && number < first)
+}
+
+// Whether one of some numbers stands between two others.
+fn are_apart(plans: &[u32], first: u32, second: u32) -> bool
+    ensures { result ≡ list_any (is_between first second) plans.now }
+{
+    plans.iter().any(|plan| stands_between(first, second, *plan))
+}
+
+// What happened with two runs.
+fn happened(
+    alloc: Global,
+    history: &History,
+    plans: &[u32],
+    maker: Option<Run>,
+    user: Option<Run>,
+    cone: &mut Cone,
+) -> Result<Happened, AllocError>
+    requires kept { IfSome maker (λ run. IfSome run.ended (λ number. cone_refusal history.now.timeline number ≡ None)) }
+    requires plans { ArePlans history.now.timeline plans.now }
+    requires cone { IsConeOf history.now.timeline cone.old.event cone.old.members.items cone.old.beside.items }
+    ensures cone { OnOk result (IsConeOf history.now.timeline cone.new.event cone.new.members.items cone.new.beside.items) }
+    ensures happened { IfOk result (λ happened. happened ≡ happened_of history.now.timeline maker user) }
+{
+    let Some(maker) = maker else {
+        return Ok(Happened::Apart);
+    };
+    let Some(user) = user else {
+        return Ok(Happened::Apart);
+    };
+    if are_apart(plans, maker.began, user.began) {
+        return Ok(Happened::Apart);
+    }
+    let happened = in_order(alloc, history, &maker, &user, cone)?;
+    Ok(happened)
+}
+
+// What happened with the two edges of a race.
+fn story(
+    alloc: Global,
+    history: &History,
+    runs: &Runs,
+    plans: &[u32],
+    race: &Race,
+    cone: &mut Cone,
+) -> Result<Story, AllocError>
+    requires runs { AreRuns history.now.timeline runs.now }
+    requires plans { ArePlans history.now.timeline plans.now }
+    requires cone { IsConeOf history.now.timeline cone.old.event cone.old.members.items cone.old.beside.items }
+    ensures cone { OnOk result (IsConeOf history.now.timeline cone.new.event cone.new.members.items cone.new.beside.items) }
+    ensures story { IfOk result (λ story. story ≡ story_of history.now.timeline race.now) }
+{
+    let maker = last_run(history, runs, race.maker);
+    let user = finished_run(history, runs, race.user);
+    let happened = happened(alloc, history, plans, maker, user, cone)?;
+    Ok(Story {
+        happened,
+        maker,
+        user,
+    })
+}
+
+// Whether an event is a plan.
+fn is_plan(event: &Event) -> bool
+    ensures { result ≡ is_plan_of event.now }
+{
+    match event {
+        Event::Plan(_) => true,
+        _ => false,
+    }
+}
+
+// The numbers of the kept plans.
+fn plan_numbers(alloc: Global, history: &History) -> Result<Vec<u32>, AllocError>
+    ensures { IfOk result (λ plans. ArePlans history.now.timeline plans.items) }
+{
+    let mut plans = Vec::new(alloc);
+    for number in history.kept() {
+        if let Some(event) = history.event(*number) {
+            if is_plan(event) {
+                plans.push(*number)?;
+            }
+        }
+    }
+    Ok(plans)
+}
+
+/// What happened here with the two edges of each race, in the same order.
+///
+/// The kept events are gone through five times. A cone is asked for once for the races of a maker that stand together.
+///
+/// # Errors
+/// [`AllocError`] only where an allocation was refused.
+pub fn stories(alloc: Global, history: &History, races: &[Race]) -> Result<Vec<Story>, AllocError>
+    ensures { IfOk result (λ stories. stories.items ≡ map (story_of history.now.timeline) races.now) }
+{
+    let runs = runs(alloc, history)?;
+    let plans = plan_numbers(alloc, history)?;
+    let mut cone = no_cone(alloc);
+    let mut stories = Vec::new(alloc);
+    for race in races {
+        stories.push(story(alloc, history, &runs, &plans, race, &mut cone)?)?;
+    }
+    Ok(stories)
+}
