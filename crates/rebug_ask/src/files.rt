@@ -60,7 +60,7 @@ fn is_folder<R: Files>(rt: &R, name: &str) -> bool {
 }
 
 // The path of a file of a recording.
-fn path_of(alloc: Global, place: &Place<'_>, name: &str) -> Result<String, AllocError> {
+fn path_of(alloc: Global, place: Place<'_>, name: &str) -> Result<String, AllocError> {
     let mut path = String::new(alloc);
     if !name.starts_with('/') {
         path.push_str(place.folder)?;
@@ -73,7 +73,7 @@ fn path_of(alloc: Global, place: &Place<'_>, name: &str) -> Result<String, Alloc
 // The bytes of a file, where there are no more than `most`, and else more than `most`, from its start.
 fn read_file<R: Files + AllocGlobal>(
     rt: &R,
-    place: &Place<'_>,
+    place: Place<'_>,
     name: &str,
     most: usize,
 ) -> Result<Vec<u8>, ReadFault> {
@@ -98,7 +98,7 @@ fn read_file<R: Files + AllocGlobal>(
 pub fn read_trace<'a, R: Files + AllocGlobal>(
     rt: &R,
     recording: &'a str,
-    place: &Place<'_>,
+    place: Place<'_>,
 ) -> Result<Vec<u8>, ProgramFault<'a>> {
     match read_file(rt, place, "trace", TRACE_BYTES) {
         Ok(bytes) if bytes.len() > TRACE_BYTES => {
@@ -130,7 +130,7 @@ fn new_names(
 // manifest is then refused where it is named.
 fn add_named<'a, R: Files + AllocGlobal>(
     rt: &R,
-    place: &Place<'_>,
+    place: Place<'_>,
     files: &mut Vec<(Vec<u8>, Vec<u8>)>,
     at: usize,
     left: &mut usize,
@@ -160,7 +160,7 @@ fn add_named<'a, R: Files + AllocGlobal>(
 pub fn read_manifest<'a, R: Files + AllocGlobal>(
     rt: &R,
     recording: &'a str,
-    place: &Place<'_>,
+    place: Place<'_>,
 ) -> Result<Vec<(Vec<u8>, Vec<u8>)>, ProgramFault<'a>> {
     let alloc = rt.alloc();
     let bytes = match read_file(rt, place, place.manifest, MANIFEST_BYTES) {

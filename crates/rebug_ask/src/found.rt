@@ -1,8 +1,9 @@
 //! What a recording shows of races, as it is told.
+use rev_graph::Graph;
 use rev_history::History;
 use rev_paths::Name;
-use rev_races::{Race, path_of, races, unlisted, without_deps};
-use rev_races_text::{Kind, Told};
+use rev_races::{Race, path_of, races, stories, unlisted, without_deps};
+use rev_races_text::{Happened, Kind, Run, Story, Told};
 use std::alloc::{AllocError, Global};
 
 // The kind of a race.
@@ -14,9 +15,44 @@ fn kind_of(race: &Race) -> Kind {
     }
 }
 
-// What mends a race: an output of its maker.
-fn mend<'a>(history: &'a History, race: &Race) -> Option<&'a Name> {
-    let graph = history.graph();
+// What happened.
+fn happened_of(happened: rev_races::Happened) -> Happened {
+    match happened {
+        rev_races::Happened::Apart => Happened::Apart,
+        rev_races::Happened::Before => Happened::Before,
+        rev_races::Happened::AtOnce => Happened::AtOnce,
+        rev_races::Happened::HeldRecord => Happened::HeldRecord,
+        rev_races::Happened::HeldPlace => Happened::HeldPlace,
+        rev_races::Happened::Free => Happened::Free,
+    }
+}
+
+// When a command ran, where it did.
+fn run_of(run: Option<rev_races::Run>) -> Option<Run> {
+    match run {
+        Some(run) => Some(Run {
+            began: run.began,
+            ended: run.ended,
+        }),
+        None => None,
+    }
+}
+
+// What happened of a race. A command that lists its own output has no story of two.
+fn story_of(race: &Race, story: Option<&rev_races::Story>) -> Option<Story> {
+    match story {
+        Some(story) if race.maker != race.user => Some(Story {
+            happened: happened_of(story.happened),
+            maker: run_of(story.maker),
+            user: run_of(story.user),
+        }),
+        _ => None,
+    }
+}
+
+// What mends a race: an output of its maker. The maker of a race of that kind does not wait for the user, so no cycle
+// comes of it.
+fn mend_of<'a>(graph: &'a Graph, race: &Race) -> Option<&'a Name> {
     if race.kind != rev_races::Kind::Race || race.maker >= graph.edges() {
         return None;
     }
@@ -33,16 +69,18 @@ pub fn told_races<'a>(
     history: &'a History,
     files: &[Name],
 ) -> Result<Vec<Told<'a>>, AllocError> {
+    let races = races(alloc, history, files)?;
+    let stories = stories(alloc, history, &races)?;
     let mut told = Vec::new(alloc);
-    for race in races(alloc, history, files)? {
-        if let Some(path) = path_of(history, &race)? {
+    for (place, race) in races.iter().enumerate() {
+        if let Some(path) = path_of(history, race)? {
             told.push(Told {
-                kind: kind_of(&race),
+                kind: kind_of(race),
                 maker: race.maker,
                 user: race.user,
                 path,
-                story: None,
-                mend: mend(history, &race),
+                story: story_of(race, stories.get(place)),
+                mend: mend_of(history.graph(), race),
             })?;
         }
     }

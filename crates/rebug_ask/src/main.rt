@@ -4,11 +4,11 @@
 mod fault;
 mod files;
 mod found;
-mod races;
+mod told;
 
 use clap::error::ErrorKind;
 use fault::ProgramFault;
-use races::{How, races};
+use told::{How, tell};
 use rev_asking::{Asked, Word, read_words};
 use std::alloc::Global;
 use std::io;
@@ -44,17 +44,15 @@ fn words<R: Env + Alloc<A = Global>>(rt: &R) -> io::Result<Vec<String>> {
 // Answers what is asked, and gives the status.
 fn answer<'a, R: Files + Print + Eprint + AllocGlobal>(
     rt: &R,
-    asked: &Asked<'a>,
+    asked: Asked<'a>,
 ) -> Result<u8, ProgramFault<'a>> {
-    let how = How {
-        all: asked.all,
-        json: asked.json,
+    let how = match asked.word {
+        Word::Replay => How::Replay,
+        Word::Races if asked.json => How::Json,
+        Word::Races if asked.all => How::All,
+        Word::Races => How::Some,
     };
-    match asked.word {
-        Word::Races => races(rt, asked.recording, how),
-        Word::Replay => races(rt, asked.recording, how),
-        Word::Ask => races(rt, asked.recording, how),
-    }
+    tell(rt, asked.recording, how)
 }
 
 fn main(rt: HostRuntime) -> ExitCode {
@@ -72,7 +70,7 @@ fn main(rt: HostRuntime) -> ExitCode {
         Ok(asked) => asked,
         Err(error) => return explain(&rt, &error),
     };
-    match answer(&rt, &asked) {
+    match answer(&rt, asked) {
         Ok(status) => ExitCode::from(status),
         Err(fault) => fail(&rt, fault),
     }

@@ -1,11 +1,10 @@
 -- What the words of a command line ask for.
 use Rattle.std.specs.Prelude.{ℕ, true, codes, bytes_eq, if◌then◌else◌, List, [], ◌∷◌, ◌++◌, Option, Some, None, unwrap_or, option_map}
-use Rattle.clap.specs.Lexer.{usize_max}
-use Rattle.clap.specs.Words.{App, Row, Rule, Shape, Text, all_of, first_of, new_app, new_rule, subcommand_of, with_rule, with_subcommand}
+use Rattle.clap.specs.Words.{App, Row, Rule, Shape, Text, first_of, new_app, new_rule, subcommand_of, with_rule, with_subcommand}
 use Rattle.clap.specs.Simple.{new_shape, on_top}
-use Rattle.clap.specs.declared.builder.action.ArgAction.TheVariants.{Append, Set, SetTrue}
+use Rattle.clap.specs.declared.builder.action.ArgAction.TheVariants.{Set, SetTrue}
 use Rattle.rev_asking.specs.declared.words.Word.{Word}
-use Rattle.rev_asking.specs.declared.words.Word.TheVariants.{Ask, Races, Replay}
+use Rattle.rev_asking.specs.declared.words.Word.TheVariants.{Races, Replay}
 
 -- the recording, which has to be given
 abbrev pub recording_rule : Rule
@@ -14,13 +13,6 @@ recording_rule = record (new_rule (codes "RECORDING")) { required = true; action
 -- `--NAME`, which takes no value
 abbrev pub flag_rule : Text → Rule
 flag_rule name = record (new_rule name) { long = Some name; action = Some SetTrue }
-
--- the words of a question, any number of them
-abbrev pub question_rule : Rule
-question_rule = record (new_rule (codes "QUESTION")) {
-  range = Some (record { start_inclusive = 0; end_inclusive = usize_max });
-  action = Some Append;
-}
 
 -- a command of this name with these arguments
 abbrev pub shape_with : Text → List Rule → Shape
@@ -34,22 +26,17 @@ races_shape = shape_with (codes "races") (flag_rule (codes "all") ∷ flag_rule 
 abbrev pub replay_shape : Shape
 replay_shape = shape_with (codes "replay") (recording_rule ∷ [])
 
--- `ask [--json] RECORDING [QUESTION]...`
-abbrev pub ask_shape : Shape
-ask_shape = shape_with (codes "ask") (flag_rule (codes "json") ∷ recording_rule ∷ question_rule ∷ [])
-
 -- the program without its words: one has to be given
 abbrev pub bare_program : App
 bare_program = on_top (λ s. record s { has_version = true; subcommand_required = true }) (new_app (codes "rebug"))
 
 -- the program
 abbrev pub program : App
-program = with_subcommand (with_subcommand (with_subcommand bare_program races_shape) replay_shape) ask_shape
+program = with_subcommand (with_subcommand bare_program races_shape) replay_shape
 
--- the word that a name is, `ask` where it is none of the others
+-- the word that a name is
 abbrev pub word_named : Text → Word
-word_named name =
-    if bytes_eq name (codes "races") then Races else (if bytes_eq name (codes "replay") then Replay else Ask)
+word_named name = if bytes_eq name (codes "replay") then Replay else Races
 
 -- the word that was given, and what was given to it
 abbrev pub given_name : List Text → Text
@@ -61,7 +48,3 @@ given_rows words = unwrap_or (option_map (λ p. p.1) (subcommand_of program word
 -- the value of an argument of that word, if it was given one
 abbrev pub value_in : List Text → Text → Option Text
 value_in words name = first_of name (given_rows words)
-
--- the words of the question, in their order
-abbrev pub question_in : List Text → List Text
-question_in words = unwrap_or (all_of (codes "QUESTION") (given_rows words)) []

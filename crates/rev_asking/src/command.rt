@@ -1,9 +1,8 @@
 //! The command line as `clap` is told of it.
-ghost use Rattle.std.specs.Prelude.{◌≡◌, ◌∷◌, [], codes, false, IfOk};
+ghost use Rattle.std.specs.Prelude.{◌≡◌, false, IfOk};
 ghost use Rattle.clap.specs.Words.{app_of, rule_of, shape_of};
-ghost use Rattle.clap.specs.Simple.{new_shape};
 ghost use Rattle.clap.specs.declared.builder.command.Command.TheViews.{out-Command};
-ghost use Rattle.rev_asking.specs.Asking.{ask_shape, bare_program, flag_rule, program, question_rule, races_shape, recording_rule, replay_shape};
+ghost use Rattle.rev_asking.specs.Asking.{bare_program, flag_rule, program, races_shape, recording_rule, replay_shape};
 
 use clap::{Arg, ArgAction, Command};
 use std::alloc::{AllocError, Global};
@@ -11,12 +10,11 @@ use std::alloc::{AllocError, Global};
 // What stands below the words in the help.
 const EXAMPLE: &str = "RECORDING is the folder that record/rebug-record wrote, or the build.ninja in it.
 
-Examples:
+Example:
   rebug races examples/flaky/passed
-  rebug ask examples/flaky/passed why main.o
 
-docs/RACES.md tells what a race is, docs/ASKING.md what can be asked. `rebug --manifest M --trace T --script S`, which
-scripts use, is told by `rebug --help`.";
+docs/RACES.md tells what a race is. `rebug --manifest M --trace T --script S`, which scripts use, is told by
+`rebug --help`.";
 
 // The recording.
 fn recording<'a>(alloc: Global) -> Arg<'a>
@@ -38,17 +36,6 @@ fn flag<'a>(alloc: Global, name: &'a str, help: &'a str) -> Arg<'a>
         .long(name)
         .help(help)
         .action(ArgAction::SetTrue)
-}
-
-// The words of a question.
-fn question<'a>(alloc: Global) -> Arg<'a>
-    ensures rule { rule_of result ≡ question_rule }
-    ensures alone { result.global ≡ false }
-{
-    Arg::new(alloc, "QUESTION")
-        .help("One question, as at the prompt; without it the prompt comes")
-        .num_args(0..)
-        .action(ArgAction::Append)
 }
 
 // `races RECORDING`
@@ -73,18 +60,6 @@ fn replay<'a>(alloc: Global) -> Result<Command<'a>, AllocError>
         .arg(recording(alloc))
 }
 
-// `ask RECORDING [QUESTION]...`
-fn ask<'a>(alloc: Global) -> Result<Command<'a>, AllocError>
-    ensures shape { IfOk result (λ c. shape_of c ≡ ask_shape) }
-    ensures local { IfOk result (λ c. (out-Command c).has_globals ≡ false) }
-{
-    Command::new(alloc, "ask")
-        .about("Answers a question about the build, or each line of a prompt")
-        .arg(flag(alloc, "json", "Writes a JSON object a line in place of words"))?
-        .arg(recording(alloc))?
-        .arg(question(alloc))
-}
-
 // The program without its words.
 fn bare_command<'a>(alloc: Global) -> Command<'a>
     ensures { app_of result ≡ bare_program }
@@ -102,9 +77,7 @@ pub(crate) fn command<'a>(alloc: Global) -> Result<Command<'a>, AllocError>
 {
     let races = races(alloc)?;
     let replay = replay(alloc)?;
-    let ask = ask(alloc)?;
     bare_command(alloc)
         .subcommand(races)?
-        .subcommand(replay)?
-        .subcommand(ask)
+        .subcommand(replay)
 }

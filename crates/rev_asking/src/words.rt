@@ -1,11 +1,11 @@
 //! The words of the command line, read.
-ghost use Rattle.std.specs.Prelude.{◌≡◌, ◌↔◌, [], codes, false, IfOk, IsTrue, Some, map, option_map, string_bytes, unwrap_or};
-ghost use Rattle.clap.specs.Words.{FailsBy, fault_of, first_value, found_of, matched_of, raw_values, subcommand_of, subcommand_rows_of};
-ghost use Rattle.rev_asking.specs.Asking.{given_name, program, question_in, value_in, word_named};
+ghost use Rattle.std.specs.Prelude.{◌≡◌, ◌↔◌, [], codes, false, IfOk, IsTrue, Some, map, string_bytes, unwrap_or};
+ghost use Rattle.clap.specs.Words.{FailsBy, fault_of, first_value, found_of, subcommand_of, subcommand_rows_of};
+ghost use Rattle.rev_asking.specs.Asking.{given_name, program, value_in, word_named};
 
 use crate::command::command;
 use clap::{ArgMatches, Error};
-use std::alloc::{AllocError, Global};
+use std::alloc::Global;
 
 /// What is asked of a recording.
 #[derive(Clone, Copy, Debug, PartialEq, Eq)]
@@ -14,12 +14,10 @@ pub enum Word {
     Races,
     /// Whether it replays.
     Replay,
-    /// A question, or those of a prompt.
-    Ask,
 }
 
 /// What the words of a command line ask for.
-#[derive(Debug, Drop)]
+#[derive(Clone, Copy, Debug, PartialEq, Eq)]
 pub struct Asked<'a> {
     /// What is asked.
     pub word: Word,
@@ -29,8 +27,6 @@ pub struct Asked<'a> {
     pub all: bool,
     /// Whether a JSON object a line is written in place of words.
     pub json: bool,
-    /// The words of the question; none for a prompt.
-    pub question: Vec<&'a str>,
 }
 
 /// What the words of a command line ask for, the first of which is the program's name.
@@ -46,14 +42,12 @@ pub fn read_words<'a>(alloc: Global, words: &'a [String]) -> Result<Asked<'a>, E
         ↔ value_in (map string_bytes words.entry.now) (codes "all") ≡ Some (codes "true")) }
     ensures json { IfOk result (λ a. IsTrue a.json
         ↔ value_in (map string_bytes words.entry.now) (codes "json") ≡ Some (codes "true")) }
-    ensures question { IfOk result (λ a. map (λ w. w.now) a.question.items
-        ≡ question_in (map string_bytes words.entry.now)) }
     ensures fails { FailsBy (fault_of program (map string_bytes words.entry.now)) result }
 {
     let matches = matches_of(alloc, words)?;
     match matches.subcommand() {
-        Some((name, given)) => Ok(asked_of(alloc, name, given)?),
-        None => Ok(nothing_asked(alloc)),
+        Some((name, given)) => Ok(asked_of(name, given)),
+        None => Ok(nothing_asked()),
     }
 }
 
@@ -68,45 +62,32 @@ fn matches_of<'a>(alloc: Global, words: &'a [String]) -> Result<ArgMatches<'a>, 
 }
 
 // What is asked by a word of this name, to which this was given.
-fn asked_of<'a>(
-    alloc: Global,
-    name: &str,
-    given: &ArgMatches<'a>,
-) -> Result<Asked<'a>, AllocError>
-    ensures word { IfOk result (λ a. a.word ≡ word_named name.now) }
-    ensures recording { IfOk result (λ a. a.recording.now
-        ≡ unwrap_or (first_value (found_of given.now) (codes "RECORDING")) []) }
-    ensures all { IfOk result (λ a. IsTrue a.all
-        ↔ first_value (found_of given.now) (codes "all") ≡ Some (codes "true")) }
-    ensures json { IfOk result (λ a. IsTrue a.json
-        ↔ first_value (found_of given.now) (codes "json") ≡ Some (codes "true")) }
-    ensures question { IfOk result (λ a. map (λ w. w.now) a.question.items
-        ≡ unwrap_or (option_map raw_values (matched_of (found_of given.now) (codes "QUESTION"))) []) }
+fn asked_of<'a>(name: &str, given: &ArgMatches<'a>) -> Asked<'a>
+    ensures word { result.word ≡ word_named name.now }
+    ensures recording { result.recording.now ≡ unwrap_or (first_value (found_of given.now) (codes "RECORDING")) [] }
+    ensures all { IsTrue result.all ↔ first_value (found_of given.now) (codes "all") ≡ Some (codes "true") }
+    ensures json { IsTrue result.json ↔ first_value (found_of given.now) (codes "json") ≡ Some (codes "true") }
 {
-    let question = question_of(alloc, given)?;
-    Ok(Asked {
+    Asked {
         word: word_named(name),
         recording: recording_of(given),
         all: is_on(given, "all"),
         json: is_on(given, "json"),
-        question,
-    })
+    }
 }
 
 // What is asked by no word.
-fn nothing_asked<'a>(alloc: Global) -> Asked<'a>
+fn nothing_asked<'a>() -> Asked<'a>
     ensures word { result.word ≡ word_named [] }
     ensures recording { result.recording.now ≡ [] }
     ensures all { result.all ≡ false }
     ensures json { result.json ≡ false }
-    ensures question { result.question.items ≡ [] }
 {
     Asked {
-        word: Word::Ask,
+        word: Word::Races,
         recording: "",
         all: false,
         json: false,
-        question: Vec::new(alloc),
     }
 }
 
@@ -124,13 +105,7 @@ fn recording_of<'a>(given: &ArgMatches<'a>) -> &'a str
 fn word_named(name: &str) -> Word
     ensures { result ≡ word_named name.now }
 {
-    if name == "races" {
-        return Word::Races;
-    }
-    if name == "replay" {
-        return Word::Replay;
-    }
-    Word::Ask
+    if name == "replay" { Word::Replay } else { Word::Races }
 }
 
 // Whether an option that takes no value was given.
@@ -138,18 +113,4 @@ fn is_on(matches: &ArgMatches<'_>, name: &str) -> bool
     ensures { IsTrue result ↔ first_value (found_of matches.now) name.now ≡ Some (codes "true") }
 {
     matches.get_str(name) == Some("true")
-}
-
-// The words of the question.
-fn question_of<'a>(
-    alloc: Global,
-    matches: &ArgMatches<'a>,
-) -> Result<Vec<&'a str>, AllocError>
-    ensures { IfOk result (λ words. map (λ w. w.now) words.items
-        ≡ unwrap_or (option_map raw_values (matched_of (found_of matches.now) (codes "QUESTION"))) []) }
-{
-    match matches.get_strs("QUESTION") {
-        Some(words) => Vec::from_slice(alloc, words),
-        None => Ok(Vec::new(alloc)),
-    }
 }

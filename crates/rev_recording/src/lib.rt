@@ -7,4 +7,4 @@ mod replayed;
 
 pub use fault::{RecordingFault, fault_line};
 pub use names::named_files;
-pub use replayed::{open, replay};
+pub use replayed::{open, replay, replay_text};

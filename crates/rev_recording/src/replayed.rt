@@ -1,5 +1,6 @@
 //! A recording replayed.
-ghost use Rattle.std.specs.Prelude.{◌≡◌, ◌+◌, ◌<◌, ◌≤◌, IfOk, OnOk, length};
+ghost use Rattle.std.specs.Prelude.{◌≡◌, ◌+◌, ◌++◌, ◌<◌, ◌≤◌, IfOk, OnOk, length};
+ghost use Rattle.rev_recording.specs.Replayed.{counts_words};
 ghost use Rattle.rev_desk.specs.Machine.{opened_desk};
 ghost use Rattle.rev_report.specs.Answers.{after_answer};
 ghost use Rattle.rev_report.specs.Runs.{after_turns};
@@ -9,13 +10,14 @@ ghost use Rattle.rev_trace.specs.Traces.{lanes_of};
 
 use crate::fault::RecordingFault;
 use rev_commands::Command;
-use rev_desk::{Desk, Unsaid, Why};
+use rev_desk::{Desk, Entry, Reply, Unsaid, Why};
+use rev_fields::push_number;
 use rev_graph::Graph;
 use rev_manifest::Manifest;
 use rev_report::open_desk;
 use rev_script::{Turn, turns_of};
 use rev_trace::Trace;
-use std::alloc::Global;
+use std::alloc::{AllocError, Global};
 
 // The desk of a graph.
 fn desk_of(alloc: Global, graph: Graph, trace: &Trace) -> Result<Desk, RecordingFault>
@@ -91,4 +93,35 @@ pub fn replay(alloc: Global, desk: &mut Desk, trace: &Trace) -> Result<(), Recor
 {
     let turns = turns_of(alloc, &trace.lanes)?;
     say_turns(desk, &turns)
+}
+
+// Adds how many commands there were, and how many of them were refused.
+fn push_counts(text: &mut Vec<u8>, commands: u64, refused: u64) -> Result<(), AllocError>
+    ensures { OnOk result (text.new.items ≡ text.old.items ++ counts_words commands refused) }
+{
+    push_number(text, commands)?;
+    text.extend_from_slice(if commands == 1 { b" command, " } else { b" commands, " })?;
+    if refused == 0 {
+        return text.extend_from_slice(b"none refused\n");
+    }
+    push_number(text, refused)?;
+    text.extend_from_slice(b" refused\n")
+}
+
+// Whether an entry was refused.
+fn is_refused(entry: &Entry) -> bool {
+    matches!(entry.reply, Reply::Refused(_))
+}
+
+/// The line of a recording that was replayed: how many commands its desk's journal has, and how many of them were
+/// refused.
+///
+/// # Errors
+/// [`AllocError`] only where an allocation was refused.
+pub fn replay_text(alloc: Global, desk: &Desk) -> Result<Vec<u8>, AllocError> {
+    let entries = desk.journal();
+    let refused = entries.iter().filter(|entry| is_refused(entry)).count() as u64;
+    let mut text = Vec::new(alloc);
+    push_counts(&mut text, entries.len() as u64, refused)?;
+    Ok(text)
 }
