@@ -5,17 +5,17 @@ use Rattle.rev_races_text.specs.declared.told.Happened.TheVariants as happened
 use Rattle.rev_races_text.specs.declared.told.Run.{Run}
 use Rattle.rev_races_text.specs.declared.told.Story.{Story}
 
--- when a command ended, behind who it is
+-- when a command ended, or that it runs, behind who it is
 abbrev pub end_words : List ℕ → Run → Option ℕ → List ℕ
-end_words who run (Some ended) = who ++ codes " ended at " ++ decimal ended
-end_words who run None = who ++ codes " began at " ++ decimal run.began ++ codes " and did not end well"
+end_words who run (Some ended) = who ++ (codes " ended at " ++ decimal ended)
+end_words who run None = who ++ (codes " still runs, begun at " ++ decimal run.began)
 
 -- when the one ran that came first, and when the other began
 abbrev pub runs_words : Happened → Run → Run → List ℕ
 runs_words happened.Before maker user =
-    end_words (codes "the user") user user.ended ++ codes ", the maker began at " ++ decimal maker.began
+    end_words (codes "the user") user user.ended ++ (codes ", the maker began at " ++ decimal maker.began)
 runs_words _ maker user =
-    end_words (codes "the maker") maker maker.ended ++ codes ", the user began at " ++ decimal user.began
+    end_words (codes "the maker") maker maker.ended ++ (codes ", the user began at " ++ decimal user.began)
 
 -- the same where not both ran
 abbrev pub both_words : Happened → Option Run → Option Run → List ℕ

@@ -1,5 +1,5 @@
 //! The races of one maker.
-ghost use Rattle.std.specs.Prelude.{◌≡◌, ◌++◌, OnOk};
+ghost use Rattle.std.specs.Prelude.{◌≡◌, ◌++◌, decimal, OnOk};
 ghost use Rattle.std.specs.Option.{option_copied};
 ghost use Rattle.rev_manifest.specs.Seen.{seen_files};
 ghost use Rattle.rev_races_text.specs.Lines.{kind_word, maker_line, mend_line, more_line, through_if, through_words, user_ends, user_line};
@@ -122,6 +122,20 @@ fn push_mend(
     text.extend_from_slice(b"\n")
 }
 
+// Adds a number between words.
+fn push_between(
+    text: &mut Vec<u8>,
+    before: &[u8],
+    number: u64,
+    after: &[u8],
+) -> Result<(), AllocError>
+    ensures { OnOk result (text.new.items ≡ text.old.items ++ (before.now ++ decimal number ++ after.now)) }
+{
+    text.extend_from_slice(before)?;
+    push_number(text, number)?;
+    text.extend_from_slice(after)
+}
+
 // Adds how many users are left out.
 fn push_more(text: &mut Vec<u8>, more: u64) -> Result<(), AllocError>
     ensures { OnOk result (text.new.items ≡ text.old.items ++ more_line more) }
@@ -129,9 +143,7 @@ fn push_more(text: &mut Vec<u8>, more: u64) -> Result<(), AllocError>
     if more == 0 {
         return Ok(());
     }
-    text.extend_from_slice(b"  and by ")?;
-    push_number(text, more)?;
-    text.extend_from_slice(b" more (--all tells them)\n")
+    push_between(text, b"  and by ", more, b" more (--all tells them)\n")
 }
 
 // Adds the lines of one user: it is in these races, all of one maker, whose line has the path `told`.

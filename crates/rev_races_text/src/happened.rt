@@ -8,23 +8,20 @@ use std::alloc::AllocError;
 
 // Adds words and the number of an event.
 fn push_at(text: &mut Vec<u8>, words: &[u8], number: u32) -> Result<(), AllocError>
-    ensures { OnOk result (text.new.items ≡ text.old.items ++ words.now ++ decimal number) }
+    ensures { OnOk result (text.new.items ≡ text.old.items ++ (words.now ++ decimal number)) }
 {
     text.extend_from_slice(words)?;
     push_number(text, u64::from(number))
 }
 
-// Adds when a command ended, behind who it is.
+// Adds when a command ended, or that it runs, behind who it is.
 fn push_end(text: &mut Vec<u8>, who: &[u8], run: Run) -> Result<(), AllocError>
     ensures { OnOk result (text.new.items ≡ text.old.items ++ end_words who.now run run.ended) }
 {
     text.extend_from_slice(who)?;
     match run.ended {
         Some(number) => push_at(text, b" ended at ", number),
-        None => {
-            push_at(text, b" began at ", run.began)?;
-            text.extend_from_slice(b" and did not end well")
-        }
+        None => push_at(text, b" still runs, begun at ", run.began),
     }
 }
 

@@ -34,7 +34,7 @@ pub enum Happened {
 pub struct Run {
     /// Its start.
     pub began: u32,
-    /// Its finish, where it ended well.
+    /// Its end, where it ended.
     pub ended: Option<u32>,
 }
 
