@@ -1,5 +1,5 @@
 -- What a kept event holds beside jobs and slots, member by member.
-use Rattle.std.proofs.Common.{◌≡◌, ℕ, zero, suc, ◌+◌, ◌<◌, ◌≤◌, Bool, true, false, cond, ◌||◌, ◌&&◌, List, [], ◌∷◌, ◌++◌, length, get_or, drop, take, not, Option, Some, None, refl, sym, ap, ap₂, subst, ◌∙◌, arith, true≢false, inl, inr, append_assoc, if◌then◌else◌}
+use Rattle.std.proofs.Common.{◌≡◌, ℕ, zero, suc, ◌+◌, ◌<◌, ◌≤◌, Bool, true, false, cond, ◌||◌, ◌&&◌, List, [], ◌∷◌, ◌++◌, length, get_or, drop, take, not, Option, Some, None, refl, sym, ap, ap₂, ◌∙◌, arith, inl, inr, append_assoc, if◌then◌else◌}
 use Rattle.std.specs.Prelude.{filter, is_some, nat_lt}
 use Rattle.std.specs.FinSet as cells
 use Rattle.std.specs.List.{list_any}
@@ -20,7 +20,7 @@ use Rattle.rev_history.specs.Timeline.{Timeline, kept_footprint}
 use Rattle.rev_held.specs.declared.joined.Joined.{Joined}
 use Rattle.rev_held.specs.Beside.{IsJoined, IsTaken, IsTaken.member, IsTaken.other, beside_places, IsPartial, clash_beside, held_beside, is_beside, is_place, joined_print}
 use Rattle.rev_held.specs.Dependence.{holds_between}
-use Rattle.rev_held.proofs.CellLemmas.{any-filter, conflict-grown, conflict-seen, set-has, none-seen, some-in, whole-second, seen}
+use Rattle.rev_held.proofs.CellLemmas.{any-filter, conflict-grown, conflict-seen, set-has, none-seen, some-in, whole-second}
 
 -- ONE EVENT MORE
 or-true : (a : Bool) → (a || true) ≡ true

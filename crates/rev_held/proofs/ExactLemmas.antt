@@ -1,9 +1,9 @@
 -- The test of dependence is exact.
-use Rattle.std.proofs.Common.{◌≡◌, ℕ, ◌<◌, Bool, true, false, cond, ◌&&◌, List, [], ◌∷◌, Option, Some, None, refl, sym, ap, ap₂, subst, ◌∙◌, inl, inr, ◌⊎◌, arith, true≢false}
-use Rattle.std.specs.Prelude.{◌↔◌, nat_eq, nat_lt}
+use Rattle.std.proofs.Common.{◌≡◌, ℕ, ◌<◌, Bool, true, false, cond, ◌&&◌, [], ◌∷◌, Option, Some, None, refl, sym, ap, ap₂, subst, ◌∙◌, inl, inr, arith, true≢false}
+use Rattle.std.specs.Prelude.{nat_eq, nat_lt}
 use Rattle.std.specs.List.{AllByRecursion}
 use Rattle.std.proofs.lemmas.Bool.{eq-eqb, ne_eqb, eqb-true, lt-ltb, ltb-true}
-use Rattle.rev_causal.specs.Entries.{Entry, entries, clash}
+use Rattle.rev_causal.specs.Entries.{Entry, entries}
 use Rattle.rev_causal.specs.History as causal
 use Rattle.rev_causal.specs.Order.{Has, Stands}
 use Rattle.rev_causal.specs.Store.{conflict}
@@ -18,8 +18,7 @@ use Rattle.rev_events.specs.Machine.{after}
 use Rattle.rev_footprint.specs.Footprint.{footprint}
 use Rattle.rev_footprint.specs.Machine.{machine}
 use Rattle.rev_footprint.specs.Value.{FootprintValue, print_of}
-use Rattle.rev_history.specs.Laws.{DependsOn}
-use Rattle.rev_history.specs.Timeline.{Numbered, Timeline, IsHistory, footprints_along, kept_entries, kept_events, kept_footprint}
+use Rattle.rev_history.specs.Timeline.{Numbered, Timeline, footprints_along, kept_entries, kept_events, kept_footprint}
 use Rattle.rev_held.specs.Dependence.{depends_on, holds_between}
 use Rattle.rev_held.specs.Laws.{DependsIsExact}
 
@@ -101,7 +100,6 @@ module _ (m : ManifestValue) (jobs : ℕ) where
             ∙ rest.at;
         print = rest.print;
       }
-
 
 -- what a test says that it found
 record AreClashing (t : Timeline) (one other : ℕ) : Type 0 where

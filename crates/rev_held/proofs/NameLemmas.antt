@@ -1,12 +1,12 @@
 -- Cells that are named, and dependence as a relation.
-use Rattle.std.proofs.Common.{◌≡◌, ℕ, suc, ◌+◌, ◌<◌, ◌≤◌, length, get_or, drop, arith, Bool, true, false, ◌||◌, ◌&&◌, List, [], ◌∷◌, Option, Some, None, refl, sym, ap, subst, ◌∙◌, inl, inr, ◌⊎◌, true≢false, if◌then◌else◌}
+use Rattle.std.proofs.Common.{◌≡◌, ℕ, suc, ◌+◌, ◌<◌, ◌≤◌, length, get_or, drop, arith, Bool, true, false, ◌||◌, ◌&&◌, List, [], ◌∷◌, Option, Some, None, refl, sym, ap, ◌∙◌, inl, inr, ◌⊎◌, true≢false, if◌then◌else◌}
 use Rattle.std.specs.Prelude.{find, nat_lt, cond}
 use Rattle.std.specs.FinSet as cells
 use Rattle.std.specs.List.{list_any}
 use Rattle.std.specs.Option.{option_or}
 use Rattle.std.proofs.Math.Seq.{drop-cons}
 use Rattle.std.proofs.lemmas.Bool.{lt-ltb, ltb-true}
-use Rattle.rev_causal.specs.Store.{Footprint, Footprint.Whole, Footprint.Cells, among, conflict, is_accessed}
+use Rattle.rev_causal.specs.Store.{Footprint.Whole, Footprint.Cells, among, conflict}
 use Rattle.rev_causal.proofs.Runs.{either}
 use Rattle.rev_cells.specs.declared.cell.Cell.{Cell}
 use Rattle.rev_cells.specs.Keys.{cell_cmp}
@@ -14,7 +14,7 @@ use Rattle.rev_cells.proofs.EntryLemmas.{cell_eq}
 use Rattle.rev_footprint.specs.Value.{FootprintValue, print_of}
 use Rattle.rev_history.specs.Timeline.{Timeline, kept_footprint}
 use Rattle.rev_held.specs.Dependence.{cell_between, dependence_of, depends_on, first_cell, holds_between, is_accessed_by}
-use Rattle.rev_held.specs.Laws.{CellsAreNamed, IsWhole, NamesCell}
+use Rattle.rev_held.specs.Laws.{CellsAreNamed, IsWhole}
 use Rattle.rev_held.proofs.CellLemmas.{set-same, slice-has, whole-second}
 
 -- what is found passes, and where none does none is found

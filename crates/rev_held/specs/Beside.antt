@@ -1,5 +1,5 @@
 -- What a kept event holds by cells other than those of jobs and slots.
-use Rattle.std.specs.Prelude.{◌≡◌, ℕ, nat_lt, Bool, true, false, not, List, [], ◌∷◌, ◌++◌, filter, drop, Option, Some, is_some, if◌then◌else◌}
+use Rattle.std.specs.Prelude.{◌≡◌, ℕ, nat_lt, Bool, true, false, not, List, [], ◌∷◌, ◌++◌, filter, drop, Some, is_some, if◌then◌else◌}
 use Rattle.rev_causal.specs.Order.{any_conflict, cone}
 use Rattle.rev_causal.specs.Store.{Footprint, Footprint.Whole, Footprint.Cells, conflict}
 use Rattle.rev_cells.specs.declared.cell.Cell.{Cell}

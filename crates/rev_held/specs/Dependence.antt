@@ -1,5 +1,5 @@
 -- Whether and why one kept event depends on another.
-use Rattle.std.specs.Prelude.{ℕ, nat_lt, Bool, false, ◌&&◌, List, Option, Some, None, find, if◌then◌else◌}
+use Rattle.std.specs.Prelude.{ℕ, nat_lt, Bool, false, ◌&&◌, Option, Some, None, find, if◌then◌else◌}
 use Rattle.std.specs.FinSet as cells
 use Rattle.std.specs.Option.{option_or}
 use Rattle.rev_causal.specs.Store.{Footprint.Cells, conflict, is_accessed}

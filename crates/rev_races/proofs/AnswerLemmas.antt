@@ -133,3 +133,10 @@ module _ (t : Timeline) (graph : GraphValue) (edge : ℕ) (is : IsGraph graph) (
       sym (listed-is
       ∙ (λ i. if finished t.manifest edge (kept_events t) || not (began i) then recorded (state_at t) (build_at t.manifest.builds edge) else None)
       ∙ ap (λ b. if b then recorded (state_at t) (build_at t.manifest.builds edge) else None) (or-true (finished t.manifest edge (kept_events t))))
+
+  pub lists-recorded : (all : List (List ℕ)) → lists t.manifest t.opening (kept_events t) edge ≡ Some all → recorded (state_at t) (build_at t.manifest.builds edge) ≡ Some all
+  lists-recorded all h = by (finished t.manifest edge (kept_events t) || not (started t.manifest edge (kept_events t))) (sym listed-is ∙ h)
+    where
+      by : (b : Bool) → (if b then recorded (state_at t) (build_at t.manifest.builds edge) else None) ≡ Some all → recorded (state_at t) (build_at t.manifest.builds edge) ≡ Some all
+      by true e = e
+      by false e = let no : no-list ≡ Some all = e in cc

@@ -110,7 +110,7 @@ module _ (m : Machine) where
     where
       by : (o : Option m.Event) → IsSome o → ((u : m.State) → is_among ks n ≡ true → is_among (numbers_of (entries m u (chosen accepted ks))) n ≡ true)
           → is_among (numbers_of (entries m s (under k o (chosen accepted ks)))) n ≡ true
-      by None some rest = absurd some
+      by None some rest = absurd (true≢false (sym some))
       by (Some e) some rest = elim (either (nat_eq n k)) [
         | inl same ↦ ap (λ b. b || is_among (numbers_of (entries m (m.after s e) (chosen accepted ks))) n) same
         | inr other ↦ or-some (nat_eq n k) (rest (m.after s e) (sym (ap (λ b. b || is_among ks n) other) ∙ h))

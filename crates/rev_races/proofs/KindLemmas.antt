@@ -72,7 +72,7 @@ module _ (t : Timeline) (files : List (List ℕ)) where
   told-at b a place k (cycles at back) = raced at
   told-at b a place k (races at none) = raced at
 
-  bare : Race → Told
+  abbrev bare : Race → Told
   bare r = record { maker = r.maker; user = r.user; place = r.place }
 
   abbrev Tells : Race → Type 0

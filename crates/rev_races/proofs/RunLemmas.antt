@@ -4,7 +4,7 @@ use Rattle.std.specs.Prelude.{nat_eq, nat_lt, option_and_then}
 use Rattle.std.specs.Option.{option_map, option_or}
 use Rattle.std.proofs.Math.Seq.{take-length}
 use Rattle.std.proofs.lemmas.Bool.{eq-eqb, ne_eqb, cases_eq}
-use Rattle.std.proofs.lemmas.List.{get_or-set_same, get_or-set_other}
+use Rattle.std.proofs.lemmas.List.{length-set, get_or-set_same, get_or-set_other}
 use Rattle.rev_causal.specs.Chosen.{under, chosen}
 use Rattle.rev_causal.specs.History as causal
 use Rattle.rev_events.specs.declared.event.Event.{Event}
@@ -35,14 +35,12 @@ last-append p (x ∷ xs) ys =
 
 -- what the events of some kept numbers make the last
 pub record AreLastBy (t : Timeline) (step : Step) (bounds : List (Option ℕ)) (ks : List ℕ) (last : List (Option ℕ)) : Type 0 where
+  pub each : length last ≡ length t.manifest.builds
   pub exact : (edge : ℕ) → get_or last edge None ≡ last_number (counts step t.manifest (get_or bounds edge None) edge) (chosen t.accepted ks)
 
 module _ (t : Timeline) (step : Step) (bounds : List (Option ℕ)) where
   abbrev test : ℕ → ℕ × Event → Bool
   test edge = counts step t.manifest (get_or bounds edge None) edge
-
-  pub last-first : (last : List (Option ℕ)) → ((edge : ℕ) → get_or last edge None ≡ None) → AreLastBy t step bounds [] last
-  last-first last none = record { exact = none }
 
   module _ (ks : List ℕ) (n : ℕ) where
     more : (o : Option Event) → causal.event_at n t.accepted ≡ o → (edge : ℕ)
@@ -54,13 +52,14 @@ module _ (t : Timeline) (step : Step) (bounds : List (Option ℕ)) where
 
     -- no event stands under the number
     pub last-none : (last : List (Option ℕ)) → causal.event_at n t.accepted ≡ None → AreLastBy t step bounds ks last → AreLastBy t step bounds (ks ++ n ∷ []) last
-    last-none last none before = record { exact = λ edge. before.exact edge ∙ sym (more None none edge) }
+    last-none last none before = record { each = before.each; exact = λ edge. before.exact edge ∙ sym (more None none edge) }
 
     -- the event counts of no edge
     pub last-nothing : (last : List (Option ℕ)) (e : Event) → causal.event_at n t.accepted ≡ Some e
         → ((edge : ℕ) → false ≡ counts step t.manifest (get_or bounds edge None) edge (n, e))
         → AreLastBy t step bounds ks last → AreLastBy t step bounds (ks ++ n ∷ []) last
     last-nothing last e is none before = record {
+      each = before.each;
       exact = λ edge.
           before.exact edge
           ∙ ap (λ b. option_or (option_or None (if b then Some n else None)) (last_number (test edge) (chosen t.accepted ks))) (none edge)
@@ -69,9 +68,10 @@ module _ (t : Timeline) (step : Step) (bounds : List (Option ℕ)) where
 
     -- the event counts of one
     pub last-edge : (last : List (Option ℕ)) (e : Event) (x : ℕ) → causal.event_at n t.accepted ≡ Some e
-        → ((edge : ℕ) → (x == edge) ≡ counts step t.manifest (get_or bounds edge None) edge (n, e)) → x < length last
+        → ((edge : ℕ) → (x == edge) ≡ counts step t.manifest (get_or bounds edge None) edge (n, e)) → x < length t.manifest.builds
         → AreLastBy t step bounds ks last → AreLastBy t step bounds (ks ++ n ∷ []) (set last x (Some n))
-    last-edge last e x is counted within before = record {
+    last-edge last e x is counted inside before = record {
+      each = length-set last x (Some n) ∙ before.each;
       exact = λ edge.
           at edge
           ∙ ap (λ o. option_or (if x == edge then Some n else None) o) (before.exact edge)
@@ -79,6 +79,9 @@ module _ (t : Timeline) (step : Step) (bounds : List (Option ℕ)) where
           ∙ sym (more (Some e) is edge);
     }
       where
+        within : x < length last
+        within = omega (arith, inside, before.each)
+
         at : (edge : ℕ) → get_or (set last x (Some n)) edge None ≡ option_or (if x == edge then Some n else None) (get_or last edge None)
         at edge = elim (cases_eq edge x) [
           | inl same ↦

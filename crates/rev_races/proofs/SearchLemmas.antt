@@ -1,5 +1,5 @@
 -- Marks of direct producers, lists with nothing to tell, and what the last search found.
-use Rattle.std.proofs.Common.{◌≡◌, ◌≢◌, ℕ, ◌+◌, ◌<◌, Bool, true, false, List, [], length, get_or, set, Option, Some, None, inl, inr, refl, sym, ap, subst, ◌∙◌, arith, true≢false, Contains, ◌⊎◌}
+use Rattle.std.proofs.Common.{◌≡◌, ◌≢◌, ℕ, ◌+◌, ◌<◌, Bool, true, false, not, List, [], length, get_or, set, Option, Some, None, inl, inr, refl, sym, ap, subst, ◌∙◌, arith, true≢false, Contains, ◌⊎◌}
 use Rattle.std.specs.Prelude.{◌↔◌, IfSome}
 use Rattle.std.specs.List.{All}
 use Rattle.std.specs.Global.{Vec}
@@ -8,8 +8,8 @@ use Rattle.std.proofs.lemmas.List.{length-set, get_or_default, get_or-set_same, 
 use Rattle.std.proofs.lemmas.List.Elements.{Contains-get_or}
 use Rattle.rev_manifest.specs.Manifest.{BuildValue}
 use Rattle.rev_graph.specs.Graph.{GraphValue, IsGraph, build_at, producer_of, successor_lists, EdgeSteps, EdgeReaches, EdgeReaches.step as one_edge_step, EdgeReaches.further as then_on_edges, IsRanked, rank_at, inputs_of}
-use Rattle.rev_graph.proofs.StepLemmas.{node_way, edge_way}
-use Rattle.rev_ranks.specs.Graph.{graph_of, successors_of, Steps, Reaches, Reaches.step as one_step, Reaches.further as then_on}
+use Rattle.rev_graph.proofs.StepLemmas.{edge_way, ranked-acyclic}
+use Rattle.rev_ranks.specs.Graph.{Steps, Reaches.step as one_step}
 use Rattle.rev_history.specs.Timeline.{Timeline, kept_events}
 use Rattle.rev_waits.specs.Waits.{AreWaitedFor, Makes, Makes.itself, Makes.behind, Waits}
 use Rattle.rev_races.specs.Answer.{IsToTell, IsToTell.itself as tells_itself, IsToTell.another as tells_another}
@@ -84,17 +84,6 @@ quiet-more builds user paths i path within is quiet before k below = elim (cases
   | inr other ↦ before k (omega (arith, below, other))
 ]
 
--- an edge does not wait for itself
-pub no-round : (graph : GraphValue) → IsGraph graph → (edge : ℕ) → EdgeReaches graph.manifest.builds edge edge → ⊥
-no-round graph is edge way = let falls = lower way in omega (arith, falls)
-  where
-    lower : {a b : ℕ} → EdgeReaches graph.manifest.builds a b → rank_at graph.ranks b < rank_at graph.ranks a
-    lower {a} {b} (one_edge_step s) = is.ranked.falls a b s
-    lower {a} {b} (then_on_edges {middle = m} s rest) =
-        let first = is.ranked.falls a m s in
-        let then = lower rest in
-        omega (arith, first, then)
-
 -- of a list of quiet paths nothing is told
 pub nothing-told : (t : Timeline) (graph : GraphValue) (files paths : List (List ℕ)) (user : ℕ) → IsGraph graph → graph.manifest ≡ t.manifest
     → lists t.manifest t.opening (kept_events t) user ≡ Some paths → ((k : ℕ) → k < length paths → IsQuiet graph.manifest.builds user (get_or paths k []))
@@ -110,24 +99,14 @@ nothing-told t graph files paths user is same are quiet k key =
         let way : Waits graph.manifest.builds user at.maker =
         (quiet among.number among.below).waits at.maker (subst (λ m. Makes m.builds at.maker (get_or paths among.number [])) (sym same) at.made) in
         elim at.key.told [
-          | tells_itself own ↦ no-round graph is user (subst (λ m. Waits graph.manifest.builds user m) own way)
+          | tells_itself own ↦ ranked-acyclic graph.manifest.builds graph.ranks is.ranked user (subst (λ m. Waits graph.manifest.builds user m) own way)
           | tells_another apart ↦ apart.unordered (subst (λ m. Waits m.builds user at.maker) same way)
         ]
 
--- THE LAST SEARCH
-pub same-steps : (builds : List BuildValue) (one other : ℕ) (marks : List Bool) → successors_of (successor_lists builds) one ≡ successors_of (successor_lists builds) other
-    → AreWaitedFor builds one marks → AreWaitedFor builds other marks
-same-steps builds one other marks same are = record {
-  each = are.each;
-  exact = λ x. (
-    λ h. edge_way (moved one other x same (node_way ((are.exact x).0 h))),
-    λ way. (are.exact x).1 (edge_way (moved other one x (sym same) (node_way way))),
-  );
-}
-  where
-    moved : (a b x : ℕ) → successors_of (successor_lists builds) a ≡ successors_of (successor_lists builds) b → Reaches (successor_lists builds) a x → Reaches (successor_lists builds) b x
-    moved a b x e (one_step s) = one_step (subst (λ ss. Contains ss x) e s)
-    moved a b x e (then_on {s = m} s rest) = then_on (subst (λ ss. Contains ss m) e s) rest
+pub unless-not : (b : Bool) → not b ≡ false → b ≡ true
+unless-not true h = refl
+unless-not false h = absurd (true≢false h)
 
+-- THE LAST SEARCH
 pub kept-search : (builds : List BuildValue) (edge : ℕ) (marks : List Bool) → edge < length builds → AreWaitedFor builds edge marks → IsKept builds (Some edge) marks
 kept-search builds edge marks within are = record { within = within; waited = are }

@@ -12,13 +12,9 @@ use Rattle.rev_history.specs.Timeline.{Timeline, cone_refusal, kept_events}
 use Rattle.rev_races.specs.declared.runs.Run.{Run}
 use Rattle.rev_races.specs.Races.{is_plan, starts}
 use Rattle.rev_races.specs.Runs.{ends, last_number, last_run, run_from}
-use Rattle.rev_races.specs.Stories.{ArePlans, is_between}
+use Rattle.rev_races.specs.Stories.{ArePlans, ArePlansBy, is_between}
 use Rattle.rev_races.proofs.AnswerLemmas.{chosen-one-more}
 use Rattle.rev_races.proofs.RunLemmas.{last-kept}
-
--- the plans among some kept numbers
-pub record ArePlansBy (t : Timeline) (ks plans : List ℕ) : Type 0 where
-  pub parts : (a b : ℕ) → list_any (is_between a b) plans ≡ list_any (λ (e : ℕ × Event). is_plan e.1 && is_between a b e.0) (chosen t.accepted ks)
 
 module _ (t : Timeline) (ks : List ℕ) (n : ℕ) (plans : List ℕ) where
   abbrev test : ℕ → ℕ → ℕ × Event → Bool

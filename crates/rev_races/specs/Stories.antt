@@ -2,7 +2,7 @@
 use Rattle.std.specs.Prelude.{◌≡◌, ℕ, nat_lt, Bool, true, false, ◌&&◌, ◌||◌, List, Option, Some, None, IfSome, if◌then◌else◌}
 use Rattle.std.specs.List.{list_any}
 use Rattle.rev_events.specs.declared.event.Event.{Event}
-use Rattle.rev_history.specs.Timeline.{Timeline, IsHistory, cone_numbers, coned, is_among, kept_events}
+use Rattle.rev_history.specs.Timeline.{Timeline, IsHistory, chosen, cone_numbers, coned, is_among, kept_events}
 use Rattle.rev_held.specs.Beside.{held_beside}
 use Rattle.rev_races.specs.declared.race.Race.{Race}
 use Rattle.rev_races.specs.declared.runs.Run.{Run}
@@ -69,6 +69,11 @@ FreeStays =
 -- the numbers of the kept plans part what they stand between
 pub record ArePlans (t : Timeline) (plans : List ℕ) : Type 0 where
   pub parts : (a b : ℕ) → list_any (is_between a b) plans ≡ are_parted t a b
+
+-- the plans among some kept numbers
+pub record ArePlansBy (t : Timeline) (ks plans : List ℕ) : Type 0 where
+  pub parts : (a b : ℕ) → list_any (is_between a b) plans
+      ≡ list_any (λ (e : ℕ × Event). is_plan e.1 && is_between a b e.0) (chosen t.accepted ks)
 
 -- the cone of an event, and what that event holds beside jobs and slots; of none, where there is none
 pub record IsConeOf (t : Timeline) (event : Option ℕ) (members beside : List ℕ) : Type 0 where

@@ -83,7 +83,7 @@ fn add_of(
     steps: &[Vec<u32>],
     phony: &[Vec<u32>],
     files: &[Name],
-    direct: &mut [Option<u32>],
+    direct: &mut Vec<Option<u32>>,
     search: &mut Search,
     user: u32,
     found: &mut Found,
@@ -93,9 +93,9 @@ fn add_of(
     requires ended { AreNoted history.now.timeline true ended.now }
     requires steps { graph_of steps.now ≡ successor_lists history.now.timeline.manifest.builds }
     requires phony { graph_of phony.now ≡ phony_lists history.now.timeline.manifest.builds }
-    requires direct { AreDirect (graph_of steps.now) direct.old }
+    requires direct { AreDirect (graph_of steps.now) direct.old.items }
     requires kept { IsKept history.now.timeline.manifest.builds search.old.edge search.old.waited.items }
-    ensures direct { OnOk result (AreDirect (graph_of steps.now) direct.new) }
+    ensures direct { OnOk result (AreDirect (graph_of steps.now) direct.new.items) }
     ensures kept { OnOk result (IsKept history.now.timeline.manifest.builds search.new.edge search.new.waited.items) }
     ensures found { OnOk result ((k : List ℕ) → Contains found.new k
         ↔ (Contains found.old k ⊎ IsKeyOf history.now.timeline files.now user k)) }
@@ -104,6 +104,7 @@ fn add_of(
         return Ok(());
     };
     let graph = history.graph();
+    let _edges = graph.edges();
     mark_direct(steps, user, direct);
     if !has_suspect(graph, direct, user, paths) {
         return Ok(());
@@ -145,7 +146,7 @@ fn found_in(
 /// that make one of `files`, from which the manifest was read, run before all else, and race with none.
 ///
 /// Each listed path is looked up once. An edge is searched for what it waits for only where a path that it lists is made
-/// by one that it does not step to, and not where the last search was for an edge that steps to the same ones.
+/// by one that it does not step to.
 ///
 /// # Errors
 /// [`AllocError`] only where an allocation was refused.
@@ -153,7 +154,9 @@ pub fn races(alloc: Global, history: &History, files: &[Name]) -> Result<Vec<Rac
     ensures { IfOk result (λ races. AreRaces history.now.timeline.manifest files.now
         history.now.timeline.opening (kept_events history.now.timeline) races.items) }
 {
-    let steps = steps(alloc, history.graph())?;
+    let graph = history.graph();
+    let steps = steps(alloc, graph)?;
     let told = found_in(alloc, history, &steps, files)?;
-    with_kinds(alloc, history.graph(), &steps, &told)
+    let races = with_kinds(alloc, graph, &steps, &told)?;
+    Ok(races)
 }

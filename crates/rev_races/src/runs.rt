@@ -67,8 +67,8 @@ fn step_of(graph: &Graph, event: &Event, step: Step) -> Option<u32>
     }
 }
 
-// What stands at a place, and nothing past the last.
-fn at(numbers: &[Option<u32>], edge: u32) -> Option<u32>
+/// What stands at a place, and nothing past the last.
+pub(crate) fn at(numbers: &[Option<u32>], edge: u32) -> Option<u32>
     ensures { result ≡ slice_index_or numbers.now edge None }
 {
     if edge as usize >= numbers.len() {
@@ -135,7 +135,7 @@ fn last_numbers(
 }
 
 /// The runs of all edges, in four passes over the kept events.
-pub(crate) fn runs(alloc: Global, history: &History) -> Result<Runs, AllocError>
+pub(crate) fn all_runs(alloc: Global, history: &History) -> Result<Runs, AllocError>
     ensures { IfOk result (AreRuns history.now.timeline) }
 {
     let begins = last_numbers(alloc, history, Step::Begin, &[])?;

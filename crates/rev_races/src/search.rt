@@ -26,16 +26,7 @@ pub(crate) fn no_search(alloc: Global) -> Search
     }
 }
 
-// Whether two edges step to the same edges.
-fn step_alike(steps: &[Vec<u32>], one: u32, other: u32) -> bool
-    requires one { one < length steps.now }
-    requires other { other < length steps.now }
-    ensures { IsTrue result → successors_of (graph_of steps.now) one ≡ successors_of (graph_of steps.now) other }
-{
-    steps[one as usize].as_slice() == steps[other as usize].as_slice()
-}
-
-/// Searches for what an edge waits for, unless the last search was for an edge that steps to the same edges.
+/// Searches for what an edge waits for, unless the last search was for that edge.
 pub(crate) fn search_for(
     alloc: Global,
     graph: &Graph,
@@ -50,7 +41,7 @@ pub(crate) fn search_for(
     ensures kept { OnOk result (IsKept graph.now.manifest.builds search.new.edge search.new.waited.items) }
 {
     if let Some(last) = search.edge {
-        if step_alike(steps, last, edge) {
+        if last == edge {
             return Ok(());
         }
     }

@@ -1,13 +1,13 @@
 //! What happened here with a maker and a user.
-ghost use Rattle.std.specs.Prelude.{◌≡◌, None, Some, map, IfOk, IfSome, OnOk};
+ghost use Rattle.std.specs.Prelude.{◌≡◌, ◌++◌, ◌∷◌, [], ℕ, List, None, Some, map, IfOk, IfSome, OnOk};
 ghost use Rattle.std.specs.List.{list_any};
 ghost use Rattle.rev_history.specs.Timeline.{cone_refusal};
 ghost use Rattle.rev_races.specs.Races.{is_plan as is_plan_of};
 ghost use Rattle.rev_races.specs.Runs.{AreRuns};
-ghost use Rattle.rev_races.specs.Stories.{ArePlans, IsConeOf, after_end as after_end_of, happened_of, held_in, in_order as in_order_of, is_between, story_of};
+ghost use Rattle.rev_races.specs.Stories.{ArePlans, ArePlansBy, IsConeOf, after_end as after_end_of, happened_of, held_in, in_order as in_order_of, is_between, story_of};
 
 use crate::race::Race;
-use crate::runs::{Run, Runs, finished_run, last_run, runs};
+use crate::runs::{Run, Runs, all_runs, finished_run, last_run};
 use rev_events::Event;
 use rev_held::held_beside;
 use rev_history::History;
@@ -157,7 +157,7 @@ fn are_apart(plans: &[u32], first: u32, second: u32) -> bool
 }
 
 // What happened with two runs.
-fn happened(
+fn what_happened(
     alloc: Global,
     history: &History,
     plans: &[u32],
@@ -185,7 +185,7 @@ fn happened(
 }
 
 // What happened with the two edges of a race.
-fn story(
+fn one_story(
     alloc: Global,
     history: &History,
     runs: &Runs,
@@ -201,7 +201,7 @@ fn story(
 {
     let maker = last_run(history, runs, race.maker);
     let user = finished_run(history, runs, race.user);
-    let happened = happened(alloc, history, plans, maker, user, cone)?;
+    let happened = what_happened(alloc, history, plans, maker, user, cone)?;
     Ok(Story {
         happened,
         maker,
@@ -219,17 +219,28 @@ fn is_plan(event: &Event) -> bool
     }
 }
 
+// Adds a number where a plan stands under it.
+fn add_plan(history: &History, number: u32, plans: &mut Vec<u32>) -> Result<(), AllocError>
+    ensures { OnOk result ((ks : List ℕ) → ArePlansBy history.now.timeline ks plans.old.items
+        → ArePlansBy history.now.timeline (ks ++ number ∷ []) plans.new.items) }
+{
+    let Some(event) = history.event(number) else {
+        return Ok(());
+    };
+    if !is_plan(event) {
+        return Ok(());
+    }
+    plans.push(number)?;
+    Ok(())
+}
+
 // The numbers of the kept plans.
 fn plan_numbers(alloc: Global, history: &History) -> Result<Vec<u32>, AllocError>
     ensures { IfOk result (λ plans. ArePlans history.now.timeline plans.items) }
 {
     let mut plans = Vec::new(alloc);
     for number in history.kept() {
-        if let Some(event) = history.event(*number) {
-            if is_plan(event) {
-                plans.push(*number)?;
-            }
-        }
+        add_plan(history, *number, &mut plans)?;
     }
     Ok(plans)
 }
@@ -243,12 +254,12 @@ fn plan_numbers(alloc: Global, history: &History) -> Result<Vec<u32>, AllocError
 pub fn stories(alloc: Global, history: &History, races: &[Race]) -> Result<Vec<Story>, AllocError>
     ensures { IfOk result (λ stories. stories.items ≡ map (story_of history.now.timeline) races.now) }
 {
-    let runs = runs(alloc, history)?;
+    let runs = all_runs(alloc, history)?;
     let plans = plan_numbers(alloc, history)?;
     let mut cone = no_cone(alloc);
     let mut stories = Vec::new(alloc);
     for race in races {
-        stories.push(story(alloc, history, &runs, &plans, race, &mut cone)?)?;
+        stories.push(one_story(alloc, history, &runs, &plans, race, &mut cone)?)?;
     }
     Ok(stories)
 }

@@ -1,13 +1,12 @@
 -- One order more makes an edge wait, and no cycle where there was no way back.
-use Rattle.std.proofs.Common.{◌≡◌, ◌≢◌, ℕ, ◌+◌, ◌<◌, Bool, true, false, List, [], ◌∷◌, ◌++◌, length, get_or, set, Option, Some, None, ◌⊎◌, inl, inr, refl, sym, ap, subst, ◌∙◌, arith, true≢false, Contains, zero, suc, append_assoc, if◌then◌else◌}
-use Rattle.std.specs.Prelude.{slice_get, slice_set, IsSome}
+use Rattle.std.proofs.Common.{◌≡◌, ◌≢◌, ℕ, ◌+◌, ◌<◌, List, [], ◌∷◌, ◌++◌, length, get_or, set, Some, ◌⊎◌, inl, inr, refl, sym, ap, subst, ◌∙◌, arith, true≢false, Contains, zero, suc, append_assoc, if◌then◌else◌}
+use Rattle.std.specs.Prelude.{slice_get}
 use Rattle.std.proofs.lemmas.Bool.{cases_eq}
 use Rattle.std.proofs.lemmas.List.{get_or-set_same, get_or-set_other}
-use Rattle.std.proofs.lemmas.List.Elements.{Contains-get_or, Contains-append_cases, Contains-append_left, Contains-append_right}
+use Rattle.std.proofs.lemmas.List.Elements.{Contains-get_or, Contains-append_cases, Contains-append_right}
 use Rattle.rev_manifest.specs.Manifest.{BuildValue}
 use Rattle.rev_graph.specs.Graph.{GraphValue, IsGraph, EdgeSteps, EdgeReaches, EdgeReaches.step as one_step, EdgeReaches.further as then_on, build_at, inputs_of, no_build, outputs_of, producer_from, producer_of, has_path}
 use Rattle.rev_graph.proofs.StepLemmas.{ranked-acyclic}
-use Rattle.rev_waits.specs.Waits.{Waits}
 use Rattle.rev_waits.specs.Mending.{CanMend, IsApart, Mends, ordered, with_order}
 
 -- WHAT AN ORDER CHANGES
@@ -50,21 +49,21 @@ module _ (builds : List BuildValue) (user maker : ℕ) (out : List ℕ) (inside 
   step-was a b s = elim (cases_eq a user) [
     | inl here ↦ elim (Contains-append_cases (inputs_of (build_at builds user)) (out ∷ []) s.path (subst (λ ins. Contains ins s.path) inputs-more
         (subst (λ (x : BuildValue). Contains (inputs_of x) s.path) (ap (build_at (with_order builds user out)) here ∙ at-user) s.is_input))) [
-      | inl old ↦ inl (record {
-          path = s.path;
-          is_input = subst (λ e. Contains (inputs_of (build_at builds e)) s.path) (sym here) old;
-          produced = sym (same-producer s.path) ∙ s.produced;
-        })
-      | inr new ↦
-          let both : Some b ≡ Some maker = sym (sym (same-producer s.path) ∙ s.produced) ∙ ap (producer_of builds) (sym (only-one s.path new)) ∙ made in
-          let same : b ≡ maker = cc in
-          inr (here, same)
-    ]
+          | inl old ↦ inl (record {
+            path = s.path;
+            is_input = subst (λ e. Contains (inputs_of (build_at builds e)) s.path) (sym here) old;
+            produced = sym (same-producer s.path) ∙ s.produced;
+          })
+          | inr new ↦
+              let both : Some b ≡ Some maker = sym (sym (same-producer s.path) ∙ s.produced) ∙ ap (producer_of builds) (sym (only-one s.path new)) ∙ made in
+              let same : b ≡ maker = cc in
+              inr (here, same)
+        ]
     | inr other ↦ inl (record {
-        path = s.path;
-        is_input = subst (λ (x : BuildValue). Contains (inputs_of x) s.path) (at-other a other) s.is_input;
-        produced = sym (same-producer s.path) ∙ s.produced;
-      })
+      path = s.path;
+      is_input = subst (λ (x : BuildValue). Contains (inputs_of x) s.path) (at-other a other) s.is_input;
+      produced = sym (same-producer s.path) ∙ s.produced;
+    })
   ]
 
   -- at an edge, or on a way to it

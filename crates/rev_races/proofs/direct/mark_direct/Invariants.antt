@@ -3,4 +3,4 @@ use Rattle.rev_races.specs.Searches.{AreDirect}
 use Rattle.rev_races.proofs.direct.mark_direct.Given as goal
 
 abbrev pub invariant-loop-producer : goal.invariant-loop-producer
-invariant-loop-producer l = AreDirect (graph_of l.steps) l.direct
+invariant-loop-producer l = AreDirect (graph_of l.steps) l.direct.items

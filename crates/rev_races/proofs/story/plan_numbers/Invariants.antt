@@ -1,5 +1,5 @@
 use Rattle.std.proofs.Common.{take}
-use Rattle.rev_races.proofs.StoryLemmas.{ArePlansBy}
+use Rattle.rev_races.specs.Stories.{ArePlansBy}
 use Rattle.rev_races.proofs.story.plan_numbers.Given as goal
 
 abbrev pub invariant-loop-number : goal.invariant-loop-number

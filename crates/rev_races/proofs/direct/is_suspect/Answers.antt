@@ -1,0 +1,8 @@
+use Rattle.std.proofs.Common.{sym}
+use Rattle.rev_races.proofs.SearchLemmas.{quiet-step, unless-not}
+use Rattle.rev_races.proofs.direct.is_suspect.Goals as goal
+
+pub returns-in-Some : goal.returns-in-Some
+returns-in-Some c = λ h.
+    quiet-step c.args.graph.now.manifest.builds c.args.user c.in-Some.producer c.args.path.now (sym c.in-Some.ensures.value)
+    (c.requires.sound c.in-Some.producer c.args.user (c.is_marked.ensures (unless-not c.is_marked.result h)))
