@@ -4,6 +4,7 @@ use rev_history::History;
 use rev_paths::Name;
 use rev_races::{Race, path_of, races, stories, unlisted, without_deps};
 use rev_races_text::{Happened, Kind, Run, Story, Told};
+use rev_waits::mend;
 use std::alloc::{AllocError, Global};
 
 // The kind of a race.
@@ -50,17 +51,19 @@ fn story_of(race: &Race, story: Option<&rev_races::Story>) -> Option<Story> {
     }
 }
 
-// What mends a race: an output of its maker. The maker of a race of that kind does not wait for the user, so no cycle
-// comes of it.
-fn mend_of<'a>(graph: &'a Graph, race: &Race) -> Option<&'a Name> {
-    if race.kind != rev_races::Kind::Race || race.maker >= graph.edges() {
-        return None;
+// What mends a race, where an order does. Of several races of one pair the first alone is told with its mend.
+fn mend_of<'a>(
+    alloc: Global,
+    graph: &'a Graph,
+    race: &Race,
+    before: Option<&Race>,
+) -> Result<Option<&'a Name>, AllocError> {
+    if let Some(before) = before {
+        if before.maker == race.maker && before.user == race.user {
+            return Ok(None);
+        }
     }
-    let outputs = graph.outputs(race.maker);
-    match outputs.explicit.first() {
-        Some(name) => Some(name),
-        None => outputs.implicit.first(),
-    }
+    mend(alloc, graph, race.user, race.maker)
 }
 
 /// The races of a history, whose manifest was read from these files.
@@ -72,7 +75,10 @@ pub fn told_races<'a>(
     let races = races(alloc, history, files)?;
     let stories = stories(alloc, history, &races)?;
     let mut told = Vec::new(alloc);
+    let mut before = None;
     for (place, race) in races.iter().enumerate() {
+        let mend = mend_of(alloc, history.graph(), race, before)?;
+        before = Some(race);
         if let Some(path) = path_of(history, race)? {
             told.push(Told {
                 kind: kind_of(race),
@@ -80,7 +86,7 @@ pub fn told_races<'a>(
                 user: race.user,
                 path,
                 story: story_of(race, stories.get(place)),
-                mend: mend_of(history.graph(), race),
+                mend,
             })?;
         }
     }
