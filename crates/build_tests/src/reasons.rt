@@ -127,8 +127,7 @@ fn lacks_first(alloc: Global, build: &Build, edge: u32) -> Result<bool, Fail> {
         return Err(Fail::from("no edge of that number"));
     }
     let scan = DependencyScan::new(alloc, &build.graph, &build.cells);
-    let lacks = scan.lacks_first_output(edge)?;
-    Ok(lacks)
+    Ok(scan.lacks_first_output(edge))
 }
 
 #[test]

@@ -1,5 +1,4 @@
-//! Graphs as large as the largest build. `ranks` has a slow way behind its fast one, which would take hours for them: so
-//! that these tests end shows that the fast way gives the answers.
+//! Graphs as large as the largest build. That these tests end in a moment shows that `ranks` is linear.
 ghost use Rattle.std.specs.Prelude.{◌<◌, length};
 ghost use Rattle.std.specs.Bool.{OnTrue};
 ghost use Rattle.std.specs.List.{All};

@@ -7,9 +7,10 @@ ghost use Rattle.rev_desk.specs.Spots.{both_same, least_met, point_spot as point
 ghost use Rattle.rev_desk.specs.Spots.{without_break};
 ghost use Rattle.rev_manifest.specs.Manifest.{ManifestValue};
 
-use crate::numbers::{place_of, take_out};
+use crate::numbers::take_out;
 use crate::spot::{Spot, event_spot, point_spot};
 use indexmap::IndexMap;
+use rev_accesses::place_of;
 use rev_commands::Point;
 use rev_events::Event;
 use rev_graph::Graph;
@@ -121,6 +122,10 @@ impl Breaks {
         ensures { IfOk result (λ met. met
             ≡ least_met graph.now.manifest event.now self.now.standing.items) }
     {
+        // Where no break stands, the event's edge is not looked up.
+        if self.standing.is_empty() {
+            return Ok(None);
+        }
         match event_spot(graph, event)? {
             Some(spot) => Ok(self.first_at(&spot)),
             None => Ok(None),

@@ -76,8 +76,12 @@ impl Desk {
         if lanes == 0 || lanes > Self::MAX_LANES {
             return Err(DeskFault::BadLanes);
         }
+        // A build starts and ends each edge once, and there are its plans and the like.
+        let usual = (graph.edges() as usize)
+            .saturating_mul(2)
+            .saturating_add(64);
         let history = History::new(alloc, graph, opening)?;
-        let journal = Journal::new(alloc, lanes)?;
+        let journal = Journal::new(alloc, lanes, usual)?;
         let breaks = Breaks::new(alloc);
         Ok(Desk {
             bench: Bench {

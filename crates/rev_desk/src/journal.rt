@@ -35,8 +35,8 @@ impl Journal {
     /// The most entries.
     pub(crate) const MAX_ENTRIES: usize = 1_048_576;
 
-    /// No entries, of so many lanes.
-    pub(crate) fn new(alloc: Global, lanes: u32) -> Result<Journal, AllocError>
+    /// No entries, of so many lanes, with room for as many as are usual.
+    pub(crate) fn new(alloc: Global, lanes: u32, usual: usize) -> Result<Journal, AllocError>
         ensures entries { IfOk result (λ j. j.entries.items ≡ []) }
         ensures lanes { IfOk result (λ j. length j.numbers.items ≡ lanes) }
         ensures indexed { IfOk result (λ j. IsIndexed j) }
@@ -45,10 +45,8 @@ impl Journal {
         for _ in 0..lanes {
             numbers.push(Vec::new(alloc))?;
         }
-        Ok(Journal {
-            entries: Vec::new(alloc),
-            numbers,
-        })
+        let entries = Vec::with_capacity(alloc, usual)?;
+        Ok(Journal { entries, numbers })
     }
 
     /// How many lanes there are.

@@ -3,6 +3,7 @@ pub mod ChosenLemmas
 pub mod FirstReason
 pub mod InputLemmas
 pub mod ListLemmas
+pub mod NewestLemmas
 pub mod ReasonLemmas
 pub mod SameReasons
 pub mod SeenLemmas

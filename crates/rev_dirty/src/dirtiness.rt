@@ -3,7 +3,7 @@ ghost use Rattle.std.specs.Prelude.{◌≡◌, ◌<◌, ◌++◌, ◌==◌, ◌&
 ghost use Rattle.std.specs.Option.{option_copied};
 ghost use Rattle.std.specs.List.{position, list_any};
 ghost use Rattle.rev_cells.specs.declared.value.DepsRecord.{DepsRecord};
-ghost use Rattle.rev_dirty.specs.Visible.{greatest, visible_stamp};
+ghost use Rattle.rev_dirty.specs.Visible.{greatest};
 ghost use Rattle.rev_dirty.specs.Walk.{shown as shown_of, IsKnowledge};
 ghost use Rattle.rev_graph.specs.Graph.{build_at, inputs_of, producer_of, IsGraph};
 ghost use Rattle.rev_dirty.specs.declared.input.Input.{Input};
@@ -15,8 +15,9 @@ ghost use Rattle.rev_dirty.specs.Changes.{AreChanges};
 ghost use Rattle.rev_dirty.specs.Reasons.{reasons_of, holds, newest_stamp, is_rebuilt};
 
 use crate::change::{Changed, changes_of};
-use crate::input::{Input, InputKind, all_inputs, input_of, producers_of};
-use crate::output::{Output, outputs_of};
+use crate::input::{Input, InputKind, all_inputs, producers_of};
+use crate::newest::newest_there;
+use crate::output::{Output, first_output, outputs_of};
 use crate::reason::Reason;
 use crate::walk::{Known, greatest_shown, know, shown};
 use rev_cells::records::deps;
@@ -27,28 +28,16 @@ use std::alloc::{AllocError, Global};
 
 /// The record that lists an edge's further inputs: the deps log's record of its first output, where the edge keeps
 /// deps.
-///
-/// # Errors
-/// [`AllocError`] only where an allocation was refused.
-pub fn deps_record<'a>(
-    graph: &Graph,
-    cells: &'a Cells,
-    edge: u32,
-) -> Result<Option<&'a DepsRecord>, AllocError>
+pub fn deps_record<'a>(graph: &Graph, cells: &'a Cells, edge: u32) -> Option<&'a DepsRecord>
     requires { edge < length graph.now.manifest.builds }
-    ensures { IfOk result (λ deps. option_copied deps
-        ≡ record_of cells.now.state (build_at graph.now.manifest.builds edge)) }
+    ensures { option_copied result ≡ record_of cells.now.state (build_at graph.now.manifest.builds edge) }
 {
     if !graph.keeps_deps(edge) {
-        return Ok(None);
+        return None;
     }
-    let outputs = graph.outputs(edge);
-    if let Some(path) = outputs.explicit.first() {
-        return deps(cells, path);
-    }
-    match outputs.implicit.first() {
-        Some(path) => deps(cells, path),
-        None => Ok(None),
+    match first_output(graph, edge) {
+        Some(output) => deps(cells, output),
+        None => None,
     }
 }
 
@@ -221,20 +210,11 @@ fn listed_in(deps: Option<&DepsRecord>) -> &[Name]
 }
 
 /// The inputs of an edge that its deps record lists, where it keeps deps and has one.
-///
-/// # Errors
-/// [`AllocError`] only where an allocation was refused.
-pub fn listed_inputs<'a>(
-    graph: &Graph,
-    cells: &'a Cells,
-    edge: u32,
-) -> Result<&'a [Name], AllocError>
+pub fn listed_inputs<'a>(graph: &Graph, cells: &'a Cells, edge: u32) -> &'a [Name]
     requires { edge < length graph.now.manifest.builds }
-    ensures { IfOk result (λ listed. listed.now
-        ≡ paths_in (record_of cells.now.state (build_at graph.now.manifest.builds edge))) }
+    ensures { result.now ≡ paths_in (record_of cells.now.state (build_at graph.now.manifest.builds edge)) }
 {
-    let deps = deps_record(graph, cells, edge)?;
-    Ok(listed_in(deps))
+    listed_in(deps_record(graph, cells, edge))
 }
 
 // Whether one of the inputs was changed.
@@ -269,7 +249,7 @@ fn phony_reasons(
     ensures { IfOk result (λ reasons. reasons.items
         ≡ reasons_of graph.now.manifest.builds cells.now.state edge) }
 {
-    let deps = deps_record(graph, cells, edge)?;
+    let deps = deps_record(graph, cells, edge);
     let mut reasons = Vec::new(alloc);
     if !has_no_input(graph, edge, listed_in(deps)) {
         return Ok(reasons);
@@ -345,7 +325,7 @@ fn command_reasons(
     ensures knowledge { IsKnowledge graph.now.manifest.builds cells.now.state known.new.entries }
     ensures changed { AreChanges graph.now.manifest.builds cells.now.state changed.new.entries }
 {
-    let deps = deps_record(graph, cells, edge)?;
+    let deps = deps_record(graph, cells, edge);
     let listed = listed_in(deps);
     let outputs = outputs_of(alloc, graph, cells, edge)?;
     let producers = listed_producers(alloc, graph, listed, are_sources)?;
@@ -410,7 +390,10 @@ pub(crate) fn newest_stamp_by(
         (inputs_in cells.now.state (build_at graph.now.manifest.builds edge))) }
     ensures knowledge { IsKnowledge graph.now.manifest.builds cells.now.state known.new.entries }
 {
-    let listed = listed_inputs(graph, cells, edge)?;
+    let listed = listed_inputs(graph, cells, edge);
+    if let Some(stamp) = newest_there(graph, cells, edge, listed) {
+        return Ok(stamp);
+    }
     let producers = producers_of(alloc, graph, listed)?;
     let inputs = all_inputs(alloc, graph, cells, edge, listed, &producers)?;
     know(alloc, graph, cells, known, &inputs)?;
@@ -432,28 +415,8 @@ pub(crate) fn has_rebuilt_by(
         (inputs_in cells.now.state (build_at graph.now.manifest.builds edge))) }
     ensures changed { AreChanges graph.now.manifest.builds cells.now.state changed.new.entries }
 {
-    let listed = listed_inputs(graph, cells, edge)?;
+    let listed = listed_inputs(graph, cells, edge);
     let producers = producers_of(alloc, graph, listed)?;
     let changes = changes_of(alloc, graph, cells, changed, edge, listed, &producers)?;
     Ok(any_changed(&changes))
-}
-
-/// The visible stamp of a path, by what is known of phony edges, and by what is learned of them.
-pub(crate) fn visible_stamp_by(
-    alloc: Global,
-    graph: &Graph,
-    cells: &Cells,
-    known: &mut Known,
-    path: &Name,
-) -> Result<u64, AllocError>
-    requires graph { IsGraph graph.now }
-    requires knowledge { IsKnowledge graph.now.manifest.builds cells.now.state known.old.entries }
-    ensures stamp { IfOk result (λ stamp. stamp
-        ≡ visible_stamp graph.now.manifest.builds cells.now.state path.now) }
-    ensures knowledge { IsKnowledge graph.now.manifest.builds cells.now.state known.new.entries }
-{
-    let input = input_of(graph, cells, InputKind::OnLine, path, graph.producer(path))?;
-    let inputs = [input];
-    know(alloc, graph, cells, known, &inputs)?;
-    Ok(greatest_shown(known, &inputs))
 }

@@ -102,43 +102,42 @@ pub fn phony_producer(graph: &Graph, producer: Option<u32>) -> Option<u32>
     }
 }
 
-/// What is asked of an input.
-pub(crate) fn input_of(
+// What is asked of an input.
+fn input_of(
     graph: &Graph,
     cells: &Cells,
     kind: InputKind,
     path: &Name,
     producer: Option<u32>,
-) -> Result<Input, AllocError>
+) -> Input
     requires { producer ≡ producer_of graph.now.manifest.builds path.now }
-    ensures { IfOk result (λ input. input
-        ≡ input_facts graph.now.manifest.builds cells.now.state kind path.now) }
+    ensures { result ≡ input_facts graph.now.manifest.builds cells.now.state kind path.now }
 {
     if kind == InputKind::OrderOnly {
-        return Ok(Input {
+        return Input {
             kind,
             stamp: 0,
             produced: false,
             through: None,
-        });
+        };
     }
-    let stamp = stamp(cells, path)?;
+    let stamp = stamp(cells, path);
     let produced = producer.is_some();
     if stamp != 0 {
-        return Ok(Input {
+        return Input {
             kind,
             stamp,
             produced,
             through: None,
-        });
+        };
     }
     let through = phony_producer(graph, producer);
-    Ok(Input {
+    Input {
         kind,
         stamp,
         produced,
         through,
-    })
+    }
 }
 
 // Adds what is asked of inputs that stand in one place.
@@ -157,7 +156,7 @@ fn push_inputs(
 {
     inputs.reserve(paths.len())?;
     for (place, path) in paths.iter().enumerate() {
-        inputs.push(input_of(graph, cells, kind, path, producers[place])?)?;
+        inputs.push(input_of(graph, cells, kind, path, producers[place]))?;
     }
     Ok(())
 }

@@ -5,6 +5,7 @@ mod change;
 mod dirtiness;
 mod input;
 pub mod laws;
+mod newest;
 mod output;
 mod reason;
 mod scan;

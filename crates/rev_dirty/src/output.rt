@@ -45,38 +45,34 @@ fn effective(restat: bool, stamp: u64, built: Option<&BuiltRecord>) -> u64
 }
 
 // What is asked of an output of an edge.
-fn output_of(graph: &Graph, cells: &Cells, edge: u32, path: &Name) -> Result<Output, AllocError>
+fn output_of(graph: &Graph, cells: &Cells, edge: u32, path: &Name) -> Output
     requires { edge < length graph.now.manifest.builds }
-    ensures { IfOk result (λ output. output
-        ≡ output_facts cells.now.state (build_at graph.now.manifest.builds edge) path.now) }
+    ensures { result ≡ output_facts cells.now.state (build_at graph.now.manifest.builds edge) path.now }
 {
-    let stamp = stamp(cells, path)?;
-    let built = built(cells, path)?;
+    let stamp = stamp(cells, path);
+    let built = built(cells, path);
     let effective = effective(graph.restat(edge), stamp, built);
     if graph.generator(edge) {
-        return Ok(Output {
+        return Output {
             stamp,
             effective,
             unrecorded: false,
             command_changed: false,
-        });
+        };
     }
     match built {
-        Some(built) => {
-            let command_changed = built.command.as_slice() != graph.command(edge);
-            Ok(Output {
-                stamp,
-                effective,
-                unrecorded: false,
-                command_changed,
-            })
-        }
-        None => Ok(Output {
+        Some(built) => Output {
+            stamp,
+            effective,
+            unrecorded: false,
+            command_changed: built.command.as_slice() != graph.command(edge),
+        },
+        None => Output {
             stamp,
             effective,
             unrecorded: true,
             command_changed: false,
-        }),
+        },
     }
 }
 
@@ -95,7 +91,7 @@ fn push_outputs(
         paths.now) }
 {
     for path in paths {
-        outputs.push(output_of(graph, cells, edge, path)?)?;
+        outputs.push(output_of(graph, cells, edge, path))?;
     }
     Ok(())
 }
@@ -119,8 +115,8 @@ pub(crate) fn outputs_of(
     Ok(outputs)
 }
 
-// The first output of an edge.
-fn first_output(graph: &Graph, edge: u32) -> Option<&Name>
+/// The first output of an edge.
+pub(crate) fn first_output(graph: &Graph, edge: u32) -> Option<&Name>
     requires { edge < length graph.now.manifest.builds }
     ensures { option_copied result ≡ slice_get (outputs_on (build_at graph.now.manifest.builds edge)) 0 }
 {
@@ -132,21 +128,17 @@ fn first_output(graph: &Graph, edge: u32) -> Option<&Name>
 }
 
 /// Whether an edge that is not phony lacks its first output, which is then the first of its reasons.
-pub(crate) fn lacks_first(graph: &Graph, cells: &Cells, edge: u32) -> Result<bool, AllocError>
+pub(crate) fn lacks_first(graph: &Graph, cells: &Cells, edge: u32) -> bool
     requires { edge < length graph.now.manifest.builds }
-    ensures exact { IfOk result (λ lacks. lacks
-        ≡ lacks_first_of cells.now.state (build_at graph.now.manifest.builds edge)) }
-    ensures first { IfOk result (λ lacks. lacks ≡ true
-        → slice_get (reasons_of graph.now.manifest.builds cells.now.state edge) 0 ≡ Some (Missing 0)) }
+    ensures exact { result ≡ lacks_first_of cells.now.state (build_at graph.now.manifest.builds edge) }
+    ensures first { result ≡ true
+        → slice_get (reasons_of graph.now.manifest.builds cells.now.state edge) 0 ≡ Some (Missing 0) }
 {
     if graph.is_phony(edge) {
-        return Ok(false);
+        return false;
     }
     match first_output(graph, edge) {
-        Some(output) => {
-            let stamp = stamp(cells, output)?;
-            Ok(stamp == 0)
-        }
-        None => Ok(false),
+        Some(output) => stamp(cells, output) == 0,
+        None => false,
     }
 }

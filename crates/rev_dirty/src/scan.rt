@@ -4,18 +4,16 @@ ghost use Rattle.std.specs.List.{list_any};
 ghost use Rattle.rev_graph.specs.Graph.{build_at};
 ghost use Rattle.rev_dirty.specs.Inputs.{inputs, paths_in, producers_in, deps_record};
 ghost use Rattle.rev_dirty.specs.Reasons.{lacks_first as lacks_first_of, reasons_of, newest_stamp, is_rebuilt};
-ghost use Rattle.rev_dirty.specs.Visible.{visible_stamp};
 ghost use Rattle.rev_dirty.specs.declared.reason.Reason.TheVariants.{Missing};
 
 use crate::change::Changed;
-use crate::dirtiness::{has_rebuilt_by, newest_stamp_by, reasons_by, visible_stamp_by};
+use crate::dirtiness::{has_rebuilt_by, newest_stamp_by, reasons_by};
 use crate::output::lacks_first;
 use crate::reason::Reason;
 use crate::walk::Known;
 use indexmap::IndexMap;
 use rev_cells::Cells;
 use rev_graph::Graph;
-use rev_paths::Name;
 use std::alloc::{AllocError, Global};
 use std::marker::Model;
 
@@ -121,15 +119,11 @@ impl<'a> DependencyScan<'a> {
 
     /// Whether an edge lacks its first output and is not phony: then its first reason is that output, whatever its
     /// inputs are, and none of them is looked at. Where it says no, the edge may have reasons all the same.
-    ///
-    /// # Errors
-    /// [`AllocError`] only where an allocation was refused.
-    pub fn lacks_first_output(&self, edge: u32) -> Result<bool, AllocError>
+    pub fn lacks_first_output(&self, edge: u32) -> bool
         requires { edge < length self.now.graph.manifest.builds }
-        ensures exact { IfOk result (λ lacks. lacks
-            ≡ lacks_first_of self.now.state (build_at self.now.graph.manifest.builds edge)) }
-        ensures first { IfOk result (λ lacks. lacks ≡ true
-            → slice_get (reasons_of self.now.graph.manifest.builds self.now.state edge) 0 ≡ Some (Missing 0)) }
+        ensures exact { result ≡ lacks_first_of self.now.state (build_at self.now.graph.manifest.builds edge) }
+        ensures first { result ≡ true
+            → slice_get (reasons_of self.now.graph.manifest.builds self.now.state edge) 0 ≡ Some (Missing 0) }
     {
         lacks_first(self.graph, self.cells, edge)
     }
@@ -161,19 +155,6 @@ impl<'a> DependencyScan<'a> {
         ensures same { self.new ≡ self.old }
     {
         has_rebuilt_by(self.alloc, self.graph, self.cells, &mut self.changed, edge)
-    }
-
-    /// The visible stamp of a path: its stamp; but of a missing output of a phony edge the greatest visible stamp of
-    /// that edge's explicit and implicit inputs, 0 where it has none.
-    ///
-    /// # Errors
-    /// [`AllocError`] only where an allocation was refused.
-    pub fn visible_stamp(&mut self, path: &Name) -> Result<u64, AllocError>
-        ensures stamp { IfOk result (λ stamp. stamp
-            ≡ visible_stamp self.old.graph.manifest.builds self.old.state path.now) }
-        ensures same { self.new ≡ self.old }
-    {
-        visible_stamp_by(self.alloc, self.graph, self.cells, &mut self.known, path)
     }
 }
 

@@ -2,16 +2,18 @@
 ghost use Rattle.std.specs.Prelude.{◌≡◌, [], None, IfOk, IsErrOf, OnOk, Some, option_map};
 ghost use Rattle.rev_plan.specs.Plan.{plan_refusal as plan_refusal_in};
 ghost use Rattle.rev_events.specs.Refusal.{of_plan as of_plan_in};
-ghost use Rattle.rev_events.specs.declared.event.Event.TheVariants.{Plan};
+ghost use Rattle.rev_events.specs.declared.event.Event.TheVariants.{Finish, Plan};
 ghost use Rattle.rev_events.specs.declared.fault.Fault.{Fault};
 ghost use Rattle.rev_events.specs.declared.refusal.Refusal.{Refusal};
 ghost use Rattle.rev_events.specs.Edge.{Adds, AllFit, stored};
 ghost use Rattle.rev_events.specs.Machine.{effect as effect_in, refusal as refusal_in};
 
-use crate::checks::check;
-use crate::effects::{effect, marks_written};
-use crate::event::Event;
+use crate::checks::{check, finish_listing};
+use crate::edge::named;
+use crate::effects::{effect, finish_effect, marks_written};
+use crate::event::{Event, Listing};
 use crate::fault::{Fault, of_plan};
+use crate::refusal::Refusal;
 use crate::writes::Writes;
 use rev_cells::{Cell, Cells, Value};
 use rev_graph::Graph;
@@ -43,8 +45,34 @@ fn plan_answer(
     }
 }
 
+// What a finish writes, or why it is refused.
+#[tactic(auto, unfolding(crate::specs::Machine::refusal, crate::specs::Machine::effect))]
+fn finish_answer(
+    alloc: Global,
+    graph: &Graph,
+    cells: &Cells,
+    out: &Name,
+    stamps: &[u64],
+    listing: &Listing,
+) -> Result<Writes, Fault>
+    ensures refused { (r : Refusal) → IsErrOf result (Fault.Refused r)
+        → refusal_in graph.now.manifest cells.now.jobs cells.now.state
+        (Finish out.now stamps.now listing.now) ≡ Some r }
+    ensures accepted { OnOk result (refusal_in graph.now.manifest cells.now.jobs cells.now.state
+        (Finish out.now stamps.now listing.now) ≡ None) }
+    ensures writes { IfOk result (λ writes. Adds [] writes.items
+        (effect_in graph.now.manifest cells.now.state (Finish out.now stamps.now listing.now))) }
+{
+    let Some(edge) = named(graph, out) else {
+        return Err(Fault::Refused(Refusal::NoSuchEdge));
+    };
+    let paths = finish_listing(alloc, graph, cells, edge, stamps, listing)?;
+    let writes = finish_effect(alloc, graph, cells, edge, stamps, paths)?;
+    Ok(writes)
+}
+
 /// What an event writes where the state accepts it, as [`effect`] gives it, and else why it is refused, as [`check`]
-/// says: the two in one call, which makes a plan once.
+/// says: the two in one call, which makes a plan once and reads a depfile once.
 ///
 /// # Errors
 /// [`Fault::Refused`] with the refusal, [`Fault::Memory`] only where an allocation was refused.
@@ -62,10 +90,17 @@ pub fn effect_if_accepted(
         ≡ effect_in graph.now.manifest cells.now.state event.now) }
     ensures fit { IfOk result (λ writes. AllFit writes.items) }
 {
-    if let Event::Plan(targets) = event {
-        return plan_answer(alloc, graph, cells, targets.as_slice());
+    match event {
+        Event::Plan(targets) => plan_answer(alloc, graph, cells, targets.as_slice()),
+        Event::Finish {
+            out,
+            stamps,
+            listing,
+        } => finish_answer(alloc, graph, cells, out, stamps.as_slice(), listing),
+        _ => {
+            check(alloc, graph, cells, event)?;
+            let writes = effect(alloc, graph, cells, event)?;
+            Ok(writes)
+        }
     }
-    check(alloc, graph, cells, event)?;
-    let writes = effect(alloc, graph, cells, event)?;
-    Ok(writes)
 }

@@ -4,10 +4,10 @@ ghost use Rattle.rev_cells.specs.State.{is_halted as is_halted_in};
 ghost use Rattle.rev_dirty.specs.Reasons.{reasons_of};
 ghost use Rattle.rev_graph.specs.Graph.{build_at, pool_of};
 ghost use Rattle.rev_events.specs.declared.refusal.Refusal.{Refusal};
-ghost use Rattle.rev_events.specs.Edge.{slot_holder as slot_holder_in};
+ghost use Rattle.rev_events.specs.Edge.{listed as listed_by, slot_holder as slot_holder_in};
 ghost use Rattle.rev_events.specs.Kinds.{abort_refusal as abort_refusal_in, clean_refusal as clean_refusal_in, fail_refusal as fail_refusal_in, finish_refusal as finish_refusal_in, pass_refusal as pass_refusal_in, start_refusal as start_refusal_in};
 ghost use Rattle.rev_events.specs.Machine.{refusal as refusal_in};
-ghost use Rattle.rev_events.specs.Refusal.{already_halted, bad_depfile as bad_depfile_in, of_plan as of_plan_in, pool_slot as pool_slot_in, unexpected_listing as unexpected_listing_in, wrong_outputs as wrong_outputs_in};
+ghost use Rattle.rev_events.specs.Refusal.{already_halted, of_plan as of_plan_in, pool_slot as pool_slot_in, unexpected_listing as unexpected_listing_in, wrong_outputs as wrong_outputs_in};
 ghost use Rattle.rev_events.specs.Pools.{present_pool as present_pool_in};
 ghost use Rattle.rev_plan.specs.Plan.{plan_refusal as plan_refusal_in};
 ghost use Rattle.std.specs.Option.{option_map};
@@ -15,11 +15,11 @@ ghost use Rattle.std.specs.Option.{option_map};
 use crate::edge::{all_outputs, blocking_input, named};
 use crate::event::{Event, Listing};
 use crate::fault::{Fault, of_plan};
+use crate::listings::listed;
 use crate::pools::{present_pool, resize_refusal};
 use crate::refusal::Refusal;
 use crate::words::{is_halted, is_through, is_wanted, job_holder, running, slot_holder};
 use rev_cells::Cells;
-use rev_depfile::{DepfileFault, read};
 use rev_dirty::{DependencyScan, reasons};
 use rev_graph::Graph;
 use rev_paths::Name;
@@ -63,7 +63,7 @@ fn is_clean(alloc: Global, graph: &Graph, cells: &Cells, edge: u32) -> Result<bo
         ≡ (length (reasons_of graph.now.manifest.builds cells.now.state edge) == 0)) }
 {
     let mut scan = DependencyScan::new(alloc, graph, cells);
-    if scan.lacks_first_output(edge)? {
+    if scan.lacks_first_output(edge) {
         return Ok(false);
     }
     let reasons = scan.reasons(edge)?;
@@ -199,32 +199,42 @@ fn unexpected_listing(graph: &Graph, edge: u32, listing: &Listing) -> Option<Ref
     }
 }
 
-// Whether the depfile has a fault.
-fn bad_depfile(
+/// The paths that the command of an edge read whose finish is not refused, as `listed` gives them.
+///
+/// # Errors
+/// [`Fault::Refused`] with why the finish is refused, [`Fault::Memory`].
+#[tactic(auto, unfolding(crate::specs::Kinds::finish_refusal))]
+pub(crate) fn finish_listing(
     alloc: Global,
     graph: &Graph,
+    cells: &Cells,
     edge: u32,
+    stamps: &[u64],
     listing: &Listing,
-) -> Result<Option<Refusal>, AllocError>
+) -> Result<Vec<Name>, Fault>
     requires { edge < length graph.now.manifest.builds }
-    ensures { IfOk result (λ refusal. refusal
-        ≡ bad_depfile_in (build_at graph.now.manifest.builds edge) listing.now) }
+    ensures paths { IfOk result (λ paths. paths.items ≡ listed_by listing.now) }
+    ensures accepted { OnOk result
+        (finish_refusal_in graph.now.manifest edge stamps.now listing.now cells.now.state ≡ None) }
+    ensures refused { (r : Refusal) → IsErrOf result (Fault.Refused r)
+        → finish_refusal_in graph.now.manifest edge stamps.now listing.now cells.now.state ≡ Some r }
 {
-    let Listing::Depfile(text) = listing else {
-        return Ok(None);
-    };
-    let outputs = all_outputs(alloc, graph, edge)?;
-    match read(alloc, text.as_slice(), &outputs) {
-        Ok(_) => Ok(None),
-        Err(DepfileFault::Memory) => Err(AllocError),
-        Err(DepfileFault::NoColon(at)) => Ok(Some(Refusal::Depfile(30, at))),
-        Err(DepfileFault::OtherTarget(at)) => Ok(Some(Refusal::Depfile(31, at))),
-        Err(DepfileFault::LongPath(at)) => Ok(Some(Refusal::Depfile(32, at))),
+    if graph.is_phony(edge) {
+        return Err(Fault::Refused(Refusal::Phony));
     }
+    if running(cells, edge).is_none() {
+        return Err(Fault::Refused(Refusal::NotRunning));
+    }
+    if let Some(refusal) = wrong_outputs(alloc, graph, edge, stamps)? {
+        return Err(Fault::Refused(refusal));
+    }
+    if let Some(refusal) = unexpected_listing(graph, edge, listing) {
+        return Err(Fault::Refused(refusal));
+    }
+    listed(alloc, graph, edge, listing)
 }
 
 // Why a finish is refused.
-#[tactic(auto, unfolding(crate::specs::Kinds::finish_refusal))]
 fn finish_refusal(
     alloc: Global,
     graph: &Graph,
@@ -237,19 +247,11 @@ fn finish_refusal(
     ensures { IfOk result (λ refusal. refusal
         ≡ finish_refusal_in graph.now.manifest edge stamps.now listing.now cells.now.state) }
 {
-    if graph.is_phony(edge) {
-        return Ok(Some(Refusal::Phony));
+    match finish_listing(alloc, graph, cells, edge, stamps, listing) {
+        Ok(_) => Ok(None),
+        Err(Fault::Memory) => Err(AllocError),
+        Err(Fault::Refused(refusal)) => Ok(Some(refusal)),
     }
-    if running(cells, edge).is_none() {
-        return Ok(Some(Refusal::NotRunning));
-    }
-    if let Some(refusal) = wrong_outputs(alloc, graph, edge, stamps)? {
-        return Ok(Some(refusal));
-    }
-    if let Some(refusal) = unexpected_listing(graph, edge, listing) {
-        return Ok(Some(refusal));
-    }
-    bad_depfile(alloc, graph, edge, listing)
 }
 
 // Why a fail is refused.

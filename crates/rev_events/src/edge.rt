@@ -1,7 +1,7 @@
 //! What events ask of an edge.
-ghost use Rattle.std.specs.Prelude.{◌≡◌, ◌<◌, ◌++◌, ◌==◌, length, map, IfOk, IfSome, OnOk};
+ghost use Rattle.std.specs.Prelude.{◌≡◌, ◌<◌, ◌++◌, ◌==◌, length, IfOk, IfSome, OnOk};
 ghost use Rattle.std.specs.List.{list_any, position};
-ghost use Rattle.rev_graph.specs.Graph.{build_at, outputs_of, producer_of};
+ghost use Rattle.rev_graph.specs.Graph.{build_at, outputs_of};
 ghost use Rattle.rev_dirty.specs.Inputs.{inputs};
 ghost use Rattle.rev_dirty.specs.Reasons.{is_rebuilt, newest_stamp};
 ghost use Rattle.rev_events.specs.Edge.{first_blocking, is_waiting, producers_of_inputs};
@@ -9,7 +9,7 @@ ghost use Rattle.rev_events.specs.Machine.{edge_of};
 
 use crate::words::is_settled;
 use rev_cells::Cells;
-use rev_dirty::{DependencyScan, listed_inputs};
+use rev_dirty::{DependencyScan, listed_inputs, producers_of};
 use rev_graph::Graph;
 use rev_paths::Name;
 use std::alloc::{AllocError, Global};
@@ -45,21 +45,6 @@ pub(crate) fn all_outputs(alloc: Global, graph: &Graph, edge: u32) -> Result<Vec
     Ok(all)
 }
 
-// Adds the edges that produce paths.
-fn push_producers(
-    producers: &mut Vec<Option<u32>>,
-    graph: &Graph,
-    paths: &[Name],
-) -> Result<(), AllocError>
-    ensures { OnOk result (producers.new.items
-        ≡ producers.old.items ++ map (producer_of graph.now.manifest.builds) paths.now) }
-{
-    for path in paths {
-        producers.push(graph.producer(path))?;
-    }
-    Ok(())
-}
-
 /// For each input of an edge, of all kinds in their order, the edge that produces it.
 pub(crate) fn all_producers(
     alloc: Global,
@@ -72,9 +57,9 @@ pub(crate) fn all_producers(
         ≡ producers_of_inputs graph.now.manifest.builds cells.now.state
         (build_at graph.now.manifest.builds edge)) }
 {
-    let listed = listed_inputs(graph, cells, edge)?;
+    let listed = producers_of(alloc, graph, listed_inputs(graph, cells, edge))?;
     let mut all = Vec::from_slice(alloc, graph.producers(edge))?;
-    push_producers(&mut all, graph, listed)?;
+    all.extend_from_slice(&listed)?;
     Ok(all)
 }
 

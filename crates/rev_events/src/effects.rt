@@ -10,13 +10,16 @@ ghost use Rattle.rev_dirty.specs.Reasons.{is_missing, is_rebuilt};
 ghost use Rattle.rev_graph.specs.Graph.{build_at, outputs_of};
 ghost use Rattle.rev_plan.specs.Plan.{marks_of, plan_refusal};
 ghost use Rattle.rev_events.specs.declared.event.Event.TheVariants.{Plan};
-ghost use Rattle.rev_events.specs.Edge.{Adds, AllFit, pass_changes, stored, where_true, write};
+ghost use Rattle.rev_events.specs.declared.event.Listing.{Listing as ListingValue};
+ghost use Rattle.rev_events.specs.Edge.{Adds, AllFit, listed as listed_by, pass_changes, stored, where_true, write};
 ghost use Rattle.rev_events.specs.Kinds.{clean_effect as clean_effect_in, end_effect as end_effect_in, finish_effect as finish_effect_in, pass_effect as pass_effect_in, start_effect as start_effect_in};
 ghost use Rattle.rev_events.specs.Machine.{effect as effect_in, refusal, write_marks};
 ghost use Rattle.rev_events.specs.Refusal.{HasNoFault};
 
 use crate::edge::{all_outputs, has_rebuilt, lacks_inputs, named, stamp_seen};
 use crate::event::{Event, Listing};
+use crate::fault::Fault;
+use crate::listings::listed;
 use crate::words::is_wanted;
 use crate::writes::{
     Writes, all_positions, changed_flags, missing_flags, one_write, positions, push_built,
@@ -121,23 +124,22 @@ fn pass_effect(alloc: Global, graph: &Graph, cells: &Cells, edge: u32) -> Result
     Ok(writes)
 }
 
-// What a finish writes: the edge is done, and its outputs have their stamps and records.
-fn finish_effect(
+/// What a finish writes whose command read these paths: the edge is done, and its outputs have their stamps and records.
+pub(crate) fn finish_effect(
     alloc: Global,
     graph: &Graph,
     cells: &Cells,
     edge: u32,
     stamps: &[u64],
-    listing: &Listing,
+    paths: Vec<Name>,
 ) -> Result<Writes, AllocError>
-    requires edge { edge < length graph.now.manifest.builds }
-    requires listing { HasNoFault (outputs_of (build_at graph.now.manifest.builds edge)) listing.now }
-    ensures { IfOk result (λ writes.
-        Adds [] writes.items
-        (finish_effect_in graph.now.manifest edge stamps.now listing.now cells.now.state)) }
+    requires { edge < length graph.now.manifest.builds }
+    ensures { IfOk result (λ writes. (listing : ListingValue) → paths.items ≡ listed_by listing
+        → Adds [] writes.items
+        (finish_effect_in graph.now.manifest edge stamps.now listing cells.now.state)) }
 {
-    let paths = all_outputs(alloc, graph, edge)?;
-    let outputs = paths.as_slice();
+    let all = all_outputs(alloc, graph, edge)?;
+    let outputs = all.as_slice();
     let changes = changed_flags(alloc, graph, cells, edge, outputs, stamps)?;
     let flags = changes.as_slice();
     let changed = positions(alloc, flags)?;
@@ -156,8 +158,26 @@ fn finish_effect(
         flags,
         stamps,
     )?;
-    push_deps(alloc, &mut writes, graph, edge, outputs, stamps, listing)?;
+    push_deps(&mut writes, graph, edge, outputs, stamps, paths)?;
     Ok(writes)
+}
+
+// The paths that the command of an edge read whose finish is accepted.
+fn accepted_listing(
+    alloc: Global,
+    graph: &Graph,
+    edge: u32,
+    listing: &Listing,
+) -> Result<Vec<Name>, AllocError>
+    requires edge { edge < length graph.now.manifest.builds }
+    requires listing { HasNoFault (outputs_of (build_at graph.now.manifest.builds edge)) listing.now }
+    ensures { IfOk result (λ paths. paths.items ≡ listed_by listing.now) }
+{
+    match listed(alloc, graph, edge, listing) {
+        Ok(paths) => Ok(paths),
+        Err(Fault::Memory) => Err(AllocError),
+        Err(Fault::Refused(_)) => unreachable!(),
+    }
 }
 
 // What ends a command without its success: the edge gets this mark, and its outputs have their stamps.
@@ -248,7 +268,10 @@ fn writes(alloc: Global, graph: &Graph, cells: &Cells, event: &Event) -> Result<
             stamps,
             listing,
         } => match named(graph, out) {
-            Some(edge) => finish_effect(alloc, graph, cells, edge, stamps.as_slice(), listing),
+            Some(edge) => {
+                let paths = accepted_listing(alloc, graph, edge, listing)?;
+                finish_effect(alloc, graph, cells, edge, stamps.as_slice(), paths)
+            }
             None => Ok(Vec::new(alloc)),
         },
         Event::Fail { out, stamps } => match named(graph, out) {

@@ -8,6 +8,7 @@ mod effects;
 mod event;
 mod fault;
 pub mod laws;
+mod listings;
 mod pools;
 mod refusal;
 mod stamps;

@@ -1,5 +1,5 @@
 //! What is written to cells.
-ghost use Rattle.std.specs.Prelude.{◌≡◌, ◌<◌, ◌^◌, ◌∷◌, [], None, Some, true, not, ◌||◌, ◌==◌, bytes_eq, map, length, drop, IfOk, OnOk};
+ghost use Rattle.std.specs.Prelude.{◌≡◌, ◌<◌, ◌^◌, ◌∷◌, [], None, Some, true, not, ◌||◌, ◌==◌, map, length, drop, IfOk, OnOk};
 ghost use Rattle.std.specs.List.{range_with_len};
 ghost use Rattle.rev_cells.specs.declared.cell.Cell.TheVariants as cell;
 ghost use Rattle.rev_cells.specs.declared.value.Value.TheVariants as value;
@@ -9,16 +9,11 @@ ghost use Rattle.rev_dirty.specs.Reasons.{is_missing};
 ghost use Rattle.rev_graph.specs.Graph.{build_at, outputs_of, pool_of};
 ghost use Rattle.rev_events.specs.Edge.{Adds, built_with, changes, first_of, free_held, listed as listed_by, seen_by, where_true, write, write_built, write_deps, write_slot, write_stamps};
 ghost use Rattle.rev_events.specs.Machine.{write_marks};
-ghost use Rattle.rev_events.specs.Refusal.{HasNoFault};
-ghost use Rattle.rev_paths.specs.Mentions.{first_mentions};
-ghost use Rattle.indexmap.specs.IndexSet.{insert_all};
+ghost use Rattle.rev_events.specs.declared.event.Listing.{Listing};
 
-use crate::event::Listing;
 use crate::words::running;
-use indexmap::IndexSet;
 use rev_cells::records::stamp;
 use rev_cells::{BuiltRecord, Cell, Cells, DepsRecord, Mark, Names, Text, Value};
-use rev_depfile::{DepfileFault, read};
 use rev_graph::Graph;
 use rev_paths::Name;
 use std::alloc::{AllocError, Global};
@@ -143,7 +138,7 @@ pub(crate) fn changed_flags(
     let restat = graph.restat(edge);
     let mut flags = Vec::new(alloc);
     for (place, path) in outputs.iter().enumerate() {
-        let before = stamp(cells, path)?;
+        let before = stamp(cells, path);
         let changed = has_changed(restat, before, stamp_at(stamps, place));
         flags.push(changed)?;
     }
@@ -160,7 +155,7 @@ pub(crate) fn missing_flags(
 {
     let mut flags = Vec::new(alloc);
     for path in outputs {
-        flags.push(stamp(cells, path)? == 0)?;
+        flags.push(stamp(cells, path) == 0)?;
     }
     Ok(flags)
 }
@@ -252,63 +247,20 @@ pub(crate) fn push_built(
     Ok(())
 }
 
-// Adds names to a set, each where it is mentioned first.
-fn add_names(set: &mut IndexSet<Name>, paths: &[Name]) -> Result<(), AllocError>
-    ensures { OnOk result (set.new.keys ≡ insert_all bytes_eq set.old.keys paths.now) }
-{
-    for path in paths {
-        set.insert(path.copy()?)?;
-    }
-    Ok(())
-}
-
-// The names of a set, in their order.
-fn names_in_order(alloc: Global, set: IndexSet<Name>) -> Result<Vec<Name>, AllocError>
-    ensures { IfOk result (λ names. names.items ≡ set.keys) }
-{
-    set.into_iter().collect(alloc)
-}
-
-// The paths, each where it is mentioned first.
-fn mentioned(alloc: Global, paths: &[Name]) -> Result<Vec<Name>, AllocError>
-    ensures { IfOk result (λ names. names.items ≡ first_mentions paths.now) }
-{
-    let mut set = IndexSet::new(alloc);
-    add_names(&mut set, paths)?;
-    Ok(names_in_order(alloc, set)?)
-}
-
-// The paths that a command read, by what is said of them.
-fn listed(alloc: Global, outputs: &[Name], listing: &Listing) -> Result<Vec<Name>, AllocError>
-    requires { HasNoFault outputs.now listing.now }
-    ensures { IfOk result (λ names. names.items ≡ listed_by listing.now) }
-{
-    match listing {
-        Listing::Nothing => Ok(Vec::new(alloc)),
-        Listing::Depfile(text) => match read(alloc, text.as_slice(), outputs) {
-            Ok(names) => Ok(names),
-            Err(DepfileFault::Memory) => Err(AllocError),
-            Err(_) => unreachable!(),
-        },
-        Listing::Paths(paths) => mentioned(alloc, paths.as_slice()),
-    }
-}
-
-/// Adds the deps record of the first output, where the edge keeps deps.
+/// Adds the deps record of the first output, which lists paths, where the edge keeps deps.
 pub(crate) fn push_deps(
-    alloc: Global,
     writes: &mut Writes,
     graph: &Graph,
     edge: u32,
     outputs: &[Name],
     stamps: &[u64],
-    listing: &Listing,
+    paths: Vec<Name>,
 ) -> Result<(), AllocError>
     requires edge { edge < length graph.now.manifest.builds }
     requires outputs { outputs.now ≡ outputs_of (build_at graph.now.manifest.builds edge) }
-    requires listing { HasNoFault outputs.now listing.now }
-    ensures { OnOk result (Adds writes.old.items writes.new.items
-        (write_deps (build_at graph.now.manifest.builds edge) stamps.now listing.now)) }
+    ensures { OnOk result ((listing : Listing) → paths.items ≡ listed_by listing
+        → Adds writes.old.items writes.new.items
+        (write_deps (build_at graph.now.manifest.builds edge) stamps.now listing)) }
 {
     if !graph.keeps_deps(edge) {
         return Ok(());
@@ -316,10 +268,9 @@ pub(crate) fn push_deps(
     let Some(path) = outputs.first() else {
         return Ok(());
     };
-    let paths = Names::new(listed(alloc, outputs, listing)?);
     let deps = DepsRecord {
         stamp: stamp_at(stamps, 0),
-        paths,
+        paths: Names::new(paths),
     };
     push_write(writes, Cell::Deps(path.copy()?), Value::Deps(Some(deps)))
 }

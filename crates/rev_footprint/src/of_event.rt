@@ -88,7 +88,7 @@ fn add_reason_cells(
     ensures { OnOk result (Adds reads.old.keys reads.new.keys
         (clean_reads graph.now.manifest edge cells.now.state)) }
 {
-    let listed = listed_inputs(graph, cells, edge)?;
+    let listed = listed_inputs(graph, cells, edge);
     let producers = producers_of(alloc, graph, listed)?;
     add_producer_marks(graph, cells, reads, edge, &producers)?;
     add_seen_stamps(alloc, graph, cells, reads, edge, listed, &producers)?;
@@ -146,7 +146,7 @@ fn add_pass_cells(
     ensures { OnOk result (Adds reads.old.keys reads.new.keys
         (pass_reads graph.now.manifest edge cells.now.state)) }
 {
-    let listed = listed_inputs(graph, cells, edge)?;
+    let listed = listed_inputs(graph, cells, edge);
     let producers = producers_of(alloc, graph, listed)?;
     add_producer_marks(graph, cells, reads, edge, &producers)?;
     add_output_stamps(graph, reads, edge)?;

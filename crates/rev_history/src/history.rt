@@ -82,13 +82,18 @@ impl History {
               writes = 0;
             }) }
     {
+        // A build starts and ends each edge once: with room for that, and for its plans and the like, nothing is moved as
+        // the history grows.
+        let usual = (graph.edges() as usize)
+            .saturating_mul(2)
+            .saturating_add(64);
         Ok(History {
             alloc,
             graph,
             opening: opening.copy()?,
-            accepted: IndexMap::new(alloc),
-            steps: Vec::new(alloc),
-            kept: Vec::new(alloc),
+            accepted: IndexMap::with_capacity(alloc, usual)?,
+            steps: Vec::with_capacity(alloc, usual)?,
+            kept: Vec::with_capacity(alloc, usual)?,
             accesses: Accesses::new(alloc),
             cells: Cells::new(alloc, opening)?,
             last: 0,

@@ -81,7 +81,7 @@ pub(crate) fn next_input(
         return next_field(text, b"");
     }
     let inputs = graph.inputs(edge);
-    let listed = listed_inputs(graph, cells, edge)?;
+    let listed = listed_inputs(graph, cells, edge);
     let on_line = inputs.explicit.len() as u64 + inputs.implicit.len() as u64;
     if position < on_line {
         return next_field(

@@ -1,17 +1,9 @@
 -- What the faults of a plan say.
-use Rattle.std.specs.Prelude.{◌≡◌, ℕ, List, Option, Some, None}
+use Rattle.std.specs.Prelude.{◌≡◌, ℕ, List, Option, Some}
 use Rattle.rev_ranks.specs.Graph.{IsLeastOnCycle}
 use Rattle.rev_plan.specs.declared.fault.PlanFault.{PlanFault}
 use Rattle.rev_plan.specs.declared.fault.PlanFault.TheVariants as fault
 use Rattle.rev_plan.specs.Plan.{PlanRefusal, PlanRefusal.StillRunning, PlanRefusal.UnknownTarget, PlanRefusal.MissingInput, PlanRefusal.DepsCycle}
-
--- the number of a fault, which `Memory` lacks
-abbrev pub code_of : PlanFault → Option ℕ
-code_of fault.Memory = None
-code_of (fault.StillRunning edge) = Some 50
-code_of (fault.UnknownTarget target) = Some 51
-code_of (fault.MissingInput input edge) = Some 52
-code_of (fault.DepsCycle edge) = Some 53
 
 -- A fault is why a plan is refused, or says that memory was lacking.
 abbrev pub Explains : PlanFault → Option PlanRefusal → Type 0

@@ -1,16 +1,14 @@
 //! The chain from an edge to the reasons behind it.
-ghost use Rattle.std.specs.Prelude.{◌≡◌, ◌<◌, ℕ, Option, length, map, option_and_then, IfOk, slice_get};
+ghost use Rattle.std.specs.Prelude.{◌≡◌, ◌<◌, ℕ, Option, length, option_and_then, IfOk, slice_get};
 ghost use Rattle.std.specs.List.{position};
-ghost use Rattle.rev_graph.specs.Graph.{producer_of};
 ghost use Rattle.rev_ranks.specs.Sets.{is_marked};
 ghost use Rattle.rev_dirty.specs.Reasons.{holds};
 ghost use Rattle.rev_plan.specs.Chain.{can_follow, chain_of, counted_producers as counted_producers_in, has_wanted_mark, step_from};
 
 use crate::steps::line_producers;
 use rev_cells::{Cell, Cells, Mark, Value};
-use rev_dirty::{DependencyScan, Reason, listed_inputs};
+use rev_dirty::{DependencyScan, Reason, listed_inputs, producers_of};
 use rev_graph::Graph;
-use rev_paths::Name;
 use std::alloc::{AllocError, Global};
 
 /// How an edge's command comes to be run: from the edge by inputs to one with reasons.
@@ -63,18 +61,6 @@ fn follows(cells: &Cells, in_chain: &[bool], producer: Option<u32>) -> bool
     }
 }
 
-// The edges that produce paths.
-fn each_producer(
-    alloc: Global,
-    graph: &Graph,
-    paths: &[Name],
-) -> Result<Vec<Option<u32>>, AllocError>
-    ensures { IfOk result (λ producers. producers.items
-        ≡ map (producer_of graph.now.manifest.builds) paths.now) }
-{
-    paths.iter().map(|path| graph.producer(path)).collect(alloc)
-}
-
 // For each input of an edge the edge that produces it, and none for an order-only one.
 fn counted_producers(
     alloc: Global,
@@ -90,7 +76,7 @@ fn counted_producers(
     let mut producers = Vec::from_slice(alloc, counted)?;
     let skipped = vec![in alloc; None; order_only.len()]?;
     producers.extend_from_slice(&skipped)?;
-    let listed = each_producer(alloc, graph, listed_inputs(graph, cells, edge)?)?;
+    let listed = producers_of(alloc, graph, listed_inputs(graph, cells, edge))?;
     producers.extend_from_slice(&listed)?;
     Ok(producers)
 }

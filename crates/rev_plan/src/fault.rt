@@ -1,7 +1,6 @@
 //! Why there is no plan.
 ghost use Rattle.std.specs.Prelude.{◌≡◌};
 ghost use Rattle.rev_plan.specs.declared.fault.PlanFault.TheVariants.{Memory};
-ghost use Rattle.rev_plan.specs.Fault.{code_of};
 
 use std::alloc::{AllocError, AllocFailed};
 
@@ -21,21 +20,6 @@ pub enum PlanFault {
     /// The least edge that the targets need and that reaches itself through its inputs, where a deps record closes the
     /// cycle (Ninja: "dependency cycle").
     DepsCycle(u32),
-}
-
-impl PlanFault {
-    /// The number of the fault. `Memory` has none.
-    pub fn code(self) -> Option<u16>
-        ensures { result ≡ code_of self }
-    {
-        match self {
-            PlanFault::Memory => None,
-            PlanFault::StillRunning(_) => Some(50),
-            PlanFault::UnknownTarget(_) => Some(51),
-            PlanFault::MissingInput(_, _) => Some(52),
-            PlanFault::DepsCycle(_) => Some(53),
-        }
-    }
 }
 
 impl From<AllocError> for PlanFault {

@@ -1,5 +1,5 @@
 //! Inputs that are missing and that no edge produces.
-ghost use Rattle.std.specs.Prelude.{◌≡◌, ◌<◌, ◌==◌, ◌&&◌, ℕ, length, IfOk, Some, is_none, slice_get};
+ghost use Rattle.std.specs.Prelude.{◌≡◌, ◌<◌, ◌==◌, ◌&&◌, ℕ, length, Some, is_none, slice_get};
 ghost use Rattle.std.specs.Option.{option_map};
 ghost use Rattle.rev_graph.specs.Graph.{build_at, inputs_of};
 ghost use Rattle.rev_cells.specs.State.{stamp_of};
@@ -11,7 +11,6 @@ use rev_cells::Cells;
 use rev_cells::records::stamp;
 use rev_graph::Graph;
 use rev_paths::Name;
-use std::alloc::AllocError;
 
 // The input at a position on an edge's build line.
 fn input_at(graph: &Graph, edge: u32, position: usize) -> &Name
@@ -39,31 +38,26 @@ fn producer_at(producers: &[Option<u32>], position: usize) -> Option<u32>
 }
 
 // Whether a path is missing and nothing produces it.
-fn is_lacking(cells: &Cells, path: &Name, producer: Option<u32>) -> Result<bool, AllocError>
-    ensures { IfOk result (λ lacking. lacking
-        ≡ (is_none producer && (stamp_of cells.now.state path.now == 0))) }
+fn is_lacking(cells: &Cells, path: &Name, producer: Option<u32>) -> bool
+    ensures { result ≡ (is_none producer && (stamp_of cells.now.state path.now == 0)) }
 {
-    if producer.is_some() {
-        return Ok(false);
-    }
-    Ok(stamp(cells, path)? == 0)
+    producer.is_none() && stamp(cells, path) == 0
 }
 
 // The position of the first input on an edge's build line that is missing and that no edge produces.
-fn first_lacking(graph: &Graph, cells: &Cells, edge: u32) -> Result<Option<usize>, AllocError>
+fn first_lacking(graph: &Graph, cells: &Cells, edge: u32) -> Option<usize>
     requires { edge < length graph.now.manifest.builds }
-    ensures { IfOk result (λ position. position
-        ≡ lacking_in graph.now.manifest.builds cells.now.state edge) }
+    ensures { result ≡ lacking_in graph.now.manifest.builds cells.now.state edge }
 {
     let producers = graph.producers(edge);
     for position in 0..producers.len() {
         let producer = producer_at(producers, position);
-        let lacking = is_lacking(cells, input_at(graph, edge, position), producer)?;
+        let lacking = is_lacking(cells, input_at(graph, edge, position), producer);
         if lacking {
-            return Ok(Some(position));
+            return Some(position);
         }
     }
-    Ok(None)
+    None
 }
 
 /// The first input that is missing and that no edge produces, of the least edge that has a mark and such an input: its
@@ -72,17 +66,17 @@ pub(crate) fn missing_input_among(
     graph: &Graph,
     cells: &Cells,
     marks: &[bool],
-) -> Result<Option<(u64, u32)>, AllocError>
+) -> Option<(u64, u32)>
     requires { length marks.now ≡ length graph.now.manifest.builds }
-    ensures { IfOk result (λ found. option_map (λ (at : ℕ × ℕ). MissingInput at.0 at.1) found
-        ≡ missing_among graph.now.manifest.builds cells.now.state (is_marked marks.now)) }
+    ensures { option_map (λ (at : ℕ × ℕ). MissingInput at.0 at.1) result
+        ≡ missing_among graph.now.manifest.builds cells.now.state (is_marked marks.now) }
 {
     for edge in 0..graph.edges() {
         if marks[edge as usize] {
-            if let Some(position) = first_lacking(graph, cells, edge)? {
-                return Ok(Some((position as u64, edge)));
+            if let Some(position) = first_lacking(graph, cells, edge) {
+                return Some((position as u64, edge));
             }
         }
     }
-    Ok(None)
+    None
 }

@@ -104,7 +104,7 @@ fn is_dirty_where(
     if !is_marked {
         return Ok(false);
     }
-    if scan.lacks_first_output(edge)? {
+    if scan.lacks_first_output(edge) {
         return Ok(true);
     }
     let reasons = reasons_by(scan, edge, listed)?;
@@ -213,7 +213,7 @@ fn plan_for(
     let lists = listed_among(alloc, graph, cells)?;
     let listed = lists.as_slice();
     let reached = reached_from(alloc, graph, listed, roots)?;
-    if let Some((position, edge)) = missing_input_among(graph, cells, &reached)? {
+    if let Some((position, edge)) = missing_input_among(graph, cells, &reached) {
         return Err(PlanFault::MissingInput(position, edge));
     }
     let inputs = steps_among(alloc, graph, listed, &reached, Along::Inputs)?;

@@ -86,7 +86,7 @@ pub(crate) fn listed_among(
 {
     let mut all = Vec::with_capacity(alloc, graph.edges() as usize)?;
     for edge in 0..graph.edges() {
-        all.push(producers_of(alloc, graph, listed_inputs(graph, cells, edge)?)?)?;
+        all.push(producers_of(alloc, graph, listed_inputs(graph, cells, edge))?)?;
     }
     Ok(all)
 }

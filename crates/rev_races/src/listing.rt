@@ -79,7 +79,7 @@ pub(crate) fn listed<'a>(
     if began[edge as usize] && !ended[edge as usize] {
         return Ok(None);
     }
-    let deps = deps_record(history.graph(), history.cells(), edge)?;
+    let deps = deps_record(history.graph(), history.cells(), edge);
     Ok(paths_of(deps))
 }
 
@@ -95,17 +95,14 @@ fn path_at(paths: Option<&[Name]>, place: u64) -> Option<&Name>
 }
 
 /// The path of one answer of [`races`](crate::races): that at its place of what its user lists.
-///
-/// # Errors
-/// [`AllocError`] only where an allocation was refused.
-pub fn path_of<'a>(history: &'a History, race: &Race) -> Result<Option<&'a Name>, AllocError>
-    ensures { IfOk result (λ path. (all : List (List ℕ)) → lists history.now.timeline.manifest
+pub fn path_of<'a>(history: &'a History, race: &Race) -> Option<&'a Name>
+    ensures { (all : List (List ℕ)) → lists history.now.timeline.manifest
         history.now.timeline.opening (kept_events history.now.timeline) race.now.user ≡ Some all
-        → option_copied path ≡ slice_get all race.now.place) }
+        → option_copied result ≡ slice_get all race.now.place }
 {
     if race.user >= history.graph().edges() {
-        return Ok(None);
+        return None;
     }
-    let deps = deps_record(history.graph(), history.cells(), race.user)?;
-    Ok(path_at(paths_of(deps), race.place))
+    let deps = deps_record(history.graph(), history.cells(), race.user);
+    path_at(paths_of(deps), race.place)
 }

@@ -1,11 +1,15 @@
 -- Numbers that never rise along a step.
-use Rattle.std.proofs.Common.{◌≡◌, ℕ, ◌+◌, ◌<◌, ◌≤◌, List, [], ◌∷◌, ◌++◌, length, get_or, take, subst, sym, ◌∙◌, arith}
+use Rattle.std.proofs.Common.{◌≡◌, ℕ, ◌+◌, ◌<◌, ◌≤◌, nat_eq, Bool, true, false, List, [], ◌∷◌, ◌++◌, length, get_or, take, inl, inr, refl, subst, sym, ◌∙◌, arith, eqb-true, eq-eqb, true≢false}
+use Rattle.std.proofs.lemmas.Bool.{cases_lt}
 use Rattle.std.specs.Global.{Vec}
 use Rattle.std.specs.List.{All, Contains}
 use Rattle.std.proofs.lemmas.List.{take_more, get_or_append_left, length_push}
 use Rattle.std.proofs.lemmas.List.Elements.{All-more, All-weaker, All-contains, Contains-push, Contains-get_or}
 use Rattle.rev_ranks.specs.Graph.{IsLeastOnCycle, Reaches, Reaches.step, Reaches.further, Steps, graph_of}
 use Rattle.rev_ranks.specs.Certificate.{FallsBelow, IsCertificate, IsFirstLevel}
+use Rattle.rev_ranks.specs.Leads.{leads_to}
+use Rattle.rev_ranks.specs.Walks.{LeadBack}
+use Rattle.rev_ranks.proofs.LeadsLemmas.{leads-sound, leads-complete}
 use Rattle.rev_ranks.proofs.Ways.{nodes_are, reaches_from_node, successors_are}
 
 -- one more number below a bound that may have grown
@@ -56,3 +60,28 @@ least_by xs m certified levelled e certificate within first way = record {
   on_cycle = way;
   least = λ k below r. acyclic_below (graph_of xs) certified certificate m (subst (λ (ns : List ℕ). FallsBelow (graph_of xs) ns m) e first.falls_below) k below r;
 }
+
+-- where a number stays the same only along steps that lead back, the first node with such a step reaches itself
+pub level-cycle : (graph : List (List ℕ)) (numbers : List ℕ) (m : ℕ) → IsCertificate graph numbers → LeadBack graph numbers → IsFirstLevel graph numbers m → Reaches graph m m
+level-cycle graph numbers m certificate back first = by (leads_to graph (nat_eq m) m) refl
+  where
+    by : (b : Bool) → leads_to graph (nat_eq m) m ≡ b → Reaches graph m m
+    by true e =
+        let r = leads-sound graph (nat_eq m) m e in
+        subst (Reaches graph m) (sym (eqb-true m r.other r.passes)) r.way
+    by false e = absurd (first.levels falls)
+      where
+        none : Reaches graph m m → ⊥
+        none way = true≢false (sym (leads-complete graph (nat_eq m) m m way (eq-eqb m m refl)) ∙ e)
+
+        falls : FallsBelow graph numbers (m + 1)
+        falls n s below st = elim (cases_lt n m) [
+          | inl low ↦ first.falls_below n s low st
+          | inr high ↦ elim (cases_lt (get_or numbers s 0) (get_or numbers n 0)) [
+            | inl less ↦ less
+            | inr more ↦
+                let same : n ≡ m = omega arith in
+                let equal : get_or numbers s 0 ≡ get_or numbers n 0 = omega (arith, certificate.never_rises n s st, more) in
+                absurd (none (subst (λ i. Reaches graph i i) same (further st (back n s st equal))))
+          ]
+        ]

@@ -1,8 +1,9 @@
 pub mod Ways
 pub mod Marks
 pub mod ReachableLemmas
-pub mod Counts
 pub mod Certificates
 pub mod LeadsLemmas
 pub mod SetLemmas
 pub mod ReversedLemmas
+pub mod WalkLemmas
+pub mod NumberLemmas

@@ -1,9 +1,9 @@
 -- Sets of nodes as marks, and the search that makes them.
-use Rattle.std.proofs.Common.{◌≡◌, ℕ, ◌+◌, ◌<◌, ◌≤◌, Bool, true, false, cond, List, [], ◌∷◌, ◌++◌, length, get_or, set, take, replicate, ◌⊎◌, inl, inr, refl, sym, ap, subst, ◌∙◌, arith, zero, suc}
+use Rattle.std.proofs.Common.{◌≡◌, ℕ, ◌+◌, ◌<◌, Bool, true, false, List, [], ◌∷◌, ◌++◌, length, get_or, set, replicate, ◌⊎◌, inl, inr, refl, sym, ap, subst, ◌∙◌, arith, zero, suc}
 use Rattle.std.specs.List.{Contains}
-use Rattle.std.proofs.lemmas.List.{get_or-set_same, length-set, length_push, length-replicate, get_or-replicate, get_or_default, take_more}
+use Rattle.std.proofs.lemmas.List.{get_or-set_same, length-set, length_push, length-replicate, get_or-replicate, get_or_default}
 use Rattle.std.proofs.lemmas.List.Elements.{Contains-push, Contains-push_cases, Contains-append_left, All-push, All-weaker}
-use Rattle.rev_ranks.specs.Sets.{IsMarked, marked, unmarked, IsMarking}
+use Rattle.rev_ranks.specs.Sets.{IsMarked, unmarked, IsMarking}
 
 -- what has a mark is within the list
 pub marked_within : (marks : List Bool) (n : ℕ) → IsMarked marks n → n < length marks
@@ -36,23 +36,6 @@ unmarked_less (false ∷ ms) zero h e = refl
 unmarked_less (true ∷ ms) (suc n) h e = unmarked_less ms n (omega arith) e
 unmarked_less (false ∷ ms) (suc n) h e = ap (λ x. x + 1) (unmarked_less ms n (omega arith) e)
 
--- how many have a mark
-pub marked_bound : (marks : List Bool) → marked marks ≤ length marks
-marked_bound [] = omega arith
-marked_bound (true ∷ ms) = omega (arith, marked_bound ms)
-marked_bound (false ∷ ms) = omega (arith, marked_bound ms)
-
-pub marked_push : (xs : List Bool) (m : Bool) → marked (xs ++ m ∷ []) ≡ cond m (marked xs + 1) (marked xs)
-marked_push [] true = refl
-marked_push [] false = refl
-marked_push (true ∷ xs) true = ap (λ n. n + 1) (marked_push xs true)
-marked_push (true ∷ xs) false = ap (λ n. n + 1) (marked_push xs false)
-marked_push (false ∷ xs) true = marked_push xs true
-marked_push (false ∷ xs) false = marked_push xs false
-
-pub marked_more : (xs : List Bool) (i : ℕ) (m : Bool) → i < length xs → get_or xs i m ≡ m → marked (take (i + 1) xs) ≡ cond m (marked (take i xs) + 1) (marked (take i xs))
-marked_more xs i m h e = ap marked (take_more xs i m h) ∙ ap (λ b. marked (take i xs ++ b ∷ [])) e ∙ marked_push (take i xs) m
-
 -- no mark
 pub marked_none : (n k : ℕ) → IsMarked (replicate n false) k → ⊥
 marked_none n k h =
@@ -60,36 +43,6 @@ marked_none n k h =
     let below : k < n = omega (arith, within, length-replicate n false) in
     let no : false ≡ true = sym (get_or-replicate n k false false below) ∙ h in
     cc
-
--- a set within another has no more
-pub marked_within_le : (xs ys : List Bool) → length xs ≡ length ys → ((k : ℕ) → IsMarked xs k → IsMarked ys k) → marked xs ≤ marked ys
-marked_within_le [] ys l f = omega arith
-marked_within_le (x ∷ xs) [] l f = absurd (omega arith)
-marked_within_le (true ∷ xs) (true ∷ ys) l f = omega (arith, marked_within_le xs ys (omega arith) (λ k h. f (suc k) h))
-marked_within_le (true ∷ xs) (false ∷ ys) l f = let no : false ≡ true = f 0 refl in cc
-marked_within_le (false ∷ xs) (true ∷ ys) l f = omega (arith, marked_within_le xs ys (omega arith) (λ k h. f (suc k) h))
-marked_within_le (false ∷ xs) (false ∷ ys) l f = marked_within_le xs ys (omega arith) (λ k h. f (suc k) h)
-
--- and less where it lacks one
-pub marked_within_lt : (xs ys : List Bool) (n : ℕ) → length xs ≡ length ys → ((k : ℕ) → IsMarked xs k → IsMarked ys k) → IsMarked ys n → get_or xs n false ≡ false → marked xs < marked ys
-marked_within_lt [] [] n l f h e = let no : false ≡ true = h in cc
-marked_within_lt [] (y ∷ ys) n l f h e = absurd (omega arith)
-marked_within_lt (x ∷ xs) [] n l f h e = absurd (omega arith)
-marked_within_lt (true ∷ xs) (y ∷ ys) zero l f h e = let no : true ≡ false = e in cc
-marked_within_lt (false ∷ xs) (true ∷ ys) zero l f h e = omega (arith, marked_within_le xs ys (omega arith) (λ k m. f (suc k) m))
-marked_within_lt (false ∷ xs) (false ∷ ys) zero l f h e = let no : false ≡ true = h in cc
-marked_within_lt (true ∷ xs) (true ∷ ys) (suc n) l f h e = omega (arith, marked_within_lt xs ys n (omega arith) (λ k m. f (suc k) m) h e)
-marked_within_lt (true ∷ xs) (false ∷ ys) (suc n) l f h e = let no : false ≡ true = f 0 refl in cc
-marked_within_lt (false ∷ xs) (true ∷ ys) (suc n) l f h e = omega (arith, marked_within_lt xs ys n (omega arith) (λ k m. f (suc k) m) h e)
-marked_within_lt (false ∷ xs) (false ∷ ys) (suc n) l f h e = marked_within_lt xs ys n (omega arith) (λ k m. f (suc k) m) h e
-
--- less than all where it lacks one
-pub marked_less : (xs : List Bool) (n : ℕ) → n < length xs → get_or xs n false ≡ false → marked xs < length xs
-marked_less [] n l e = absurd (omega arith)
-marked_less (true ∷ xs) zero l e = let no : true ≡ false = e in cc
-marked_less (false ∷ xs) zero l e = omega (arith, marked_bound xs)
-marked_less (true ∷ xs) (suc n) l e = omega (arith, marked_less xs n (omega arith) e)
-marked_less (false ∷ xs) (suc n) l e = omega (arith, marked_less xs n (omega arith) e)
 
 -- MARKING
 pub marking_none : (marks : List Bool) (open_nodes : List ℕ) → IsMarking [] marks open_nodes marks open_nodes

@@ -5,7 +5,7 @@ use Rattle.std.proofs.lemmas.List.{length-replicate, length_push, get_or_append_
 use Rattle.std.proofs.lemmas.List.Elements.{All-nil, Contains-push, Contains-push_cases, All-contains}
 use Rattle.rev_ranks.specs.Graph.{Reaches, Reaches.step, Reaches.further, Steps, successors_of}
 use Rattle.rev_ranks.specs.Leads.{IsReachable, IsReachable.root, IsReachable.behind}
-use Rattle.rev_ranks.specs.Sets.{IsMarked, IsMarking, IsReachSet, IsReachableSet, IsSearch}
+use Rattle.rev_ranks.specs.Sets.{IsMarked, IsMarking, IsReachableSet, IsSearch}
 use Rattle.rev_ranks.proofs.Ways.{reaches_more}
 use Rattle.rev_ranks.proofs.Marks.{marked_none, marked_within}
 
@@ -64,15 +64,3 @@ module _ (graph : List (List ℕ)) (roots : List ℕ) where
       complete : (k : ℕ) → IsReachable graph roots k → IsMarked marks k
       complete k (root h) = search.starts k h
       complete k (behind {start = m} h way) = closed_has_all marks closed (λ s t. closed m s (search.starts m h) t) way
-
--- what a node reaches are the nodes that it steps to and what they reach
-pub reach_set : (graph : List (List ℕ)) (n : ℕ) (marks : List Bool) → IsReachableSet graph (successors_of graph n) marks → IsReachSet graph n marks
-reach_set graph n marks set = record { length_is = set.length_is; sound = λ k h. sound k (set.sound k h); complete = λ k r. set.complete k (complete k r) }
-  where
-    sound : (k : ℕ) → IsReachable graph (successors_of graph n) k → Reaches graph n k
-    sound k (root h) = step h
-    sound k (behind h way) = further h way
-
-    complete : (k : ℕ) → Reaches graph n k → IsReachable graph (successors_of graph n) k
-    complete k (step h) = root h
-    complete k (further h way) = behind h way

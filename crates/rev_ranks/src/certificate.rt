@@ -1,7 +1,7 @@
-//! Checks of component numbers, in which the proof trusts nothing of how they were made.
-ghost use Rattle.std.specs.Prelude.{◌≡◌, ◌<◌, ◌≤◌, ◌^◌, ◌↔◌, ℕ, length, slice_index_or, IsTrue, MatchOption};
+//! Steps along which the number of a component stays the same.
+ghost use Rattle.std.specs.Prelude.{◌≡◌, ◌<◌, ◌≤◌, ◌^◌, ℕ, length, slice_index_or, MatchOption};
 ghost use Rattle.std.specs.List.{All};
-ghost use Rattle.rev_ranks.specs.Certificate.{FallsBelow, IsCertificate, IsFirstLevel};
+ghost use Rattle.rev_ranks.specs.Certificate.{FallsBelow, IsFirstLevel};
 ghost use Rattle.rev_ranks.specs.Graph.{graph_of};
 
 /// A bound above the numbers of the nodes: one more than the greatest, 0 where there are none.
@@ -18,24 +18,6 @@ fn bound_above(nodes: &[u32], numbers: &[u32]) -> usize
         }
     }
     bound
-}
-
-/// Whether the numbers are below the number of nodes, and rise along no step.
-pub(crate) fn is_certificate(successors: &[Vec<u32>], numbers: &[u32]) -> bool
-    requires inside { All (λ v. All (λ s. s < length successors.now) v.items) successors.now }
-    requires each { length numbers.now ≡ length successors.now }
-    ensures { IsTrue result ↔ IsCertificate (graph_of successors.now) numbers.now }
-{
-    for node in 0..successors.len() {
-        let number = numbers[node] as usize;
-        if number >= successors.len() {
-            return false;
-        }
-        if number + 1 < bound_above(&successors[node], numbers) {
-            return false;
-        }
-    }
-    true
 }
 
 /// The least node of which a step does not fall.

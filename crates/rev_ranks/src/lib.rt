@@ -5,8 +5,8 @@ mod certificate;
 mod components;
 mod fault;
 pub mod laws;
+mod leaving;
 mod ranking;
-mod reach;
 mod searches;
 
 pub use fault::RankFault;

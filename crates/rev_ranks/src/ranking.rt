@@ -4,17 +4,15 @@ ghost use Rattle.std.specs.List.{All};
 ghost use Rattle.rev_ranks.specs.Graph.{graph_of, AreRanks, IsLeastOnCycle, Reaches};
 
 use super::RankFault;
-use super::certificate::{first_level, is_certificate};
+use super::certificate::first_level;
 use super::components::components;
-use super::reach::{ranks_by_sets, reached_from};
 use std::alloc::Global;
 
 /// Ranks for the nodes of a directed graph, in which node n steps to each node of `successors[n]`: a node's rank is
 /// above those of the nodes that it steps to.
 ///
-/// The numbers of the strongly connected components serve as ranks, and the proof rests on a check of them, in time and
-/// memory linear in nodes and steps. Were the check to fail, sets of reached nodes would give the answer, in quadratic
-/// time; that it does not fail is tested and not proved.
+/// The numbers of the strongly connected components serve as ranks, unless some step stays within a component. It takes
+/// time and memory linear in nodes and steps.
 ///
 /// # Errors
 /// `Cycle` names the least node that reaches itself, where there is one. `Memory` comes only where an allocation was
@@ -27,16 +25,8 @@ pub fn ranks(alloc: Global, successors: &[Vec<u32>]) -> Result<Vec<u32>, RankFau
     ensures cycle { (n : ℕ) → result ≡ Err (RankFault.Cycle n) → IsLeastOnCycle (graph_of successors.now) n }
 {
     let numbers = components(alloc, successors)?;
-    if is_certificate(successors, &numbers) {
-        match first_level(successors, &numbers) {
-            None => return Ok(numbers),
-            Some(node) => {
-                let reached = reached_from(alloc, successors, node as usize)?;
-                if reached[node as usize] {
-                    return Err(RankFault::Cycle(node));
-                }
-            }
-        }
+    match first_level(successors, &numbers) {
+        None => Ok(numbers),
+        Some(node) => Err(RankFault::Cycle(node)),
     }
-    ranks_by_sets(alloc, successors)
 }

@@ -1,5 +1,5 @@
 //! Searches from several nodes at once, along the steps and against them.
-ghost use Rattle.std.specs.Prelude.{◌≡◌, ◌<◌, ◌≤◌, ◌↔◌, ℕ, ◌^◌, length, vec_len, IfOk, OnOk};
+ghost use Rattle.std.specs.Prelude.{◌≡◌, ◌<◌, ◌≤◌, ◌↔◌, ◌⊎◌, ℕ, ◌^◌, length, vec_len, IfOk, OnOk};
 ghost use Rattle.std.specs.List.{All, Contains};
 ghost use Rattle.rev_ranks.specs.Graph.{graph_of};
 ghost use Rattle.rev_ranks.specs.Leads.{is_reachable};
@@ -8,14 +8,16 @@ ghost use Rattle.rev_ranks.specs.Sets.{AddsSteps, IsMarking, IsReachableSet, IsM
 use std::alloc::{AllocError, Global};
 
 /// Gives each of the nodes a mark, and opens those that had none.
-fn mark_each(
+pub(crate) fn mark_each(
     nodes: &[u32],
     marks: &mut Vec<bool>,
     open_nodes: &mut Vec<u32>,
 ) -> Result<(), AllocError>
     requires { All (λ s. s < vec_len marks.old) nodes.now }
-    ensures { OnOk result (IsMarking nodes.now marks.old.items open_nodes.old.items marks.new.items
+    ensures marking { OnOk result (IsMarking nodes.now marks.old.items open_nodes.old.items marks.new.items
         open_nodes.new.items) }
+    ensures opens { OnOk result ((n : ℕ) → Contains open_nodes.new.items n
+        → Contains open_nodes.old.items n ⊎ (IsMarked marks.old.items n → ⊥)) }
 {
     for node in nodes {
         let index = *node as usize;

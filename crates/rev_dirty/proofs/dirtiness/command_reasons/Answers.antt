@@ -32,10 +32,10 @@ returns-clause-reasons c =
     let there : (other : ℕ) → Contains (filter_map (λ (input : Input). input.through) facts) other → is_some (known entries other) ≡ true =
     λ other at. c.in_ok-know.ensures.all other (subst (λ (fs : List Input). Contains (filter_map (λ (input : Input). input.through) fs) other) (sym inputs-are) at) in
     let lacks : c.lacks_deps-lacks_deps.result ≡ lacks_deps state build =
-    c.lacks_deps-lacks_deps.ensures ∙ (λ i. c.keeps_deps.ensures i && is_none (c.in_ok-deps.ensures i)) in
+    c.lacks_deps-lacks_deps.ensures ∙ (λ i. c.keeps_deps.ensures i && is_none (c.deps_record-deps.ensures i)) in
     let old : c.are_old-has_old_deps.result ≡ has_old_deps state build =
     c.are_old-has_old_deps.ensures
-    ∙ (λ i. holds (λ (deps : DepsRecord). nat_lt deps.stamp (stamp_of_first ((c.deref-4.ensures.value ∙ c.in_ok-outputs.ensures) i))) (c.in_ok-deps.ensures i))
+    ∙ (λ i. holds (λ (deps : DepsRecord). nat_lt deps.stamp (stamp_of_first ((c.deref-4.ensures.value ∙ c.in_ok-outputs.ensures) i))) (c.deps_record-deps.ensures i))
     ∙ has-old-deps state build in
     c.in_ok-reasons.ensures
     ∙ (λ i. all_reasons entries ((c.deref-5.ensures.value ∙ c.in_ok-outputs.ensures) i) ((c.deref-6.ensures.value ∙ c.in_ok-inputs.ensures) i) ((c.deref-7.ensures.value ∙ c.in_ok-changes.ensures.changes) i)

@@ -13,7 +13,7 @@ returns-then-not-has_no_input c =
     let state = c.args.cells.now.state in
     let build = build_at builds c.args.edge in
     let some : nat_eq (length (inputs state build)) 0 ≡ false =
-    ap (λ n. nat_eq n 0) (sym (count-inputs state build c.listed_in.result.now (c.listed_in.ensures ∙ ap paths_in c.in_ok-deps.ensures))) ∙ sym c.has_no_input.ensures ∙ c.if-not-has_no_input.true in
+    ap (λ n. nat_eq n 0) (sym (count-inputs state build c.listed_in.result.now (c.listed_in.ensures ∙ ap paths_in c.deps_record-deps.ensures))) ∙ sym c.has_no_input.ensures ∙ c.if-not-has_no_input.true in
     c.new-reasons.ensures.items ∙ phony-are builds state c.args.edge false c.requires.phony some
 
 pub returns : goal.returns
@@ -22,7 +22,7 @@ returns c =
     let state = c.args.cells.now.state in
     let build = build_at builds c.args.edge in
     let none : nat_eq (length (inputs state build)) 0 ≡ true =
-    ap (λ n. nat_eq n 0) (sym (count-inputs state build c.listed_in.result.now (c.listed_in.ensures ∙ ap paths_in c.in_ok-deps.ensures))) ∙ sym c.has_no_input.ensures ∙ c.if-not-has_no_input.false in
+    ap (λ n. nat_eq n 0) (sym (count-inputs state build c.listed_in.result.now (c.listed_in.ensures ∙ ap paths_in c.deps_record-deps.ensures))) ∙ sym c.has_no_input.ensures ∙ c.if-not-has_no_input.false in
     c.in_ok-push_missing.ensures
     ∙ (λ i. c.new-reasons.ensures.items i ++ map reason.Missing (positions (λ (o : Output). nat_eq o.stamp 0) ((c.deref.ensures.value ∙ c.in_ok-outputs.ensures) i)))
     ∙ phony-are builds state c.args.edge true c.requires.phony none

@@ -9,7 +9,7 @@ plan_effect-requires c =
     let state = c.args.cells.now.state in
     subst (λ (ts : List (List ℕ)). plan_refusal manifest state ts ≡ None) (sym c.as_slice.ensures) (plan-accepted manifest c.args.cells.now.jobs state c.args.event.now _ c.in-Plan.is c.requires)
 
-pub finish_effect-requires-clause-listing : goal.finish_effect-requires-clause-listing
-finish_effect-requires-clause-listing c =
+pub accepted_listing-requires-clause-listing : goal.accepted_listing-requires-clause-listing
+accepted_listing-requires-clause-listing c =
     finish-accepted c.args.graph.now.manifest c.args.cells.now.jobs c.args.cells.now.state c.args.event.now c.in-Finish.out c.in-Finish.stamps c.in-Finish.listing c.in-Some-named.edge c.in-Finish.is
     (sym c.named-in-Finish.ensures.value ∙ c.in-Some-named.is) c.requires

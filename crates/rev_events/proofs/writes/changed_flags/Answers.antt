@@ -12,6 +12,6 @@ loop-place-preserved c =
     let place = c.loop-place.place in
     let path = c.index-outputs-place.result in
     let here : c.has_changed-changed.result ≡ (not restat || not (stamp_of state path == first_of 0 (drop place c.args.stamps.now))) =
-    c.has_changed-changed.ensures ∙ (λ k. not (c.restat-restat.ensures k) || not (c.in_ok-before.ensures k == c.stamp_at.ensures k)) in
+    c.has_changed-changed.ensures ∙ (λ k. not (c.restat-restat.ensures k) || not (c.stamp-before.ensures k == c.stamp_at.ensures k)) in
     c.in_ok-push.ensures.items ∙ (λ k. c.loop-place.invariant k ++ here k ∷ [])
     ∙ changes-more (stamp_of state) restat c.args.outputs.now c.args.stamps.now place path c.loop-place-test.true c.index-outputs-place.is

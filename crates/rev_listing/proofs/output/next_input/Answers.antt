@@ -10,4 +10,4 @@ returns-then-position-on_line c =
 
 pub returns : goal.returns
 returns c =
-    fact-at c.next_field-2.result _ _ _ _ (further-bytes _ _ _ _ _ _ c.args.cells.now.state (build_at c.args.graph.now.manifest.builds c.args.edge) c.args.position c.if-position-on_line.false c.bytes_of-2.ensures c.of_two-2.ensures c.inputs-inputs.ensures.explicit c.inputs-inputs.ensures.implicit c.inputs-inputs.ensures.order_only c.in_ok-listed.ensures) c.next_field-2.ensures
+    fact-at c.next_field-2.result _ _ _ _ (further-bytes _ _ _ _ _ _ c.args.cells.now.state (build_at c.args.graph.now.manifest.builds c.args.edge) c.args.position c.if-position-on_line.false c.bytes_of-2.ensures c.of_two-2.ensures c.inputs-inputs.ensures.explicit c.inputs-inputs.ensures.implicit c.inputs-inputs.ensures.order_only c.listed_inputs-listed.ensures) c.next_field-2.ensures

@@ -11,6 +11,6 @@ returns c =
     let line : c.in_ok-producers.producers.items ≡ map (producer_of builds) (build.explicit ++ build.implicit) = c.in_ok-producers.ensures.items ∙ c.line_producers.ensures.counted in
     let fresh : c.in_ok-skipped.skipped.items ≡ replicate (length c.line_producers.result.1.now) None = search rules in
     let skipped = c.deref.ensures.value ∙ fresh ∙ ap (λ n. replicate n None) (ap length c.line_producers.ensures.order_only ∙ length-map build.order_only (producer_of builds)) in
-    let listed = c.deref-2.ensures.value ∙ c.in_ok-listed.ensures ∙ ap (map (producer_of builds)) c.in_ok-listed_inputs.ensures in
+    let listed = c.deref-2.ensures.value ∙ c.in_ok-listed.ensures ∙ ap (map (producer_of builds)) c.listed_inputs.ensures in
     c.in_ok-extend_from_slice-2.ensures.items ∙ (λ i. (c.in_ok-extend_from_slice.ensures.items ∙ (λ j. line j ++ skipped j)) i ++ listed i)
     ∙ producers-are builds c.args.cells.now.state c.args.edge

@@ -13,7 +13,7 @@ returns-then-lacking c =
     let within : c.loop-position.position < length inputs = omega (arith, c.loop-position-test.true, ap length c.producers-producers.ensures, length-map inputs (producer_of builds)) in
     sym (position-first (is_lacking builds state) inputs c.loop-position.position [] within c.loop-position.invariant
     (lacking-at builds state inputs c.producers-producers.result.now c.loop-position.position c.input_at.result.now c.producer_at-producer.result c.producers-producers.ensures c.input_at.ensures c.producer_at-producer.ensures
-    ∙ sym c.in_ok-lacking.ensures ∙ c.if-lacking.true))
+    ∙ sym c.is_lacking-lacking.ensures ∙ c.if-lacking.true))
 
 pub loop-position-preserved : goal.loop-position-preserved
 loop-position-preserved c =
@@ -22,7 +22,7 @@ loop-position-preserved c =
     let inputs : List (List ℕ) = inputs_of (build_at builds c.args.edge) in
     let here : is_lacking builds state (get_or inputs c.loop-position.position []) ≡ false =
     lacking-at builds state inputs c.producers-producers.result.now c.loop-position.position c.input_at.result.now c.producer_at-producer.result c.producers-producers.ensures c.input_at.ensures c.producer_at-producer.ensures
-    ∙ sym c.in_ok-lacking.ensures ∙ c.if-lacking.false in
+    ∙ sym c.is_lacking-lacking.ensures ∙ c.if-lacking.false in
     below_more (λ k. is_lacking builds state (get_or inputs k []) ≡ false) c.loop-position.position c.loop-position.invariant here
 
 pub returns : goal.returns

@@ -11,7 +11,7 @@ returns-in-Some c =
     let builds = c.args.graph.now.manifest.builds in
     let state = c.args.cells.now.state in
     let edge = c.loop-edge.edge in
-    let has : lacking builds state edge ≡ Some c.in-Some.position = sym c.in_ok-position.ensures ∙ c.in-Some.is in
+    let has : lacking builds state edge ≡ Some c.in-Some.position = sym c.first_lacking.ensures ∙ c.in-Some.is in
     let found = find-first (λ edge. is_marked c.args.marks.now edge && is_some (lacking builds state edge)) (length builds) 0 edge (omega arith) (omega (arith, c.loop-edge-test.true, c.edges-edge-end.ensures.edges))
     (λ i. c.if-marks-edge.true i && is_some (has i))
     (λ j low high. c.loop-edge.invariant j high) in

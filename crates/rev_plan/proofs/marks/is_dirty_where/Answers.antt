@@ -14,7 +14,7 @@ by-first true (r ∷ rs) marked first =
     let same : r ≡ Missing 0 = cc in
     ap (λ (x : Reason). is_own_reason x || list_any is_own_reason rs) (sym same)
 
-pub returns-then-branch-clause-dirty : goal.returns-then-branch-clause-dirty
-returns-then-branch-clause-dirty c =
+pub returns-then-lacks_first_output-clause-dirty : goal.returns-then-lacks_first_output-clause-dirty
+returns-then-lacks_first_output-clause-dirty c =
     by-first c.args.is_marked (reasons_of c.args.scan.now.graph.manifest.builds c.args.scan.now.state c.args.edge) c.if-not-is_marked.false
-    (c.in_ok-lacks_first_output.ensures.first c.if-branch.true)
+    (c.lacks_first_output.ensures.first c.if-lacks_first_output.true)

@@ -29,7 +29,7 @@ unfolding needs_refusal
 returns-in-Some-clause-refused c =
     first-of-two _ _ _
     (sym (missing-are c.args.graph.now.manifest.builds c.args.cells.now.state c.args.roots.now c.in_ok-reached.reached.items (c.in_ok-reached.ensures c.args.cells.now.state (listed-here c.args.graph.now.manifest.builds c.args.cells.now.state c.in_ok-lists.lists.items c.as_slice-listed.result.now c.as_slice-listed.ensures.value c.in_ok-lists.ensures.listed)))
-    ∙ ap (λ (marks : List Bool). missing_among c.args.graph.now.manifest.builds c.args.cells.now.state (is_marked marks)) (sym c.deref.ensures.value) ∙ sym c.in_ok-position.ensures
+    ∙ ap (λ (marks : List Bool). missing_among c.args.graph.now.manifest.builds c.args.cells.now.state (is_marked marks)) (sym c.deref.ensures.value) ∙ sym c.missing_input_among.ensures
     ∙ ap (option_map (λ (at : ℕ × ℕ). MissingInput at.0 at.1)) c.in-Some.is)
 
 pub returns-in_err-refuse_cycle-clause-refused : goal.returns-in_err-refuse_cycle-clause-refused
@@ -40,7 +40,7 @@ returns-in_err-refuse_cycle-clause-refused c =
     let inputs = graph_of c.in_ok-inputs.inputs.items in
     let missing : missing_input c.args.graph.now.manifest.builds c.args.cells.now.state c.args.roots.now ≡ None =
     sym (missing-are builds state c.args.roots.now c.in_ok-reached.reached.items (c.in_ok-reached.ensures c.args.cells.now.state (listed-here c.args.graph.now.manifest.builds c.args.cells.now.state c.in_ok-lists.lists.items c.as_slice-listed.result.now c.as_slice-listed.ensures.value c.in_ok-lists.ensures.listed)))
-    ∙ ap (λ (marks : List Bool). missing_among c.args.graph.now.manifest.builds c.args.cells.now.state (is_marked marks)) (sym c.deref.ensures.value) ∙ sym c.in_ok-position.ensures
+    ∙ ap (λ (marks : List Bool). missing_among c.args.graph.now.manifest.builds c.args.cells.now.state (is_marked marks)) (sym c.deref.ensures.value) ∙ sym c.missing_input_among.ensures
     ∙ ap (option_map (λ (at : ℕ × ℕ). MissingInput at.0 at.1)) c.in_default.is in
     let is : IsSubgraph (edges_by (input_paths c.args.cells.now.state) c.args.graph.now.manifest.builds) c.in_ok-reached.reached.items (graph_of c.in_ok-inputs.inputs.items) =
     subst (λ (marks : List Bool). IsSubgraph (edges_by (input_paths c.args.cells.now.state) c.args.graph.now.manifest.builds) marks (graph_of c.in_ok-inputs.inputs.items)) c.deref-2.ensures.value (c.in_ok-inputs.ensures.steps c.args.cells.now.state (listed-here c.args.graph.now.manifest.builds c.args.cells.now.state c.in_ok-lists.lists.items c.as_slice-listed.result.now c.as_slice-listed.ensures.value c.in_ok-lists.ensures.listed)) in
@@ -78,7 +78,7 @@ returns-clause-accepted c =
     let state = c.args.cells.now.state in
     let missing : missing_input c.args.graph.now.manifest.builds c.args.cells.now.state c.args.roots.now ≡ None =
     sym (missing-are builds state c.args.roots.now c.in_ok-reached.reached.items (c.in_ok-reached.ensures c.args.cells.now.state (listed-here c.args.graph.now.manifest.builds c.args.cells.now.state c.in_ok-lists.lists.items c.as_slice-listed.result.now c.as_slice-listed.ensures.value c.in_ok-lists.ensures.listed)))
-    ∙ ap (λ (marks : List Bool). missing_among c.args.graph.now.manifest.builds c.args.cells.now.state (is_marked marks)) (sym c.deref.ensures.value) ∙ sym c.in_ok-position.ensures
+    ∙ ap (λ (marks : List Bool). missing_among c.args.graph.now.manifest.builds c.args.cells.now.state (is_marked marks)) (sym c.deref.ensures.value) ∙ sym c.missing_input_among.ensures
     ∙ ap (option_map (λ (at : ℕ × ℕ). MissingInput at.0 at.1)) c.in_default.is in
     let is : IsSubgraph (edges_by (input_paths c.args.cells.now.state) c.args.graph.now.manifest.builds) c.in_ok-reached.reached.items (graph_of c.in_ok-inputs.inputs.items) =
     subst (λ (marks : List Bool). IsSubgraph (edges_by (input_paths c.args.cells.now.state) c.args.graph.now.manifest.builds) marks (graph_of c.in_ok-inputs.inputs.items)) c.deref-2.ensures.value (c.in_ok-inputs.ensures.steps c.args.cells.now.state (listed-here c.args.graph.now.manifest.builds c.args.cells.now.state c.in_ok-lists.lists.items c.as_slice-listed.result.now c.as_slice-listed.ensures.value c.in_ok-lists.ensures.listed)) in

@@ -12,7 +12,7 @@ pub loop-edge-preserved : goal.loop-edge-preserved
 loop-edge-preserved c =
     let builds = c.args.graph.now.manifest.builds in
     ap graph_of c.in_ok-push.ensures.items ∙ map-append (λ (v : Vec ℕ). v.items) c.loop-edge.all.items (c.in_ok-producers_of.field-0 ∷ [])
-    ∙ (λ i. c.loop-edge.invariant i ++ (c.in_ok-producers_of.ensures ∙ ap (producers_in builds) c.in_ok-listed_inputs.ensures) i ∷ [])
+    ∙ (λ i. c.loop-edge.invariant i ++ (c.in_ok-producers_of.ensures ∙ ap (producers_in builds) c.listed_inputs.ensures) i ∷ [])
     ∙ sym (map-range_with_len_more (listed_at builds c.args.cells.now.state) 0 c.loop-edge.edge c.loop-edge.edge (omega arith))
 
 pub returns-clause-listed : goal.returns-clause-listed

@@ -22,7 +22,7 @@ pub returns : goal.returns
 returns c =
     let t = c.args.history.now.timeline in
     let edge = c.args.edge in
-    c.paths_of.ensures ∙ ap (λ o. option_map (λ (deps : DepsRecord). deps.paths) o) c.in_ok-deps.ensures
+    c.paths_of.ensures ∙ ap (λ o. option_map (λ (deps : DepsRecord). deps.paths) o) c.deps_record-deps.ensures
     ∙ (λ i. recorded (c.cells.ensures.state i) (build_at (c.graph-2.ensures i).builds edge))
     ∙ elim c.else-began-edge.branch [
       | else-began-edge-via-then-began-edge+else-not-ended-edge w ↦

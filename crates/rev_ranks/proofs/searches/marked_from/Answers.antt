@@ -14,7 +14,7 @@ loop-next-init c =
     let graph : List (List ℕ) = graph_of c.args.successors.now in
     let fresh : c.in_ok-marks.marks.items ≡ replicate (length c.args.successors.now) false = search rules in
     search_starts graph c.args.roots.now c.mark_each.new.marks.items c.mark_each.new.open_nodes.items
-    (marking_from refl (ap (λ n. replicate n false) (nodes_are c.args.successors.now) ∙ sym fresh) (sym c.new-open_nodes.ensures.items) c.in_ok-mark_each.ensures)
+    (marking_from refl (ap (λ n. replicate n false) (nodes_are c.args.successors.now) ∙ sym fresh) (sym c.new-open_nodes.ensures.items) c.in_ok-mark_each.ensures.marking)
 
 pub mark_each-requires-in-Some : goal.mark_each-requires-in-Some
 mark_each-requires-in-Some c =
@@ -28,7 +28,7 @@ loop-next-preserved c =
     let open_at : IsSearch (graph_of c.args.successors.now) c.args.roots.now c.loop-next.marks.items (c.pop.new.self.items ++ c.in-Some.next ∷ []) = subst (IsSearch (graph_of c.args.successors.now) c.args.roots.now c.loop-next.marks.items) c.in-Some.ensures.items c.loop-next.invariant in
     let within : c.in-Some.next < length c.args.successors.now = omega (arith, nodes_are c.args.successors.now, search_next _ _ _ _ _ open_at) in
     let lists : successors_of (graph_of c.args.successors.now) c.in-Some.next ≡ c.deref.result.now = successors_are c.args.successors.now c.in-Some.next c.index-successors-next.result within c.index-successors-next.is ∙ sym c.deref.ensures.value in
-    search_goes _ _ _ _ _ _ _ open_at (marking_from lists refl refl c.in_ok-mark_each-2.ensures)
+    search_goes _ _ _ _ _ _ _ open_at (marking_from lists refl refl c.in_ok-mark_each-2.ensures.marking)
 
 pub returns : goal.returns
 returns c =

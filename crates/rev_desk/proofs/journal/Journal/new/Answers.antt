@@ -7,6 +7,6 @@ use Rattle.rev_desk.proofs.journal.Journal.new.Goals as goal
 
 pub returns-clause-indexed : goal.returns-clause-indexed
 returns-clause-indexed c = record {
-  numbers = λ lane lt. empty_at c.loop.numbers.items c.loop.invariant.empty lane lt ∙ ap (λ (es : List Entry). Some (lane_numbers es lane)) (sym c.new-2.ensures.items);
-  lanes = subst (λ (es : List Entry). AllByRecursion (λ (e : Entry). e.lane < length c.loop.numbers.items) es) (sym c.new-2.ensures.items) tt;
+  numbers = λ lane lt. empty_at c.loop.numbers.items c.loop.invariant.empty lane lt ∙ ap (λ (es : List Entry). Some (lane_numbers es lane)) (sym c.in_ok-entries.ensures.items);
+  lanes = subst (λ (es : List Entry). AllByRecursion (λ (e : Entry). e.lane < length c.loop.numbers.items) es) (sym c.in_ok-entries.ensures.items) tt;
 }
