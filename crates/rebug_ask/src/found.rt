@@ -79,7 +79,7 @@ pub fn told_races<'a>(
     for (place, race) in races.iter().enumerate() {
         let mend = mend_of(alloc, history.graph(), race, before)?;
         before = Some(race);
-        if let Some(path) = path_of(history, race)? {
+        if let Some(path) = path_of(history, race) {
             told.push(Told {
                 kind: kind_of(race),
                 maker: race.maker,
