@@ -1,0 +1,103 @@
+//! What a recording shows of races, as it is told.
+use rev_graph::Graph;
+use rev_history::History;
+use rev_paths::Name;
+use rev_races::{Race, path_of, races, stories, unlisted, without_deps};
+use rev_races_text::{Happened, Kind, Run, Story, Told};
+use rev_waits::mend;
+use std::alloc::{AllocError, Global};
+
+// The kind of a race.
+fn kind_of(race: &Race) -> Kind {
+    match race.kind {
+        rev_races::Kind::Race => Kind::Race,
+        rev_races::Kind::Cycle => Kind::Cycle,
+        rev_races::Kind::Own => Kind::Own,
+    }
+}
+
+// What happened.
+fn happened_of(happened: rev_races::Happened) -> Happened {
+    match happened {
+        rev_races::Happened::Apart => Happened::Apart,
+        rev_races::Happened::Before => Happened::Before,
+        rev_races::Happened::AtOnce => Happened::AtOnce,
+        rev_races::Happened::HeldRecord => Happened::HeldRecord,
+        rev_races::Happened::HeldPlace => Happened::HeldPlace,
+        rev_races::Happened::Free => Happened::Free,
+    }
+}
+
+// When a command ran, where it did.
+fn run_of(run: Option<rev_races::Run>) -> Option<Run> {
+    match run {
+        Some(run) => Some(Run {
+            began: run.began,
+            ended: run.ended,
+        }),
+        None => None,
+    }
+}
+
+// What happened of a race. A command that lists its own output has no story of two.
+fn story_of(race: &Race, story: Option<&rev_races::Story>) -> Option<Story> {
+    match story {
+        Some(story) if race.maker != race.user => Some(Story {
+            happened: happened_of(story.happened),
+            maker: run_of(story.maker),
+            user: run_of(story.user),
+        }),
+        _ => None,
+    }
+}
+
+// What mends a race, where an order does. Of several races of one pair the first alone is told with its mend.
+fn mend_of<'a>(
+    alloc: Global,
+    graph: &'a Graph,
+    race: &Race,
+    before: Option<&Race>,
+) -> Result<Option<&'a Name>, AllocError> {
+    if let Some(before) = before {
+        if before.maker == race.maker && before.user == race.user {
+            return Ok(None);
+        }
+    }
+    mend(alloc, graph, race.user, race.maker)
+}
+
+/// The races of a history, whose manifest was read from these files.
+pub fn told_races<'a>(
+    alloc: Global,
+    history: &'a History,
+    files: &[Name],
+) -> Result<Vec<Told<'a>>, AllocError> {
+    let races = races(alloc, history, files)?;
+    let stories = stories(alloc, history, &races)?;
+    let mut told = Vec::new(alloc);
+    let mut before = None;
+    for (place, race) in races.iter().enumerate() {
+        let mend = mend_of(alloc, history.graph(), race, before)?;
+        before = Some(race);
+        if let Some(path) = path_of(history, race) {
+            told.push(Told {
+                kind: kind_of(race),
+                maker: race.maker,
+                user: race.user,
+                path,
+                story: story_of(race, stories.get(place)),
+                mend,
+            })?;
+        }
+    }
+    Ok(told)
+}
+
+/// The edges whose commands have no list of what they read, in rising number.
+pub fn not_judged(alloc: Global, history: &History) -> Result<Vec<u32>, AllocError> {
+    let mut edges = unlisted(alloc, history)?;
+    let without = without_deps(alloc, history.graph())?;
+    edges.extend_from_slice(&without)?;
+    edges.sort_unstable();
+    Ok(edges)
+}

@@ -1,0 +1,77 @@
+//! Answers questions about a recorded Ninja build.
+#![tactic(auto)]
+
+mod fault;
+mod files;
+mod found;
+mod told;
+
+use clap::error::ErrorKind;
+use fault::ProgramFault;
+use told::{How, tell};
+use rev_asking::{Asked, Word, read_words};
+use std::alloc::Global;
+use std::io;
+use std::process::ExitCode;
+use std::rt::{Env, Files};
+
+// The status of a command line that asks for help or is wrong.
+const USAGE: u8 = 2;
+// The status of a run that could not read, write or get memory.
+const FAILURE: u8 = 3;
+
+// Ends with a line on the standard error.
+fn fail<R: Eprint>(rt: &R, fault: ProgramFault<'_>) -> ExitCode {
+    let _ = eprintln!(rt; "rebug: {fault}");
+    ExitCode::from(FAILURE)
+}
+
+// Ends with the text about the command line on the standard error.
+fn explain<R: Eprint>(rt: &R, error: &clap::Error) -> ExitCode {
+    if error.kind() == ErrorKind::OutOfMemory {
+        return fail(rt, ProgramFault::Memory);
+    }
+    let _ = rt.eprint(error);
+    ExitCode::from(USAGE)
+}
+
+// The words of the command line, and the program's name first.
+fn words<R: Env + Alloc<A = Global>>(rt: &R) -> io::Result<Vec<String>> {
+    let words: Vec<String> = std::env::args(rt)?.collect(rt.alloc())?;
+    Ok(words)
+}
+
+// Answers what is asked, and gives the status.
+fn answer<'a, R: Files + Print + Eprint + AllocGlobal>(
+    rt: &R,
+    asked: Asked<'a>,
+) -> Result<u8, ProgramFault<'a>> {
+    let how = match asked.word {
+        Word::Replay => How::Replay,
+        Word::Races if asked.json => How::Json,
+        Word::Races if asked.all => How::All,
+        Word::Races => How::Some,
+    };
+    tell(rt, asked.recording, how)
+}
+
+fn main(rt: HostRuntime) -> ExitCode {
+    let words = match words(&rt) {
+        Ok(words) => words,
+        Err(error) if error.kind() == io::ErrorKind::InvalidData => {
+            let _ = eprintln!(rt;
+                "rebug: a word of the command line is no UTF-8 text; rename that file, or give another name for it"
+            );
+            return ExitCode::from(USAGE);
+        }
+        Err(_) => return fail(&rt, ProgramFault::Memory),
+    };
+    let asked = match read_words(rt.alloc(), &words) {
+        Ok(asked) => asked,
+        Err(error) => return explain(&rt, &error),
+    };
+    match answer(&rt, asked) {
+        Ok(status) => ExitCode::from(status),
+        Err(fault) => fail(&rt, fault),
+    }
+}

@@ -1,0 +1,186 @@
+//! What is told of a recording.
+ghost use Rattle.std.specs.Prelude.{◌≤◌, length};
+
+use crate::fault::ProgramFault;
+use crate::files::{place_of, read_manifest, read_trace};
+use crate::found::{not_judged, told_races};
+use rev_desk::Desk;
+use rev_manifest::Manifest;
+use rev_paths::{Name, PathFault};
+use rev_races_text::{Sources, races_json, races_text, status};
+use rev_recording::{RecordingFault, fault_line, open, replay, replay_text};
+use rev_script::{RunFault, send};
+use rev_sentences::{Inputs, sentence};
+use rev_trace::Trace;
+use std::alloc::{AllocError, Global};
+use std::rt::Files;
+use std::{io, mem};
+
+// The status of a recording that has a fault.
+const FAULT: u8 = 1;
+
+/// What is asked, and how it is told.
+#[derive(Clone, Copy, PartialEq, Eq)]
+pub enum How {
+    /// The races, of each maker the first users.
+    Some,
+    /// The races, with all users.
+    All,
+    /// The races, as JSON.
+    Json,
+    /// How many commands there were, and the first that was refused.
+    Replay,
+}
+
+/// An answer: what is written, and the status.
+#[derive(Drop)]
+struct Answer {
+    text: Vec<u8>,
+    status: u8,
+}
+
+// The names of the files that the manifest was read from.
+fn names_of(alloc: Global, files: &[(Vec<u8>, Vec<u8>)]) -> Result<Vec<Name>, AllocError> {
+    let mut names = Vec::new(alloc);
+    for (name, _) in files {
+        match Name::new(alloc, name) {
+            Ok(name) => names.push(name)?,
+            Err(PathFault::Memory) => return Err(AllocError),
+            Err(_) => {}
+        }
+    }
+    Ok(names)
+}
+
+// The answer about the desk of a recording that was replayed.
+fn answer_of(
+    alloc: Global,
+    files: &[(Vec<u8>, Vec<u8>)],
+    manifest: &Manifest,
+    desk: &Desk,
+    how: How,
+) -> Result<Answer, AllocError> {
+    if how == How::Replay {
+        let text = replay_text(alloc, desk)?;
+        return Ok(Answer { text, status: 0 });
+    }
+    let sources = Sources {
+        builds: manifest.builds(),
+        files,
+    };
+    let names = names_of(alloc, files)?;
+    let races = told_races(alloc, desk.history(), &names)?;
+    let unjudged = not_judged(alloc, desk.history())?;
+    let text = if how == How::Json {
+        races_json(alloc, &sources, &races, &unjudged)?
+    } else {
+        races_text(alloc, &sources, &races, &unjudged, how == How::All)?
+    };
+    let status = status(&races);
+    Ok(Answer { text, status })
+}
+
+// The answer about a trace that was read.
+fn replayed(
+    alloc: Global,
+    files: &[(Vec<u8>, Vec<u8>)],
+    manifest: &Manifest,
+    trace: &Trace,
+    how: How,
+) -> Result<Answer, RecordingFault>
+    requires { length trace.now.lanes.items ≤ Trace.MAX_LANES }
+{
+    let mut desk = open(alloc, manifest, trace)?;
+    let ended = replay(alloc, &mut desk, trace);
+    let answer = match ended {
+        Ok(()) => match answer_of(alloc, files, manifest, &desk, how) {
+            Ok(answer) => Ok(answer),
+            Err(_) => Err(RecordingFault::Memory),
+        },
+        Err(fault) => Err(fault),
+    };
+    leave(desk);
+    answer
+}
+
+// Leaves a desk to the system, which takes all memory back when the program ends.
+fn leave(desk: Desk) {
+    mem::forget(desk);
+}
+
+// The manifest of files.
+fn manifest_of(
+    alloc: Global,
+    files: &[(Vec<u8>, Vec<u8>)],
+) -> Result<Manifest, RecordingFault> {
+    match rev_manifest::read(alloc, files) {
+        Ok(manifest) => Ok(manifest),
+        Err(rev_manifest::ReadFault::Manifest(fault)) => Err(RecordingFault::Manifest(fault)),
+        Err(rev_manifest::ReadFault::Memory) => Err(RecordingFault::Memory),
+    }
+}
+
+// The answer about the bytes of a recording.
+fn answer_about(
+    alloc: Global,
+    files: &[(Vec<u8>, Vec<u8>)],
+    trace: &[u8],
+    how: How,
+) -> Result<Answer, RecordingFault> {
+    let manifest = manifest_of(alloc, files)?;
+    match rev_trace::read(alloc, trace) {
+        Ok(trace) => replayed(alloc, files, &manifest, &trace, how),
+        Err(rev_fields::ReadFault::Numbered(fault)) => Err(RecordingFault::Trace(fault)),
+        Err(rev_fields::ReadFault::Memory) => Err(RecordingFault::Memory),
+    }
+}
+
+// Says why a recording is not replayed.
+fn refuse<'a, R: Eprint + AllocGlobal>(
+    rt: &R,
+    files: &[(Vec<u8>, Vec<u8>)],
+    trace: &[u8],
+    fault: &RecordingFault,
+) -> Result<u8, ProgramFault<'a>> {
+    let alloc = rt.alloc();
+    let Ok(line) = fault_line(alloc, files, fault) else {
+        return Err(ProgramFault::Memory);
+    };
+    let inputs = Inputs {
+        files,
+        trace: (b"trace", trace),
+        script: (b"script", b""),
+    };
+    if let Some(said) = sentence(alloc, &line, inputs)? {
+        let text = String::from_utf8_lossy(alloc, &said)?;
+        let _ = eprintln!(rt; "rebug: {text}");
+    }
+    Ok(FAULT)
+}
+
+// Writes bytes to the standard output.
+fn write<'a, R: Print>(rt: &R, bytes: &[u8]) -> Result<(), ProgramFault<'a>> {
+    match send(&mut io::writer(rt), bytes) {
+        Ok(()) => Ok(()),
+        Err(RunFault::Write) => Err(ProgramFault::Write),
+        Err(RunFault::Memory) => Err(ProgramFault::Memory),
+    }
+}
+
+/// Writes what is asked of a recording to the standard output, and gives the program's status.
+pub fn tell<'a, R: Files + Print + Eprint + AllocGlobal>(
+    rt: &R,
+    recording: &'a str,
+    how: How,
+) -> Result<u8, ProgramFault<'a>> {
+    let place = place_of(rt, recording);
+    let files = read_manifest(rt, recording, place)?;
+    let trace = read_trace(rt, recording, place)?;
+    match answer_about(rt.alloc(), &files, &trace, how) {
+        Ok(answer) => {
+            write(rt, &answer.text)?;
+            Ok(answer.status)
+        }
+        Err(fault) => refuse(rt, &files, &trace, &fault),
+    }
+}

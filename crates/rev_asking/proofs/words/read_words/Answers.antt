@@ -1,0 +1,32 @@
+use Rattle.std.proofs.Common.{◌≡◌, ◌∙◌, [], List, Option, Some, ap, codes, map, string_bytes, sym, unwrap_or}
+use Rattle.std.specs.Option.{option_map}
+use Rattle.clap.specs.Words.{Row, Text, first_of, first_value, found_of, rows_of, subcommand_rows_of}
+use Rattle.clap.specs.declared.parser.matches.ArgMatches.{ArgMatches}
+use Rattle.clap.proofs.WalkLemmas.{first_value-rows}
+use Rattle.rev_asking.specs.Asking.{given_rows, program, value_in}
+use Rattle.rev_asking.proofs.Given.{rows-given}
+use Rattle.rev_asking.proofs.words.read_words.Goals as goal
+
+-- a value of what was given is that of the words
+same : (words : List Text) (given : ArgMatches) (name : Text) → given_rows words ≡ rows_of (found_of given) → first_value (found_of given) name ≡ value_in words name
+same words given name rows = first_value-rows (found_of given) name ∙ ap (first_of name) (sym rows)
+
+pub returns-in-Some-clause-recording : goal.returns-in-Some-clause-recording
+returns-in-Some-clause-recording c =
+    let words = map string_bytes c.args.words.now in
+    let rows = rows-given words c.in_ok-matches.matches (rows_of (found_of c.in-Some.given.now)) c.in_ok-matches.ensures.rows c.in-Some.ensures.rows in
+    c.asked_of.ensures.recording ∙ ap (λ (o : Option Text). unwrap_or o []) (same words c.in-Some.given.now (codes "RECORDING") rows)
+
+pub returns-in-Some-clause-all : goal.returns-in-Some-clause-all
+returns-in-Some-clause-all c =
+    let words = map string_bytes c.args.words.now in
+    let rows = rows-given words c.in_ok-matches.matches (rows_of (found_of c.in-Some.given.now)) c.in_ok-matches.ensures.rows c.in-Some.ensures.rows in
+    let is = same words c.in-Some.given.now (codes "all") rows in
+    ((λ on. sym is ∙ c.asked_of.ensures.all.0 on), (λ e. c.asked_of.ensures.all.1 (is ∙ e)))
+
+pub returns-in-Some-clause-json : goal.returns-in-Some-clause-json
+returns-in-Some-clause-json c =
+    let words = map string_bytes c.args.words.now in
+    let rows = rows-given words c.in_ok-matches.matches (rows_of (found_of c.in-Some.given.now)) c.in_ok-matches.ensures.rows c.in-Some.ensures.rows in
+    let is = same words c.in-Some.given.now (codes "json") rows in
+    ((λ on. sym is ∙ c.asked_of.ensures.json.0 on), (λ e. c.asked_of.ensures.json.1 (is ∙ e)))

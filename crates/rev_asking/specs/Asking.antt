@@ -1,0 +1,50 @@
+-- What the words of a command line ask for.
+use Rattle.std.specs.Prelude.{ℕ, true, codes, bytes_eq, if◌then◌else◌, List, [], ◌∷◌, ◌++◌, Option, Some, None, unwrap_or, option_map}
+use Rattle.clap.specs.Words.{App, Row, Rule, Shape, Text, first_of, new_app, new_rule, subcommand_of, with_rule, with_subcommand}
+use Rattle.clap.specs.Simple.{new_shape, on_top}
+use Rattle.clap.specs.declared.builder.action.ArgAction.TheVariants.{Set, SetTrue}
+use Rattle.rev_asking.specs.declared.words.Word.{Word}
+use Rattle.rev_asking.specs.declared.words.Word.TheVariants.{Races, Replay}
+
+-- the recording, which has to be given
+abbrev pub recording_rule : Rule
+recording_rule = record (new_rule (codes "RECORDING")) { required = true; action = Some Set }
+
+-- `--NAME`, which takes no value
+abbrev pub flag_rule : Text → Rule
+flag_rule name = record (new_rule name) { long = Some name; action = Some SetTrue }
+
+-- a command of this name with these arguments
+abbrev pub shape_with : Text → List Rule → Shape
+shape_with name rules = record (new_shape name) { rules = rules }
+
+-- `races [--all] [--json] RECORDING`
+abbrev pub races_shape : Shape
+races_shape = shape_with (codes "races") (flag_rule (codes "all") ∷ flag_rule (codes "json") ∷ recording_rule ∷ [])
+
+-- `replay RECORDING`
+abbrev pub replay_shape : Shape
+replay_shape = shape_with (codes "replay") (recording_rule ∷ [])
+
+-- the program without its words: one has to be given
+abbrev pub bare_program : App
+bare_program = on_top (λ s. record s { has_version = true; subcommand_required = true }) (new_app (codes "rebug"))
+
+-- the program
+abbrev pub program : App
+program = with_subcommand (with_subcommand bare_program races_shape) replay_shape
+
+-- the word that a name is
+abbrev pub word_named : Text → Word
+word_named name = if bytes_eq name (codes "replay") then Replay else Races
+
+-- the word that was given, and what was given to it
+abbrev pub given_name : List Text → Text
+given_name words = unwrap_or (option_map (λ p. p.0) (subcommand_of program words)) []
+
+abbrev pub given_rows : List Text → List Row
+given_rows words = unwrap_or (option_map (λ p. p.1) (subcommand_of program words)) []
+
+-- the value of an argument of that word, if it was given one
+abbrev pub value_in : List Text → Text → Option Text
+value_in words name = first_of name (given_rows words)

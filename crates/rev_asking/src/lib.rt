@@ -1,0 +1,7 @@
+//! The words of the command line of the program that people ask.
+#![tactic(auto)]
+
+mod command;
+mod words;
+
+pub use words::{Asked, Word, read_words};

@@ -1,0 +1,116 @@
+//! The words of the command line, read.
+ghost use Rattle.std.specs.Prelude.{◌≡◌, ◌↔◌, [], codes, false, IfOk, IsTrue, Some, map, string_bytes, unwrap_or};
+ghost use Rattle.clap.specs.Words.{FailsBy, fault_of, first_value, found_of, subcommand_of, subcommand_rows_of};
+ghost use Rattle.rev_asking.specs.Asking.{given_name, program, value_in, word_named};
+
+use crate::command::command;
+use clap::{ArgMatches, Error};
+use std::alloc::Global;
+
+/// What is asked of a recording.
+#[derive(Clone, Copy, Debug, PartialEq, Eq)]
+pub enum Word {
+    /// Its races.
+    Races,
+    /// Whether it replays.
+    Replay,
+}
+
+/// What the words of a command line ask for.
+#[derive(Clone, Copy, Debug, PartialEq, Eq)]
+pub struct Asked<'a> {
+    /// What is asked.
+    pub word: Word,
+    /// The recorder's folder, or its manifest.
+    pub recording: &'a str,
+    /// Whether nothing is left out.
+    pub all: bool,
+    /// Whether a JSON object a line is written in place of words.
+    pub json: bool,
+}
+
+/// What the words of a command line ask for, the first of which is the program's name.
+///
+/// # Errors
+/// As `clap` has it: no word, or one that the command line has not, a recording that is missing, a wish for help or for
+/// the version; or the system refused memory.
+pub fn read_words<'a>(alloc: Global, words: &'a [String]) -> Result<Asked<'a>, Error>
+    ensures word { IfOk result (λ a. a.word ≡ word_named (given_name (map string_bytes words.entry.now))) }
+    ensures recording { IfOk result (λ a. a.recording.now
+        ≡ unwrap_or (value_in (map string_bytes words.entry.now) (codes "RECORDING")) []) }
+    ensures all { IfOk result (λ a. IsTrue a.all
+        ↔ value_in (map string_bytes words.entry.now) (codes "all") ≡ Some (codes "true")) }
+    ensures json { IfOk result (λ a. IsTrue a.json
+        ↔ value_in (map string_bytes words.entry.now) (codes "json") ≡ Some (codes "true")) }
+    ensures fails { FailsBy (fault_of program (map string_bytes words.entry.now)) result }
+{
+    let matches = matches_of(alloc, words)?;
+    match matches.subcommand() {
+        Some((name, given)) => Ok(asked_of(name, given)),
+        None => Ok(nothing_asked()),
+    }
+}
+
+// What `clap` makes of the words.
+fn matches_of<'a>(alloc: Global, words: &'a [String]) -> Result<ArgMatches<'a>, Error>
+    ensures rows { IfOk result (λ m. subcommand_rows_of m
+        ≡ subcommand_of program (map string_bytes words.entry.now)) }
+    ensures fails { FailsBy (fault_of program (map string_bytes words.entry.now)) result }
+{
+    let command = command(alloc)?;
+    command.try_get_matches_from(words)
+}
+
+// What is asked by a word of this name, to which this was given.
+fn asked_of<'a>(name: &str, given: &ArgMatches<'a>) -> Asked<'a>
+    ensures word { result.word ≡ word_named name.now }
+    ensures recording { result.recording.now ≡ unwrap_or (first_value (found_of given.now) (codes "RECORDING")) [] }
+    ensures all { IsTrue result.all ↔ first_value (found_of given.now) (codes "all") ≡ Some (codes "true") }
+    ensures json { IsTrue result.json ↔ first_value (found_of given.now) (codes "json") ≡ Some (codes "true") }
+{
+    Asked {
+        word: word_named(name),
+        recording: recording_of(given),
+        all: is_on(given, "all"),
+        json: is_on(given, "json"),
+    }
+}
+
+// What is asked by no word.
+fn nothing_asked<'a>() -> Asked<'a>
+    ensures word { result.word ≡ word_named [] }
+    ensures recording { result.recording.now ≡ [] }
+    ensures all { result.all ≡ false }
+    ensures json { result.json ≡ false }
+{
+    Asked {
+        word: Word::Races,
+        recording: "",
+        all: false,
+        json: false,
+    }
+}
+
+// The recording that was given.
+fn recording_of<'a>(given: &ArgMatches<'a>) -> &'a str
+    ensures { result.now ≡ unwrap_or (first_value (found_of given.now) (codes "RECORDING")) [] }
+{
+    match given.get_str("RECORDING") {
+        Some(recording) => recording,
+        None => "",
+    }
+}
+
+// The word of a name.
+fn word_named(name: &str) -> Word
+    ensures { result ≡ word_named name.now }
+{
+    if name == "replay" { Word::Replay } else { Word::Races }
+}
+
+// Whether an option that takes no value was given.
+fn is_on(matches: &ArgMatches<'_>, name: &str) -> bool
+    ensures { IsTrue result ↔ first_value (found_of matches.now) name.now ≡ Some (codes "true") }
+{
+    matches.get_str(name) == Some("true")
+}

@@ -1,0 +1,4 @@
+pub mod Counts
+pub mod Happened
+pub mod Lines
+pub mod Places

@@ -1,0 +1,15 @@
+//! What people are told of a build's races.
+#![tactic(auto)]
+
+mod counts;
+mod group;
+mod happened;
+mod json;
+mod places;
+mod text;
+mod told;
+
+pub use json::races_json;
+pub use places::{Sources, push_edge, push_place, push_placed};
+pub use text::{SOMETHING, races_text, status};
+pub use told::{Happened, Kind, Run, Story, Told};
