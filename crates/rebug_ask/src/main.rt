@@ -8,12 +8,12 @@ mod told;
 
 use clap::error::ErrorKind;
 use fault::ProgramFault;
-use told::{How, tell};
 use rev_asking::{Asked, Word, read_words};
 use std::alloc::Global;
 use std::io;
 use std::process::ExitCode;
 use std::rt::{Env, Files};
+use told::{How, tell};
 
 // The status of a command line that asks for help or is wrong.
 const USAGE: u8 = 2;

@@ -8,7 +8,8 @@ use clap::{Arg, ArgAction, Command};
 use std::alloc::{AllocError, Global};
 
 // What stands below the words in the help.
-const EXAMPLE: &str = "RECORDING is the folder that record/rebug-record wrote, or the build.ninja in it.
+const EXAMPLE: &str =
+    "RECORDING is the folder that record/rebug-record wrote, or the build.ninja in it.
 
 Example:
   rebug races examples/flaky/passed
@@ -44,9 +45,19 @@ fn races<'a>(alloc: Global) -> Result<Command<'a>, AllocError>
     ensures local { IfOk result (λ c. (out-Command c).has_globals ≡ false) }
 {
     Command::new(alloc, "races")
-        .about("Which commands read what another makes without waiting for it, and the line that mends it")
-        .arg(flag(alloc, "all", "Tells every user of a maker, and every command that was not judged"))?
-        .arg(flag(alloc, "json", "Writes a JSON object a line in place of words"))?
+        .about(
+            "Which commands read what another makes without waiting for it, and the line that mends it",
+        )
+        .arg(flag(
+            alloc,
+            "all",
+            "Tells every user of a maker, and every command that was not judged",
+        ))?
+        .arg(flag(
+            alloc,
+            "json",
+            "Writes a JSON object a line in place of words",
+        ))?
         .arg(recording(alloc))
 }
 
@@ -77,7 +88,5 @@ pub(crate) fn command<'a>(alloc: Global) -> Result<Command<'a>, AllocError>
 {
     let races = races(alloc)?;
     let replay = replay(alloc)?;
-    bare_command(alloc)
-        .subcommand(races)?
-        .subcommand(replay)
+    bare_command(alloc).subcommand(races)?.subcommand(replay)
 }

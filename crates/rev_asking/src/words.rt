@@ -105,7 +105,11 @@ fn recording_of<'a>(given: &ArgMatches<'a>) -> &'a str
 fn word_named(name: &str) -> Word
     ensures { result ≡ word_named name.now }
 {
-    if name == "replay" { Word::Replay } else { Word::Races }
+    if name == "replay" {
+        Word::Replay
+    } else {
+        Word::Races
+    }
 }
 
 // Whether an option that takes no value was given.

@@ -9,12 +9,7 @@ use rev_fields::push_number;
 use std::alloc::AllocError;
 
 // Adds a number of things.
-fn push_counted(
-    text: &mut Vec<u8>,
-    count: u64,
-    one: &[u8],
-    many: &[u8],
-) -> Result<(), AllocError>
+fn push_counted(text: &mut Vec<u8>, count: u64, one: &[u8], many: &[u8]) -> Result<(), AllocError>
     ensures { OnOk result (text.new.items ≡ text.old.items ++ counted count one.now many.now) }
 {
     push_number(text, count)?;
@@ -51,12 +46,7 @@ fn are_none(one: u64, other: u64) -> bool
 }
 
 // Adds how many there are of the three kinds, of which there is one.
-fn push_three(
-    text: &mut Vec<u8>,
-    races: u64,
-    cycles: u64,
-    own: u64,
-) -> Result<(), AllocError>
+fn push_three(text: &mut Vec<u8>, races: u64, cycles: u64, own: u64) -> Result<(), AllocError>
     ensures { OnOk result (text.new.items ≡ text.old.items ++ three_words races cycles own) }
 {
     push_some(text, true, races, b"race", b"races")?;
@@ -87,11 +77,7 @@ pub(crate) fn push_counts(
 }
 
 // Adds edges, each behind a space.
-fn push_spaced(
-    text: &mut Vec<u8>,
-    sources: &Sources<'_>,
-    edges: &[u32],
-) -> Result<(), AllocError>
+fn push_spaced(text: &mut Vec<u8>, sources: &Sources<'_>, edges: &[u32]) -> Result<(), AllocError>
     ensures { OnOk result (text.new.items
         ≡ text.old.items ++ flat_map (λ edge. codes " " ++ edge_words sources.now.builds.now edge) edges.now) }
 {

@@ -157,7 +157,9 @@ fn push_race(
         return Ok(());
     };
     let more = (races.len() as u64).saturating_sub(1);
-    push_user(text, sources, first.kind, told, first.path, more, first.user)?;
+    push_user(
+        text, sources, first.kind, told, first.path, more, first.user,
+    )?;
     if let Some(story) = first.story {
         push_here(text, story)?;
     }

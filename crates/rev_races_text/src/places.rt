@@ -54,22 +54,14 @@ pub(crate) fn push_name(text: &mut Vec<u8>, name: Option<&Name>) -> Result<(), A
 ///
 /// # Errors
 /// [`AllocError`] only where an allocation was refused.
-pub fn push_edge(
-    text: &mut Vec<u8>,
-    sources: &Sources<'_>,
-    edge: u32,
-) -> Result<(), AllocError>
+pub fn push_edge(text: &mut Vec<u8>, sources: &Sources<'_>, edge: u32) -> Result<(), AllocError>
     ensures { OnOk result (text.new.items ≡ text.old.items ++ edge_words sources.now.builds.now edge) }
 {
     push_name(text, first_output(sources.builds, edge))
 }
 
 // Adds the name of a file, where it was given.
-fn push_file(
-    text: &mut Vec<u8>,
-    files: &[(Vec<u8>, Vec<u8>)],
-    file: u64,
-) -> Result<(), AllocError>
+fn push_file(text: &mut Vec<u8>, files: &[(Vec<u8>, Vec<u8>)], file: u64) -> Result<(), AllocError>
     ensures { OnOk result (text.new.items
         ≡ text.old.items ++ file_words (slice_get (seen_files files.now) file)) }
 {
@@ -97,11 +89,7 @@ fn push_line(
 ///
 /// # Errors
 /// [`AllocError`] only where an allocation was refused.
-pub fn push_place(
-    text: &mut Vec<u8>,
-    sources: &Sources<'_>,
-    edge: u32,
-) -> Result<(), AllocError>
+pub fn push_place(text: &mut Vec<u8>, sources: &Sources<'_>, edge: u32) -> Result<(), AllocError>
     ensures { OnOk result (text.new.items ≡ text.old.items
         ++ place_words sources.now.builds.now (seen_files sources.now.files.now) edge) }
 {
@@ -115,11 +103,7 @@ pub fn push_place(
 ///
 /// # Errors
 /// [`AllocError`] only where an allocation was refused.
-pub fn push_placed(
-    text: &mut Vec<u8>,
-    sources: &Sources<'_>,
-    edge: u32,
-) -> Result<(), AllocError>
+pub fn push_placed(text: &mut Vec<u8>, sources: &Sources<'_>, edge: u32) -> Result<(), AllocError>
     ensures { OnOk result (text.new.items ≡ text.old.items
         ++ placed_words sources.now.builds.now (seen_files sources.now.files.now) edge) }
 {

@@ -100,7 +100,11 @@ fn push_counts(text: &mut Vec<u8>, commands: u64, refused: u64) -> Result<(), Al
     ensures { OnOk result (text.new.items ≡ text.old.items ++ counts_words commands refused) }
 {
     push_number(text, commands)?;
-    text.extend_from_slice(if commands == 1 { b" command, " } else { b" commands, " })?;
+    text.extend_from_slice(if commands == 1 {
+        b" command, "
+    } else {
+        b" commands, "
+    })?;
     if refused == 0 {
         return text.extend_from_slice(b"none refused\n");
     }

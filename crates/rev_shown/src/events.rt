@@ -48,12 +48,7 @@ fn push_slot(text: &mut Vec<u8>, slot: Option<u32>) -> Result<(), AllocError>
 }
 
 // Adds a start.
-fn push_start(
-    text: &mut Vec<u8>,
-    out: &Name,
-    job: u32,
-    slot: Option<u32>,
-) -> Result<(), AllocError>
+fn push_start(text: &mut Vec<u8>, out: &Name, job: u32, slot: Option<u32>) -> Result<(), AllocError>
     ensures { OnOk result (text.new.items ≡ text.old.items
         ++ (codes "start " ++ shown out.now ++ codes " (job " ++ decimal job ++ slot_words slot ++ codes ")")) }
 {
