@@ -133,10 +133,10 @@ fn answer_about(
 }
 
 // Says why a recording is not replayed.
-fn refuse<'a, R: Eprint + AllocGlobal>(
+fn refuse<'a, 'b, R: Eprint + AllocGlobal>(
     rt: &R,
-    files: &[(Vec<u8>, Vec<u8>)],
-    trace: &[u8],
+    files: &'b [(Vec<u8>, Vec<u8>)],
+    trace: &'b [u8],
     fault: &RecordingFault,
 ) -> Result<u8, ProgramFault<'a>> {
     let alloc = rt.alloc();
