@@ -109,7 +109,10 @@ pub fn leave(desk: Desk) {
 }
 
 /// The manifest of files.
-pub fn manifest_of(alloc: Global, files: &[(Vec<u8>, Vec<u8>)]) -> Result<Manifest, RecordingFault> {
+pub fn manifest_of(
+    alloc: Global,
+    files: &[(Vec<u8>, Vec<u8>)],
+) -> Result<Manifest, RecordingFault> {
     match rev_manifest::read(alloc, files) {
         Ok(manifest) => Ok(manifest),
         Err(rev_manifest::ReadFault::Manifest(fault)) => Err(RecordingFault::Manifest(fault)),

@@ -84,7 +84,10 @@ pub(crate) fn dependents(
     text.extend_from_slice(b": on it rest\n")?;
     let before = text.len();
     let mut last = number;
-    while let Some(next) = history.nearest(last, footprint) {
+    for _ in 0..history.kept().len() {
+        let Some(next) = history.nearest(last, footprint) else {
+            break;
+        };
         text.extend_from_slice(b"  ")?;
         push_numbered(&mut text, history, next)?;
         push_through(&mut text, history, number, next)?;

@@ -31,7 +31,7 @@ pub(crate) fn push_numbered(
 
 /// Whether an event is kept.
 pub(crate) fn is_kept(history: &History, number: u32) -> bool {
-    history.kept().iter().any(|kept| number == *kept)
+    history.footprint_of(number).is_some()
 }
 
 // The output, or the path, that an event is at, and its word.
@@ -161,117 +161,6 @@ pub(crate) fn who(
     if text.is_empty() {
         push_shown(&mut text, out.as_bytes())?;
         text.extend_from_slice(b" did not run so far\n")?;
-    }
-    Ok(text)
-}
-
-// When the command of an edge ran last: its last kept start, and the end of it, where it ended.
-fn last_run(history: &History, edge: u32) -> Option<(u32, Option<u32>)> {
-    let mut run = None;
-    for number in history.kept() {
-        let Some(event) = history.event(*number) else {
-            continue;
-        };
-        if !is_of_edge(history.graph(), event, edge) {
-            continue;
-        }
-        match event {
-            Event::Start { .. } => run = Some((*number, None)),
-            _ => {
-                if let Some((began, None)) = run {
-                    run = Some((began, Some(*number)));
-                }
-            }
-        }
-    }
-    run
-}
-
-// Whether a number lies in a run.
-fn is_within(number: u32, began: u32, ended: Option<u32>) -> bool {
-    if number <= began {
-        return false;
-    }
-    match ended {
-        Some(ended) => number < ended,
-        None => true,
-    }
-}
-
-// The edge that an event starts or ends.
-fn edge_at(history: &History, event: &Event) -> Option<u32> {
-    if let Event::Touch { .. } = event {
-        return None;
-    }
-    match place_of(event) {
-        Some((out, _)) => history.graph().producer(out),
-        None => None,
-    }
-}
-
-// Adds the commands that ran between two events: each whose start or end lies there, or that went on all the time.
-fn push_beside(
-    text: &mut Vec<u8>,
-    history: &History,
-    edge: u32,
-    began: u32,
-    ended: Option<u32>,
-) -> Result<(), AllocError> {
-    for number in history.kept() {
-        let Some(event) = history.event(*number) else {
-            continue;
-        };
-        let Event::Start { .. } = event else {
-            continue;
-        };
-        let Some(other) = edge_at(history, event) else {
-            continue;
-        };
-        let Some((from, to)) = last_run(history, other) else {
-            continue;
-        };
-        let is_beside = is_within(from, began, ended) || is_within(began, from, to);
-        if other != edge && from == *number && is_beside {
-            text.extend_from_slice(b"  ")?;
-            push_numbered(text, history, *number)?;
-            text.push(b'\n')?;
-        }
-    }
-    Ok(())
-}
-
-/// `with OUT`: the commands that ran while that of an edge did.
-pub(crate) fn with(
-    alloc: Global,
-    session: &Session<'_>,
-    history: &History,
-    out: &Name,
-) -> Result<Vec<u8>, AllocError> {
-    let edge = match edge_of(alloc, session, history.graph(), out)? {
-        Ok(edge) => edge,
-        Err(text) => return Ok(text),
-    };
-    let mut text = Vec::new(alloc);
-    push_shown(&mut text, out.as_bytes())?;
-    match last_run(history, edge) {
-        None => text.extend_from_slice(b" did not run so far\n")?,
-        Some((began, ended)) => {
-            text.extend_from_slice(b" ran from ")?;
-            push_number(&mut text, u64::from(began))?;
-            match ended {
-                Some(ended) => {
-                    text.extend_from_slice(b" to ")?;
-                    push_number(&mut text, u64::from(ended))?;
-                }
-                None => text.extend_from_slice(b" on")?,
-            }
-            text.extend_from_slice(b", beside\n")?;
-            let before = text.len();
-            push_beside(&mut text, history, edge, began, ended)?;
-            if text.len() == before {
-                text.extend_from_slice(b"  nothing\n")?;
-            }
-        }
     }
     Ok(text)
 }

@@ -5,7 +5,6 @@ pub(crate) const HELP: &[u8] = b"run                the recording to its end, to
 next [N]           its next commands, one or N, each told
 until OUT          up to the next event of the edge of this output
 who OUT            its events
-with OUT           which commands ran at the same time
 without OUT        undoes its events, with all that rests on them
 what EVENT         an event in words
 needs EVENT [all]  which events it rests on, itself or by way of others

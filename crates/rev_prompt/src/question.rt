@@ -45,8 +45,6 @@ pub enum Question {
     Who(Name),
     /// `what EVENT`: an event in words.
     What(EventName),
-    /// `with OUT`: which commands ran at the same time.
-    With(Name),
     /// `without OUT`: the events of an edge are undone, with all that rests on them.
     Without(Name),
     /// `undo EVENT`, `redo EVENT` and `cone EVENT`, by the word.
@@ -85,7 +83,6 @@ impl Drop for Question {
             Question::WouldCone(_part) => {}
             Question::Who(_part) => {}
             Question::What(_part) => {}
-            Question::With(_part) => {}
             Question::Without(_part) => {}
             Question::Undo(_part) => {}
             Question::Redo(_part) => {}
@@ -199,7 +196,6 @@ fn path_question(
     let question = match word {
         b"until" => Question::Until(only_path(alloc, rest)?),
         b"who" => Question::Who(only_path(alloc, rest)?),
-        b"with" => Question::With(only_path(alloc, rest)?),
         b"without" => Question::Without(only_path(alloc, rest)?),
         b"stamps" => Question::Stamps(maybe_path(alloc, rest)?),
         b"logs" => Question::Logs(maybe_path(alloc, rest)?),

@@ -2,7 +2,7 @@
 use crate::advance::{advance, run, until};
 use crate::causes::{dependents, needs};
 use crate::commands::{apply, cone, without, would_cone};
-use crate::events::{named_event, push_numbered, who, with};
+use crate::events::{named_event, push_numbered, who};
 use crate::help::HELP;
 use crate::question::Question;
 use rev_commands::{Command, Which};
@@ -108,7 +108,6 @@ fn asked(
             Err(text) => Ok(text),
         },
         Question::Who(out) => who(alloc, session, history, out),
-        Question::With(out) => with(alloc, session, history, out),
         Question::Kept => kept(alloc, history),
         Question::Marks => marks_text(alloc, history.graph(), history.cells()),
         Question::Stamps(path) => about(alloc, stamps_text(alloc, history.cells())?, path.as_ref()),
