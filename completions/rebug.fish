@@ -3,6 +3,7 @@ complete -c rebug -n __fish_use_subcommand -a record -d 'Runs Ninja in the folde
 complete -c rebug -n __fish_use_subcommand -a help -d 'Tells the words about a recording, or one of them'
 complete -c rebug -n __fish_use_subcommand -a races -d 'Which commands read what another makes without waiting for it, and the line that mends it'
 complete -c rebug -n __fish_use_subcommand -a replay -d 'Replays the recording, and tells whether every command was accepted'
+complete -c rebug -n __fish_use_subcommand -a ask -d 'Answers questions about the recording, a line of standard input each'
 complete -c rebug -n '__fish_seen_subcommand_from races' -l all -d 'Tells every user of a maker, and every command that was not judged'
 complete -c rebug -n '__fish_seen_subcommand_from races' -l json -d 'Writes a JSON object a line in place of words'
 complete -c rebug -n __fish_use_subcommand -l try -d 'Answers in a minute or two from an unproved build; nothing is proved or kept'
