@@ -59,7 +59,16 @@ fn push_taken(
     text.extend_from_slice(b"\n")
 }
 
-/// `run`: says all that is left of the recording, and tells it in one line, with the first command that was refused.
+// Adds that a break stands, where the desk is paused: nothing of the recording is said then.
+fn push_pause(text: &mut Vec<u8>, desk: &Desk) -> Result<(), AllocError> {
+    if desk.paused() {
+        return text.extend_from_slice(b"a break stands here: `continue` goes on\n");
+    }
+    Ok(())
+}
+
+/// `run`: says what is left of the recording, up to a break, and tells it in one line, with the first command that was
+/// refused.
 pub(crate) fn run(
     alloc: Global,
     session: &Session<'_>,
@@ -70,6 +79,9 @@ pub(crate) fn run(
     let mut refused = 0u64;
     let mut taken = session.taken;
     for at in session.taken..session.turns.len() {
+        if desk.paused() {
+            break;
+        }
         let Some(reply) = take(session, desk, at)? else {
             break;
         };
@@ -86,7 +98,8 @@ pub(crate) fn run(
             refused = refused.saturating_add(1);
         }
     }
-    let told = run_line(alloc, said, refused, &text)?;
+    let mut told = run_line(alloc, said, refused, &text)?;
+    push_pause(&mut told, desk)?;
     Ok((told, taken))
 }
 
@@ -115,6 +128,9 @@ pub(crate) fn advance(
     let mut text = Vec::new(alloc);
     let mut taken = session.taken;
     for _ in 0..count {
+        if desk.paused() {
+            break;
+        }
         let Some(reply) = take(session, desk, taken)? else {
             text.extend_from_slice(b"the recording ends here\n")?;
             break;
@@ -122,6 +138,7 @@ pub(crate) fn advance(
         push_taken(&mut text, session, desk, taken, reply)?;
         taken = taken.saturating_add(1);
     }
+    push_pause(&mut text, desk)?;
     Ok((text, taken))
 }
 
@@ -147,12 +164,17 @@ pub(crate) fn until(
     let mut text = Vec::new(alloc);
     let mut taken = session.taken;
     for at in session.taken..session.turns.len() {
+        if desk.paused() {
+            push_pause(&mut text, desk)?;
+            return Ok((text, taken));
+        }
         let Some(reply) = take(session, desk, at)? else {
             break;
         };
         taken = at + 1;
         if is_event_of(desk, session.turns[at].command, edge) {
             push_taken(&mut text, session, desk, at, reply)?;
+            push_pause(&mut text, desk)?;
             return Ok((text, taken));
         }
     }

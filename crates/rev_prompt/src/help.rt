@@ -12,9 +12,9 @@ dependents EVENT   which events rest on it
 would cone EVENT   what `cone` would take
 undo EVENT         takes it back, if no kept event rests on it
 cone EVENT         takes it back with all that rests on it
-redo EVENT         puts it back
+redo N             puts back an event that was undone
 back               takes back the last one
-kept               the kept events
+kept, history      the kept events
 marks, stamps [PATH], logs [PATH]     the state, as a report writes it
 break KIND OUT, continue, touch PATH N, plan, ..     every command of a script
 quit
