@@ -43,6 +43,9 @@ pub enum ProgramFault<'a> {
     /// The answer was not written whole.
     #[error("cannot write")]
     Write,
+    /// A line of standard input was not read.
+    #[error("cannot read the questions")]
+    Read,
     /// The manifest of a recording could not be read. The reason stands on a line of its own.
     #[error("cannot read the manifest of {0}\nrebug: {1}")]
     Manifest(&'a str, Unread),

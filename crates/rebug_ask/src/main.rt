@@ -1,16 +1,18 @@
 //! Answers questions about a recorded Ninja build.
 #![tactic(auto)]
 
+mod asking;
 mod fault;
 mod files;
 mod found;
 mod told;
 
+use asking::ask;
 use clap::error::ErrorKind;
 use fault::ProgramFault;
 use rev_asking::{Asked, Word, read_words};
 use std::alloc::Global;
-use std::io;
+use std::io::{self, IsTerminal};
 use std::process::ExitCode;
 use std::rt::{Env, Files};
 use told::{How, tell};
@@ -42,11 +44,13 @@ fn words<R: Env + Alloc<A = Global>>(rt: &R) -> io::Result<Vec<String>> {
 }
 
 // Answers what is asked, and gives the status.
-fn answer<'a, R: Files + Print + Eprint + AllocGlobal>(
+fn answer<'a, R: Files + Input + Print + Eprint + AllocGlobal>(
     rt: &R,
     asked: Asked<'a>,
+    is_terminal: bool,
 ) -> Result<u8, ProgramFault<'a>> {
     let how = match asked.word {
+        Word::Ask => return ask(rt, asked.recording, is_terminal),
         Word::Replay => How::Replay,
         Word::Races if asked.json => How::Json,
         Word::Races if asked.all => How::All,
@@ -70,7 +74,8 @@ fn main(rt: HostRuntime) -> ExitCode {
         Ok(asked) => asked,
         Err(error) => return explain(&rt, &error),
     };
-    match answer(&rt, asked) {
+    let is_terminal = rt.reader().is_terminal();
+    match answer(&rt, asked, is_terminal) {
         Ok(status) => ExitCode::from(status),
         Err(fault) => fail(&rt, fault),
     }

@@ -103,13 +103,16 @@ fn replayed(
     answer
 }
 
-// Leaves a desk to the system, which takes all memory back when the program ends.
-fn leave(desk: Desk) {
+/// Leaves a desk to the system, which takes all memory back when the program ends.
+pub fn leave(desk: Desk) {
     mem::forget(desk);
 }
 
-// The manifest of files.
-fn manifest_of(alloc: Global, files: &[(Vec<u8>, Vec<u8>)]) -> Result<Manifest, RecordingFault> {
+/// The manifest of files.
+pub fn manifest_of(
+    alloc: Global,
+    files: &[(Vec<u8>, Vec<u8>)],
+) -> Result<Manifest, RecordingFault> {
     match rev_manifest::read(alloc, files) {
         Ok(manifest) => Ok(manifest),
         Err(rev_manifest::ReadFault::Manifest(fault)) => Err(RecordingFault::Manifest(fault)),
@@ -132,8 +135,8 @@ fn answer_about(
     }
 }
 
-// Says why a recording is not replayed.
-fn refuse<'a, 'b, R: Eprint + AllocGlobal>(
+/// Says why a recording is not replayed.
+pub fn refuse<'a, 'b, R: Eprint + AllocGlobal>(
     rt: &R,
     files: &'b [(Vec<u8>, Vec<u8>)],
     trace: &'b [u8],
@@ -155,8 +158,8 @@ fn refuse<'a, 'b, R: Eprint + AllocGlobal>(
     Ok(FAULT)
 }
 
-// Writes bytes to the standard output.
-fn write<'a, R: Print>(rt: &R, bytes: &[u8]) -> Result<(), ProgramFault<'a>> {
+/// Writes bytes to the standard output.
+pub fn write<'a, R: Print>(rt: &R, bytes: &[u8]) -> Result<(), ProgramFault<'a>> {
     match send(&mut io::writer(rt), bytes) {
         Ok(()) => Ok(()),
         Err(RunFault::Write) => Err(ProgramFault::Write),

@@ -4,7 +4,7 @@ use Rattle.clap.specs.Words.{App, Row, Rule, Shape, Text, first_of, new_app, new
 use Rattle.clap.specs.Simple.{new_shape, on_top}
 use Rattle.clap.specs.declared.builder.action.ArgAction.TheVariants.{Set, SetTrue}
 use Rattle.rev_asking.specs.declared.words.Word.{Word}
-use Rattle.rev_asking.specs.declared.words.Word.TheVariants.{Races, Replay}
+use Rattle.rev_asking.specs.declared.words.Word.TheVariants.{Ask, Races, Replay}
 
 -- the recording, which has to be given
 abbrev pub recording_rule : Rule
@@ -26,17 +26,21 @@ races_shape = shape_with (codes "races") (flag_rule (codes "all") ∷ flag_rule 
 abbrev pub replay_shape : Shape
 replay_shape = shape_with (codes "replay") (recording_rule ∷ [])
 
+-- `ask RECORDING`
+abbrev pub ask_shape : Shape
+ask_shape = shape_with (codes "ask") (recording_rule ∷ [])
+
 -- the program without its words: one has to be given
 abbrev pub bare_program : App
 bare_program = on_top (λ s. record s { has_version = true; subcommand_required = true }) (new_app (codes "rebug"))
 
 -- the program
 abbrev pub program : App
-program = with_subcommand (with_subcommand bare_program races_shape) replay_shape
+program = with_subcommand (with_subcommand (with_subcommand bare_program races_shape) replay_shape) ask_shape
 
 -- the word that a name is
 abbrev pub word_named : Text → Word
-word_named name = if bytes_eq name (codes "replay") then Replay else Races
+word_named name = if bytes_eq name (codes "replay") then Replay else if bytes_eq name (codes "ask") then Ask else Races
 
 -- the word that was given, and what was given to it
 abbrev pub given_name : List Text → Text

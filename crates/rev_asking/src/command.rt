@@ -2,7 +2,7 @@
 ghost use Rattle.std.specs.Prelude.{◌≡◌, false, IfOk};
 ghost use Rattle.clap.specs.Words.{app_of, rule_of, shape_of};
 ghost use Rattle.clap.specs.declared.builder.command.Command.TheViews.{out-Command};
-ghost use Rattle.rev_asking.specs.Asking.{bare_program, flag_rule, program, races_shape, recording_rule, replay_shape};
+ghost use Rattle.rev_asking.specs.Asking.{ask_shape, bare_program, flag_rule, program, races_shape, recording_rule, replay_shape};
 
 use clap::{Arg, ArgAction, Command};
 use std::alloc::{AllocError, Global};
@@ -71,6 +71,16 @@ fn replay<'a>(alloc: Global) -> Result<Command<'a>, AllocError>
         .arg(recording(alloc))
 }
 
+// `ask RECORDING`
+fn ask<'a>(alloc: Global) -> Result<Command<'a>, AllocError>
+    ensures shape { IfOk result (λ c. shape_of c ≡ ask_shape) }
+    ensures local { IfOk result (λ c. (out-Command c).has_globals ≡ false) }
+{
+    Command::new(alloc, "ask")
+        .about("Answers questions about the recording, a line of standard input each")
+        .arg(recording(alloc))
+}
+
 // The program without its words.
 fn bare_command<'a>(alloc: Global) -> Command<'a>
     ensures { app_of result ≡ bare_program }
@@ -88,5 +98,9 @@ pub(crate) fn command<'a>(alloc: Global) -> Result<Command<'a>, AllocError>
 {
     let races = races(alloc)?;
     let replay = replay(alloc)?;
-    bare_command(alloc).subcommand(races)?.subcommand(replay)
+    let ask = ask(alloc)?;
+    bare_command(alloc)
+        .subcommand(races)?
+        .subcommand(replay)?
+        .subcommand(ask)
 }

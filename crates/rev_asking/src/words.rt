@@ -14,6 +14,8 @@ pub enum Word {
     Races,
     /// Whether it replays.
     Replay,
+    /// Whatever is asked on standard input.
+    Ask,
 }
 
 /// What the words of a command line ask for.
@@ -107,6 +109,8 @@ fn word_named(name: &str) -> Word
 {
     if name == "replay" {
         Word::Replay
+    } else if name == "ask" {
+        Word::Ask
     } else {
         Word::Races
     }

@@ -1,0 +1,20 @@
+# Completion of rebug's words in bash: `source` this file. tools/front made it.
+_rebug() {
+  local word=${COMP_WORDS[COMP_CWORD]} first=${COMP_WORDS[1]} place=1
+  if [ "$first" = --try ]; then first=${COMP_WORDS[2]} place=2; fi
+  COMPREPLY=()
+  if [ "$COMP_CWORD" -le "$place" ]; then
+    COMPREPLY=($(compgen -W "record help races replay ask --try --manifest --trace --script --workers --migrate --help --version" -- "$word"))
+    return
+  fi
+  if [ "$first" = help ]; then
+    COMPREPLY=($(compgen -W "races replay ask" -- "$word"))
+    return
+  fi
+  case $word in -*) ;; *) return ;; esac
+  case $first in
+    races) COMPREPLY=($(compgen -W "--all --json" -- "$word")) ;;
+    -*) COMPREPLY=($(compgen -W "--try --manifest --trace --script --workers --migrate --help --version" -- "$word")) ;;
+  esac
+}
+complete -o default -F _rebug rebug ./rebug

@@ -1,0 +1,267 @@
+//! What a line of the prompt asks.
+use rev_cells::Names;
+use rev_commands::{Command, Which};
+use rev_fields::{FaultKind, LineFault, number};
+use rev_paths::{Name, PathFault};
+use rev_trace::{command_of_texts, which_of};
+use std::alloc::Global;
+
+/// How an event is named at the prompt.
+pub enum EventName {
+    /// By its number or its label.
+    Which(Which),
+    /// The last kept event of this kind at an output: its word and the output.
+    Kind(Vec<u8>, Name),
+    /// The last kept event at an output.
+    Last(Name),
+}
+
+// Written, since a derived drop is proved again at each exit of each caller.
+impl Drop for EventName {
+    fn drop(self) {
+        match self {
+            EventName::Which(_part) => {}
+            EventName::Kind(_part, _name) => {}
+            EventName::Last(_part) => {}
+        }
+    }
+}
+
+/// What is asked.
+pub enum Question {
+    /// `run`: what is left of the recording is replayed.
+    Run,
+    /// `next [N]`: so many commands of the recording are replayed, and told.
+    Next(u32),
+    /// `until OUT`: the recording is replayed up to an event of this edge.
+    Until(Name),
+    /// `needs EVENT [all]`: what the event rests on.
+    Needs(EventName, bool),
+    /// `dependents EVENT`: what rests on it.
+    Dependents(EventName),
+    /// `would cone EVENT`: what a cone would take.
+    WouldCone(EventName),
+    /// `who OUT`: the events of an edge.
+    Who(Name),
+    /// `what EVENT`: an event in words.
+    What(EventName),
+    /// `without OUT`: the events of an edge are undone, with all that rests on them.
+    Without(Name),
+    /// `undo EVENT`, `redo EVENT` and `cone EVENT`, by the word.
+    Undo(EventName),
+    /// `redo EVENT`.
+    Redo(EventName),
+    /// `cone EVENT`.
+    Cone(EventName),
+    /// `kept`, `marks`, `stamps` and `logs`, as a report has them.
+    Kept,
+    /// `marks`.
+    Marks,
+    /// `stamps [PATH]`.
+    Stamps(Option<Name>),
+    /// `logs [PATH]`.
+    Logs(Option<Name>),
+    /// Another command of a script.
+    Command(Command),
+    /// `help`.
+    Help,
+    /// `quit`.
+    Quit,
+    /// An empty line.
+    Nothing,
+}
+
+// Written, since a derived drop is proved again at each exit of each caller.
+impl Drop for Question {
+    fn drop(self) {
+        match self {
+            Question::Run => {}
+            Question::Next(_part) => {}
+            Question::Until(_part) => {}
+            Question::Needs(_part, _all) => {}
+            Question::Dependents(_part) => {}
+            Question::WouldCone(_part) => {}
+            Question::Who(_part) => {}
+            Question::What(_part) => {}
+            Question::Without(_part) => {}
+            Question::Undo(_part) => {}
+            Question::Redo(_part) => {}
+            Question::Cone(_part) => {}
+            Question::Kept => {}
+            Question::Marks => {}
+            Question::Stamps(_part) => {}
+            Question::Logs(_part) => {}
+            Question::Command(_part) => {}
+            Question::Help => {}
+            Question::Quit => {}
+            Question::Nothing => {}
+        }
+    }
+}
+
+const BAD: LineFault = LineFault::Kind(FaultKind::Syntax);
+
+// The path that a text names.
+fn path(alloc: Global, text: &[u8]) -> Result<Name, LineFault> {
+    match Name::new(alloc, text) {
+        Ok(name) => Ok(name),
+        Err(PathFault::Memory) => Err(LineFault::Memory),
+        Err(_) => Err(BAD),
+    }
+}
+
+// Whether a word is that of an event at an edge or at a path.
+fn is_kind(word: &[u8]) -> bool {
+    word == b"start".as_slice()
+        || word == b"finish".as_slice()
+        || word == b"fail".as_slice()
+        || word == b"abort".as_slice()
+        || word == b"clean".as_slice()
+        || word == b"pass".as_slice()
+        || word == b"touch".as_slice()
+}
+
+// Whether a text begins as a number does.
+fn is_number(text: &[u8]) -> bool {
+    !text.is_empty()
+        && text
+            .iter()
+            .all(|byte| byte.is_ascii_digit() || *byte == b':')
+}
+
+// The event that texts name: a number, a label, an output, or a kind and an output.
+fn event_name(alloc: Global, texts: &[Vec<u8>]) -> Result<EventName, LineFault> {
+    match texts {
+        [one] if is_number(one) => Ok(EventName::Which(which_of(alloc, one)?)),
+        [one] => Ok(EventName::Last(path(alloc, one)?)),
+        [kind, out] if is_kind(kind) => {
+            let name = path(alloc, out)?;
+            Ok(EventName::Kind(Vec::from_slice(alloc, kind)?, name))
+        }
+        _ => Err(BAD),
+    }
+}
+
+// `needs EVENT` and `needs EVENT all`
+fn needs(alloc: Global, texts: &[Vec<u8>]) -> Result<Question, LineFault> {
+    match texts {
+        [rest @ .., last] if !rest.is_empty() && last.as_slice() == b"all".as_slice() => {
+            Ok(Question::Needs(event_name(alloc, rest)?, true))
+        }
+        _ => Ok(Question::Needs(event_name(alloc, texts)?, false)),
+    }
+}
+
+// `next` and `next N`
+fn next(texts: &[Vec<u8>]) -> Result<Question, LineFault> {
+    match texts {
+        [] => Ok(Question::Next(1)),
+        [count] => Ok(Question::Next(number(count)?)),
+        _ => Err(BAD),
+    }
+}
+
+// The one path that stands behind a word.
+fn only_path(alloc: Global, texts: &[Vec<u8>]) -> Result<Name, LineFault> {
+    match texts {
+        [one] => path(alloc, one),
+        _ => Err(BAD),
+    }
+}
+
+// The path that may stand behind a word.
+fn maybe_path(alloc: Global, texts: &[Vec<u8>]) -> Result<Option<Name>, LineFault> {
+    match texts {
+        [] => Ok(None),
+        [one] => Ok(Some(path(alloc, one)?)),
+        _ => Err(BAD),
+    }
+}
+
+// A word that stands alone.
+fn alone(question: Question, texts: &[Vec<u8>]) -> Result<Question, LineFault> {
+    if texts.is_empty() {
+        Ok(question)
+    } else {
+        Err(BAD)
+    }
+}
+
+// A question about a path.
+fn path_question(
+    alloc: Global,
+    word: &[u8],
+    rest: &[Vec<u8>],
+) -> Result<Option<Question>, LineFault> {
+    let question = match word {
+        b"until" => Question::Until(only_path(alloc, rest)?),
+        b"who" => Question::Who(only_path(alloc, rest)?),
+        b"without" => Question::Without(only_path(alloc, rest)?),
+        b"stamps" => Question::Stamps(maybe_path(alloc, rest)?),
+        b"logs" => Question::Logs(maybe_path(alloc, rest)?),
+        _ => return Ok(None),
+    };
+    Ok(Some(question))
+}
+
+// A question about an event.
+fn event_question(
+    alloc: Global,
+    word: &[u8],
+    rest: &[Vec<u8>],
+) -> Result<Option<Question>, LineFault> {
+    let question = match word {
+        b"needs" => needs(alloc, rest)?,
+        b"dependents" => Question::Dependents(event_name(alloc, rest)?),
+        b"what" => Question::What(event_name(alloc, rest)?),
+        b"undo" => Question::Undo(event_name(alloc, rest)?),
+        b"redo" => Question::Redo(event_name(alloc, rest)?),
+        b"cone" => Question::Cone(event_name(alloc, rest)?),
+        b"would" => match rest {
+            [cone, event @ ..] if cone.as_slice() == b"cone".as_slice() => {
+                Question::WouldCone(event_name(alloc, event)?)
+            }
+            _ => return Err(BAD),
+        },
+        _ => return Ok(None),
+    };
+    Ok(Some(question))
+}
+
+// A question without anything behind it, or a command of a script.
+fn other_question(
+    alloc: Global,
+    texts: &[Vec<u8>],
+    word: &[u8],
+    rest: &[Vec<u8>],
+) -> Result<Question, LineFault> {
+    match word {
+        b"run" => alone(Question::Run, rest),
+        b"next" => next(rest),
+        b"kept" | b"history" => alone(Question::Kept, rest),
+        b"marks" => alone(Question::Marks, rest),
+        b"help" | b"?" => Ok(Question::Help),
+        b"quit" | b"exit" | b"q" => alone(Question::Quit, rest),
+        _ => {
+            let targets = Names::new(Vec::new(alloc));
+            Ok(Question::Command(command_of_texts(alloc, &targets, texts)?))
+        }
+    }
+}
+
+/// What the texts of a line ask.
+///
+/// # Errors
+/// A kind of fault as a script's line has it, where the texts are no question; `Memory` where memory was refused.
+pub fn question_of(alloc: Global, texts: &[Vec<u8>]) -> Result<Question, LineFault> {
+    let Some((word, rest)) = texts.split_first() else {
+        return Ok(Question::Nothing);
+    };
+    if let Some(question) = path_question(alloc, word, rest)? {
+        return Ok(question);
+    }
+    if let Some(question) = event_question(alloc, word, rest)? {
+        return Ok(question);
+    }
+    other_question(alloc, texts, word, rest)
+}
