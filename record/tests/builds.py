@@ -39,6 +39,23 @@ def recordings():
     return pathlib.Path(os.environ["REBUG_RECORDINGS"])
 
 
+def wait_until_asleep(process):
+    """Waits until a process has slept for a fifth of a second; where there is no /proc, for a whole one."""
+    begun, before = time.monotonic(), None
+    while time.monotonic() - begun < 60:
+        try:
+            with open(f"/proc/{process}/status") as file:
+                lines = [it for it in file if it.startswith(("State:", "voluntary_ctxt_switches:"))]
+        except OSError:
+            time.sleep(1)
+            return
+        if lines == before and lines[0].split()[1] == "S":
+            return
+        before = lines
+        time.sleep(0.2)
+    raise AssertionError("the process does not sleep")
+
+
 class Chain:
     """A build folder, and the recordings of the runs in it."""
 

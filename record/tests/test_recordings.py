@@ -3,8 +3,10 @@
 import os
 import pathlib
 import pty
+import signal
 import sys
 import tempfile
+import threading
 import unittest
 
 import builds
@@ -149,6 +151,9 @@ class Terminals(unittest.TestCase):
         if not child:
             os.environ["TERM"] = "xterm"
             os.execv(sys.executable, [sys.executable, builds.RECORDER, folder / "build", folder / "recorded"])
+        end = threading.Timer(120, os.kill, (child, signal.SIGKILL))
+        end.daemon = True
+        end.start()
         for name in ("begun1", "begun2"):
             builds.wait_for(folder / "build" / name)
         builds.time.sleep(0.5)
@@ -157,7 +162,9 @@ class Terminals(unittest.TestCase):
         while data := _read(terminal):
             shown += data
         os.close(terminal)
-        return os.waitstatus_to_exitcode(os.waitpid(child, 0)[1]), shown
+        status = os.waitstatus_to_exitcode(os.waitpid(child, 0)[1])
+        end.cancel()
+        return status, shown
 
     def test_an_interrupt_by_a_key(self):
         with tempfile.TemporaryDirectory() as folder:

@@ -9,6 +9,7 @@ import signal
 import subprocess
 import sys
 import tempfile
+import threading
 import time
 import unittest
 
@@ -20,6 +21,8 @@ TOUCH = "rule touch\n  command = touch $out\n"
 ONE = TOUCH + "build o: touch s\n"
 # The recorder reads what the edge left as its depfile, and waits for a writer.
 WAITING = "rule wait\n  command = test -p o.d || mkfifo o.d; touch $out\n  depfile = o.d\nbuild o: wait s\n"
+# A recorder that has not ended by then never will: it is killed, and its test fails.
+LONGEST_SECONDS = 120
 SLOW = "rule slow\n  command = echo $$$$ > pid; touch begun; sleep 30; touch $out\nbuild o: slow s\n"
 
 
@@ -49,7 +52,8 @@ class Kept(unittest.TestCase):
         return [sys.executable, builds.RECORDER, self.build, out or self.out, *own, *(["--", *words] if words else [])]
 
     def run_recorder(self, *words, own=(), out=None, **how):
-        how = {"stdin": subprocess.DEVNULL, "stdout": subprocess.PIPE, "stderr": subprocess.STDOUT, **how}
+        how = {"stdin": subprocess.DEVNULL, "stdout": subprocess.PIPE, "stderr": subprocess.STDOUT,
+               "timeout": LONGEST_SECONDS, **how}
         done = subprocess.run(self.words(*words, own=own, out=out), text=True, **how)
         self.assertNotIn("Traceback", done.stdout or "")
         return done.returncode, done.stdout
@@ -72,9 +76,13 @@ class Kept(unittest.TestCase):
     def started(self, *words, own=()):
         process = subprocess.Popen(self.words(*words, own=own), stdin=subprocess.DEVNULL, stdout=subprocess.PIPE,
                                    stderr=subprocess.STDOUT, text=True)
+        end = threading.Timer(LONGEST_SECONDS, process.kill)
+        end.daemon = True
+        end.start()
         self.addCleanup(process.stdout.close)
         self.addCleanup(process.wait)
         self.addCleanup(process.kill)
+        self.addCleanup(end.cancel)
         return process
 
 
@@ -311,15 +319,22 @@ class Ended(Kept):
         self.write(WAITING)
         self.process = self.started()
         builds.wait_for(self.build / "o.d")
-        return self.end_of(self.build / "o.d")
+        return self.end_of(self.build / "o.d", self.process)
 
-    def end_of(self, fifo):
-        """The end to write to, once the recorder has the other one."""
+    def end_of(self, fifo, process):
+        """The end to write to, once the recorder waits at the other one.
+
+        A signal that comes between its opening of the file and its reading is looked at when the reading ends, since
+        Python runs handlers between system calls: so the recorder must be asleep in the reading before one is sent.
+        """
         for _ in range(1000):
             try:
-                return os.open(fifo, os.O_WRONLY | os.O_NONBLOCK)
+                end = os.open(fifo, os.O_WRONLY | os.O_NONBLOCK)
             except OSError:
                 time.sleep(0.01)
+                continue
+            builds.wait_until_asleep(process.pid)
+            return end
         raise AssertionError(f"the recorder did not come to {fifo}")
 
     def lines_until(self, text):
@@ -355,7 +370,7 @@ class Ended(Kept):
         self.write(ONE + "include more.ninja\n")
         os.mkfifo(self.build / "more.ninja")
         process = self.started()
-        end = self.end_of(self.build / "more.ninja")
+        end = self.end_of(self.build / "more.ninja", process)
         process.send_signal(signal.SIGTERM)
         said = process.stdout.read()
         os.close(end)
