@@ -1,13 +1,15 @@
 //! The history.
-ghost use Rattle.std.specs.Prelude.{◌≡◌, ◌↔◌, ◌<◌, length, IfOk, OnOk, OnErr, IsErrOf, IsTrue, Some, None, true};
+ghost use Rattle.std.specs.Prelude.{◌≡◌, ◌↔◌, ◌<◌, ℕ, length, IfOk, OnOk, OnErr, IsErrOf, IsTrue, Some, None, true};
 ghost use Rattle.std.specs.Option.{option_copied};
+ghost use Rattle.rev_causal.specs.Laws.{IsLeastCone, IsLeastInTheWay};
 ghost use Rattle.rev_cells.specs.Table.{raised_by};
 ghost use Rattle.rev_cells.specs.Opened.{IsOpened};
 ghost use Rattle.rev_events.specs.declared.refusal.Refusal.{Refusal};
 ghost use Rattle.rev_events.specs.Same.{event_eq};
+ghost use Rattle.rev_footprint.specs.Value.{print_of};
 ghost use Rattle.rev_history.specs.Checked.{HasNow, IsChecked};
 ghost use Rattle.rev_history.specs.Order.{IsOrder, IsSameOpening, answer_of, order_of};
-ghost use Rattle.rev_history.specs.Timeline.{IsHistory, IsRising, Timeline, accept_refusal, accepted_as, back_refusal, cone_numbers, cone_refusal, coned, event_at, greatest_kept, kept_footprint, last_of, nearest_conflict, opened, redo_refusal, redone, state_at, undo_refusal, undone};
+ghost use Rattle.rev_history.specs.Timeline.{IsHistory, IsRising, Timeline, accept_refusal, accepted_as, back_refusal, cone_numbers, cone_refusal, coned, event_at, greatest_kept, kept_events, kept_footprint, last_of, machine_at, nearest_conflict, opened, redo_refusal, redone, state_at, undo_refusal, undone};
 ghost use Rattle.rev_history.specs.Value.{cells_written};
 
 use crate::closing::cone;
@@ -152,7 +154,10 @@ impl History {
     /// The least kept number above another whose event conflicts with a footprint. It takes no memory, and looks at the
     /// footprint's cells alone.
     pub fn nearest(&self, number: u32, footprint: &Footprint) -> Option<u32>
-        ensures { result ≡ nearest_conflict number footprint.now self.now.timeline }
+        ensures same { result ≡ nearest_conflict number footprint.now self.now.timeline }
+        // Of the kept events above that number, the one that is named conflicts, and none of a lower number does.
+        ensures least { let t = self.now.timeline in (k : ℕ) → result ≡ Some k
+            → IsLeastInTheWay (machine_at t) t.opening (kept_events t) number (print_of footprint.now) k }
     {
         nearest(number, footprint, &self.kept, &self.accesses)
     }
@@ -253,6 +258,8 @@ impl History {
             ↔ (cone_refusal self.old.timeline number ≡ Some r) }
         ensures free { OnOk result (cone_refusal self.old.timeline number ≡ None) }
         ensures numbers { IfOk result (λ numbers. numbers.items ≡ cone_numbers number self.old.timeline) }
+        ensures least { let t = self.old.timeline in
+            OnOk result (IsLeastCone (machine_at t) t.opening (kept_events t) number) }
         ensures ok { OnOk result (self.new.timeline ≡ coned number self.old.timeline) }
         ensures err { OnErr result (self.new ≡ self.old) }
     {
@@ -299,6 +306,7 @@ impl History {
         requires { cone_refusal self.now.timeline number ≡ None }
         ensures members { IfOk result (λ members. members.items ≡ cone_numbers number self.now.timeline) }
         ensures rising { IfOk result (λ members. IsRising members.items) }
+        ensures least { let t = self.now.timeline in IsLeastCone (machine_at t) t.opening (kept_events t) number }
         ensures legal { IsHistory self.now.timeline }
     {
         cone(

@@ -1,5 +1,5 @@
 //! Laws of all histories.
-ghost use Rattle.rev_causal.specs.Laws.{ConeIsWithin, FreeExactlyWhereLast, NeighboursExchange, SameEntries, SameRefusals, SameResult};
+ghost use Rattle.rev_causal.specs.Laws.{BothFormsAgree, ConeIsWithin, FreeExactlyWhereLast, NearestIsLeast, NearestIsNone, NeighboursExchange, SameEntries, SameRefusals, SameResult};
 ghost use Rattle.rev_history.specs.Laws.{ConeIsLeast, GreatestIsGreatest, NearestIsNamed, OfAllBuilds, OvertakingIsNamed, RedoKeepsFootprints, RedoNextRestores, RedoRunsNow, StepBack, UndoExactlyWhenIndependent, UndoKeepsFootprints, UndoLeavesTheOthers};
 ghost use Rattle.rev_history.specs.Order.{OrderIsExact};
 
@@ -17,6 +17,16 @@ pub fn undo_exactly_when_independent()
 /// The event that a refused undo names is the one of the least number that depends.
 pub fn nearest_is_named()
     ensures { NearestIsNamed }
+{}
+
+/// So of every list of kept events: what is named is the least later number whose event depends on that one,
+pub fn nearest_is_least()
+    ensures { OfAllBuilds NearestIsLeast }
+{}
+
+/// and none is named exactly where no later event does.
+pub fn nearest_is_none()
+    ensures { OfAllBuilds NearestIsNone }
 {}
 
 /// What an undo leaves is a list of events that are accepted one after the other from the opening.
@@ -68,6 +78,12 @@ pub fn cone_is_within()
 /// Two neighbours that do not conflict can change places: the result is the same, and so is each one's footprint.
 pub fn neighbours_exchange()
     ensures { OfAllBuilds NeighboursExchange }
+{}
+
+/// Exchanges within legal lists, with footprints taken at their places, and exchanges of events that carry their
+/// footprints lead equally far.
+pub fn both_forms_agree()
+    ensures { OfAllBuilds BothFormsAgree }
 {}
 
 /// Lists of events that exchanges of neighbours without a conflict lead to from one another have one result,

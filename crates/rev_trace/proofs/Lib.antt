@@ -6,5 +6,6 @@ pub mod GrammarLemmas
 pub mod NumberLemmas
 pub mod ShapeLemmas
 pub mod JudgeLemmas
+pub mod LineLemmas
 pub mod SaysLemmas
 pub mod MigrateLemmas

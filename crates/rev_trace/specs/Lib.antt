@@ -2,6 +2,7 @@ pub mod Commands
 pub mod Grammar
 pub mod Heads
 pub mod Lanes
+pub mod LineFaults
 pub mod Lists
 pub mod Laws
 pub mod Migrated

@@ -1,5 +1,6 @@
 //! Laws of lines, each the contract of a function that does nothing.
 ghost use Rattle.rev_trace.specs.Laws.{CommandsAreRead, LinesSayCommands};
+ghost use Rattle.rev_trace.specs.LineFaults.{EmptyLineSaysNone, LineFaultsAreTold, SaidHaveStamps};
 ghost use Rattle.rev_trace.specs.Migrated.{MigratedStay, MigratedTracesAreRead};
 ghost use Rattle.rev_trace.specs.Says.{FaultsAreFirst, OneOrTheOther, TracesAreSaid};
 
@@ -11,6 +12,22 @@ pub fn commands_are_read()
 /// A line is read as a command exactly where the table of lines says so.
 pub fn lines_say_commands()
     ensures { LinesSayCommands }
+{}
+
+/// A line has a fault exactly where that is what is wrong with it: 100 where it is the line of no command, even if any
+/// text counts as a number; 101 where it is one but for its numbers.
+pub fn line_faults_are_told()
+    ensures { LineFaultsAreTold }
+{}
+
+/// The empty line says no command.
+pub fn empty_line_says_none()
+    ensures { EmptyLineSaysNone }
+{}
+
+/// No line says a command with an empty list of stamps.
+pub fn said_have_stamps()
+    ensures { SaidHaveStamps }
 {}
 
 /// A text is read as a trace exactly where it says that trace: its first line names the format and a version, and the

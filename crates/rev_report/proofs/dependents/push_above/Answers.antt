@@ -18,7 +18,7 @@ pub loop-next-preserved : goal.loop-next-preserved
 loop-next-preserved c =
     let t : Timeline = c.args.history.now.timeline in
     let first : conflicting_above t c.args.footprint.now c.loop-next.last ≡ c.in-Some.next ∷ conflicting_above t c.args.footprint.now c.in-Some.next =
-    nearest_first t c.loop-next.last c.in-Some.next c.args.footprint.now c.kept-kept.ensures.legal c.in-Some.ensures in
+    nearest_first t c.loop-next.last c.in-Some.next c.args.footprint.now c.kept-kept.ensures.legal c.in-Some.ensures.same in
     let rest : List ℕ = flat_map (λ m. codes " " ++ decimal m) (conflicting_above t c.args.footprint.now c.in-Some.next) in
     ap (λ (xs : List ℕ). xs ++ rest) (c.in_ok-push_number.ensures ∙ ap₂ (λ (xs : List ℕ) (k : ℕ). xs ++ decimal k) c.in_ok-extend_from_slice.ensures.items c.from.ensures)
     ∙ one_more c.loop-next.text.items (codes " ") (decimal c.in-Some.next) rest
@@ -29,13 +29,13 @@ pub loop-next-smaller : goal.loop-next-smaller
 loop-next-smaller c =
     let t : Timeline = c.args.history.now.timeline in
     let first : conflicting_above t c.args.footprint.now c.loop-next.last ≡ c.in-Some.next ∷ conflicting_above t c.args.footprint.now c.in-Some.next =
-    nearest_first t c.loop-next.last c.in-Some.next c.args.footprint.now c.kept-kept.ensures.legal c.in-Some.ensures in
+    nearest_first t c.loop-next.last c.in-Some.next c.args.footprint.now c.kept-kept.ensures.legal c.in-Some.ensures.same in
     omega (arith, ap (λ (ks : List ℕ). length ks) first)
 
 pub returns : goal.returns
 returns c =
     let t : Timeline = c.args.history.now.timeline in
-    let none : conflicting_above t c.args.footprint.now c.loop-next.last ≡ [] = no_nearest t c.loop-next.last c.args.footprint.now c.kept-kept.ensures.legal c.in_default.ensures in
+    let none : conflicting_above t c.args.footprint.now c.loop-next.last ≡ [] = no_nearest t c.loop-next.last c.args.footprint.now c.kept-kept.ensures.legal c.in_default.ensures.same in
     sym (append_none c.loop-next.text.items)
     ∙ ap (λ (ks : List ℕ). c.loop-next.text.items ++ flat_map (λ m. codes " " ++ decimal m) ks) (sym none)
     ∙ c.loop-next.invariant

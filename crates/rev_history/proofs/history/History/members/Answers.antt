@@ -9,6 +9,7 @@ use Rattle.rev_history.specs.Value.{HistoryValue}
 use Rattle.rev_history.proofs.Cones.{IsKept, some_kept}
 use Rattle.rev_history.proofs.Fields.{all_footprints, as_many, history_of}
 use Rattle.rev_history.proofs.Members.{cone_is_found}
+use Rattle.rev_history.proofs.Promises.{cone_is_least}
 use Rattle.rev_history.proofs.TakenLemmas.{cone_rises}
 use Rattle.rev_history.proofs.history.History.members.Goals as goal
 
@@ -49,3 +50,7 @@ returns-clause-rising c =
 
 pub returns-clause-legal : goal.returns-clause-legal
 returns-clause-legal c = subst (λ (h : HistoryValue). IsHistory h.timeline) c.self.view_is (history_of c.self.inside c.self.invariant.sound)
+
+pub returns-clause-least : goal.returns-clause-least
+returns-clause-least c =
+    (cone_is_least c.args.self.now.timeline c.args.number (subst (λ (h : HistoryValue). IsHistory h.timeline) c.self.view_is (history_of c.self.inside c.self.invariant.sound)) c.requires).0

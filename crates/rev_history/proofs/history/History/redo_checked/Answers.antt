@@ -15,14 +15,14 @@ returns-in-Some-nearest c =
     let some : is_some c.place_of.result ≡ false = sym c.is_some.ensures ∙ c.if-is_some.false in
     sym (redo_refusal_found c.self.inside c.self.invariant.sound c.args.self.now.timeline (ap (λ (h : HistoryValue). h.timeline) c.self.view_is) c.args.number c.in-Some.event.now c.in_ok-footprint.footprint c.deref.result.now
     c.deref.ensures.value (absent c.place_of.result some c.place_of.ensures.absent) c.in_ok-footprint.ensures c.in-Some.ensures (sym c.in_default-refused.is ∙ c.in_ok-refused.ensures)
-    (Some c.in-Some-nearest.other) c.in-Some-nearest.ensures)
+    (Some c.in-Some-nearest.other) c.in-Some-nearest.ensures.same)
 
 pub returns-in-None : goal.returns-in-None
 returns-in-None c =
     let some : is_some c.place_of.result ≡ false = sym c.is_some.ensures ∙ c.if-is_some.false in (
       sym (redo_refusal_found c.self.inside c.self.invariant.sound c.args.self.now.timeline (ap (λ (h : HistoryValue). h.timeline) c.self.view_is) c.args.number c.in-Some.event.now c.in_ok-footprint.footprint c.deref.result.now
           c.deref.ensures.value (absent c.place_of.result some c.place_of.ensures.absent) c.in_ok-footprint.ensures c.in-Some.ensures (sym c.in_default-refused.is ∙ c.in_ok-refused.ensures)
-          None c.in-None.ensures),
+          None c.in-None.ensures.same),
       has_now c.self.inside c.self.invariant.sound c.args.self.now.timeline (ap (λ (h : HistoryValue). h.timeline) c.self.view_is) c.args.number c.in-Some.event.now c.in_ok-footprint.footprint c.in-Some.ensures c.in_ok-footprint.ensures,
     )
 

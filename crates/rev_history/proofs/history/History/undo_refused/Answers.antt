@@ -15,10 +15,10 @@ returns-in_err-dependent c =
     let some : IsSome (event_at c.args.self.now.timeline c.args.number) = search rules in
     c.from_residual.ensures
     ∙ undo_refusal_found c.self.inside c.self.invariant.sound c.args.self.now.timeline (ap (λ (h : HistoryValue). h.timeline) c.self.view_is) c.args.number c.in-Some-footprint_at.footprint.now c.deref.result.now c.deref-2.result.now
-    c.deref.ensures.value c.in-Some.ensures.among c.deref-2.ensures.value c.in-Some-footprint_at.ensures some None c.in_err-dependent.ensures
+    c.deref.ensures.value c.in-Some.ensures.among c.deref-2.ensures.value c.in-Some-footprint_at.ensures some None c.in_err-dependent.ensures.same
 
 pub returns : goal.returns
 returns c =
     let some : IsSome (event_at c.args.self.now.timeline c.args.number) = search rules in
     undo_refusal_found c.self.inside c.self.invariant.sound c.args.self.now.timeline (ap (λ (h : HistoryValue). h.timeline) c.self.view_is) c.args.number c.in-Some-footprint_at.footprint.now c.deref.result.now c.deref-2.result.now
-    c.deref.ensures.value c.in-Some.ensures.among c.deref-2.ensures.value c.in-Some-footprint_at.ensures some (Some c.in_ok-dependent.dependent) c.in_ok-dependent.ensures
+    c.deref.ensures.value c.in-Some.ensures.among c.deref-2.ensures.value c.in-Some-footprint_at.ensures some (Some c.in_ok-dependent.dependent) c.in_ok-dependent.ensures.same
