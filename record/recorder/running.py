@@ -27,6 +27,7 @@ _LONGEST_MARK = 32
 _MARK_COLUMNS = 7  # those of a mark of the first ten seconds
 _NARROWEST = 40  # Ninja cuts the middle out of lines that are too wide, and a mark must stand in the first half
 _POLL_SECONDS = 0.005
+_INTERRUPTED = (2, 130)  # Ninja's status after an interrupt; 130 from version 1.12 on
 
 
 @dataclass
@@ -177,6 +178,7 @@ def run_ninja(words, folder, signals):
     """Runs the words in the folder to their end, whatever signal comes in between.
 
     Signals go on to Ninja, but for an interrupt from the terminal: Ninja has got that, and a second one would kill it.
+    It may even have ended by it before this process, on a busy machine, looks at its own.
     """
     outer, inner = _channel(1)
     status_format = os.environb.get(b"NINJA_STATUS", b"[%f/%t] ")
@@ -188,7 +190,7 @@ def run_ninja(words, folder, signals):
             early.append(number)
         for process, watcher in started:
             if process.poll() is not None:
-                return False
+                return number == signal.SIGINT and process.returncode in _INTERRUPTED and _has_the_terminal()
             watcher.look()
             if number != signal.SIGINT or not _has_the_terminal():
                 process.send_signal(number)
