@@ -12,7 +12,7 @@ use Rattle.rev_desk.specs.declared.reply.Reply.{Reply}
 use Rattle.rev_desk.specs.declared.reply.Reply.TheVariants as reply
 use Rattle.rev_desk.specs.declared.reply.Reply.TheVariants.{Refused}
 use Rattle.rev_desk.specs.Machine.{BenchValue, DeskValue, after, answer_on, bench_of, moved_by, moved_on, next_number, refusal_of, refusal_on, reply_by, reply_to, target}
-use Rattle.rev_desk.specs.Laws.{AllRefused, KeptEventsLead, NearestIsNamed, RedoNextRestores, RefusedChangesNothing, UndoExactlyWhenIndependent, UndoLeavesTheOthers, after_all}
+use Rattle.rev_desk.specs.Laws.{AllRefused, NearestIsNamed, RedoNextRestores, RefusedChangesNothing, UndoExactlyWhenIndependent, UndoLeavesTheOthers, after_all}
 
 -- the bench after a command, by its refusal
 bench_by : (d : DeskValue) (lane : ℕ) (c : Command) (o : Option Refusal) → refusal_of d c ≡ o → bench_of (after d lane c) ≡ moved_by (bench_of d) (moved_on (bench_of d) (next_number d) (target d.journal c) c) o
@@ -36,9 +36,6 @@ refused_for s n m c r (Some q) h = let same : q ≡ r = cc in ap Some same
 
 refused_as : (d : DeskValue) (c : Command) (r : Refusal) → reply_to d c ≡ Refused r → refusal_of d c ≡ Some r
 refused_as d c r h = refused_for (bench_of d) (next_number d) (target d.journal c) c r (refusal_of d c) h
-
-pub kept_events_lead : KeptEventsLead
-kept_events_lead d h = h.history
 
 pub refused_changes_nothing : RefusedChangesNothing
 refused_changes_nothing d lane c r h = bench_by d lane c (Some r) (refused_as d c r h)

@@ -1,21 +1,26 @@
 -- What holds of every desk, whatever its lanes said.
 use Rattle.std.specs.Prelude.{◌≡◌, ℕ, true, ◌↔◌, List, [], ◌∷◌, Some, None, IsSome}
 use Rattle.rev_causal.specs.Laws.{IsLeastDependent}
+use Rattle.rev_cells.specs.State.{State}
 use Rattle.rev_commands.specs.declared.command.Command.{Command}
 use Rattle.rev_commands.specs.declared.command.Command.TheVariants.{Undo, Redo}
 use Rattle.rev_commands.specs.declared.which.Which.TheVariants.{Number}
 use Rattle.rev_events.specs.declared.refusal.Refusal.{Refusal}
 use Rattle.rev_events.specs.declared.refusal.Refusal.TheVariants.{DependedOn}
+use Rattle.rev_manifest.specs.Manifest.{ManifestValue}
 use Rattle.rev_history.specs.Timeline.{IsHistory, is_among, kept_events, machine_at, undone}
 use Rattle.rev_history.specs.Laws.{DependsOn}
+use Rattle.rev_desk.specs.declared.reply.Entry.{Entry}
 use Rattle.rev_desk.specs.declared.reply.Reply.TheVariants.{Refused}
-use Rattle.rev_desk.specs.Machine.{DeskValue, after, bench_of, refusal_of, reply_to}
-use Rattle.rev_desk.specs.Sound.{IsDesk}
+use Rattle.rev_desk.specs.Machine.{DeskValue, after, bench_of, opened_desk, refusal_of, reply_to}
+use Rattle.rev_desk.specs.Sound.{IsDesk, run_of}
 
--- Whatever is said to a desk, its kept events are accepted one after the other from the opening: the state is what they
--- lead to.
+-- Whatever lanes say from an opening on, the kept events are then accepted one after the other from there: the state is
+-- what they lead to.
 abbrev pub KeptEventsLead : Type 0
-KeptEventsLead = (d : DeskValue) → IsDesk d → IsHistory d.history
+KeptEventsLead =
+    (manifest : ManifestValue) (jobs lanes : ℕ) (opening : State) (said : List Entry)
+    → IsHistory (run_of (opened_desk manifest jobs opening lanes) said).history
 
 -- a command that is refused leaves the history, the breaks and the pause as they were
 abbrev pub RefusedChangesNothing : Type 0

@@ -1,11 +1,13 @@
 //! The desk.
 ghost use Rattle.std.specs.Prelude.{◌≡◌, ◌↔◌, ◌<◌, ◌≤◌, ◌^◌, ◌⊎◌, ◌+◌, length, IfOk, OnOk, OnErr, IfErr};
 ghost use Rattle.std.specs.Prelude.{IsErrOf, IsErrAnd};
+ghost use Rattle.rev_causal.specs.Chosen.{IsRising};
 ghost use Rattle.rev_desk.specs.declared.fault.Why.TheVariants as why;
 ghost use Rattle.rev_desk.specs.Machine.{after, answer_on, moved_on, named, opened_desk, refusal_on, reply_to, target};
 ghost use Rattle.rev_desk.specs.Sound.{IsDesk};
 ghost use Rattle.rev_desk.specs.Bench.{Does, IsReady, bench_value};
 ghost use Rattle.rev_desk.specs.Journal.{HasRoom, IsIndexed};
+ghost use Rattle.rev_desk.specs.Spots.{numbers_of};
 
 use crate::bench::Bench;
 use crate::breaks::Breaks;
@@ -129,7 +131,8 @@ impl Desk {
 
     /// The breaks that stand, under their numbers, which rise.
     pub fn breaks(&self) -> &[(u32, Point)]
-        ensures { result.now ≡ self.now.breaks }
+        ensures breaks { result.now ≡ self.now.breaks }
+        ensures rising { IsRising (numbers_of result.now) }
     {
         self.bench.breaks.standing()
     }

@@ -2,8 +2,8 @@
 ghost use Rattle.rev_desk.specs.Laws.{KeptEventsLead, NearestIsNamed, RedoNextRestores};
 ghost use Rattle.rev_desk.specs.Laws.{RefusedChangesNothing, UndoExactlyWhenIndependent, UndoLeavesTheOthers};
 
-/// Whatever lanes say, the kept events are accepted one after the other from the opening, so the state is what they
-/// lead to.
+/// Whatever lanes say from an opening on, the kept events are then accepted one after the other from there, so the
+/// state is what they lead to.
 pub fn kept_events_lead()
     ensures { KeptEventsLead }
 {}

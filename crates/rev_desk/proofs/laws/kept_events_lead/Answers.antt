@@ -1,5 +1,5 @@
-use Rattle.rev_desk.proofs.Promises as promises
+use Rattle.rev_desk.proofs.LeadLemmas.{kept_events_lead}
 use Rattle.rev_desk.proofs.laws.kept_events_lead.Goals as goal
 
 pub returns : goal.returns
-returns c = promises.kept_events_lead
+returns c = kept_events_lead
