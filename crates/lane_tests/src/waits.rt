@@ -37,8 +37,18 @@ const BLOCKED: &[(&str, &str, u32, &str)] = &[
     (MANIFEST, BY_JOB, 2, "0 ok; 0 ok; 0 ok; 1 ok; "),
     (POOLS, BY_SLOT, 2, "0 ok; 0 ok; 0 ok; 1 ok; "),
     (HEADER, BY_INPUT, 2, "0 ok; 0 ok; 0 ok; 0 ok; 1 ok; "),
-    (MANIFEST, BY_JOB_TOUCHED, 2, "0 ok; 0 ok; 0 ok; 0 ok; 1 ok; "),
-    (HEADER, BY_INPUT_TOUCHED, 2, "0 ok; 0 ok; 0 ok; 0 ok; 0 ok; 1 ok; "),
+    (
+        MANIFEST,
+        BY_JOB_TOUCHED,
+        2,
+        "0 ok; 0 ok; 0 ok; 0 ok; 1 ok; ",
+    ),
+    (
+        HEADER,
+        BY_INPUT_TOUCHED,
+        2,
+        "0 ok; 0 ok; 0 ok; 0 ok; 0 ok; 1 ok; ",
+    ),
     (MANIFEST, STALLED_TOUCHED, 1, "0 ok; 0 ok; 1 refused 68 0; "),
 ];
 

@@ -5,5 +5,4 @@ ghost use Rattle.rev_workers.specs.Laws.{TouchesKeepWaits};
 /// with such a command need not look.
 pub fn touches_keep_waits()
     ensures { TouchesKeepWaits }
-{
-}
+{}
