@@ -99,11 +99,11 @@ fn fault_of(outcome: Outcome) -> (u16, u32, usize) {
     }
 }
 
-// A desk whose journal takes one more entry, and a trace of two lanes that say one each.
-fn almost_full(alloc: Global) -> Result<(Desk, Trace), Fail> {
-    let trace = trace_of(alloc, LAST_ENTRIES)?;
+// A desk over a trace's opening whose journal takes so many more entries, and the trace.
+fn filled(alloc: Global, text: &str, left: usize) -> Result<(Desk, Trace), Fail> {
+    let trace = trace_of(alloc, text)?;
     let mut desk = desk_of(alloc, MANIFEST, &trace)?;
-    if !fill(&mut desk, Desk::MAX_ENTRIES - 1) {
+    if !fill(&mut desk, Desk::MAX_ENTRIES.saturating_sub(left)) {
         return Err(Fail::from("a journal that is full too early"));
     }
     Ok((desk, trace))
@@ -112,9 +112,33 @@ fn almost_full(alloc: Global) -> Result<(Desk, Trace), Fail> {
 #[test]
 fn a_full_journal_stops_a_lane(rt: HostRuntime) -> Result<(), Fail> {
     let alloc = rt.alloc();
-    let (desk, trace) = almost_full(alloc)?;
+    let (desk, trace) = filled(alloc, LAST_ENTRIES, 1)?;
     let gate = Holding::new((1, 1), (0, 1), 1_000_000);
     let fault = fault_of(run_desk(&rt, alloc, desk, trace, &gate));
     assert!(rt; fault == (112, 1, 1_048_576), "{fault:?}");
+    Ok(())
+}
+
+// What lanes have to say to a journal that is full, and the least of those that cannot.
+const STOPPED: &[(&str, (u16, u32, usize))] = &[
+    (
+        "rebug-trace 1\nlane 0\nlane 1\ncontinue\nlane 2\ncontinue\n",
+        (112, 1, 1_048_576),
+    ),
+    (
+        "rebug-trace 1\nlane 0\nlane 1\nlane 2\nback\n",
+        (112, 2, 1_048_576),
+    ),
+];
+
+#[test]
+fn the_least_lane_that_stops_is_named(rt: HostRuntime) -> Result<(), Fail> {
+    let alloc = rt.alloc();
+    for (text, wanted) in STOPPED {
+        let (desk, trace) = filled(alloc, text, 0)?;
+        let gate = Holding::new((0, 1), (0, 1), 0);
+        let fault = fault_of(run_desk(&rt, alloc, desk, trace, &gate));
+        assert!(rt; fault == *wanted, "{fault:?}");
+    }
     Ok(())
 }

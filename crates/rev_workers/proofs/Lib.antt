@@ -2,4 +2,6 @@ pub mod Counts
 pub mod Each
 pub mod Runs
 pub mod Said
+pub mod Sets
 pub mod Together
+pub mod Touches

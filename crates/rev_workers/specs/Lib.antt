@@ -1,5 +1,6 @@
 pub mod Closing
 pub mod Codes
+pub mod Laws
 pub mod Locked
 pub mod Running
 pub mod Tracks

@@ -1,6 +1,13 @@
 -- For which refusals a lane waits, and until when.
-use Rattle.std.specs.Prelude.{ℕ, ◌≡◌, ◌≢◌, ◌⊎◌, ⊤, List, Some, slice_get}
+use Rattle.std.specs.Prelude.{ℕ, ◌+◌, ◌≡◌, ◌≢◌, ◌==◌, ◌⊎◌, ◌&&◌, ⊤, Bool, true, false, not, List, length, map, Some, None, slice_get, if◌then◌else◌}
+use Rattle.rev_events.specs.declared.event.Event.{Event}
+use Rattle.rev_events.specs.declared.event.Event.TheVariants as event
+use Rattle.rev_events.specs.declared.refusal.Refusal.{Refusal}
+use Rattle.rev_events.specs.declared.refusal.Refusal.TheVariants as refusal
 use Rattle.rev_events.specs.Refusal.{code_of}
+use Rattle.rev_commands.specs.declared.command.Command.{Command}
+use Rattle.rev_commands.specs.declared.command.Command.TheVariants as command
+use Rattle.rev_desk.specs.Machine.{DeskValue, reply_to}
 use Rattle.rev_desk.specs.declared.reply.Reply.{Reply}
 use Rattle.rev_desk.specs.declared.reply.Reply.TheVariants as reply
 use Rattle.rev_workers.specs.declared.standing.Standing.{Standing}
@@ -13,13 +20,65 @@ MayPass (reply.Accepted _ _) = ⊥
 MayPass (reply.Coned _ _) = ⊥
 MayPass (reply.Refused r) = (code_of r ≡ 68) ⊎ ((code_of r ≡ 72) ⊎ (code_of r ≡ 74))
 
--- a lane does not go on, over a journal of so many entries: it has ended, or waits and looked at this very journal
-abbrev pub Rests : ℕ → Standing → Type 0
-Rests entries standing.Going = ⊥
-Rests entries (standing.Waiting seen) = seen ≡ entries
-Rests entries standing.Ended = ⊤
+-- WHO RESTS
+-- a lane has ended, or waits and need not look at a journal of so many entries
+abbrev pub IsStill : ℕ → Standing → Type 0
+IsStill entries standing.Going = ⊥
+IsStill entries (standing.Waiting refused_at for_input) = refused_at ≡ entries
+IsStill entries standing.Ended = ⊤
 
--- no lane beside the one of this number goes on
-abbrev pub OthersRest : ℕ → ℕ → List Standing → Type 0
-OthersRest number entries standings =
-    (k : ℕ) (s : Standing) → slice_get standings k ≡ Some s → k ≢ number → Rests entries s
+abbrev pub OthersAreStill : ℕ → ℕ → List Standing → Type 0
+OthersAreStill number entries standings =
+    (k : ℕ) (s : Standing) → slice_get standings k ≡ Some s → k ≢ number → IsStill entries s
+
+-- a lane waits, and is to look at a journal of so many entries
+abbrev pub is_to_look : ℕ → Standing → Bool
+is_to_look entries standing.Going = false
+is_to_look entries (standing.Waiting refused_at for_input) = not (refused_at == entries)
+is_to_look entries standing.Ended = false
+
+-- WHAT NEED NOT BE LOOKED AT
+-- an edge is to start, or to be settled without a run
+abbrev pub is_made : Command → Bool
+is_made (command.Event (event.Start out job slot)) = true
+is_made (command.Event (event.Clean out)) = true
+is_made (command.Event (event.Pass out)) = true
+is_made _ = false
+
+abbrev pub is_blocked : Reply → Bool
+is_blocked (reply.Refused (refusal.Blocked position)) = true
+is_blocked _ = false
+
+-- and is refused for an input that is not made yet
+abbrev pub is_for_input : Command → Reply → Bool
+is_for_input c r = is_made c && is_blocked r
+
+abbrev pub is_touch : Command → Bool
+is_touch (command.Event (event.Touch path stamp)) = true
+is_touch _ = false
+
+-- accepted, and no break was met
+abbrev pub is_plain : Reply → Bool
+is_plain (reply.Accepted n None) = true
+is_plain _ = false
+
+-- A file is touched and no break is met: no edge is settled by that, so who waits for an input need not look.
+abbrev pub makes_no_input : DeskValue → Command → Bool
+makes_no_input desk c = is_touch c && is_plain (reply_to desk c)
+
+-- how a lane that begins to wait with a command stands
+abbrev pub waiting : DeskValue → Command → Standing
+waiting desk c = standing.Waiting (length desk.journal) (is_for_input c (reply_to desk c))
+
+-- how a lane stands after one entry more that makes no input, over a journal of so many entries before that
+abbrev pub kept_waiting : ℕ → Standing → Standing
+kept_waiting entries standing.Going = standing.Going
+kept_waiting entries (standing.Waiting refused_at for_input) =
+    if for_input && (refused_at == entries) then standing.Waiting (entries + 1) for_input
+    else standing.Waiting refused_at for_input
+kept_waiting entries standing.Ended = standing.Ended
+
+-- how lanes stand after a command's entry
+abbrev pub standings_after : DeskValue → Command → List Standing → List Standing
+standings_after desk c standings =
+    if makes_no_input desk c then map (kept_waiting (length desk.journal)) standings else standings

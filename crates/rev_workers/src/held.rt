@@ -1,21 +1,25 @@
 //! What lies under the lock.
-ghost use Rattle.std.specs.Prelude.{◌≡◌, ◌≢◌, ◌<◌, ◌≤◌, ◌^◌, ◌↔◌, ℕ, Some, IfOk, IfErr, IsTrue, OnOk, OnErr, length, slice_get, slice_set};
+ghost use Rattle.std.specs.Prelude.{◌≡◌, ◌≢◌, ◌<◌, ◌≤◌, ◌^◌, ℕ, Some, IfOk, IfErr, OnOk, OnErr, length, slice_get, slice_set};
 ghost use Rattle.rev_commands.specs.declared.command.Command.{Command};
 ghost use Rattle.rev_desk.specs.declared.fault.Unsaid.{Unsaid};
 ghost use Rattle.rev_desk.specs.Machine.{reply_to, after};
 ghost use Rattle.rev_desk.specs.declared.fault.Why.TheVariants as why;
 ghost use Rattle.rev_workers.specs.Closing.{AreStated, IsMissing, IsMisstated, IsOneOfEach, entries_of, left_by};
 ghost use Rattle.rev_workers.specs.declared.fault.CloseCode.TheVariants as code;
-ghost use Rattle.std.specs.List.{AllByRecursion};
+ghost use Rattle.std.specs.List.{AllByRecursion, list_any};
 ghost use Rattle.rev_workers.specs.Tracks.{Track, Carries, fresh, said};
 ghost use Rattle.rev_workers.specs.declared.held.Untold.TheVariants as untold;
 ghost use Rattle.rev_workers.specs.declared.standing.Standing.TheVariants as standing;
-ghost use Rattle.rev_workers.specs.Waiting.{MayPass, OthersRest};
+ghost use Rattle.rev_workers.specs.Waiting.{MayPass, OthersAreStill, is_to_look};
+ghost use Rattle.rev_workers.specs.Waiting.{standings_after, waiting};
 
 use crate::closing::{missing, misstated, settle};
 use crate::fault::{CloseCode, CloseFault};
 use crate::lane::{Lane, base_of};
-use crate::standing::{Standing, others_rest, stand_at_first};
+use crate::standing::{
+    Standing, is_for_input, is_touch, keep_waiting, may_pass, others_are_still, some_look,
+    stand_at_first,
+};
 use rev_desk::{Command, Desk, Reply, Unsaid, Why};
 use std::alloc::{AllocError, Global};
 use std::marker::Model;
@@ -103,7 +107,8 @@ impl<L: Ledger> Held<L> {
         requires { lane.old.number < self.old.desk.lanes }
         ensures reply { IfOk result (λ reply. reply ≡ reply_to self.old.desk command) }
         ensures desk { OnOk result (self.new.desk ≡ after self.old.desk lane.old.number command) }
-        ensures standings { self.new.standings ≡ self.old.standings }
+        ensures standings { OnOk result (self.new.standings
+            ≡ standings_after self.old.desk command self.old.standings) }
         ensures lane { IfOk result (λ reply. lane.new
             ≡ said lane.old command reply (length self.new.desk.journal)) }
         ensures carried { IfOk result (λ reply. Carries reply lane.new.seen) }
@@ -125,32 +130,35 @@ impl<L: Ledger> Held<L> {
                 command,
             });
         }
+        let entries = self.desk.journal().len() as u64;
+        let touches = is_touch(&command);
         let reply = self.desk.apply(lane.number, command)?;
         self.book.add(&mut lane.share, 1);
         lane.seen = self.desk.journal().len() as u64;
         lane.list.push_reserved((copy, reply));
+        keep_waiting(&mut self.standings, entries, touches, reply);
         Ok(reply)
     }
 
     /// Answers a command of a lane, or has the lane wait: it waits exactly where the command is refused 68, 72 or 74
-    /// and another lane goes on. So such a refusal is answered only where every other lane has ended, or waits and
-    /// looked at a desk whose journal is as long as this one.
+    /// and another lane goes on. So such a refusal is answered only where every other lane has ended, or waits and need
+    /// not look at this journal.
     pub fn step_when_able(&mut self, lane: &mut Lane<L>, command: Command) -> Result<Reply, Untold>
         requires { lane.old.number < self.old.desk.lanes }
         ensures reply { IfOk result (λ reply. reply ≡ reply_to self.old.desk command) }
         ensures able { IfOk result (λ reply. MayPass reply
-            → OthersRest lane.old.number (length self.old.desk.journal) self.old.standings) }
+            → OthersAreStill lane.old.number (length self.old.desk.journal) self.old.standings) }
         ensures desk { OnOk result (self.new.desk ≡ after self.old.desk lane.old.number command) }
         ensures lane { IfOk result (λ reply. lane.new
             ≡ said lane.old command reply (length self.new.desk.journal)) }
         ensures carried { IfOk result (λ reply. Carries reply lane.new.seen) }
-        ensures goes { OnOk result (self.new.standings
-            ≡ slice_set self.old.standings lane.old.number standing.Going) }
+        ensures goes { OnOk result (self.new.standings ≡ standings_after self.old.desk command
+            (slice_set self.old.standings lane.old.number standing.Going)) }
         ensures waits { IfErr result (λ why. (c : Command) → why ≡ untold.Waits c
             → (c ≡ command) × MayPass (reply_to self.old.desk command)
-            × ¬ (OthersRest lane.old.number (length self.old.desk.journal) self.old.standings)
+            × ¬ (OthersAreStill lane.old.number (length self.old.desk.journal) self.old.standings)
             × (self.new.standings ≡ slice_set self.old.standings lane.old.number
-            (standing.Waiting (length self.old.desk.journal)))) }
+            (waiting self.old.desk command))) }
         ensures unsaid { IfErr result (λ why. (u : Unsaid) → why ≡ untold.Unsaid u
             → (u.command ≡ command)
             × (self.new.standings ≡ slice_set self.old.standings lane.old.number standing.Going)) }
@@ -158,7 +166,7 @@ impl<L: Ledger> Held<L> {
         ensures same_lane { OnErr result (lane.new ≡ lane.old) }
     {
         let entries = self.desk.journal().len() as u64;
-        if !others_rest(&self.standings, lane.number, entries) {
+        if !others_are_still(&self.standings, lane.number, entries) {
             let Ok(verdict) = self.desk.verdict(&command) else {
                 self.stand(lane.number, Standing::Going);
                 return Err(Untold::Unsaid(Unsaid {
@@ -167,7 +175,11 @@ impl<L: Ledger> Held<L> {
                 }));
             };
             if may_pass(verdict) {
-                self.stand(lane.number, Standing::Waiting(entries));
+                let standing = Standing::Waiting {
+                    refused_at: entries,
+                    for_input: is_for_input(&command, verdict),
+                };
+                self.stand(lane.number, standing);
                 return Err(Untold::Waits(command));
             }
         }
@@ -244,6 +256,13 @@ impl<L: Ledger> Held<L> {
         desk
     }
 
+    // Whether some lane waits that is to look again.
+    pub(crate) fn some_look(&self) -> bool
+        ensures { result ≡ list_any (is_to_look (length self.now.desk.journal)) self.now.standings }
+    {
+        some_look(&self.standings, self.desk.journal().len() as u64)
+    }
+
     // Notes how a lane stands.
     pub(crate) fn stand(&mut self, number: u32, standing: Standing)
         requires { number < self.old.desk.lanes }
@@ -257,15 +276,5 @@ impl<L: Ledger> Held<L> {
         ensures { result.now ≡ self.now.desk }
     {
         &self.desk
-    }
-}
-
-// Whether a reply is a refusal that ends when other lanes go on: an input is not made yet, or a job or slot is taken.
-fn may_pass(reply: Reply) -> bool
-    ensures { IsTrue result ↔ MayPass reply }
-{
-    match reply {
-        Reply::Refused(refusal) => matches!(refusal.code(), 68 | 72 | 74),
-        _ => false,
     }
 }

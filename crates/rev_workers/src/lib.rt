@@ -8,6 +8,7 @@ mod halves;
 mod held;
 mod jobs;
 mod lane;
+pub mod laws;
 mod run;
 mod shared;
 mod standing;

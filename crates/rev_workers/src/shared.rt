@@ -104,6 +104,13 @@ impl<L: Ledger> Shared<L> {
         }
     }
 
+    // Wakes the lanes that wait, where one of them is to look again.
+    fn tell(&self, some_look: bool) {
+        if some_look {
+            self.changed.notify_all();
+        }
+    }
+
     // What lies under the lock.
     fn into_held(self) -> Held<L>
         ensures { result.desk.lanes ≡ self }
@@ -141,8 +148,9 @@ impl<L: Ledger> Lane<L> {
         let mut held = shared.held.lock(rt);
         held.know_lanes();
         let reply = held.step(self, command)?;
+        let some_look = held.some_look();
         drop(held);
-        shared.changed.notify_all();
+        shared.tell(some_look);
         Ok(reply)
     }
 
@@ -165,8 +173,9 @@ impl<L: Ledger> Lane<L> {
             held.know_lanes();
             match held.step_when_able(self, command) {
                 Ok(reply) => {
+                    let some_look = held.some_look();
                     drop(held);
-                    shared.changed.notify_all();
+                    shared.tell(some_look);
                     return Ok(reply);
                 }
                 Err(Untold::Unsaid(unsaid)) => return Err(unsaid),
