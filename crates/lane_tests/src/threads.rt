@@ -1,6 +1,7 @@
 //! Lanes in threads of their own.
 use crate::builds::{MANIFEST, told_text};
 use crate::gates::{Both, Holding, Lingering};
+use std::alloc::Global;
 use std::test::Fail;
 
 const UNDONE_BY_ANOTHER: &str = "rebug-trace 1\njobs 2\nstamp a.c 10\nstamp b.c 20\n\
@@ -75,11 +76,36 @@ fn the_end_of_a_lane_wakes_those_that_wait(rt: HostRuntime) -> Result<(), Fail> 
     Ok(())
 }
 
+// The entries of one lane, in their order.
+fn told_to(alloc: Global, told: &str, lane: &str) -> Result<String, Fail> {
+    let mut text = String::new(alloc);
+    for entry in told.split("; ") {
+        if entry.starts_with(lane) {
+            text.push_str(entry)?;
+            text.push_str("; ")?;
+        }
+    }
+    Ok(text)
+}
+
 #[test]
 fn all_wait_and_the_stall_ends(rt: HostRuntime) -> Result<(), Fail> {
     let alloc = rt.alloc();
-    let gate = Holding::new((1, 1), (0, 2), 1_000_000);
+    // The one job is taken before lanes 1 and 2 are let in, so all three wait for it, and nobody gives it back. Which
+    // of them is answered first is left to the threads.
+    let gate = Both {
+        first: Holding::new((1, 1), (0, 2), 1_000_000),
+        second: Holding::new((2, 1), (0, 2), 1_000_000),
+    };
     let told = told_text(&rt, alloc, MANIFEST, THREE_LANES, &gate)?;
-    assert!(rt; told.as_str().matches(";").count() == 6, "{told}");
+    let first = told_to(alloc, &told, "0 ")?;
+    let second = told_to(alloc, &told, "1 ")?;
+    let third = told_to(alloc, &told, "2 ")?;
+    assert!(rt; first.as_str() == "0 ok; 0 ok; 0 refused 72 0; ", "{told}");
+    assert!(rt; second.as_str() == "1 refused 72 0; ", "{told}");
+    assert!(rt;
+        third.as_str() == "2 refused 72 0; 2 refused 66; ",
+        "{told}"
+    );
     Ok(())
 }

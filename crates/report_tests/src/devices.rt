@@ -30,7 +30,7 @@ enum Trouble {
     OneByte,
     // It fails at this write and at each later one.
     FailsFrom(u32),
-    // It fails at this write alone.
+    // It fails at this write alone, and with another error than a reader that is gone.
     FailsOnce(u32),
     // It takes no byte at this write and at each later one.
     TakesNoneFrom(u32),
@@ -53,7 +53,9 @@ impl Write for Device {
             Trouble::FailsFrom(first) if call >= first => Err(io::Error::from(
                 io::ErrorKind::BrokenPipe,
             )),
-            Trouble::FailsOnce(at) if call == at => Err(io::Error::from(io::ErrorKind::BrokenPipe)),
+            Trouble::FailsOnce(at) if call == at => Err(io::Error::from(
+                io::ErrorKind::StorageFull,
+            )),
             Trouble::TakesNoneFrom(first) if call >= first => Ok(0),
             _ => self.taken.write(buf),
         }
