@@ -50,6 +50,7 @@ impl Footprint {
         requires read { (c : Cell) → among cell_cmp writes.items c ≡ true
             → among cell_cmp (cells_read reads writes.items) c ≡ true }
         requires distinct { IsDistinct (eq_by_cmp cell_cmp) (cells_read reads writes.items) }
+        requires once { IsDistinct (eq_by_cmp cell_cmp) writes.items }
         ensures { result ≡ record {
           reads = cells.from_list (cells_read reads writes.items);
           writes = writes.items;
@@ -94,9 +95,10 @@ impl Footprint {
         asked.iter().any(|cell| self.has(cell))
     }
 
-    /// The cells that are written, in the order of the event's effect.
+    /// The cells that are written, each once, in the order of the event's effect.
     pub fn writes(&self) -> &[Cell]
-        ensures { result.now ≡ self.now.writes }
+        ensures same { result.now ≡ self.now.writes }
+        ensures distinct { IsDistinct (eq_by_cmp cell_cmp) result.now }
     {
         self.writes.as_slice()
     }

@@ -330,13 +330,12 @@ fn cells_held(
     event: &Event,
     writes: &[Cell],
 ) -> Result<Held, AllocError>
-    requires { writes.now ≡ written_by graph.now.manifest cells.now.state event.now }
+    requires written { writes.now ≡ written_by graph.now.manifest cells.now.state event.now }
+    requires once { IsDistinct (eq_by_cmp cell_cmp) writes.now }
     ensures cells { IfOk result (λ held. Adds [] (cells_read held writes.now)
         (writes.now ++ reads_besides graph.now.manifest cells.now.state event.now)) }
     ensures distinct { IfOk result (λ held. IsDistinct (eq_by_cmp cell_cmp) (cells_read held writes.now)) }
 {
-    // What it promises of every graph, that no output stands twice on a build line, is why no cell is written twice.
-    let _edges = graph.edges();
     if do_for_reads(event, writes.len()) {
         return Ok(Held::Written);
     }
@@ -369,6 +368,8 @@ pub fn footprint(
     ensures { IfOk result (λ footprint. footprint
         ≡ footprint_of graph.now.manifest cells.now.state event.now) }
 {
+    // What it promises of every graph, that no output stands twice on a build line, is why no cell is written twice.
+    let _edges = graph.edges();
     let writes = written(alloc, graph, cells, event)?;
     let reads = cells_held(alloc, graph, cells, event, &writes)?;
     Ok(Footprint::of(reads, writes, is_plan(event)))

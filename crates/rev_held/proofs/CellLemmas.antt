@@ -49,7 +49,7 @@ any-flip xs ys =
     ∙ any-same (λ x. list_any (λ y. eq_by_cmp cell_cmp y x) ys) (among cell_cmp ys) xs
     (λ x. any-same (λ y. eq_by_cmp cell_cmp y x) (eq_by_cmp cell_cmp x) ys (λ y. (eq_by_cmp_equiv cells_total).symm y x))
 
-same-cell : (a b : Cell) → eq_by_cmp cell_cmp a b ≡ true → a ≡ b
+pub same-cell : (a b : Cell) → eq_by_cmp cell_cmp a b ≡ true → a ≡ b
 same-cell a b h = cells_exact a b ((Equal-is (cell_cmp a b)).0 h)
 
 kept-or-not : (b q e r rest : Bool) → rest ≡ (q && r) → (e ≡ true → b ≡ q) → cond b (e || rest) rest ≡ (q && (e || r))

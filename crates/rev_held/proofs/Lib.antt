@@ -2,3 +2,5 @@ pub mod CellLemmas
 pub mod BesideLemmas
 pub mod NameLemmas
 pub mod ExactLemmas
+pub mod FindLemmas
+pub mod SeveralLemmas

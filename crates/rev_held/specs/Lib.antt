@@ -1,3 +1,4 @@
 pub mod Beside
 pub mod Dependence
 pub mod Laws
+pub mod Several

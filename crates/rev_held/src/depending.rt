@@ -17,8 +17,8 @@ fn accesses(footprint: &Footprint, cell: &Cell) -> bool
     footprint.reads().contains(cell)
 }
 
-// The first of some cells that a footprint names.
-fn first_accessed<'a>(cells: &'a [Cell], footprint: &Footprint) -> Option<&'a Cell>
+/// The first of some cells that a footprint names.
+pub(crate) fn first_accessed<'a>(cells: &'a [Cell], footprint: &Footprint) -> Option<&'a Cell>
     ensures { option_copied result ≡ find (is_accessed_by footprint.now) cells.now }
 {
     for cell in cells {

@@ -6,6 +6,8 @@ mod beside;
 mod depending;
 mod joined;
 pub mod laws;
+mod several;
 
 pub use beside::held_beside;
 pub use depending::{dependence, depends};
+pub use several::{dependences_of, dependences_on, dependents, needed};

@@ -19,7 +19,7 @@ returns-then-has_some c =
     (by-cells f g (covers-of c.first.inside c.first.invariant f c.first.view_is) (covers-of c.second.inside c.second.invariant g c.second.view_is)
     (ap (λ (v : FootprintValue). v.whole) (sym c.first.view_is) ∙ c.if-first.false) (ap (λ (v : FootprintValue). v.whole) (sym c.second.view_is) ∙ c.if-second.false)
     ∙ or-first (list_any (cells.contains g.reads) f.writes) (list_any (cells.contains f.reads) g.writes)
-    (ap (list_any (cells.contains g.reads)) (sym c.writes.ensures) ∙ sym c.has_some.ensures ∙ c.if-has_some.true))
+    (ap (list_any (cells.contains g.reads)) (sym c.writes.ensures.same) ∙ sym c.has_some.ensures ∙ c.if-has_some.true))
 
 pub returns : goal.returns
 returns c =
@@ -29,5 +29,5 @@ returns c =
     (by-cells f g (covers-of c.first.inside c.first.invariant f c.first.view_is) (covers-of c.second.inside c.second.invariant g c.second.view_is)
     (ap (λ (v : FootprintValue). v.whole) (sym c.first.view_is) ∙ c.if-first.false) (ap (λ (v : FootprintValue). v.whole) (sym c.second.view_is) ∙ c.if-second.false)
     ∙ or-second (list_any (cells.contains g.reads) f.writes) (list_any (cells.contains f.reads) g.writes)
-    (ap (list_any (cells.contains g.reads)) (sym c.writes.ensures) ∙ sym c.has_some.ensures ∙ c.if-has_some.false)
-    ∙ ap (list_any (cells.contains f.reads)) (sym c.writes-2.ensures) ∙ sym c.has_some-2.ensures)
+    (ap (list_any (cells.contains g.reads)) (sym c.writes.ensures.same) ∙ sym c.has_some.ensures ∙ c.if-has_some.false)
+    ∙ ap (list_any (cells.contains f.reads)) (sym c.writes-2.ensures.same) ∙ sym c.has_some-2.ensures)

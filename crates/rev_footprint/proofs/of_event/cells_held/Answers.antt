@@ -1,14 +1,8 @@
 use Rattle.std.proofs.Common.{[], ◌++◌, sym, subst}
-use Rattle.std.specs.List.{IsDistinct}
-use Rattle.std.specs.Ordering.{eq_by_cmp}
-use Rattle.rev_cells.specs.Keys.{cell_cmp}
-use Rattle.rev_events.proofs.WrittenLemmas.{written-once}
-use Rattle.rev_events.specs.Written.{written}
 use Rattle.rev_footprint.specs.Adds.{Adds}
 use Rattle.rev_footprint.specs.Reads.{reads_besides}
 use Rattle.rev_footprint.proofs.AddsLemmas.{adds-then, adds-from}
 use Rattle.rev_footprint.proofs.MadeLemmas.{adds-themselves}
-use Rattle.rev_footprint.proofs.OnceLemmas.{once_by_test, outputs_once}
 use Rattle.rev_footprint.proofs.of_event.cells_held.Goals as goal
 
 pub returns-then-do_for_reads-clause-cells : goal.returns-then-do_for_reads-clause-cells
@@ -17,12 +11,7 @@ returns-then-do_for_reads-clause-cells c =
     adds-themselves c.args.writes.now (reads_besides c.args.graph.now.manifest c.args.cells.now.state c.args.event.now) none
 
 pub returns-then-do_for_reads-clause-distinct : goal.returns-then-do_for_reads-clause-distinct
-returns-then-do_for_reads-clause-distinct c =
-    let manifest = c.args.graph.now.manifest in
-    let state = c.args.cells.now.state in
-    let event = c.args.event.now in
-    subst (IsDistinct (eq_by_cmp cell_cmp)) (sym c.requires)
-    (once_by_test (written manifest state event) (written-once manifest state event (outputs_once manifest c.edges-edges.ensures.graph.kept)))
+returns-then-do_for_reads-clause-distinct c = c.requires.once
 
 pub returns-clause-cells : goal.returns-clause-cells
 returns-clause-cells c =

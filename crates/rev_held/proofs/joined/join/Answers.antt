@@ -17,4 +17,4 @@ returns c = λ f.
     (filter is_beside c.reads.result.now) (filter is_beside c.writes.result.now) (sym c.whole.ensures ∙ c.if-whole.false) refl
     c.in_ok-add_cells.ensures c.in_ok-add_cells-2.ensures
     (filters-same is_beside c.reads.result.now (cells.items g.reads) (set-same c.reads.result.now g.reads c.reads.ensures.same))
-    (ap (filter is_beside) c.writes.ensures) f
+    (ap (filter is_beside) c.writes.ensures.same) f

@@ -19,12 +19,12 @@ returns-then-has_some c =
 pub returns-then-has_some-2 : goal.returns-then-has_some-2
 returns-then-has_some-2 c =
     let g = c.args.footprint.now in
-    meets-writes c.args.joined.now g c.reads.result.now c.writes.result.now g.writes c.if-joined.false (sym c.whole.ensures ∙ c.if-whole.false) c.reads.ensures.same c.writes.ensures refl
+    meets-writes c.args.joined.now g c.reads.result.now c.writes.result.now g.writes c.if-joined.false (sym c.whole.ensures ∙ c.if-whole.false) c.reads.ensures.same c.writes.ensures.same refl
     (sym c.has_some.ensures ∙ c.if-has_some.false) (sym c.has_some-2.ensures ∙ c.if-has_some-2.true)
 
 pub returns : goal.returns
 returns c =
     let g = c.args.footprint.now in
     c.has_some-3.ensures
-    ∙ meets-others c.args.joined.now g c.reads.result.now c.writes.result.now c.writes-2.result.now c.if-joined.false (sym c.whole.ensures ∙ c.if-whole.false) c.reads.ensures.same c.writes.ensures c.writes-2.ensures
+    ∙ meets-others c.args.joined.now g c.reads.result.now c.writes.result.now c.writes-2.result.now c.if-joined.false (sym c.whole.ensures ∙ c.if-whole.false) c.reads.ensures.same c.writes.ensures.same c.writes-2.ensures.same
     (sym c.has_some.ensures ∙ c.if-has_some.false) (sym c.has_some-2.ensures ∙ c.if-has_some-2.false)

@@ -16,4 +16,4 @@ returns-then-whole c = λ prints rising numbers shown.
 pub returns : goal.returns
 returns c = λ prints rising numbers shown.
     c.partner.ensures prints (print_of c.args.footprint.now)
-    (names_of c.args.footprint.now c.reads.result.now c.writes.result.now (sym c.whole.ensures ∙ c.if-whole.false) c.reads.ensures.same c.writes.ensures) rising shown
+    (names_of c.args.footprint.now c.reads.result.now c.writes.result.now (sym c.whole.ensures ∙ c.if-whole.false) c.reads.ensures.same c.writes.ensures.same) rising shown

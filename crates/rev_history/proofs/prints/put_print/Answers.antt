@@ -15,4 +15,4 @@ returns-then-whole-clause-ok c = λ prints rising none shown.
 pub returns-clause-ok : goal.returns-clause-ok
 returns-clause-ok c = λ prints rising none shown.
     c.in_ok-put.ensures.ok prints (print_of c.args.footprint.now)
-    (names_of c.args.footprint.now c.reads.result.now c.writes.result.now (sym c.whole.ensures ∙ c.if-whole.false) c.reads.ensures.same c.writes.ensures) rising none shown
+    (names_of c.args.footprint.now c.reads.result.now c.writes.result.now (sym c.whole.ensures ∙ c.if-whole.false) c.reads.ensures.same c.writes.ensures.same) rising none shown

@@ -10,4 +10,4 @@ returns-then-whole c = λ prints rising at shown.
 pub returns : goal.returns
 returns c = λ prints rising at shown.
     c.take.ensures prints (print_of c.args.footprint.now)
-    (names_of c.args.footprint.now c.reads.result.now c.writes.result.now (sym c.whole.ensures ∙ c.if-whole.false) c.reads.ensures.same c.writes.ensures) rising at shown
+    (names_of c.args.footprint.now c.reads.result.now c.writes.result.now (sym c.whole.ensures ∙ c.if-whole.false) c.reads.ensures.same c.writes.ensures.same) rising at shown
