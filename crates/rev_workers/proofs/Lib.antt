@@ -1,4 +1,5 @@
 pub mod Counts
+pub mod Covered
 pub mod Each
 pub mod Runs
 pub mod Said

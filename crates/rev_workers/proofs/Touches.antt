@@ -1,18 +1,14 @@
 -- A file that is touched settles no edge: what is refused for an input that is not made yet stays refused so.
 use Rattle.std.proofs.Common.{◌≡◌, ◌∙◌, ◌+◌, ◌≤◌, ◌<◌, ◌&&◌, ℕ, Bool, true, false, cond, not, List, [], ◌∷◌, ◌++◌, map, length, Option, Some, None, is_some, refl, sym, ap, subst, arith, length-append, if◌then◌else◌}
 use Rattle.std.specs.Prelude.{nat_lt}
-use Rattle.std.specs.Option.{option_map}
 use Rattle.std.specs.List.{position}
 use Rattle.std.specs.FinMap.{get}
-use Rattle.std.specs.Ordering.{eq_by_cmp}
 use Rattle.rev_causal.proofs.Chosen.{last_of-push}
 use Rattle.rev_causal.proofs.Store.{get-set_cell}
 use Rattle.rev_cells.specs.declared.cell.Cell.{Cell}
 use Rattle.rev_cells.specs.declared.cell.Cell.TheVariants as cell
-use Rattle.rev_cells.specs.declared.mark.Mark.{Mark}
 use Rattle.rev_cells.specs.declared.value.DepsRecord.{DepsRecord}
 use Rattle.rev_cells.specs.declared.value.Value.TheVariants as value
-use Rattle.rev_cells.specs.Keys.{cell_cmp}
 use Rattle.rev_cells.specs.State.{State, default_or, value_at, deps_in, halted_in, mark_in, is_halted, job_of, mark_of}
 use Rattle.rev_cells.specs.Values.{unless_default}
 use Rattle.rev_cells.proofs.EntryLemmas.{cells_total, cells_exact, other_cell}
@@ -26,7 +22,7 @@ use Rattle.rev_plan.specs.Options.{first_some}
 use Rattle.rev_events.specs.declared.event.Event.{Event}
 use Rattle.rev_events.specs.declared.event.Event.TheVariants.{Start, Clean, Pass, Touch}
 use Rattle.rev_events.specs.declared.refusal.Refusal.{Refusal}
-use Rattle.rev_events.specs.declared.refusal.Refusal.TheVariants.{Blocked, JobBusy, NoSuchEdge, NoSuchJob, Paused, PoolSlot, SlotBusy}
+use Rattle.rev_events.specs.declared.refusal.Refusal.TheVariants.{Blocked, NoSuchEdge, NoSuchJob, Paused, PoolSlot}
 use Rattle.rev_events.specs.Refusal.{refuse_if, blocked, dirty, halted, is_settled, job_busy, no_such_job, not_dirty, not_marked, not_phony, not_wanted, phony_edge, pool_slot, slot_busy}
 use Rattle.rev_events.specs.Edge.{first_blocking, is_waiting, slot_holder}
 use Rattle.rev_events.specs.Pools.{present_pool}

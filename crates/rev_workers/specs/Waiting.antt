@@ -1,8 +1,6 @@
 -- For which refusals a lane waits, and until when.
 use Rattle.std.specs.Prelude.{ℕ, ◌+◌, ◌≡◌, ◌≢◌, ◌==◌, ◌⊎◌, ◌&&◌, ⊤, Bool, true, false, not, List, length, map, Some, None, slice_get, if◌then◌else◌}
-use Rattle.rev_events.specs.declared.event.Event.{Event}
 use Rattle.rev_events.specs.declared.event.Event.TheVariants as event
-use Rattle.rev_events.specs.declared.refusal.Refusal.{Refusal}
 use Rattle.rev_events.specs.declared.refusal.Refusal.TheVariants as refusal
 use Rattle.rev_events.specs.Refusal.{code_of}
 use Rattle.rev_commands.specs.declared.command.Command.{Command}

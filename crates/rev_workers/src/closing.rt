@@ -1,8 +1,10 @@
 //! Whether lanes fit a journal.
-ghost use Rattle.std.specs.Prelude.{◌≡◌, ◌≢◌, ◌<◌, ◌≤◌, ◌↔◌, IsTrue, IfSome, IfNone, ℕ, length, drop};
+ghost use Rattle.std.specs.Prelude.{◌≡◌, ◌≢◌, ◌<◌, ◌≤◌, ◌↔◌, Contains, IsTrue, IfSome, IfNone, ℕ, length, drop, slice_get};
 ghost use Rattle.std.specs.List.{AllByRecursion};
 ghost use Rattle.rev_workers.specs.Closing.{numbered, IsStated, base_in, part, entries_of, AreStated, IsMisstated, due};
+ghost use Rattle.rev_workers.specs.Running.{DoneValue, IsConfirmed, IsUnder, done_numbers, lesser};
 
+use crate::jobs::Done;
 use crate::lane::Lane;
 use rev_desk::{Command, Entry, Reply};
 use std::sync::ledger::{Book, Ledger};
@@ -95,6 +97,59 @@ fn past(journal: &[Entry], base: u64) -> &[Entry]
         return &[];
     }
     &journal[base as usize..]
+}
+
+// What was said past the first commands of a list.
+fn said_past(list: &[(Command, Reply)], before: u64) -> &[(Command, Reply)]
+    ensures { result.now ≡ drop before list.now }
+{
+    if before >= list.len() as u64 {
+        return &[];
+    }
+    &list[before as usize..]
+}
+
+// Whether what a lane has said is its part of the journal past what it had seen before.
+fn is_confirmed<L: Ledger>(done: &Done<L>, journal: &[Entry]) -> bool
+    ensures { IsTrue result ↔ IsConfirmed journal.now done.now }
+{
+    is_part(
+        said_past(done.lane().list(), done.before()),
+        done.lane().number(),
+        past(journal, done.seen()),
+    )
+}
+
+// The lesser of two numbers, where there is one.
+pub(crate) fn lesser(first: Option<u32>, second: Option<u32>) -> Option<u32>
+    ensures { result ≡ lesser first second }
+{
+    match (first, second) {
+        (Some(number), Some(other)) => {
+            if other < number {
+                Some(other)
+            } else {
+                Some(number)
+            }
+        }
+        (None, other) => other,
+        (number, None) => number,
+    }
+}
+
+// The least number of a lane that the journal does not confirm.
+pub(crate) fn unconfirmed<L: Ledger>(done: &[Done<L>], journal: &[Entry]) -> Option<u32>
+    ensures among { IfSome result (λ n. Contains (done_numbers done.now) n) }
+    ensures under { (k : ℕ) (d : DoneValue) → slice_get done.now k ≡ Some d
+        → IsUnder result d.lane.number → IsConfirmed journal.now d }
+{
+    let mut least = None;
+    for place in 0..done.len() {
+        if !is_confirmed(&done[place], journal) {
+            least = lesser(least, Some(done[place].lane().number()));
+        }
+    }
+    least
 }
 
 // Puts the lanes' shares together. With every part of the ledger they have what its book counts.

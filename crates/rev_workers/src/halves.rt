@@ -1,14 +1,14 @@
 //! Jobs by halves, each half in a thread of its own.
-ghost use Rattle.std.specs.Prelude.{◌≡◌, ◌<◌, ◌≤◌, ◌/◌, ◌++◌, [], Contains, IfErr, IfOk, IsOkAnd, List, OnOk, drop, length, map, take, vec_len};
+ghost use Rattle.std.specs.Prelude.{◌≡◌, ◌<◌, ◌≤◌, ◌/◌, ◌++◌, [], ℕ, Contains, EachIndex, IfOk, IfSome, List, OnOk, drop, length, map, slice_index, take, vec_len};
 ghost use Rattle.std.specs.List.{AllByRecursion};
 ghost use Rattle.std.specs.Thread.{IsSync};
 ghost use Rattle.rev_commands.specs.declared.command.Command.{Command};
 ghost use Rattle.rev_workers.specs.Tracks.{Track};
-ghost use Rattle.rev_workers.specs.Running.{AllRan, AreBelow, numbers_in};
+ghost use Rattle.rev_workers.specs.Running.{AreBelow, Covers, numbers_in};
 
+use crate::closing::lesser;
 use crate::gate::Gate;
-use crate::jobs::{Job, run_job};
-use crate::lane::Lane;
+use crate::jobs::{Done, Job, run_job};
 use crate::shared::Shared;
 use std::alloc::{AllocError, Global};
 use std::snapshot::Snapshot;
@@ -17,20 +17,23 @@ use std::sync::ledger::Ledger;
 use std::thread;
 use std::thread::{Promise, Threads};
 
-// What the thread of a half owes: the lanes, with their commands said, or the number of one of them.
+// What lanes come to: those that said all that they had to say, and the least number of the others.
+type Ran<L> = (Vec<Done<L>>, Option<u32>);
+
+// What the thread of a half owes: each lane said its commands, or its number is not below the one that is told.
 #[derive(Drop)]
 struct AllSay<L: Ledger>(Snapshot<Vec<Job<L>>>);
 
-impl<L: Ledger> Promise<Result<Vec<Lane<L>>, u32>> for AllSay<L> {
-    ghost kept_by = { λ p r. IfOk r (λ after. AllRan p.0.value.items after.items)
-        × IfErr r (λ n. Contains (numbers_in p.0.value.items) n) };
+impl<L: Ledger> Promise<Ran<L>> for AllSay<L> {
+    ghost kept_by = { λ p r. Covers r.1 p.0.value.items r.0.items
+        × IfSome r.1 (λ n. Contains (numbers_in p.0.value.items) n) };
 }
 
 // The later half of some jobs, with room for the lanes that come back.
 fn later_half<L: Ledger>(
     alloc: Global,
     jobs: &mut Vec<Job<L>>,
-) -> Result<(Vec<Job<L>>, Vec<Lane<L>>), AllocError>
+) -> Result<(Vec<Job<L>>, Vec<Done<L>>), AllocError>
     requires { 1 < vec_len jobs.old }
     ensures later { IfOk result (λ half. half.0.items ≡ drop (vec_len jobs.old / 2) jobs.old.items) }
     ensures room { IfOk result (λ half. half.1.items ≡ []) }
@@ -48,31 +51,36 @@ fn run_last<L: Ledger, R: Wait, G: Gate>(
     shared: &Shared<L>,
     gate: &G,
     jobs: Vec<Job<L>>,
-    room: Vec<Lane<L>>,
-) -> Result<Vec<Lane<L>>, u32>
+    room: Vec<Done<L>>,
+) -> Ran<L>
     requires few { vec_len jobs < 2 }
     requires below { AreBelow shared.now jobs.items }
     requires room { room.items ≡ [] }
-    ensures ran { IfOk result (λ after. AllRan jobs.items after.items) }
-    ensures stopped { IfErr result (λ n. Contains (numbers_in jobs.items) n) }
+    ensures ran { Covers result.1 jobs.items result.0.items }
+    ensures stopped { IfSome result.1 (λ n. Contains (numbers_in jobs.items) n) }
 {
     let mut jobs = jobs;
     let mut room = room;
     let Some(job) = jobs.pop() else {
-        return Ok(room);
+        return (room, None);
     };
     let number = job.number();
-    let lane = run_job(rt, shared, gate, job)?;
-    if room.push(lane).is_err() {
-        return Err(number);
+    match run_job(rt, shared, gate, job) {
+        Ok(done) => {
+            if room.push(done).is_err() {
+                return (room, Some(number));
+            }
+            (room, None)
+        }
+        Err(stopped) => (room, Some(stopped)),
     }
-    Ok(room)
 }
 
 // The least of some numbers.
 pub(crate) fn least_of(numbers: &[u32]) -> u32
     requires { 0 < length numbers.now }
-    ensures { Contains numbers.now result }
+    ensures among { Contains numbers.now result }
+    ensures least { EachIndex numbers.now (λ k. result ≤ slice_index numbers.now k) }
 {
     let mut least = numbers[0];
     for number in numbers {
@@ -92,41 +100,28 @@ fn end_all<L: Ledger, R: Wait>(rt: &R, shared: &Shared<L>, numbers: &[u32])
     }
 }
 
-// What comes of two halves together.
-fn together<L: Ledger>(
-    numbers: &[u32],
-    earlier: Result<Vec<Lane<L>>, u32>,
-    later: Result<Vec<Lane<L>>, u32>,
-) -> Result<Vec<Lane<L>>, u32>
+// What comes of two halves together. Where there is no room for the later lanes, all count as stopped.
+fn together<L: Ledger>(numbers: &[u32], earlier: Ran<L>, later: Ran<L>) -> Ran<L>
     requires some { 0 < length numbers.now }
-    requires earlier { IfErr earlier (λ n. Contains numbers.now n) }
-    requires later { IfErr later (λ n. Contains numbers.now n) }
-    ensures ok { IfOk result (λ after. IsOkAnd earlier (λ us. IsOkAnd later (λ vs. after.items
-        ≡ us.items ++ vs.items))) }
-    ensures stopped { IfErr result (λ n. Contains numbers.now n) }
-    ensures least { IfErr result (λ n. IfErr earlier (λ m. n ≤ m) × IfErr later (λ m. n ≤ m)) }
+    requires earlier { IfSome earlier.1 (λ n. Contains numbers.now n) }
+    requires later { IfSome later.1 (λ n. Contains numbers.now n) }
+    ensures ran { (js ks : List (Track × List Command)) → numbers.now ≡ numbers_in js ++ numbers_in ks
+        → Covers earlier.1 js earlier.0.items → Covers later.1 ks later.0.items
+        → Covers result.1 (js ++ ks) result.0.items }
+    ensures stopped { IfSome result.1 (λ n. Contains numbers.now n) }
 {
-    match (earlier, later) {
-        (Ok(mut lanes), Ok(mut others)) => {
-            if lanes.append(&mut others).is_err() {
-                return Err(least_of(numbers));
-            }
-            Ok(lanes)
-        }
-        (Err(number), Err(other)) => {
-            if number < other {
-                Err(number)
-            } else {
-                Err(other)
-            }
-        }
-        (Err(number), Ok(_)) | (Ok(_), Err(number)) => Err(number),
+    let (mut done, first) = earlier;
+    let (mut others, second) = later;
+    if done.append(&mut others).is_err() {
+        done.clear();
+        return (done, Some(least_of(numbers)));
     }
+    (done, lesser(first, second))
 }
 
 // Runs jobs, each in a thread of its own: the later half of them from a new thread, and the earlier half from this
-// one, down to one job a thread. It gives the lanes in the order of the jobs, or the least number of a lane that
-// stopped. Where no thread can be had for a half, that counts for each lane of it.
+// one, down to one job a thread. It gives the lanes that said all, in the order of the jobs, and the least number of
+// those that stopped. Where no thread can be had for a half, that counts for each lane of it.
 #[cycle(halves)]
 pub(crate) fn run_halves<L: Ledger + Send + Sync, R: Threads + Wait + Sync, G: Gate>(
     rt: &R,
@@ -135,13 +130,13 @@ pub(crate) fn run_halves<L: Ledger + Send + Sync, R: Threads + Wait + Sync, G: G
     gate: &G,
     numbers: &[u32],
     jobs: Vec<Job<L>>,
-    room: Vec<Lane<L>>,
-) -> Result<Vec<Lane<L>>, u32>
+    room: Vec<Done<L>>,
+) -> Ran<L>
     requires below { AreBelow shared.now jobs.items }
     requires numbers { numbers.now ≡ numbers_in jobs.items }
     requires room { room.items ≡ [] }
-    ensures ran { IfOk result (λ after. AllRan jobs.items after.items) }
-    ensures stopped { IfErr result (λ n. Contains (numbers_in jobs.items) n) }
+    ensures ran { Covers result.1 jobs.items result.0.items }
+    ensures stopped { IfSome result.1 (λ n. Contains (numbers_in jobs.items) n) }
 {
     if jobs.len() < 2 {
         return run_last(rt, shared, gate, jobs, room);
@@ -151,7 +146,7 @@ pub(crate) fn run_halves<L: Ledger + Send + Sync, R: Threads + Wait + Sync, G: G
     let (first, second) = numbers.split_at(middle);
     let Ok((later, later_room)) = later_half(alloc, &mut jobs) else {
         end_all(rt, shared, numbers);
-        return Err(least_of(numbers));
+        return (room, Some(least_of(numbers)));
     };
     run_both(
         rt, alloc, shared, gate, first, jobs, room, second, later, later_room, numbers,
@@ -167,12 +162,12 @@ fn run_both<L: Ledger + Send + Sync, R: Threads + Wait + Sync, G: Gate>(
     gate: &G,
     numbers: &[u32],
     jobs: Vec<Job<L>>,
-    room: Vec<Lane<L>>,
+    room: Vec<Done<L>>,
     later_numbers: &[u32],
     later: Vec<Job<L>>,
-    later_room: Vec<Lane<L>>,
+    later_room: Vec<Done<L>>,
     all: &[u32],
-) -> Result<Vec<Lane<L>>, u32>
+) -> Ran<L>
     requires below { AreBelow shared.now jobs.items }
     requires numbers { numbers.now ≡ numbers_in jobs.items }
     requires room { room.items ≡ [] }
@@ -183,31 +178,31 @@ fn run_both<L: Ledger + Send + Sync, R: Threads + Wait + Sync, G: Gate>(
     requires all_some { 0 < length all.now }
     requires earlier_some { 0 < vec_len jobs }
     requires later_some { 0 < vec_len later }
-    ensures ran { IfOk result (λ after. AllRan (jobs.items ++ later.items) after.items) }
-    ensures stopped { IfErr result (λ n. Contains (numbers_in jobs.items ++ numbers_in later.items) n) }
+    ensures ran { Covers result.1 (jobs.items ++ later.items) result.0.items }
+    ensures stopped { IfSome result.1 (λ n. Contains (numbers_in jobs.items ++ numbers_in later.items) n) }
 {
     thread::scope(
         thread::scope_env(),
         rt,
-        move |scope| -> Result<Vec<Lane<L>>, u32>
+        move |scope| -> Ran<L>
             requires { IsSync R.row × AreBelow shared.now jobs.items × (numbers.now ≡ numbers_in jobs.items)
                 × (room.items ≡ [])
                 × AreBelow shared.now later.items × (later_numbers.now ≡ numbers_in later.items)
                 × (later_room.items ≡ [])
                 × (all.now ≡ numbers_in jobs.items ++ numbers_in later.items) × (0 < vec_len jobs)
                 × (0 < vec_len later) × (0 < length all.now) }
-            ensures { IfOk result (λ after. AllRan (jobs.items ++ later.items) after.items)
-                × IfErr result (λ n. Contains (numbers_in jobs.items ++ numbers_in later.items) n) }
+            ensures { Covers result.1 (jobs.items ++ later.items) result.0.items
+                × IfSome result.1 (λ n. Contains (numbers_in jobs.items ++ numbers_in later.items) n) }
         {
             let promise = AllSay(Snapshot::of(&later));
             let worker = scope.spawn_with(
                 promise,
-                move || -> Result<Vec<Lane<L>>, u32>
+                move || -> Ran<L>
                     requires { IsSync R.row × AreBelow shared.now later.items
                         × (later_numbers.now ≡ numbers_in later.items)
                         × (later_room.items ≡ []) }
-                    ensures { IfOk result (λ after. AllRan later.items after.items)
-                        × IfErr result (λ n. Contains (numbers_in later.items) n) }
+                    ensures { Covers result.1 later.items result.0.items
+                        × IfSome result.1 (λ n. Contains (numbers_in later.items) n) }
                 { run_halves(rt, alloc, shared, gate, later_numbers, later, later_room) },
             );
             if worker.is_err() {
@@ -216,7 +211,10 @@ fn run_both<L: Ledger + Send + Sync, R: Threads + Wait + Sync, G: Gate>(
             let earlier = run_halves(rt, alloc, shared, gate, numbers, jobs, room);
             match worker {
                 Ok(handle) => together(all, earlier, handle.join(rt)),
-                Err(_refused) => together(all, earlier, Err(least_of(later_numbers))),
+                Err(_refused) => {
+                    let none = Vec::new(alloc);
+                    together(all, earlier, (none, Some(least_of(later_numbers))))
+                }
             }
         },
     )

@@ -263,6 +263,19 @@ impl<L: Ledger> Held<L> {
         some_look(&self.standings, self.desk.journal().len() as u64)
     }
 
+    // A lane stopped: the desk alone comes back.
+    pub(crate) fn stopped_at(self, lane: u32) -> CloseFault
+        ensures code { result.code ≡ code.LaneStopped }
+        ensures lane { result.lane ≡ lane }
+        ensures desk { result.desk ≡ self.desk }
+    {
+        CloseFault {
+            code: CloseCode::LaneStopped,
+            lane,
+            desk: self.into_desk(),
+        }
+    }
+
     // Notes how a lane stands.
     pub(crate) fn stand(&mut self, number: u32, standing: Standing)
         requires { number < self.old.desk.lanes }

@@ -1,8 +1,8 @@
 //! Lanes with what they are to say.
-ghost use Rattle.std.specs.Prelude.{◌≡◌, ◌<◌, IfErr, IfOk, List, map};
+ghost use Rattle.std.specs.Prelude.{◌≡◌, ◌<◌, [], IfErr, IfOk, IfSome, List, length, map};
 ghost use Rattle.rev_commands.specs.declared.command.Command.{Command};
 ghost use Rattle.rev_workers.specs.Tracks.{Track};
-ghost use Rattle.rev_workers.specs.Running.{Ran, pair_up};
+ghost use Rattle.rev_workers.specs.Running.{DidSay, DoneValue, lanes_in, pair_up};
 
 use crate::gate::Gate;
 use crate::lane::Lane;
@@ -57,6 +57,81 @@ impl<L: Ledger> Job<L> {
     }
 }
 
+/// A lane that said all that it had to say, with what it had seen and how many commands it had said before that.
+pub(crate) struct Done<L: Ledger> {
+    lane: Lane<L>,
+    seen: u64,
+    before: u64,
+}
+
+// Written, since a derived drop is proved again at each exit of each caller.
+impl<L: Ledger> Drop for Done<L> {
+    fn drop(self) {
+        let Done {
+            lane: _lane,
+            seen: _seen,
+            before: _before,
+        } = self;
+    }
+}
+
+impl<L: Ledger> Model for Done<L> {
+    ghost use Rattle.rev_workers.specs.Running.{DoneValue};
+
+    ghost Value = { DoneValue };
+
+    ghost view = { λ d. record { lane = d.lane; seen = d.seen; before = d.before } };
+}
+
+impl<L: Ledger> Done<L> {
+    // The lane.
+    pub(crate) fn lane(&self) -> &Lane<L>
+        ensures { result.now ≡ self.now.lane }
+    {
+        &self.lane
+    }
+
+    // The journal's length at the lane's last answer before.
+    pub(crate) fn seen(&self) -> u64
+        ensures { result ≡ self.now.seen }
+    {
+        self.seen
+    }
+
+    // How many commands it had said before.
+    pub(crate) fn before(&self) -> u64
+        ensures { result ≡ self.now.before }
+    {
+        self.before
+    }
+
+    // The lane, which is all that is needed in the end.
+    fn into_lane(self) -> Lane<L>
+        ensures { result ≡ self.lane }
+    {
+        let Done {
+            lane,
+            seen: _seen,
+            before: _before,
+        } = self;
+        lane
+    }
+}
+
+// The lanes alone, in room that was taken for them. There is no answer where the room does not do.
+pub(crate) fn lanes_of<L: Ledger>(done: Vec<Done<L>>, room: Vec<Lane<L>>) -> Option<Vec<Lane<L>>>
+    requires { room.items ≡ [] }
+    ensures { IfSome result (λ lanes. lanes.items ≡ lanes_in done.items) }
+{
+    let mut lanes = room;
+    for lane in done {
+        if lanes.push(lane.into_lane()).is_err() {
+            return None;
+        }
+    }
+    Some(lanes)
+}
+
 // Gives each lane the commands of the list at its place, and none past the last list.
 pub(crate) fn jobs_of<L: Ledger>(
     alloc: Global,
@@ -97,9 +172,9 @@ pub(crate) fn run_job<L: Ledger, R: Wait, G: Gate>(
     shared: &Shared<L>,
     gate: &G,
     job: Job<L>,
-) -> Result<Lane<L>, u32>
+) -> Result<Done<L>, u32>
     requires { job.0.number < shared.now }
-    ensures ok { IfOk result (λ after. Ran job.0 job.1 after) }
+    ensures ok { IfOk result (λ done. DidSay job.0 job.1 done) }
     ensures stopped { IfErr result (λ number. number ≡ job.0.number) }
 {
     let (lane, commands) = job.into_parts();
@@ -113,13 +188,13 @@ fn run_lane<L: Ledger, R: Wait, G: Gate>(
     gate: &G,
     lane: Lane<L>,
     commands: Vec<Command>,
-) -> Result<Lane<L>, u32>
+) -> Result<Done<L>, u32>
     requires { lane.number < shared.now }
-    ensures ok { IfOk result (λ after. Ran lane commands.items after) }
+    ensures ok { IfOk result (λ done. DidSay lane commands.items done) }
     ensures stopped { IfErr result (λ number. number ≡ lane.number) }
 {
     let mut lane = lane;
-    let number = lane.number();
+    let (number, seen, before) = (lane.number(), lane.seen(), lane.calls());
     let mut place = 0u32;
     for command in commands {
         place = place.saturating_add(1);
@@ -132,5 +207,5 @@ fn run_lane<L: Ledger, R: Wait, G: Gate>(
         };
     }
     shared.end(rt, number);
-    Ok(lane)
+    Ok(Done { lane, seen, before })
 }

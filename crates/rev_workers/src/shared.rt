@@ -6,7 +6,7 @@ ghost use Rattle.rev_workers.specs.declared.fault.CloseCode.TheVariants as code;
 ghost use Rattle.std.specs.List.{AllByRecursion};
 ghost use Rattle.rev_workers.specs.Tracks.{Track, Carries, fresh, said};
 
-use crate::fault::{CloseCode, CloseFault};
+use crate::fault::CloseFault;
 use crate::held::{Held, Untold};
 use crate::lane::Lane;
 use crate::standing::Standing;
@@ -91,19 +91,6 @@ impl<L: Ledger> Shared<L> {
         self.changed.notify_all();
     }
 
-    // A lane stopped.
-    pub(crate) fn stopped_at(self, lane: u32) -> CloseFault
-        ensures code { result.code ≡ code.LaneStopped }
-        ensures lane { result.lane ≡ lane }
-        ensures lanes { result.desk.lanes ≡ self }
-    {
-        CloseFault {
-            code: CloseCode::LaneStopped,
-            lane,
-            desk: self.into_held().into_desk(),
-        }
-    }
-
     // Wakes the lanes that wait, where one of them is to look again.
     fn tell(&self, some_look: bool) {
         if some_look {
@@ -112,7 +99,7 @@ impl<L: Ledger> Shared<L> {
     }
 
     // What lies under the lock.
-    fn into_held(self) -> Held<L>
+    pub(crate) fn into_held(self) -> Held<L>
         ensures { result.desk.lanes ≡ self }
     {
         let Shared {

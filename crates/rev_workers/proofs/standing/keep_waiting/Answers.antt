@@ -1,4 +1,4 @@
-use Rattle.std.proofs.Common.{◌≡◌, ◌∙◌, ap}
+use Rattle.std.proofs.Common.{◌∙◌, ap}
 use Rattle.rev_workers.specs.Waiting.{kept_waiting}
 use Rattle.rev_workers.proofs.Sets.{mapped-more, mapped-next}
 use Rattle.rev_workers.proofs.standing.keep_waiting.Goals as goal
