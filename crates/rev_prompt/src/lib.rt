@@ -1,19 +1,21 @@
-//! Questions about a recorded build, and their answers in words.
+//! Questions about a recorded build, and what they are answered, by numbers of events.
 #![tactic(auto)]
 
 mod advance;
+mod answers;
 mod causes;
-mod cells;
 mod commands;
-mod edges;
 mod events;
-mod help;
 mod line;
-mod names;
+mod listings;
 mod question;
-mod refusals;
+mod reasons;
 mod session;
+mod spans;
 
+pub use answers::{Answer, Because, Link, Span, Step, Tally, Wait, Way};
+pub use commands::would_cone;
 pub use line::{LineFault, texts_of};
 pub use question::{EventName, Question, question_of};
-pub use session::{Reply, Session, answer};
+pub use reasons::input_at;
+pub use session::{Reply, Session, answer_to, asked, only_asks};

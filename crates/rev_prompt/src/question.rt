@@ -45,15 +45,21 @@ pub enum Question {
     Who(Name),
     /// `what EVENT`: an event in words.
     What(EventName),
+    /// `why OUT`: why an edge runs, or ran.
+    Why(Name),
+    /// `with OUT`: which commands ran while it did.
+    With(Name),
+    /// `order EVENT..`: whether another order of these events makes the same build.
+    Order(Vec<EventName>),
     /// `without OUT`: the events of an edge are undone, with all that rests on them.
     Without(Name),
-    /// `undo EVENT`, `redo EVENT` and `cone EVENT`, by the word.
+    /// `undo EVENT`.
     Undo(EventName),
     /// `redo EVENT`.
     Redo(EventName),
     /// `cone EVENT`.
     Cone(EventName),
-    /// `kept`, `marks`, `stamps` and `logs`, as a report has them.
+    /// `kept`: the kept events.
     Kept,
     /// `marks`.
     Marks,
@@ -83,6 +89,9 @@ impl Drop for Question {
             Question::WouldCone(_part) => {}
             Question::Who(_part) => {}
             Question::What(_part) => {}
+            Question::Why(_part) => {}
+            Question::With(_part) => {}
+            Question::Order(_part) => {}
             Question::Without(_part) => {}
             Question::Undo(_part) => {}
             Question::Redo(_part) => {}
@@ -129,17 +138,47 @@ fn is_number(text: &[u8]) -> bool {
             .all(|byte| byte.is_ascii_digit() || *byte == b':')
 }
 
+// The event that one text names: a number, a label, or an output.
+fn event_of_text(alloc: Global, text: &[u8]) -> Result<EventName, LineFault> {
+    if is_number(text) {
+        return Ok(EventName::Which(which_of(alloc, text)?));
+    }
+    Ok(EventName::Last(path(alloc, text)?))
+}
+
+// The event of a kind at an output.
+fn event_of_kind(alloc: Global, kind: &[u8], out: &[u8]) -> Result<EventName, LineFault> {
+    let name = path(alloc, out)?;
+    Ok(EventName::Kind(Vec::from_slice(alloc, kind)?, name))
+}
+
 // The event that texts name: a number, a label, an output, or a kind and an output.
 fn event_name(alloc: Global, texts: &[Vec<u8>]) -> Result<EventName, LineFault> {
     match texts {
-        [one] if is_number(one) => Ok(EventName::Which(which_of(alloc, one)?)),
-        [one] => Ok(EventName::Last(path(alloc, one)?)),
-        [kind, out] if is_kind(kind) => {
-            let name = path(alloc, out)?;
-            Ok(EventName::Kind(Vec::from_slice(alloc, kind)?, name))
-        }
+        [one] => event_of_text(alloc, one),
+        [kind, out] if is_kind(kind) => event_of_kind(alloc, kind, out),
         _ => Err(BAD),
     }
+}
+
+// The events that texts name, one behind the other.
+fn event_names(alloc: Global, texts: &[Vec<u8>]) -> Result<Vec<EventName>, LineFault> {
+    let mut names = Vec::new(alloc);
+    let mut rest = texts;
+    for _ in 0..texts.len() {
+        match rest {
+            [kind, out, behind @ ..] if is_kind(kind) => {
+                names.push(event_of_kind(alloc, kind, out)?)?;
+                rest = behind;
+            }
+            [one, behind @ ..] => {
+                names.push(event_of_text(alloc, one)?)?;
+                rest = behind;
+            }
+            [] => break,
+        }
+    }
+    Ok(names)
 }
 
 // `needs EVENT` and `needs EVENT all`
@@ -196,6 +235,8 @@ fn path_question(
     let question = match word {
         b"until" => Question::Until(only_path(alloc, rest)?),
         b"who" => Question::Who(only_path(alloc, rest)?),
+        b"why" => Question::Why(only_path(alloc, rest)?),
+        b"with" => Question::With(only_path(alloc, rest)?),
         b"without" => Question::Without(only_path(alloc, rest)?),
         b"stamps" => Question::Stamps(maybe_path(alloc, rest)?),
         b"logs" => Question::Logs(maybe_path(alloc, rest)?),
@@ -217,6 +258,7 @@ fn event_question(
         b"undo" => Question::Undo(event_name(alloc, rest)?),
         b"redo" => Question::Redo(event_name(alloc, rest)?),
         b"cone" => Question::Cone(event_name(alloc, rest)?),
+        b"order" => Question::Order(event_names(alloc, rest)?),
         b"would" => match rest {
             [cone, event @ ..] if cone.as_slice() == b"cone".as_slice() => {
                 Question::WouldCone(event_name(alloc, event)?)

@@ -1,16 +1,20 @@
 //! A prompt's session over a recording.
+ghost use Rattle.std.specs.Prelude.{◌≡◌, true, IfOk};
+ghost use Rattle.rev_prompt.specs.Asking.{is_quit as is_quit_of, only_asks as only_asks_of};
+
 use crate::advance::{advance, run, until};
+use crate::answers::Answer;
 use crate::causes::{dependents, needs};
 use crate::commands::{apply, cone, without, would_cone};
-use crate::events::{named_event, push_numbered, who};
-use crate::help::HELP;
-use crate::question::Question;
+use crate::events::{named_event, who};
+use crate::listings::{about, kept, order};
+use crate::question::{EventName, Question};
+use crate::reasons::why;
+use crate::spans::with;
 use rev_commands::{Command, Which};
 use rev_desk::Desk;
-use rev_history::History;
 use rev_listing::{logs_text, marks_text, stamps_text};
 use rev_manifest::Build;
-use rev_paths::Name;
 use rev_script::Turn;
 use std::alloc::{AllocError, Global};
 
@@ -29,142 +33,170 @@ pub struct Session<'a> {
 }
 
 /// What comes of a question.
-#[derive(Debug, Drop)]
 pub struct Reply {
-    /// What is told, each line with its end.
-    pub text: Vec<u8>,
+    /// What is answered.
+    pub answer: Answer,
     /// How many of the recording's commands were said by now.
     pub taken: usize,
     /// Whether the session ends.
     pub ends: bool,
 }
 
-// The lines of a listing that are about a path, or all of them: those whose second field it is.
-fn about(alloc: Global, text: Vec<u8>, path: Option<&Name>) -> Result<Vec<u8>, AllocError> {
-    let Some(path) = path else {
-        return Ok(text);
-    };
-    let mut field = Vec::from_slice(alloc, b" ")?;
-    rev_fields::push_field(&mut field, path.as_bytes())?;
-    field.push(b' ')?;
-    let mut kept = Vec::new(alloc);
-    for line in text.split(|byte| *byte == b'\n') {
-        let at = line
-            .iter()
-            .position(|byte| *byte == b' ')
-            .unwrap_or(line.len());
-        if line[at..].starts_with(&field) {
-            kept.extend_from_slice(line)?;
-            kept.push(b'\n')?;
-        }
+// Written, since a derived drop is proved again at each exit of each caller.
+impl Drop for Reply {
+    fn drop(self) {
+        let Reply {
+            answer: _answer,
+            taken: _taken,
+            ends: _ends,
+        } = self;
     }
-    if kept.is_empty() {
-        kept.extend_from_slice(b"nothing\n")?;
-    }
-    Ok(kept)
 }
 
-// `kept`: the kept events in words.
-fn kept(alloc: Global, history: &History) -> Result<Vec<u8>, AllocError> {
-    let mut text = Vec::new(alloc);
-    for number in history.kept() {
-        push_numbered(&mut text, history, *number)?;
-        text.push(b'\n')?;
-    }
-    if text.is_empty() {
-        text.extend_from_slice(b"nothing is kept: `run` replays the recording\n")?;
-    }
-    Ok(text)
-}
-
-// What a question that changes nothing is answered.
-fn asked(
+// What a question about an event is answered.
+fn asked_of_event(
     alloc: Global,
-    session: &Session<'_>,
     desk: &Desk,
+    name: &EventName,
     question: &Question,
-) -> Result<Vec<u8>, AllocError> {
+) -> Result<Answer, AllocError> {
+    let history = desk.history();
+    let number = match named_event(desk, name)? {
+        Ok(number) => number,
+        Err(answer) => return Ok(answer),
+    };
+    match question {
+        Question::Needs(_, all) => needs(alloc, history, number, *all),
+        Question::Dependents(_) => dependents(alloc, history, number),
+        Question::WouldCone(_) => would_cone(history, number),
+        _ => Ok(Answer::Event(number)),
+    }
+}
+
+/// What a question that only asks is answered: one that is none of `run`, `next`, `until`, `undo`, `redo`, `cone`,
+/// `without` and the commands of a script. The desk is read alone.
+///
+/// # Errors
+/// [`AllocError`] only where an allocation was refused.
+pub fn asked(alloc: Global, desk: &Desk, question: &Question) -> Result<Answer, AllocError> {
     let history = desk.history();
     match question {
-        Question::Needs(event, all) => match named_event(alloc, session, desk, event)? {
-            Ok(number) => needs(alloc, history, number, *all),
-            Err(text) => Ok(text),
-        },
-        Question::Dependents(event) => match named_event(alloc, session, desk, event)? {
-            Ok(number) => dependents(alloc, history, number),
-            Err(text) => Ok(text),
-        },
-        Question::WouldCone(event) => match named_event(alloc, session, desk, event)? {
-            Ok(number) => would_cone(alloc, history, number),
-            Err(text) => Ok(text),
-        },
-        Question::What(event) => match named_event(alloc, session, desk, event)? {
-            Ok(number) => {
-                let mut text = Vec::new(alloc);
-                push_numbered(&mut text, history, number)?;
-                text.push(b'\n')?;
-                Ok(text)
-            }
-            Err(text) => Ok(text),
-        },
-        Question::Who(out) => who(alloc, session, history, out),
+        Question::Needs(name, _)
+        | Question::Dependents(name)
+        | Question::WouldCone(name)
+        | Question::What(name) => asked_of_event(alloc, desk, name, question),
+        Question::Who(out) => who(alloc, history, out),
+        Question::Why(out) => why(alloc, history, out),
+        Question::With(out) => with(alloc, history, out),
+        Question::Order(names) => order(alloc, desk, names),
         Question::Kept => kept(alloc, history),
-        Question::Marks => marks_text(alloc, history.graph(), history.cells()),
+        Question::Marks => {
+            let text = marks_text(alloc, history.graph(), history.cells())?;
+            Ok(Answer::Lines(text))
+        }
         Question::Stamps(path) => about(alloc, stamps_text(alloc, history.cells())?, path.as_ref()),
         Question::Logs(path) => about(alloc, logs_text(alloc, history.cells())?, path.as_ref()),
-        Question::Help => Vec::from_slice(alloc, HELP),
-        _ => Ok(Vec::new(alloc)),
+        Question::Help => Ok(Answer::Help),
+        _ => Ok(Answer::Nothing),
     }
 }
 
-// What a question that changes the history is answered.
+// What a command about an event is answered.
+fn done_to_event(
+    session: &Session<'_>,
+    desk: &mut Desk,
+    name: &EventName,
+    question: &Question,
+) -> Result<Answer, AllocError> {
+    let number = match named_event(desk, name)? {
+        Ok(number) => number,
+        Err(answer) => return Ok(answer),
+    };
+    let which = Which::Number(number);
+    match question {
+        Question::Undo(_) => apply(session, desk, Command::Undo(which), Some(number)),
+        Question::Redo(_) => apply(session, desk, Command::Redo(which), Some(number)),
+        _ => cone(session, desk, number),
+    }
+}
+
+/// Whether a question only asks: it is none of `run`, `next`, `until`, `undo`, `redo`, `cone`, `without` and the
+/// commands of a script.
+pub fn only_asks(question: &Question) -> bool
+    ensures { result ≡ only_asks_of question.now }
+{
+    match question {
+        Question::Run => false,
+        Question::Next(_) => false,
+        Question::Until(_) => false,
+        Question::Undo(_) => false,
+        Question::Redo(_) => false,
+        Question::Cone(_) => false,
+        Question::Without(_) => false,
+        Question::Command(_) => false,
+        _ => true,
+    }
+}
+
+// Whether a question is `quit`.
+fn is_quit(question: &Question) -> bool
+    ensures { result ≡ is_quit_of question.now }
+{
+    match question {
+        Question::Quit => true,
+        _ => false,
+    }
+}
+
+// What a question that does more than ask is answered, and how many of the recording's commands were said by then.
 fn done(
     alloc: Global,
     session: &Session<'_>,
     desk: &mut Desk,
     question: &Question,
-) -> Result<Vec<u8>, AllocError> {
-    match question {
-        Question::Undo(event) => match named_event(alloc, session, desk, event)? {
-            Ok(number) => {
-                let command = Command::Undo(Which::Number(number));
-                apply(alloc, session, desk, command, Some(number))
-            }
-            Err(text) => Ok(text),
-        },
-        Question::Redo(event) => match named_event(alloc, session, desk, event)? {
-            Ok(number) => {
-                let command = Command::Redo(Which::Number(number));
-                apply(alloc, session, desk, command, Some(number))
-            }
-            Err(text) => Ok(text),
-        },
-        Question::Cone(event) => match named_event(alloc, session, desk, event)? {
-            Ok(number) => cone(alloc, session, desk, number),
-            Err(text) => Ok(text),
-        },
-        Question::Without(out) => without(alloc, session, desk, out),
-        Question::Command(command) => apply(alloc, session, desk, command.copy()?, None),
-        other => asked(alloc, session, desk, other),
-    }
+) -> Result<(Answer, usize), AllocError> {
+    let answer = match question {
+        Question::Run => return run(session, desk),
+        Question::Next(count) => return advance(alloc, session, desk, *count),
+        Question::Until(out) => return until(alloc, session, desk, out),
+        Question::Undo(name) | Question::Redo(name) | Question::Cone(name) => {
+            done_to_event(session, desk, name, question)?
+        }
+        Question::Without(out) => without(alloc, session, desk, out)?,
+        Question::Command(command) => apply(session, desk, command.copy()?, None)?,
+        _ => Answer::Nothing,
+    };
+    Ok((answer, session.taken))
 }
 
-/// What a question is answered, over the desk of a session.
+/// What a question is answered, over the desk of a session. One that only asks leaves the desk as it was, and says no
+/// command of the recording; `quit` ends the session, and nothing else does.
 ///
 /// # Errors
 /// [`AllocError`] only where an allocation was refused.
-pub fn answer(
+pub fn answer_to(
     alloc: Global,
     session: &Session<'_>,
     desk: &mut Desk,
     question: &Question,
-) -> Result<Reply, AllocError> {
-    let ends = matches!(question, Question::Quit);
-    let (text, taken) = match question {
-        Question::Run => run(alloc, session, desk)?,
-        Question::Next(count) => advance(alloc, session, desk, *count)?,
-        Question::Until(out) => until(alloc, session, desk, out)?,
-        other => (done(alloc, session, desk, other)?, session.taken),
-    };
-    Ok(Reply { text, taken, ends })
+) -> Result<Reply, AllocError>
+    ensures same { only_asks_of question.now ≡ true → desk.new ≡ desk.old }
+    ensures taken { only_asks_of question.now ≡ true → IfOk result (λ reply. reply.taken ≡ session.now.taken) }
+    ensures ends { IfOk result (λ reply. reply.ends ≡ is_quit_of question.now) }
+{
+    let ends = is_quit(question);
+    if only_asks(question) {
+        let answer = asked(alloc, desk, question)?;
+        return Ok(Reply {
+            answer,
+            taken: session.taken,
+            ends,
+        });
+    }
+    let (answer, taken) = done(alloc, session, desk, question)?;
+    Ok(Reply {
+        answer,
+        taken,
+        ends,
+    })
 }

@@ -5,11 +5,14 @@ pub(crate) const HELP: &[u8] = b"run                the recording to its end, to
 next [N]           its next commands, one or N, each told
 until OUT          up to the next event of the edge of this output
 who OUT            its events
+why OUT            why it is to run, or why it ran
+with OUT           which commands ran while it did
 without OUT        undoes its events, with all that rests on them
 what EVENT         an event in words
 needs EVENT [all]  which events it rests on, itself or by way of others
 dependents EVENT   which events rest on it
 would cone EVENT   what `cone` would take
+order EVENT..      whether these events in another order make the same build
 undo EVENT         takes it back, if no kept event rests on it
 cone EVENT         takes it back with all that rests on it
 redo N             puts back an event that was undone

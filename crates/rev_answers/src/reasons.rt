@@ -1,0 +1,110 @@
+//! Why an edge runs, in words.
+use crate::edges::push_edge;
+use crate::events::push_numbered;
+use crate::runs::push_span;
+use crate::told::{Told, history_of};
+use rev_dirty::Reason;
+use rev_graph::Graph;
+use rev_paths::Name;
+use rev_prompt::{Because, Span, Way};
+use rev_shown::push_shown;
+use std::alloc::AllocError;
+
+/// The word of a reason, as a report writes it.
+pub(crate) fn reason_word(reason: Reason) -> &'static str {
+    match reason {
+        Reason::Missing(_) => "missing",
+        Reason::NoDeps => "no-deps",
+        Reason::DepsOld => "deps-old",
+        Reason::Rebuilt(_) => "rebuilt",
+        Reason::MissingDep(_) => "missing-dep",
+        Reason::Older(_, _) => "older",
+        Reason::NoRecord(_) => "no-record",
+        Reason::Command(_) => "command",
+    }
+}
+
+// The words before the output, between it and the input, and behind both.
+fn reason_parts(reason: Reason) -> (&'static [u8], &'static [u8], &'static [u8]) {
+    match reason {
+        Reason::Missing(_) => (b"", b" is missing", b""),
+        Reason::NoDeps => (b"there is no list of what its command read", b"", b""),
+        Reason::DepsOld => (
+            b"the list of what its command read is older than its output",
+            b"",
+            b"",
+        ),
+        Reason::Rebuilt(_) => (b"", b"", b" was made anew"),
+        Reason::MissingDep(_) => (b"", b"", b", which its command read, is missing"),
+        Reason::Older(_, _) => (b"", b" is older than ", b""),
+        Reason::NoRecord(_) => (b"the build log has no record of ", b"", b""),
+        Reason::Command(_) => (b"", b" was made by another command", b""),
+    }
+}
+
+// Adds a name, where there is one.
+fn push_name(text: &mut Vec<u8>, name: Option<&Name>) -> Result<(), AllocError> {
+    match name {
+        Some(name) => push_shown(text, name.as_bytes()),
+        None => Ok(()),
+    }
+}
+
+// Adds a reason.
+fn push_reason(text: &mut Vec<u8>, because: &Because) -> Result<(), AllocError> {
+    let (before, between, behind) = reason_parts(because.reason);
+    text.extend_from_slice(before)?;
+    push_name(text, because.output.as_ref())?;
+    text.extend_from_slice(between)?;
+    push_name(text, because.input.as_ref())?;
+    text.extend_from_slice(behind)
+}
+
+// Adds the way from an edge to its reasons, and these.
+fn push_way(text: &mut Vec<u8>, graph: &Graph, way: &Way) -> Result<(), AllocError> {
+    for step in &way.steps {
+        text.extend_from_slice(b"  ")?;
+        push_edge(text, graph, step.edge)?;
+        text.extend_from_slice(b" waits for ")?;
+        push_name(text, step.input.as_ref())?;
+        text.extend_from_slice(b", which is to be made\n")?;
+    }
+    for because in &way.reasons {
+        text.extend_from_slice(b"  ")?;
+        push_reason(text, because)?;
+        text.push(b'\n')?;
+    }
+    if way.reasons.is_empty() {
+        text.extend_from_slice(b"  nothing\n")?;
+    }
+    Ok(())
+}
+
+/// Adds why an edge runs, or ran.
+pub(crate) fn push_why(
+    text: &mut Vec<u8>,
+    told: Told<'_>,
+    path: &Name,
+    run: Option<Span>,
+    plan: Option<u32>,
+    way: &Way,
+) -> Result<(), AllocError> {
+    let history = history_of(told);
+    if let Some(run) = run {
+        push_span(text, history, run)?;
+        text.push(b'\n')?;
+    } else {
+        push_shown(text, path.as_bytes())?;
+        text.extend_from_slice(b" did not run so far\n")?;
+    }
+    if let Some(plan) = plan {
+        text.extend_from_slice(b"at ")?;
+        push_numbered(text, history, plan)?;
+        text.extend_from_slice(b" it was to run, since\n")?;
+    } else if way.reasons.is_empty() {
+        return text.extend_from_slice(b"no plan wants it now: `marks` shows what it is\n");
+    } else {
+        text.extend_from_slice(b"it is to run, since\n")?;
+    }
+    push_way(text, history.graph(), way)
+}

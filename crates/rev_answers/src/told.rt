@@ -1,0 +1,20 @@
+//! What words and JSON are made from.
+use rev_desk::Desk;
+use rev_history::History;
+use rev_prompt::{Question, Session};
+
+/// What words and JSON of an answer are made from, beside the answer.
+#[derive(Clone, Copy)]
+pub struct Told<'a> {
+    /// The session.
+    pub session: &'a Session<'a>,
+    /// The desk, as the answer left it.
+    pub desk: &'a Desk,
+    /// What was asked.
+    pub question: &'a Question,
+}
+
+/// The history of the desk.
+pub(crate) fn history_of<'a>(told: Told<'a>) -> &'a History {
+    told.desk.history()
+}

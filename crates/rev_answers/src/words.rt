@@ -1,0 +1,263 @@
+//! Answers in words.
+use crate::causes::{push_dependents, push_needs};
+use crate::events::{push_count, push_events, push_list, push_numbered, push_visible};
+use crate::help::HELP;
+use crate::meant::push_no_output;
+use crate::reasons::push_why;
+use crate::refusals::{NEXT_LINE, Subject, push_full, push_refusal, subject_of};
+use crate::replay::{push_steps, push_tally};
+use crate::runs::push_with;
+use crate::told::{Told, history_of};
+use rev_desk::Reply;
+use rev_fields::{number, push_number};
+use rev_history::History;
+use rev_paths::Name;
+use rev_prompt::{Answer, Question};
+use rev_shown::push_shown;
+use std::alloc::{AllocError, Global};
+
+/// The first line: how many commands, edges and lanes a recording has.
+///
+/// # Errors
+/// [`AllocError`] only where an allocation was refused.
+pub fn opening_words(
+    alloc: Global,
+    commands: usize,
+    edges: u32,
+    lanes: u32,
+) -> Result<Vec<u8>, AllocError> {
+    let mut text = Vec::new(alloc);
+    push_number(&mut text, commands as u64)?;
+    text.extend_from_slice(b" commands, ")?;
+    push_number(&mut text, u64::from(edges))?;
+    text.extend_from_slice(b" edges, lanes: ")?;
+    push_number(&mut text, u64::from(lanes))?;
+    text.extend_from_slice(b"; `help` lists the words\n")?;
+    Ok(text)
+}
+
+// Adds lines, or that there are none.
+fn push_lines(text: &mut Vec<u8>, lines: &[u8]) -> Result<(), AllocError> {
+    if lines.is_empty() {
+        return text.extend_from_slice(b"nothing\n");
+    }
+    push_visible(text, lines)
+}
+
+// Adds that no such event at a path is kept.
+fn push_none_kept(text: &mut Vec<u8>, path: &Name) -> Result<(), AllocError> {
+    text.extend_from_slice(b"no such event of ")?;
+    push_shown(text, path.as_bytes())?;
+    text.extend_from_slice(b" is kept; `who ")?;
+    push_shown(text, path.as_bytes())?;
+    text.extend_from_slice(b"` lists what there is\n")
+}
+
+// Adds the kept events.
+fn push_kept(text: &mut Vec<u8>, history: &History, numbers: &[u32]) -> Result<(), AllocError> {
+    if numbers.is_empty() {
+        return text.extend_from_slice(b"nothing is kept: `run` replays the recording\n");
+    }
+    push_list(text, history, numbers)
+}
+
+// Adds the events of an edge.
+fn push_who(
+    text: &mut Vec<u8>,
+    history: &History,
+    path: &Name,
+    numbers: &[u32],
+) -> Result<(), AllocError> {
+    if numbers.is_empty() {
+        push_shown(text, path.as_bytes())?;
+        return text.extend_from_slice(b" did not run so far\n");
+    }
+    push_list(text, history, numbers)
+}
+
+// Adds how many events a cone has, and lists them.
+fn push_cone(
+    text: &mut Vec<u8>,
+    history: &History,
+    members: &[u32],
+    tells: &[u8],
+) -> Result<(), AllocError> {
+    push_count(text, members.len() as u64)?;
+    text.extend_from_slice(tells)?;
+    push_events(text, history, members)
+}
+
+// Adds what was taken back with the events of an edge.
+fn push_without(
+    text: &mut Vec<u8>,
+    history: &History,
+    path: &Name,
+    members: &[u32],
+    left: usize,
+) -> Result<(), AllocError> {
+    if members.is_empty() {
+        push_shown(text, path.as_bytes())?;
+        return text.extend_from_slice(b" has no kept event\n");
+    }
+    push_cone(text, history, members, b" undone\n")?;
+    push_count(text, left as u64)?;
+    text.extend_from_slice(if left == 1 {
+        b" is left; `kept` lists it\n"
+    } else {
+        b" are left; `kept` lists them\n"
+    })
+}
+
+// The number that a field is.
+fn number_of(field: Option<&[u8]>) -> Option<u32> {
+    match number(field?) {
+        Ok(number) => Some(number),
+        Err(_) => None,
+    }
+}
+
+/// The numbers that stand in the line of the word `order` behind its second field.
+pub(crate) fn order_numbers(line: &[u8]) -> (Option<u32>, Option<u32>) {
+    let line = line.trim_ascii();
+    let mut fields = line.split(|byte| *byte == b' ');
+    let _order = fields.next();
+    let _answer = fields.next();
+    let first = number_of(fields.next());
+    let second = number_of(fields.next());
+    (first, second)
+}
+
+// Adds what the word `order` tells, as a report has it and in words.
+fn push_order(text: &mut Vec<u8>, history: &History, line: &[u8]) -> Result<(), AllocError> {
+    text.extend_from_slice(line.trim_ascii())?;
+    let (first, second) = order_numbers(line);
+    let is_pair = line.starts_with(b"order pair");
+    match (first, second) {
+        (Some(first), Some(second)) if is_pair => {
+            text.extend_from_slice(b": ")?;
+            push_numbered(text, history, first)?;
+            text.extend_from_slice(b" and ")?;
+            push_numbered(text, history, second)?;
+            text.extend_from_slice(b" stand the other way round, and one rests on the other\n")
+        }
+        (Some(first), _) => {
+            text.extend_from_slice(b": ")?;
+            push_numbered(text, history, first)?;
+            text.extend_from_slice(b" would be refused there\n")
+        }
+        _ if line.starts_with(b"order same") => {
+            text.extend_from_slice(b": what rests on what stands as it was kept\n")
+        }
+        _ => text.extend_from_slice(b": these are not the events that are kept\n"),
+    }
+}
+
+/// What was refused, of a question and the event that it names.
+pub(crate) fn subject_asked<'a>(told: Told<'a>, number: Option<u32>) -> Subject<'a> {
+    match (number, told.question) {
+        (Some(number), _) => Subject::Event(number),
+        (None, Question::Command(command)) => subject_of(told, command),
+        _ => Subject::Nothing,
+    }
+}
+
+// Adds an entry that was accepted: the event that it names, or is.
+fn push_accepted(
+    text: &mut Vec<u8>,
+    history: &History,
+    entry: u32,
+    number: Option<u32>,
+) -> Result<(), AllocError> {
+    if let Some(number) = number {
+        return push_numbered(text, history, number);
+    }
+    if history.event(entry).is_some() {
+        return push_numbered(text, history, entry);
+    }
+    push_number(text, u64::from(entry))?;
+    text.extend_from_slice(b" ok")
+}
+
+// Adds what the desk replied to a typed command.
+fn push_said(
+    text: &mut Vec<u8>,
+    alloc: Global,
+    told: Told<'_>,
+    reply: Option<Reply>,
+    number: Option<u32>,
+) -> Result<(), AllocError> {
+    match reply {
+        None => push_full(text)?,
+        Some(Reply::Refused(refusal)) => {
+            let subject = subject_asked(told, number);
+            push_refusal(text, alloc, told, refusal, subject, NEXT_LINE)?;
+        }
+        Some(Reply::Coned(_, count)) => {
+            push_count(text, count)?;
+            text.extend_from_slice(b" undone")?;
+        }
+        Some(Reply::Accepted(entry, met)) => {
+            push_accepted(text, history_of(told), entry, number)?;
+            if met.is_some() {
+                text.extend_from_slice(b"; a break stands here: `continue` goes on")?;
+            }
+        }
+    }
+    text.push(b'\n')?;
+    Ok(())
+}
+
+// Adds an answer that names events.
+fn push_events_answer(
+    text: &mut Vec<u8>,
+    told: Told<'_>,
+    answer: &Answer,
+) -> Result<(), AllocError> {
+    let history = history_of(told);
+    match answer {
+        Answer::Event(number) => {
+            push_numbered(text, history, *number)?;
+            text.push(b'\n')?;
+            Ok(())
+        }
+        Answer::Kept(numbers) => push_kept(text, history, numbers),
+        Answer::Who(path, numbers) => push_who(text, history, path, numbers),
+        Answer::Needs(number, all, links) => push_needs(text, history, *number, *all, links),
+        Answer::Dependents(number, links) => push_dependents(text, history, *number, links),
+        Answer::WouldCone(_, members) => push_cone(text, history, members, b" would be undone\n"),
+        Answer::Cone(_, members) => push_cone(text, history, members, b" undone\n"),
+        Answer::Without(path, members, left) => push_without(text, history, path, members, *left),
+        Answer::With(path, run, others) => push_with(text, told, path, *run, others),
+        Answer::Why(path, run, plan, way) => push_why(text, told, path, *run, *plan, way),
+        Answer::Order(line) => push_order(text, history, line),
+        _ => Ok(()),
+    }
+}
+
+/// An answer in words, each line with its end.
+///
+/// # Errors
+/// [`AllocError`] only where an allocation was refused.
+pub fn answer_words(alloc: Global, told: Told<'_>, answer: &Answer) -> Result<Vec<u8>, AllocError> {
+    let mut text = Vec::new(alloc);
+    match answer {
+        Answer::Nothing => {}
+        Answer::Help => text.extend_from_slice(HELP)?,
+        Answer::Lines(lines) => push_lines(&mut text, lines)?,
+        Answer::NoOutput(path) => {
+            push_no_output(&mut text, alloc, told, path)?;
+            text.push(b'\n')?;
+        }
+        Answer::NoneKept(path) => push_none_kept(&mut text, path)?,
+        Answer::NoEvent => text.extend_from_slice(
+            b"no event was accepted under this number; `kept` lists those that are kept\n",
+        )?,
+        Answer::Said(reply, number) => push_said(&mut text, alloc, told, *reply, *number)?,
+        Answer::Run(tally, paused) => push_tally(&mut text, alloc, told, *tally, *paused)?,
+        Answer::Steps(steps, ended, paused) => {
+            push_steps(&mut text, alloc, told, steps, *ended, *paused)?;
+        }
+        other => push_events_answer(&mut text, told, other)?,
+    }
+    Ok(text)
+}

@@ -1,0 +1,205 @@
+//! What questions are answered.
+use rev_cells::Cell;
+use rev_dirty::Reason;
+use rev_paths::Name;
+use std::alloc::AllocError;
+
+/// An event that an asked one rests on, or that rests on it.
+pub struct Link {
+    /// Its number.
+    pub number: u32,
+    /// Of the events that were gone out from, the one at its other end.
+    pub other: u32,
+    /// The first cell by which the later of the two depends on the earlier one; none where one is a plan and no cell is
+    /// named.
+    pub cell: Option<Cell>,
+}
+
+// Written, since a derived drop is proved again at each exit of each caller.
+impl Drop for Link {
+    fn drop(self) {
+        let Link {
+            number: _number,
+            other: _other,
+            cell: _cell,
+        } = self;
+    }
+}
+
+/// When a command ran: the numbers of its start, and of its end where it ended.
+#[derive(Clone, Copy)]
+pub struct Span {
+    /// The number of its start.
+    pub began: u32,
+    /// The number of its finish, fail or abort.
+    pub ended: Option<u32>,
+}
+
+/// A command of the recording that was said.
+#[derive(Clone, Copy)]
+pub struct Step {
+    /// Its place among the commands of the recording, from 0.
+    pub at: usize,
+    /// What the desk replied; nothing where its journal was full.
+    pub reply: Option<rev_desk::Reply>,
+}
+
+/// What came of `run`.
+#[derive(Clone, Copy)]
+pub struct Tally {
+    /// How many commands were said.
+    pub said: u64,
+    /// How many of them were refused.
+    pub refused: u64,
+    /// The first that was.
+    pub first: Option<Step>,
+}
+
+/// A reason with what it names.
+pub struct Because {
+    /// The reason, whose positions are those of the paths below.
+    pub reason: Reason,
+    /// The output that it names.
+    pub output: Option<Name>,
+    /// The input that it names.
+    pub input: Option<Name>,
+}
+
+// Written, since a derived drop is proved again at each exit of each caller.
+impl Drop for Because {
+    fn drop(self) {
+        let Because {
+            reason: _reason,
+            output: _output,
+            input: _input,
+        } = self;
+    }
+}
+
+/// A step from an edge without reasons of its own to one that it waits for.
+pub struct Wait {
+    /// The edge.
+    pub edge: u32,
+    /// The input by which the way goes on.
+    pub input: Option<Name>,
+}
+
+// Written, since a derived drop is proved again at each exit of each caller.
+impl Drop for Wait {
+    fn drop(self) {
+        let Wait {
+            edge: _edge,
+            input: _input,
+        } = self;
+    }
+}
+
+/// Why an edge runs: from the edge by inputs to one with reasons.
+pub struct Way {
+    /// The steps.
+    pub steps: Vec<Wait>,
+    /// The edge at which they end.
+    pub last: u32,
+    /// Its reasons.
+    pub reasons: Vec<Because>,
+}
+
+// Written, since a derived drop is proved again at each exit of each caller.
+impl Drop for Way {
+    fn drop(self) {
+        let Way {
+            steps: _steps,
+            last: _last,
+            reasons: _reasons,
+        } = self;
+    }
+}
+
+/// What a question is answered, by numbers of events. Its words and its JSON are made of it.
+pub enum Answer {
+    /// Nothing was asked.
+    Nothing,
+    /// The words of the prompt.
+    Help,
+    /// Lines as a report has them.
+    Lines(Vec<u8>),
+    /// This path is no output of a build statement.
+    NoOutput(Name),
+    /// No such event at this path is kept.
+    NoneKept(Name),
+    /// No event was accepted under the number or label.
+    NoEvent,
+    /// An event.
+    Event(u32),
+    /// The kept events.
+    Kept(Vec<u32>),
+    /// The events of the edge of an output, also those that were undone.
+    Who(Name, Vec<u32>),
+    /// What an event rests on, from the latest; also by way of others where all was asked for.
+    Needs(u32, bool, Vec<Link>),
+    /// What rests on an event.
+    Dependents(u32, Vec<Link>),
+    /// What a cone of an event would take.
+    WouldCone(u32, Vec<u32>),
+    /// What a cone of an event took.
+    Cone(u32, Vec<u32>),
+    /// What was taken back with the events of an output's edge, and how many events are left.
+    Without(Name, Vec<u32>, usize),
+    /// The last run of an output's edge, and the runs of other commands that overlapped it.
+    With(Name, Option<Span>, Vec<Span>),
+    /// Why an output's edge runs: its last run, where the reasons are those of a plan before it, the number of that
+    /// plan, and else the reasons of the present state.
+    Why(Name, Option<Span>, Option<u32>, Way),
+    /// The line that the word `order` of a script writes.
+    Order(Vec<u8>),
+    /// What the desk replied to a typed command, and the event that it names; no reply where the journal was full.
+    Said(Option<rev_desk::Reply>, Option<u32>),
+    /// What came of `run`, and whether a break stands.
+    Run(Tally, bool),
+    /// Commands of the recording, one by one; whether it ended, and whether a break stands.
+    Steps(Vec<Step>, bool, bool),
+}
+
+// Written, since a derived drop is proved again at each exit of each caller.
+impl Drop for Answer {
+    fn drop(self) {
+        match self {
+            Answer::Nothing => {}
+            Answer::Help => {}
+            Answer::Lines(_text) => {}
+            Answer::NoOutput(_path) => {}
+            Answer::NoneKept(_path) => {}
+            Answer::NoEvent => {}
+            Answer::Event(_number) => {}
+            Answer::Kept(_numbers) => {}
+            Answer::Who(_path, _numbers) => {}
+            Answer::Needs(_number, _all, _links) => {}
+            Answer::Dependents(_number, _links) => {}
+            Answer::WouldCone(_number, _members) => {}
+            Answer::Cone(_number, _members) => {}
+            Answer::Without(_path, _members, _left) => {}
+            Answer::With(_path, _run, _others) => {}
+            Answer::Why(_path, _run, _plan, _way) => {}
+            Answer::Order(_line) => {}
+            Answer::Said(_reply, _number) => {}
+            Answer::Run(_tally, _paused) => {}
+            Answer::Steps(_steps, _ended, _paused) => {}
+        }
+    }
+}
+
+/// An equal name, where there is one.
+pub(crate) fn copied(name: Option<&Name>) -> Result<Option<Name>, AllocError> {
+    match name {
+        Some(name) => Ok(Some(name.copy()?)),
+        None => Ok(None),
+    }
+}
+
+/// An equal cell, where there is one.
+pub(crate) fn copied_cell(cell: Option<&Cell>) -> Result<Option<Cell>, AllocError> {
+    match cell {
+        Some(cell) => Ok(Some(cell.copy()?)),
+        None => Ok(None),
+    }
+}
