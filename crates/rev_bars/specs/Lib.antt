@@ -1,0 +1,3 @@
+pub mod Links
+pub mod Racing
+pub mod Runs

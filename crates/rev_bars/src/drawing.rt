@@ -1,0 +1,351 @@
+//! A history drawn.
+use crate::cells::{first_output, push_cell};
+use crate::labels::label_bars;
+use crate::linked::{Link, links};
+use crate::places::{Places, narrow, places_of};
+use crate::racing::is_racing;
+use crate::ran::{Run, runs};
+use crate::steps::is_kept;
+use rev_events::Event;
+use rev_fields::push_number;
+use rev_held::dependence;
+use rev_history::History;
+use rev_picture::{Bar, Line, push_picture};
+use rev_races::{Race, Story, path_of};
+use rev_shown::{push_event_words, push_shown};
+use std::alloc::{AllocError, Global};
+
+// The least number of units of a bar.
+const LEAST: u32 = 4;
+// The most dependences, and the most races, that are drawn.
+const MOST: usize = 500;
+
+/// What is drawn.
+#[derive(Clone, Copy)]
+pub struct Drawing<'a> {
+    /// The history.
+    pub history: &'a History,
+    /// Its races.
+    pub races: &'a [Race],
+    /// What happened in it with the two edges of each.
+    pub stories: &'a [Story],
+    /// When each event happened, by its number, in milliseconds; nothing where that is not known of any.
+    pub times: &'a [Option<u32>],
+    /// The event whose dependences are drawn, if one is chosen.
+    pub event: Option<u32>,
+}
+
+// What is told before the name of a command that did not end well.
+fn words_of_end(history: &History, ended: Option<u32>) -> &'static [u8] {
+    let Some(ended) = ended else {
+        return b"";
+    };
+    match history.event(ended) {
+        Some(Event::Fail { .. }) => b"failed: ",
+        Some(Event::Abort { .. }) => b"stopped: ",
+        _ => b"",
+    }
+}
+
+// The bar of a run.
+fn bar_of<'a>(history: &'a History, places: &Places, races: &[Race], run: &Run) -> Bar<'a> {
+    let name: &'a [u8] = match first_output(history.graph(), run.edge) {
+        Some(name) => name.as_bytes(),
+        None => b"",
+    };
+    let left = places.left(run.began);
+    let right = match run.ended {
+        Some(ended) => places.left(ended),
+        None => places.left(history.last().saturating_add(1)),
+    };
+    let width = right.saturating_sub(left);
+    Bar {
+        row: run.job.saturating_add(1),
+        left,
+        width: if width < LEAST { LEAST } else { width },
+        words: words_of_end(history, run.ended),
+        name,
+        label: None,
+        began: run.began,
+        ended: run.ended,
+        undone: !run.kept,
+        racing: is_racing(races, run.edge),
+    }
+}
+
+// The words and the name of an event that begins and ends no command.
+fn mark_of(event: &Event) -> Option<(&'static [u8], &[u8])> {
+    match event {
+        Event::Plan(_) => Some((b"plan", b"")),
+        Event::Clean { out } => Some((b"clean ", out.as_bytes())),
+        Event::Pass { out } => Some((b"pass ", out.as_bytes())),
+        Event::Touch { path, .. } => Some((b"touch ", path.as_bytes())),
+        Event::Interrupt => Some((b"interrupt", b"")),
+        Event::Resize { .. } => Some((b"resize", b"")),
+        _ => None,
+    }
+}
+
+// Adds the bars of the events that begin and end no command.
+fn add_marks<'a>(
+    history: &'a History,
+    places: &Places,
+    bars: &mut Vec<Bar<'a>>,
+) -> Result<(), AllocError> {
+    for number in 1..history.last().saturating_add(1) {
+        if let Some(event) = history.event(number) {
+            if let Some((words, name)) = mark_of(event) {
+                bars.push(Bar {
+                    row: 0,
+                    left: places.left(number),
+                    width: LEAST,
+                    words,
+                    name,
+                    label: None,
+                    began: number,
+                    ended: Some(number),
+                    undone: !is_kept(history, number),
+                    racing: false,
+                })?;
+            }
+        }
+    }
+    Ok(())
+}
+
+// A line that is drawn: two events, and its words.
+#[derive(Drop)]
+struct Drawn {
+    one: u32,
+    other: u32,
+    words: Vec<u8>,
+    racing: bool,
+}
+
+// Adds the number of an event, and the event in words.
+fn push_numbered(text: &mut Vec<u8>, history: &History, number: u32) -> Result<(), AllocError> {
+    push_number(text, u64::from(number))?;
+    if let Some(event) = history.event(number) {
+        text.extend_from_slice(b" ")?;
+        push_event_words(text, event)?;
+    }
+    Ok(())
+}
+
+// The words of a dependence, as `12 start main.o (job 5) rests on 3 start table.h (job 1) through the mark of table.h`.
+fn link_words(alloc: Global, history: &History, link: Link) -> Result<Vec<u8>, AllocError> {
+    let mut words = Vec::new(alloc);
+    push_numbered(&mut words, history, link.other)?;
+    words.extend_from_slice(b" rests on ")?;
+    push_numbered(&mut words, history, link.one)?;
+    match dependence(history, link.one, link.other) {
+        Some(cell) => {
+            words.extend_from_slice(b" through ")?;
+            push_cell(&mut words, history.graph(), cell)?;
+        }
+        None => words.extend_from_slice(b", since a plan looks at everything")?,
+    }
+    Ok(words)
+}
+
+// Adds the first of some dependences.
+fn add_links(
+    alloc: Global,
+    history: &History,
+    links: &[Link],
+    all: &mut Vec<Drawn>,
+) -> Result<(), AllocError> {
+    for link in links.iter().take(MOST) {
+        all.push(Drawn {
+            one: link.one,
+            other: link.other,
+            words: link_words(alloc, history, *link)?,
+            racing: false,
+        })?;
+    }
+    Ok(())
+}
+
+// Whether a race is of the same two edges as the one before it.
+fn is_same_pair(race: &Race, before: Option<&Race>) -> bool {
+    match before {
+        Some(before) => before.maker == race.maker && before.user == race.user,
+        None => false,
+    }
+}
+
+// The words of a race, as `race of 6 finish version.h and 12 start main.o (job 5): version.h`.
+fn race_words(
+    alloc: Global,
+    history: &History,
+    race: &Race,
+    one: u32,
+    other: u32,
+) -> Result<Vec<u8>, AllocError> {
+    let mut words = Vec::new(alloc);
+    words.extend_from_slice(b"race of ")?;
+    push_numbered(&mut words, history, one)?;
+    words.extend_from_slice(b" and ")?;
+    push_numbered(&mut words, history, other)?;
+    if let Some(path) = path_of(history, race) {
+        words.extend_from_slice(b": ")?;
+        push_shown(&mut words, path.as_bytes())?;
+    }
+    Ok(words)
+}
+
+// Adds the line of a race of which both commands ran.
+fn add_race(
+    alloc: Global,
+    history: &History,
+    race: &Race,
+    story: &Story,
+    all: &mut Vec<Drawn>,
+) -> Result<(), AllocError> {
+    let (Some(maker), Some(user)) = (story.maker, story.user) else {
+        return Ok(());
+    };
+    let one = maker.ended.unwrap_or(maker.began);
+    let other = user.began;
+    let words = race_words(alloc, history, race, one, other)?;
+    all.push(Drawn {
+        one,
+        other,
+        words,
+        racing: true,
+    })?;
+    Ok(())
+}
+
+// Adds the lines of the first races, of each two edges the first path.
+fn add_races(alloc: Global, drawing: &Drawing<'_>, all: &mut Vec<Drawn>) -> Result<(), AllocError> {
+    let mut before = None;
+    for (place, race) in drawing.races.iter().enumerate() {
+        let is_again = is_same_pair(race, before);
+        before = Some(race);
+        if !is_again && all.len() < MOST {
+            if let Some(story) = drawing.stories.get(place) {
+                add_race(alloc, drawing.history, race, story, all)?;
+            }
+        }
+    }
+    Ok(())
+}
+
+// The lines with their places: the words of each in a row of its own, below those of the jobs.
+fn lines_of<'a>(
+    alloc: Global,
+    places: &Places,
+    all: &'a [Drawn],
+) -> Result<Vec<Line<'a>>, AllocError> {
+    let mut lines = Vec::new(alloc);
+    for (place, drawn) in all.iter().enumerate() {
+        lines.push(Line {
+            one: drawn.one,
+            one_left: places.left(drawn.one),
+            one_row: places.row(drawn.one),
+            other: drawn.other,
+            other_left: places.left(drawn.other),
+            other_row: places.row(drawn.other),
+            words: &drawn.words,
+            words_row: places.count.saturating_add(narrow(place)),
+            racing: drawn.racing,
+        })?;
+    }
+    Ok(lines)
+}
+
+// Adds a number and words.
+fn push_counted(text: &mut Vec<u8>, number: u64, words: &[u8]) -> Result<(), AllocError> {
+    push_number(text, number)?;
+    text.extend_from_slice(words)
+}
+
+// The words above all.
+fn caption(
+    alloc: Global,
+    drawing: &Drawing<'_>,
+    runs: usize,
+    links: usize,
+) -> Result<Vec<u8>, AllocError> {
+    let mut text = Vec::new(alloc);
+    push_counted(&mut text, runs as u64, b" commands, ")?;
+    push_counted(
+        &mut text,
+        drawing.history.kept().len() as u64,
+        b" kept events, ",
+    )?;
+    text.extend_from_slice(if drawing.times.is_empty() {
+        b"in their order"
+    } else {
+        b"by time"
+    })?;
+    text.extend_from_slice(b"; red: in a race; hollow: undone")?;
+    if let Some(event) = drawing.event {
+        text.extend_from_slice(b"; lines: what event ")?;
+        push_number(&mut text, u64::from(event))?;
+        text.extend_from_slice(b" rests on, and what rests on it")?;
+    }
+    if links > MOST {
+        text.extend_from_slice(b" (the first 500 of ")?;
+        push_counted(&mut text, links as u64, b")")?;
+    }
+    Ok(text)
+}
+
+// All bars, with their labels.
+fn bars_of<'a>(
+    alloc: Global,
+    drawing: &Drawing<'a>,
+    places: &Places,
+    runs: &[Run],
+) -> Result<Vec<Bar<'a>>, AllocError> {
+    let mut bars = Vec::new(alloc);
+    add_marks(drawing.history, places, &mut bars)?;
+    for run in runs {
+        bars.push(bar_of(drawing.history, places, drawing.races, run))?;
+    }
+    label_bars(alloc, &mut bars, places.count, places.width)?;
+    Ok(bars)
+}
+
+// How many units a picture of so many rows is high.
+fn height_of(rows: u32, lines: usize) -> u32 {
+    rows.saturating_add(narrow(lines))
+        .saturating_mul(20)
+        .saturating_add(32)
+}
+
+/// Adds the picture of a history as one element of SVG.
+///
+/// # Errors
+/// [`AllocError`] only where an allocation was refused.
+pub fn push_drawing(
+    alloc: Global,
+    text: &mut Vec<u8>,
+    drawing: &Drawing<'_>,
+) -> Result<(), AllocError> {
+    let history = drawing.history;
+    let runs = runs(alloc, history)?;
+    let places = places_of(alloc, history.last(), &runs, drawing.times)?;
+    let bars = bars_of(alloc, drawing, &places, &runs)?;
+    let links = match drawing.event {
+        Some(event) => links(alloc, history, event)?,
+        None => Vec::new(alloc),
+    };
+    let mut all = Vec::new(alloc);
+    add_races(alloc, drawing, &mut all)?;
+    add_links(alloc, history, &links, &mut all)?;
+    let lines = lines_of(alloc, &places, &all)?;
+    let caption = caption(alloc, drawing, runs.len(), links.len())?;
+    let height = height_of(places.count, lines.len());
+    push_picture(
+        text,
+        places.width,
+        height,
+        places.count,
+        &caption,
+        &bars,
+        &lines,
+    )
+}

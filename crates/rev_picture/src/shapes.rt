@@ -1,0 +1,254 @@
+//! Bars of edges, and lines between events.
+ghost use Rattle.std.specs.Prelude.{◌≡◌, ◌++◌, codes, decimal, OnOk};
+ghost use Rattle.std.specs.Option.{option_copied};
+ghost use Rattle.rev_picture.specs.Picture.{attribute, bar_text, bar_title, kind, label, label_left, line_text, line_words, look, rect, span, stroke, tall, text_at, top_of};
+
+use crate::escape::{push_escaped, push_escaped_words};
+use rev_fields::push_number;
+use std::alloc::AllocError;
+
+/// An edge that ran, or an event without a job.
+#[derive(Clone, Copy, Debug, PartialEq, Eq)]
+pub struct Bar<'a> {
+    /// The row that it stands in: 0 for what has no job, and one more than the job for what has one.
+    pub row: u32,
+    /// How many units it begins from the left edge.
+    pub left: u32,
+    /// How many units it is wide.
+    pub width: u32,
+    /// What is told before its name.
+    pub words: &'a [u8],
+    /// Its name, as the manifest has it.
+    pub name: &'a [u8],
+    /// The part of the name that is written beside it, if any is.
+    pub label: Option<&'a [u8]>,
+    /// The number of the event that began it.
+    pub began: u32,
+    /// The number of the event that ended it, which is the same for what takes no time; none where it still runs.
+    pub ended: Option<u32>,
+    /// Whether it is undone.
+    pub undone: bool,
+    /// Whether it is in a race.
+    pub racing: bool,
+}
+
+/// A dependence of one event on another, or a race of the two.
+#[derive(Clone, Copy, Debug, PartialEq, Eq)]
+pub struct Line<'a> {
+    /// The number of the event that is depended on.
+    pub one: u32,
+    /// How many units it is from the left edge.
+    pub one_left: u32,
+    /// Its row.
+    pub one_row: u32,
+    /// The number of the event that depends on it.
+    pub other: u32,
+    /// How many units that is from the left edge.
+    pub other_left: u32,
+    /// Its row.
+    pub other_row: u32,
+    /// What is told of it, in which names are shown already.
+    pub words: &'a [u8],
+    /// The row in which that is written.
+    pub words_row: u32,
+    /// Whether it is a race.
+    pub racing: bool,
+}
+
+// How far below the top edge a row begins.
+pub(crate) fn top_of(row: u32) -> u64
+    ensures { result ≡ top_of row }
+{
+    24 + 20 * u64::from(row)
+}
+
+// Adds an attribute whose value is a number.
+#[tactic(auto, unfolding(crate::specs::Picture::attribute))]
+pub(crate) fn push_attribute(text: &mut Vec<u8>, name: &[u8], value: u64) -> Result<(), AllocError>
+    ensures { OnOk result (text.new.items ≡ text.old.items ++ attribute name.now value) }
+{
+    text.extend_from_slice(b" ")?;
+    text.extend_from_slice(name)?;
+    text.extend_from_slice(b"=\"")?;
+    push_number(text, value)?;
+    text.extend_from_slice(b"\"")
+}
+
+// Adds how a bar looks.
+fn push_look(text: &mut Vec<u8>, undone: bool, racing: bool) -> Result<(), AllocError>
+    ensures { OnOk result (text.new.items ≡ text.old.items ++ look undone racing) }
+{
+    match (undone, racing) {
+        (false, false) => text.extend_from_slice(b"bar"),
+        (false, true) => text.extend_from_slice(b"bar racing"),
+        (true, false) => text.extend_from_slice(b"bar undone"),
+        (true, true) => text.extend_from_slice(b"bar undone racing"),
+    }
+}
+
+// Adds words and a number.
+fn push_counted(text: &mut Vec<u8>, words: &[u8], number: u32) -> Result<(), AllocError>
+    ensures { OnOk result (text.new.items ≡ text.old.items ++ words.now ++ decimal number) }
+{
+    text.extend_from_slice(words)?;
+    push_number(text, u64::from(number))
+}
+
+// Adds the events of a bar.
+fn push_span(text: &mut Vec<u8>, began: u32, ended: Option<u32>) -> Result<(), AllocError>
+    ensures { OnOk result (text.new.items ≡ text.old.items ++ span began ended) }
+{
+    match ended {
+        None => {
+            push_counted(text, b", event ", began)?;
+            text.extend_from_slice(b", not ended")
+        }
+        Some(ended) if ended == began => push_counted(text, b", event ", began),
+        Some(ended) => {
+            push_counted(text, b", events ", began)?;
+            push_counted(text, b" to ", ended)
+        }
+    }
+}
+
+// Adds what is told of a bar to who points at it.
+#[tactic(auto, unfolding(crate::specs::Picture::bar_title))]
+fn push_bar_title(text: &mut Vec<u8>, bar: &Bar<'_>) -> Result<(), AllocError>
+    ensures { OnOk result (text.new.items ≡ text.old.items ++ bar_title bar.now) }
+{
+    text.extend_from_slice(b"\"><title>")?;
+    push_escaped_words(text, bar.words)?;
+    push_escaped(text, bar.name)?;
+    push_span(text, bar.began, bar.ended)?;
+    text.extend_from_slice(b"</title>")
+}
+
+// Adds the height of a bar, and the end of its tag.
+#[tactic(auto, unfolding(crate::specs::Picture::tall))]
+fn push_tall(text: &mut Vec<u8>) -> Result<(), AllocError>
+    ensures { OnOk result (text.new.items ≡ text.old.items ++ tall) }
+{
+    text.extend_from_slice(b" height=\"14\"/>")
+}
+
+// Adds a bar at a place.
+#[tactic(auto, unfolding(crate::specs::Picture::rect))]
+fn push_rect(text: &mut Vec<u8>, x: u64, y: u64, width: u64) -> Result<(), AllocError>
+    ensures { OnOk result (text.new.items ≡ text.old.items ++ rect x y width) }
+{
+    text.extend_from_slice(b"<rect")?;
+    push_attribute(text, b"x", x)?;
+    push_attribute(text, b"y", y)?;
+    push_attribute(text, b"width", width)?;
+    push_tall(text)
+}
+
+// Adds the beginning of a text at a place.
+#[tactic(auto, unfolding(crate::specs::Picture::text_at))]
+pub(crate) fn push_text_at(text: &mut Vec<u8>, x: u64, y: u64) -> Result<(), AllocError>
+    ensures { OnOk result (text.new.items ≡ text.old.items ++ text_at x y) }
+{
+    text.extend_from_slice(b"<text")?;
+    push_attribute(text, b"x", x)?;
+    push_attribute(text, b"y", y)?;
+    text.extend_from_slice(b">")
+}
+
+// Adds what is written beside a bar, if anything.
+fn push_label(
+    text: &mut Vec<u8>,
+    x: u64,
+    y: u64,
+    words: &[u8],
+    part: Option<&[u8]>,
+) -> Result<(), AllocError>
+    ensures { OnOk result (text.new.items ≡ text.old.items ++ label x y words.now (option_copied part.entry)) }
+{
+    match part {
+        None => Ok(()),
+        Some(part) => {
+            push_text_at(text, x, y)?;
+            push_escaped_words(text, words)?;
+            push_escaped(text, part)?;
+            text.extend_from_slice(b"</text>")
+        }
+    }
+}
+
+// Where the label of a bar begins: in the bar, or behind it where that is narrow.
+fn label_left(bar: &Bar<'_>) -> u64
+    ensures { result ≡ label_left bar.now }
+{
+    let left = u64::from(bar.left) + 3;
+    if bar.width < 8 {
+        return left + u64::from(bar.width);
+    }
+    left
+}
+
+/// Adds an edge as an element of SVG: a bar in its row, with its name and events for who points at it, and its label.
+///
+/// # Errors
+/// [`AllocError`] only where an allocation was refused.
+#[tactic(auto, unfolding(crate::specs::Picture::bar_text))]
+pub fn push_bar(text: &mut Vec<u8>, bar: &Bar<'_>) -> Result<(), AllocError>
+    ensures { OnOk result (text.new.items ≡ text.old.items ++ bar_text bar.now) }
+{
+    let top = top_of(bar.row);
+    let left = u64::from(bar.left);
+    text.extend_from_slice(b"<g class=\"")?;
+    push_look(text, bar.undone, bar.racing)?;
+    push_bar_title(text, bar)?;
+    push_rect(text, left, top + 3, u64::from(bar.width))?;
+    push_label(text, label_left(bar), top + 14, bar.words, bar.label)?;
+    text.extend_from_slice(b"</g>\n")
+}
+
+// Adds how a line begins.
+fn push_kind(text: &mut Vec<u8>, racing: bool) -> Result<(), AllocError>
+    ensures { OnOk result (text.new.items ≡ text.old.items ++ kind racing) }
+{
+    if racing {
+        return text.extend_from_slice(b"<g class=\"race\"");
+    }
+    text.extend_from_slice(b"<g class=\"line\"")
+}
+
+// Adds a line between two places.
+#[tactic(auto, unfolding(crate::specs::Picture::stroke))]
+fn push_stroke(text: &mut Vec<u8>, line: &Line<'_>) -> Result<(), AllocError>
+    ensures { OnOk result (text.new.items ≡ text.old.items ++ stroke line.now) }
+{
+    text.extend_from_slice(b"><line")?;
+    push_attribute(text, b"x1", u64::from(line.one_left))?;
+    push_attribute(text, b"y1", top_of(line.one_row) + 10)?;
+    push_attribute(text, b"x2", u64::from(line.other_left))?;
+    push_attribute(text, b"y2", top_of(line.other_row) + 10)?;
+    text.extend_from_slice(b"/>")
+}
+
+// Adds the words of a line.
+#[tactic(auto, unfolding(crate::specs::Picture::line_words))]
+fn push_line_words(text: &mut Vec<u8>, line: &Line<'_>) -> Result<(), AllocError>
+    ensures { OnOk result (text.new.items ≡ text.old.items ++ line_words line.now) }
+{
+    push_text_at(text, 64, top_of(line.words_row) + 14)?;
+    push_escaped_words(text, line.words)?;
+    text.extend_from_slice(b"</text></g>\n")
+}
+
+/// Adds a dependence or a race as an element of SVG: a line between two events, with their numbers, and its words
+/// below the rows of jobs.
+///
+/// # Errors
+/// [`AllocError`] only where an allocation was refused.
+#[tactic(auto, unfolding(crate::specs::Picture::line_text))]
+pub fn push_line(text: &mut Vec<u8>, line: &Line<'_>) -> Result<(), AllocError>
+    ensures { OnOk result (text.new.items ≡ text.old.items ++ line_text line.now) }
+{
+    push_kind(text, line.racing)?;
+    push_attribute(text, b"data-one", u64::from(line.one))?;
+    push_attribute(text, b"data-other", u64::from(line.other))?;
+    push_stroke(text, line)?;
+    push_line_words(text, line)
+}
