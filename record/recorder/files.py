@@ -1,4 +1,5 @@
-"""Writes a recording: the manifest's files, the trace, its times, the script, and a script that replays them."""
+"""Writes a recording: the manifest's files, the trace, its times, other names of outputs, the script, and a script that
+replays them."""
 
 import os
 import stat
@@ -9,7 +10,7 @@ from .replaying import replay_text
 
 MOST_LANES = 63
 _BUFFER = 1 << 18
-_TAKEN = (b"..", b"trace", b"script", b"replay", b"times")
+_TAKEN = (b"..", b"trace", b"script", b"replay", b"times", b"names")
 
 
 def write_recording(it, folder, with_lanes, program, at=None):
@@ -27,6 +28,9 @@ def write_recording(it, folder, with_lanes, program, at=None):
     with _open(folder, b"times") as file:
         file.write(b"rebug-times 1\n")
         file.writelines(times(it.found.times, lanes))
+    with _open(folder, b"names") as file:
+        file.write(b"rebug-names 1\n")
+        file.writelines(line(path, it.names[path]) + b"\n" for path in sorted(it.names))
     with _open(folder, b"script") as file:
         file.writelines(text + b"\n" for text in script)
     words = ["--manifest", os.fsdecode(names[0]), "--trace", "trace"]

@@ -7,6 +7,7 @@ from .fields import canonical, shown
 from .limits import place_of
 from .logs import new_entries
 from .openings import stamps_of_what_was_built
+from .other_names import other_names
 from .rules import Build
 from .sequence import EdgeRun, Sequence, sequence
 from .words import MOST_JOBS
@@ -21,7 +22,8 @@ _LONGEST_BEGINNING = 500 * _NANOSECONDS
 
 @dataclass
 class Recording:
-    """Everything that is written of one build. `remarks` are notes that ask for nothing."""
+    """Everything that is written of one build. `names` has other names of outputs, `remarks` are notes that ask for
+    nothing."""
 
     manifest: object
     jobs: int
@@ -30,6 +32,7 @@ class Recording:
     built: dict
     deps: dict
     found: Sequence = None
+    names: dict = field(default_factory=dict)
     notes: list = field(default_factory=list)
     remarks: list = field(default_factory=list)
 
@@ -46,6 +49,7 @@ def record(folder, manifest, words, jobs, before, after, ran):
         it.notes.append(f"this Ninja's log (version {before.log.version}) has hashes that the recorder does not "
                         f"know: its "
                         "commands are taken to be the manifest's")
+    it.names = other_names(folder, manifest, after.stamps)
     _note_what_is_outside(it)
     it.stamps.update(stamps_of_what_was_built(it, before))
     runs, begin = _runs(it, before, after, ran)

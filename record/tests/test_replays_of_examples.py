@@ -103,6 +103,16 @@ def _plain_quote_test(folder):
     return test
 
 
+def _quoted(text):
+    """The indented lines of a page, without the blocks below a comment, which `tests/pages` runs and compares."""
+    lines, is_run = [], False
+    for line in text.splitlines():
+        is_run = line.startswith("<!-- ") or is_run and (not line or line.startswith("    "))
+        if line.startswith("    ") and not is_run:
+            lines.append(line[4:])
+    return lines
+
+
 def _quote_test(readme):
     """Each indented line of a README that reads as an answer stands in a report or a trace beside it."""
 
@@ -110,8 +120,7 @@ def _quote_test(readme):
         files = [it for name in ("report", "trace") for it in readme.parent.glob(f"*/{name}")]
         known = {line for it in files for line in it.read_text().splitlines()}
         words = ("why ", "mark ", "job ", "dependents ", "start ", "finish ", "fail ", "kept ", "stamp ")
-        quoted = [line[4:] for line in readme.read_text().splitlines() if line.startswith("    ")]
-        answers = [it for it in quoted if it.startswith(words) or it[:1].isdigit()]
+        answers = [it for it in _quoted(readme.read_text()) if it.startswith(words) or it[:1].isdigit()]
         self.assertGreater(len(answers), 5)
         self.assertEqual([it for it in answers if it not in known], [])
 

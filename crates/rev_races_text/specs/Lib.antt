@@ -2,3 +2,4 @@ pub mod Counts
 pub mod Happened
 pub mod Lines
 pub mod Places
+pub mod Hints

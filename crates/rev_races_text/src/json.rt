@@ -6,8 +6,8 @@ use rev_shown::push_shown;
 use serde_json::{Value, json};
 use std::alloc::{AllocError, Global};
 
-// A name as people read it.
-fn shown_text(alloc: Global, name: &[u8]) -> Result<String, AllocError> {
+/// A name as people read it.
+pub(crate) fn shown_text(alloc: Global, name: &[u8]) -> Result<String, AllocError> {
     let mut text = Vec::new(alloc);
     push_shown(&mut text, name)?;
     String::from_utf8_lossy(alloc, &text)
@@ -48,8 +48,8 @@ fn line_value(sources: &Sources<'_>, edge: u32) -> Value {
     }
 }
 
-// An edge with its place, and when it ran.
-fn edge_value(
+/// An edge with its place, and when it ran.
+pub(crate) fn edge_value(
     alloc: Global,
     sources: &Sources<'_>,
     edge: u32,
@@ -112,8 +112,12 @@ fn unjudged_value(alloc: Global, sources: &Sources<'_>, edge: u32) -> Result<Val
     json!(in alloc; {"kind": "not judged", "user": edge})
 }
 
-// Adds a value and a line's end.
-fn push_value(alloc: Global, text: &mut Vec<u8>, value: &Value) -> Result<(), AllocError> {
+/// Adds a value and a line's end.
+pub(crate) fn push_value(
+    alloc: Global,
+    text: &mut Vec<u8>,
+    value: &Value,
+) -> Result<(), AllocError> {
     let line = value.to_string(alloc)?;
     text.extend_from_slice(line.as_bytes())?;
     text.extend_from_slice(b"\n")

@@ -4,11 +4,13 @@
 mod counts;
 mod group;
 mod happened;
+mod hints;
 mod json;
 mod places;
 mod text;
 mod told;
 
+pub use hints::{Hint, hints_json, hints_text};
 pub use json::races_json;
 pub use places::{Sources, push_edge, push_place, push_placed};
 pub use text::{SOMETHING, races_text, status};

@@ -1,0 +1,12 @@
+//! Patches of manifests: order-only inputs that are added to build statements, as `diff -u` has it.
+#![tactic(auto)]
+
+mod changes;
+mod hunks;
+mod lines;
+mod made_by;
+mod statement;
+
+pub use changes::{Addition, Change, changed_text, changes_of};
+pub use hunks::patch_text;
+pub use made_by::{Author, author_of};

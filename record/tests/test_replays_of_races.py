@@ -1,0 +1,63 @@
+"""Real projects race in nothing; with one dependency taken out, in exactly what that ordered."""
+
+import json
+import os
+import pathlib
+import subprocess
+import unittest
+
+import builds
+import projects
+import taken
+from builds import missing_tools
+
+BUILT = pathlib.Path(__file__).resolve().parents[2] / "crates/rebug_ask/out/rebug_ask"
+
+
+def program():
+    return os.environ.get("REBUG_ASK_PROGRAM") or str(BUILT)
+
+
+class RacesOfProjects(unittest.TestCase):
+    def races(self, recording, tools):
+        """The races of a recording, as (maker, user), and the status."""
+        lacking = missing_tools(*tools)
+        if not os.access(program(), os.X_OK):
+            lacking = f"the program is not built: there is no {program()}"
+        if lacking:
+            self.skipTest(lacking)
+        chain, name = recording
+        done = subprocess.run([program(), "races", "--json", builds.made(chain) / name], capture_output=True)
+        found = [it for it in map(json.loads, done.stdout.splitlines()) if it["kind"] != "not judged"]
+        self.assertEqual(done.stderr, b"")
+        self.assertEqual({it["kind"] for it in found} - {"race"}, set())
+        return sorted({(it["maker"]["output"], it["user"]["output"]) for it in found}), done.returncode
+
+
+def _shown(name):
+    """A name as the program shows it."""
+    text = "".join(chr(it) if 32 < it < 127 else rf"\x{it:02x}" for it in name.encode())
+    return text.replace(r"\x20", r"\s")
+
+
+def _taken(chain, tools, due):
+    def test(self):
+        due_shown = sorted((_shown(maker), _shown(user)) for maker, user in due)
+        self.assertEqual(self.races((chain, "passed"), tools), (due_shown, 4 if due else 0))
+
+    return test
+
+
+def _whole(chain, name):
+    return lambda self: self.assertEqual(self.races((chain, name), projects.PROJECTS[chain][1]), ([], 0))
+
+
+for _chain, (_, _tools, _due) in taken.RECORDED.items():
+    setattr(RacesOfProjects, f"test_{_chain}", _taken(_chain, _tools, _due))
+for _chain, (_, _, _names) in projects.PROJECTS.items():
+    for _name in _names:
+        setattr(RacesOfProjects, f"test_{_chain}_{_name}", _whole(_chain, _name))
+
+
+if __name__ == "__main__":
+    unittest.main()
