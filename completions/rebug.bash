@@ -4,16 +4,18 @@ _rebug() {
   if [ "$first" = --try ]; then first=${COMP_WORDS[2]} place=2; fi
   COMPREPLY=()
   if [ "$COMP_CWORD" -le "$place" ]; then
-    COMPREPLY=($(compgen -W "record help races replay ask --try --manifest --trace --script --workers --migrate --help --version" -- "$word"))
+    COMPREPLY=($(compgen -W "record help races replay ask picture --try --manifest --trace --script --workers --migrate --help --version" -- "$word"))
     return
   fi
   if [ "$first" = help ]; then
-    COMPREPLY=($(compgen -W "races replay ask" -- "$word"))
+    COMPREPLY=($(compgen -W "races replay ask picture" -- "$word"))
     return
   fi
   case $word in -*) ;; *) return ;; esac
   case $first in
-    races) COMPREPLY=($(compgen -W "--all --json" -- "$word")) ;;
+    races) COMPREPLY=($(compgen -W "--all --json --mend --witness" -- "$word")) ;;
+    ask) COMPREPLY=($(compgen -W "--json" -- "$word")) ;;
+    picture) COMPREPLY=($(compgen -W "--html --event" -- "$word")) ;;
     -*) COMPREPLY=($(compgen -W "--try --manifest --trace --script --workers --migrate --help --version" -- "$word")) ;;
   esac
 }

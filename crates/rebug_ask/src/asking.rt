@@ -4,10 +4,10 @@ ghost use Rattle.std.specs.Prelude.{◌≤◌, length};
 use crate::fault::ProgramFault;
 use crate::files::{place_of, read_manifest, read_trace};
 use crate::told::{leave, manifest_of, refuse, write};
+use rev_answers::{Told, answer_json, answer_words, fault_json, opening_json, opening_words};
 use rev_desk::Desk;
-use rev_fields::push_number;
 use rev_manifest::Manifest;
-use rev_prompt::{LineFault, Reply, Session, answer, question_of, texts_of};
+use rev_prompt::{LineFault, Question, Session, answer_to, question_of, texts_of};
 use rev_recording::{RecordingFault, open};
 use rev_script::turns_of;
 use rev_trace::Trace;
@@ -37,48 +37,76 @@ impl From<AllocError> for Ended {
     }
 }
 
-// The first line: how many commands, edges and lanes the recording has.
-fn opening_text(
-    alloc: Global,
-    commands: usize,
-    edges: u32,
-    lanes: u32,
-) -> Result<Vec<u8>, AllocError> {
-    let mut text = Vec::new(alloc);
-    push_number(&mut text, commands as u64)?;
-    text.extend_from_slice(b" commands, ")?;
-    push_number(&mut text, u64::from(edges))?;
-    text.extend_from_slice(b" edges, lanes: ")?;
-    push_number(&mut text, u64::from(lanes))?;
-    text.extend_from_slice(b"; `help` lists the words\n")?;
-    Ok(text)
+// What is written for a line, how many commands of the recording were said by then, and whether this is the end.
+#[derive(Drop)]
+struct Answered {
+    text: Vec<u8>,
+    taken: usize,
+    ends: bool,
 }
 
-// A reply that changes nothing.
-fn told(alloc: Global, session: &Session<'_>, text: &[u8]) -> Result<Reply, AllocError> {
-    Ok(Reply {
-        text: Vec::from_slice(alloc, text)?,
+// What is written for a line that asks nothing.
+fn told(
+    alloc: Global,
+    session: &Session<'_>,
+    text: &[u8],
+    json: bool,
+) -> Result<Answered, AllocError> {
+    let text = if json {
+        fault_json(alloc, text)?
+    } else {
+        Vec::from_slice(alloc, text)?
+    };
+    Ok(Answered {
+        text,
         taken: session.taken,
         ends: false,
     })
 }
 
-// What a line is answered.
+// What is written for a question.
+fn written_for(
+    alloc: Global,
+    session: &Session<'_>,
+    desk: &mut Desk,
+    question: &Question,
+    json: bool,
+) -> Result<Answered, AllocError> {
+    let reply = answer_to(alloc, session, desk, question)?;
+    let told = Told {
+        session,
+        desk,
+        question,
+    };
+    let text = if json {
+        answer_json(alloc, told, &reply.answer)?
+    } else {
+        answer_words(alloc, told, &reply.answer)?
+    };
+    Ok(Answered {
+        text,
+        taken: reply.taken,
+        ends: reply.ends,
+    })
+}
+
+// What is written for a line.
 fn reply_to(
     alloc: Global,
     session: &Session<'_>,
     desk: &mut Desk,
     line: &[u8],
-) -> Result<Reply, AllocError> {
+    json: bool,
+) -> Result<Answered, AllocError> {
     let texts = match texts_of(alloc, line) {
         Ok(texts) => texts,
         Err(LineFault::Memory) => return Err(AllocError),
-        Err(LineFault::OpenQuote) => return told(alloc, session, OPEN_QUOTE),
+        Err(LineFault::OpenQuote) => return told(alloc, session, OPEN_QUOTE, json),
     };
     match question_of(alloc, &texts) {
-        Ok(question) => answer(alloc, session, desk, &question),
+        Ok(question) => written_for(alloc, session, desk, &question, json),
         Err(rev_fields::LineFault::Memory) => Err(AllocError),
-        Err(_) => told(alloc, session, NOT_ASKED),
+        Err(_) => told(alloc, session, NOT_ASKED, json),
     }
 }
 
@@ -96,21 +124,32 @@ fn turn<R: Input + Print + AllocGlobal>(
     rt: &R,
     session: &mut Session<'_>,
     desk: &mut Desk,
+    json: bool,
 ) -> Result<bool, Ended> {
     let mut line = String::new(rt.alloc());
     match rt.read_line(&mut line) {
         Ok(0) => return Ok(false),
         Ok(_) => {}
         Err(error) if error.kind() == ErrorKind::InvalidData => {
-            put(rt, NO_TEXT)?;
+            let no_text = told(rt.alloc(), session, NO_TEXT, json)?;
+            put(rt, &no_text.text)?;
             return Ok(true);
         }
         Err(_) => return Err(Ended::Read),
     }
-    let reply = reply_to(rt.alloc(), session, desk, line.trim().as_bytes())?;
+    let reply = reply_to(rt.alloc(), session, desk, line.trim().as_bytes(), json)?;
     session.taken = reply.taken;
     put(rt, &reply.text)?;
     Ok(!reply.ends)
+}
+
+/// How a recording is asked.
+#[derive(Clone, Copy)]
+pub struct Manner {
+    /// Whether a prompt stands before each line.
+    pub prompts: bool,
+    /// Whether a JSON object a line is written in place of words.
+    pub json: bool,
 }
 
 // Answers lines of the standard input up to its end.
@@ -118,13 +157,13 @@ fn converse<R: Input + Print + AllocGlobal>(
     rt: &R,
     session: &mut Session<'_>,
     desk: &mut Desk,
-    is_terminal: bool,
+    manner: Manner,
 ) -> Result<(), Ended> {
     for _ in 0..u64::MAX {
-        if is_terminal {
+        if manner.prompts {
             put(rt, PROMPT)?;
         }
-        if !turn(rt, session, desk)? {
+        if !turn(rt, session, desk, manner.json)? {
             break;
         }
     }
@@ -137,7 +176,7 @@ fn asked<R: Input + Print + AllocGlobal>(
     manifest: &Manifest,
     trace: &Trace,
     desk: &mut Desk,
-    is_terminal: bool,
+    manner: Manner,
 ) -> Result<(), Ended>
     requires { length trace.now.lanes.items ≤ Trace.MAX_LANES }
 {
@@ -150,9 +189,14 @@ fn asked<R: Input + Print + AllocGlobal>(
         lane: lanes,
         builds: manifest.builds(),
     };
-    let text = opening_text(alloc, turns.len(), desk.history().graph().edges(), lanes)?;
+    let edges = desk.history().graph().edges();
+    let text = if manner.json {
+        opening_json(alloc, turns.len(), edges, lanes)?
+    } else {
+        opening_words(alloc, turns.len(), edges, lanes)?
+    };
     put(rt, &text)?;
-    converse(rt, &mut session, desk, is_terminal)
+    converse(rt, &mut session, desk, manner)
 }
 
 // Answers lines about a trace that was read.
@@ -160,7 +204,7 @@ fn asked_of<R: Input + Print + AllocGlobal>(
     rt: &R,
     manifest: &Manifest,
     trace: &Trace,
-    is_terminal: bool,
+    manner: Manner,
 ) -> Result<(), Ended>
     requires { length trace.now.lanes.items ≤ Trace.MAX_LANES }
 {
@@ -168,7 +212,7 @@ fn asked_of<R: Input + Print + AllocGlobal>(
         Ok(desk) => desk,
         Err(fault) => return Err(Ended::Recording(fault)),
     };
-    let ended = asked(rt, manifest, trace, &mut desk, is_terminal);
+    let ended = asked(rt, manifest, trace, &mut desk, manner);
     leave(desk);
     ended
 }
@@ -178,14 +222,14 @@ fn asked_about<R: Input + Print + AllocGlobal>(
     rt: &R,
     files: &[(Vec<u8>, Vec<u8>)],
     trace: &[u8],
-    is_terminal: bool,
+    manner: Manner,
 ) -> Result<(), Ended> {
     let manifest = match manifest_of(rt.alloc(), files) {
         Ok(manifest) => manifest,
         Err(fault) => return Err(Ended::Recording(fault)),
     };
     match rev_trace::read(rt.alloc(), trace) {
-        Ok(trace) => asked_of(rt, &manifest, &trace, is_terminal),
+        Ok(trace) => asked_of(rt, &manifest, &trace, manner),
         Err(rev_fields::ReadFault::Numbered(fault)) => {
             Err(Ended::Recording(RecordingFault::Trace(fault)))
         }
@@ -197,12 +241,12 @@ fn asked_about<R: Input + Print + AllocGlobal>(
 pub fn ask<'a, R: Files + Input + Print + Eprint + AllocGlobal>(
     rt: &R,
     recording: &'a str,
-    is_terminal: bool,
+    manner: Manner,
 ) -> Result<u8, ProgramFault<'a>> {
     let place = place_of(rt, recording);
     let files = read_manifest(rt, recording, place)?;
     let trace = read_trace(rt, recording, place)?;
-    match asked_about(rt, &files, &trace, is_terminal) {
+    match asked_about(rt, &files, &trace, manner) {
         Ok(()) => Ok(0),
         Err(Ended::Write) => Err(ProgramFault::Write),
         Err(Ended::Read) => Err(ProgramFault::Read),

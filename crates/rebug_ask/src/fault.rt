@@ -52,6 +52,9 @@ pub enum ProgramFault<'a> {
     /// The trace of a recording could not be read. The reason stands on a line of its own.
     #[error("cannot read the trace of {0}\nrebug: {1}")]
     Trace(&'a str, Unread),
+    /// The file of a picture could not be written.
+    #[error("cannot write {0}")]
+    Out(&'a str),
 }
 
 impl From<AllocError> for ProgramFault<'_> {

@@ -110,6 +110,31 @@ pub fn read_trace<'a, R: Files + AllocGlobal>(
     }
 }
 
+/// The bytes of the file that has the times of a recording, where it is there and can be read.
+pub fn read_times<R: Files + AllocGlobal>(
+    rt: &R,
+    place: Place<'_>,
+) -> Result<Option<Vec<u8>>, AllocError> {
+    match read_file(rt, place, "times", TRACE_BYTES) {
+        Ok(bytes) if bytes.len() <= TRACE_BYTES => Ok(Some(bytes)),
+        Ok(_bytes) => Ok(None),
+        Err(ReadFault::Memory) => Err(AllocError),
+        Err(ReadFault::Unread(_why)) => Ok(None),
+    }
+}
+
+/// The file of other names that stands beside a trace; empty where it cannot be read, since no answer rests on it.
+pub fn read_names<'a, R: Files + AllocGlobal>(
+    rt: &R,
+    place: Place<'_>,
+) -> Result<Vec<u8>, ProgramFault<'a>> {
+    match read_file(rt, place, "names", TRACE_BYTES) {
+        Ok(bytes) => Ok(bytes),
+        Err(ReadFault::Memory) => Err(ProgramFault::Memory),
+        Err(ReadFault::Unread(_)) => Ok(Vec::new(rt.alloc())),
+    }
+}
+
 // The files that a file names and that are not among these.
 fn new_names(
     alloc: Global,

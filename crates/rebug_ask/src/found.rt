@@ -5,6 +5,7 @@ use rev_paths::Name;
 use rev_races::{Race, path_of, races, stories, unlisted, without_deps};
 use rev_races_text::{Happened, Kind, Run, Story, Told};
 use rev_waits::mend;
+use rev_witness::{find_witness, witness_text};
 use std::alloc::{AllocError, Global};
 
 // The kind of a race.
@@ -100,4 +101,28 @@ pub fn not_judged(alloc: Global, history: &History) -> Result<Vec<u32>, AllocErr
     edges.extend_from_slice(&without)?;
     edges.sort_unstable();
     Ok(edges)
+}
+
+/// The trace of a build from nothing in which the user of a race starts before its maker. Races are counted from 1. None
+/// where there is no race of that number, or a command that lists its own output.
+pub fn witness_of(
+    alloc: Global,
+    graph: &Graph,
+    races: &[Told<'_>],
+    number: u64,
+) -> Result<Option<Vec<u8>>, AllocError> {
+    let Some(place) = number.checked_sub(1) else {
+        return Ok(None);
+    };
+    if place >= races.len() as u64 {
+        return Ok(None);
+    }
+    let race = &races[place as usize];
+    if race.kind == Kind::Own {
+        return Ok(None);
+    }
+    match find_witness(alloc, graph, race.user, race.maker)? {
+        Some(found) => Ok(Some(witness_text(alloc, &found)?)),
+        None => Ok(None),
+    }
 }

@@ -5,12 +5,19 @@ mod asking;
 mod fault;
 mod files;
 mod found;
+mod hinted;
+mod mended;
+mod page;
+mod picturing;
+mod times;
 mod told;
 
-use asking::ask;
+use asking::{Manner, ask};
 use clap::error::ErrorKind;
 use fault::ProgramFault;
+use picturing::picture;
 use rev_asking::{Asked, Word, read_words};
+use rev_fields::wide_number;
 use std::alloc::Global;
 use std::io::{self, IsTerminal};
 use std::process::ExitCode;
@@ -43,6 +50,25 @@ fn words<R: Env + Alloc<A = Global>>(rt: &R) -> io::Result<Vec<String>> {
     Ok(words)
 }
 
+// How races are told; none where the number of a witness is no number.
+fn races_how(asked: &Asked<'_>) -> Option<How> {
+    if let Some(number) = asked.witness {
+        return match wide_number(number.as_bytes()) {
+            Ok(number) => Some(How::Witness(number)),
+            Err(_) => None,
+        };
+    }
+    if asked.mend {
+        Some(How::Mend)
+    } else if asked.json {
+        Some(How::Json)
+    } else if asked.all {
+        Some(How::All)
+    } else {
+        Some(How::Some)
+    }
+}
+
 // Answers what is asked, and gives the status.
 fn answer<'a, R: Files + Input + Print + Eprint + AllocGlobal>(
     rt: &R,
@@ -50,11 +76,22 @@ fn answer<'a, R: Files + Input + Print + Eprint + AllocGlobal>(
     is_terminal: bool,
 ) -> Result<u8, ProgramFault<'a>> {
     let how = match asked.word {
-        Word::Ask => return ask(rt, asked.recording, is_terminal),
+        Word::Ask => {
+            let manner = Manner {
+                prompts: is_terminal && !asked.json,
+                json: asked.json,
+            };
+            return ask(rt, asked.recording, manner);
+        }
+        Word::Picture => return picture(rt, &asked),
         Word::Replay => How::Replay,
-        Word::Races if asked.json => How::Json,
-        Word::Races if asked.all => How::All,
-        Word::Races => How::Some,
+        Word::Races => match races_how(&asked) {
+            Some(how) => how,
+            None => {
+                let _ = eprintln!(rt; "rebug: --witness takes the number of a race, from 1");
+                return Ok(USAGE);
+            }
+        },
     };
     tell(rt, asked.recording, how)
 }

@@ -2,12 +2,14 @@
 ghost use Rattle.std.specs.Prelude.{◌≤◌, length};
 
 use crate::fault::ProgramFault;
-use crate::files::{place_of, read_manifest, read_trace};
-use crate::found::{not_judged, told_races};
+use crate::files::{place_of, read_manifest, read_names, read_trace};
+use crate::found::{not_judged, told_races, witness_of};
+use crate::hinted::{hints_in, names_in};
+use crate::mended::mend_text;
 use rev_desk::Desk;
 use rev_manifest::Manifest;
 use rev_paths::{Name, PathFault};
-use rev_races_text::{Sources, races_json, races_text, status};
+use rev_races_text::{Sources, Told, hints_json, hints_text, races_json, races_text, status};
 use rev_recording::{RecordingFault, fault_line, open, replay, replay_text};
 use rev_script::{RunFault, send};
 use rev_sentences::{Inputs, sentence};
@@ -18,6 +20,8 @@ use std::{io, mem};
 
 // The status of a recording that has a fault.
 const FAULT: u8 = 1;
+// The status of a question that was not understood.
+const USAGE: u8 = 2;
 
 /// What is asked, and how it is told.
 #[derive(Clone, Copy, PartialEq, Eq)]
@@ -28,8 +32,20 @@ pub enum How {
     All,
     /// The races, as JSON.
     Json,
+    /// A patch that mends the races.
+    Mend,
+    /// A witness of the race of this number, from 1.
+    Witness(u64),
     /// How many commands there were, and the first that was refused.
     Replay,
+}
+
+// A recording, as it was read.
+#[derive(Clone, Copy)]
+struct Read<'a> {
+    files: &'a [(Vec<u8>, Vec<u8>)],
+    trace: &'a [u8],
+    names: &'a [u8],
 }
 
 /// An answer: what is written, and the status.
@@ -39,8 +55,8 @@ struct Answer {
     status: u8,
 }
 
-// The names of the files that the manifest was read from.
-fn names_of(alloc: Global, files: &[(Vec<u8>, Vec<u8>)]) -> Result<Vec<Name>, AllocError> {
+/// The names of the files that the manifest was read from.
+pub fn names_of(alloc: Global, files: &[(Vec<u8>, Vec<u8>)]) -> Result<Vec<Name>, AllocError> {
     let mut names = Vec::new(alloc);
     for (name, _) in files {
         match Name::new(alloc, name) {
@@ -55,7 +71,7 @@ fn names_of(alloc: Global, files: &[(Vec<u8>, Vec<u8>)]) -> Result<Vec<Name>, Al
 // The answer about the desk of a recording that was replayed.
 fn answer_of(
     alloc: Global,
-    files: &[(Vec<u8>, Vec<u8>)],
+    read: Read<'_>,
     manifest: &Manifest,
     desk: &Desk,
     how: How,
@@ -66,24 +82,79 @@ fn answer_of(
     }
     let sources = Sources {
         builds: manifest.builds(),
-        files,
+        files: read.files,
     };
-    let names = names_of(alloc, files)?;
+    let names = names_of(alloc, read.files)?;
     let races = told_races(alloc, desk.history(), &names)?;
-    let unjudged = not_judged(alloc, desk.history())?;
-    let text = if how == How::Json {
-        races_json(alloc, &sources, &races, &unjudged)?
-    } else {
-        races_text(alloc, &sources, &races, &unjudged, how == How::All)?
-    };
+    if let How::Witness(number) = how {
+        return witness_answer(alloc, desk, &races, number);
+    }
+    let mut text = races_answer(alloc, desk, &sources, &races, how)?;
+    let hints = hints_answer(alloc, desk, &sources, read.names, how)?;
+    text.extend_from_slice(&hints)?;
     let status = status(&races);
     Ok(Answer { text, status })
+}
+
+// The answer that has a witness; without text where there is none.
+fn witness_answer(
+    alloc: Global,
+    desk: &Desk,
+    races: &[Told<'_>],
+    number: u64,
+) -> Result<Answer, AllocError> {
+    match witness_of(alloc, desk.history().graph(), races, number)? {
+        Some(text) => Ok(Answer { text, status: 0 }),
+        None => Ok(Answer {
+            text: Vec::new(alloc),
+            status: USAGE,
+        }),
+    }
+}
+
+// The text of an answer that tells races.
+fn races_answer(
+    alloc: Global,
+    desk: &Desk,
+    sources: &Sources<'_>,
+    races: &[Told<'_>],
+    how: How,
+) -> Result<Vec<u8>, AllocError> {
+    if how == How::Mend {
+        return mend_text(alloc, sources, races);
+    }
+    let unjudged = not_judged(alloc, desk.history())?;
+    if how == How::Json {
+        races_json(alloc, sources, races, &unjudged)
+    } else {
+        races_text(alloc, sources, races, &unjudged, how == How::All)
+    }
+}
+
+// The text of an answer that gives hints.
+fn hints_answer(
+    alloc: Global,
+    desk: &Desk,
+    sources: &Sources<'_>,
+    names: &[u8],
+    how: How,
+) -> Result<Vec<u8>, AllocError> {
+    if how == How::Mend {
+        return Ok(Vec::new(alloc));
+    }
+    let names = names_in(alloc, names)?;
+    let hints = hints_in(alloc, desk.history(), &names)?;
+    if how == How::Json {
+        hints_json(alloc, sources, &hints)
+    } else {
+        hints_text(alloc, sources, &hints)
+    }
 }
 
 // The answer about a trace that was read.
 fn replayed(
     alloc: Global,
-    files: &[(Vec<u8>, Vec<u8>)],
+    read: Read<'_>,
     manifest: &Manifest,
     trace: &Trace,
     how: How,
@@ -93,7 +164,7 @@ fn replayed(
     let mut desk = open(alloc, manifest, trace)?;
     let ended = replay(alloc, &mut desk, trace);
     let answer = match ended {
-        Ok(()) => match answer_of(alloc, files, manifest, &desk, how) {
+        Ok(()) => match answer_of(alloc, read, manifest, &desk, how) {
             Ok(answer) => Ok(answer),
             Err(_) => Err(RecordingFault::Memory),
         },
@@ -121,15 +192,10 @@ pub fn manifest_of(
 }
 
 // The answer about the bytes of a recording.
-fn answer_about(
-    alloc: Global,
-    files: &[(Vec<u8>, Vec<u8>)],
-    trace: &[u8],
-    how: How,
-) -> Result<Answer, RecordingFault> {
-    let manifest = manifest_of(alloc, files)?;
-    match rev_trace::read(alloc, trace) {
-        Ok(trace) => replayed(alloc, files, &manifest, &trace, how),
+fn answer_about(alloc: Global, read: Read<'_>, how: How) -> Result<Answer, RecordingFault> {
+    let manifest = manifest_of(alloc, read.files)?;
+    match rev_trace::read(alloc, read.trace) {
+        Ok(trace) => replayed(alloc, read, &manifest, &trace, how),
         Err(rev_fields::ReadFault::Numbered(fault)) => Err(RecordingFault::Trace(fault)),
         Err(rev_fields::ReadFault::Memory) => Err(RecordingFault::Memory),
     }
@@ -176,7 +242,19 @@ pub fn tell<'a, R: Files + Print + Eprint + AllocGlobal>(
     let place = place_of(rt, recording);
     let files = read_manifest(rt, recording, place)?;
     let trace = read_trace(rt, recording, place)?;
-    match answer_about(rt.alloc(), &files, &trace, how) {
+    let names = read_names(rt, place)?;
+    let read = Read {
+        files: &files,
+        trace: &trace,
+        names: &names,
+    };
+    match answer_about(rt.alloc(), read, how) {
+        Ok(answer) if answer.status == USAGE => {
+            let _ = eprintln!(rt;
+                "rebug: no race has that number; those that `races --json` tells are counted from 1, and own outputs have no witness"
+            );
+            Ok(USAGE)
+        }
         Ok(answer) => {
             write(rt, &answer.text)?;
             Ok(answer.status)

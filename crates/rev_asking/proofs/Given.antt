@@ -3,7 +3,7 @@ use Rattle.std.proofs.Common.{◌≡◌, ◌∙◌, ap, sym, List, [], Option, S
 use Rattle.std.specs.Option.{option_map}
 use Rattle.clap.specs.Words.{Row, Text, subcommand_of, subcommand_rows_of}
 use Rattle.clap.specs.declared.parser.matches.ArgMatches.{ArgMatches}
-use Rattle.rev_asking.specs.Asking.{given_name, given_rows, program}
+use Rattle.rev_asking.specs.Asking.{given_rows, program}
 
 pub rows-given : (words : List Text) (m : ArgMatches) (rows : List Row) → subcommand_rows_of m ≡ subcommand_of program words
     → Some rows ≡ option_map (λ p. p.1) (subcommand_rows_of m) → given_rows words ≡ rows

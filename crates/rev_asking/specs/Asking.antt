@@ -1,10 +1,10 @@
 -- What the words of a command line ask for.
-use Rattle.std.specs.Prelude.{ℕ, true, codes, bytes_eq, if◌then◌else◌, List, [], ◌∷◌, ◌++◌, Option, Some, None, unwrap_or, option_map}
-use Rattle.clap.specs.Words.{App, Row, Rule, Shape, Text, first_of, new_app, new_rule, subcommand_of, with_rule, with_subcommand}
+use Rattle.std.specs.Prelude.{true, codes, bytes_eq, if◌then◌else◌, List, [], ◌∷◌, Option, Some, unwrap_or, option_map}
+use Rattle.clap.specs.Words.{App, Row, Rule, Shape, Text, first_of, new_app, new_rule, subcommand_of, with_subcommand}
 use Rattle.clap.specs.Simple.{new_shape, on_top}
 use Rattle.clap.specs.declared.builder.action.ArgAction.TheVariants.{Set, SetTrue}
 use Rattle.rev_asking.specs.declared.words.Word.{Word}
-use Rattle.rev_asking.specs.declared.words.Word.TheVariants.{Ask, Races, Replay}
+use Rattle.rev_asking.specs.declared.words.Word.TheVariants.{Ask, Picture, Races, Replay}
 
 -- the recording, which has to be given
 abbrev pub recording_rule : Rule
@@ -14,21 +14,37 @@ recording_rule = record (new_rule (codes "RECORDING")) { required = true; action
 abbrev pub flag_rule : Text → Rule
 flag_rule name = record (new_rule name) { long = Some name; action = Some SetTrue }
 
+-- `--NAME N`
+abbrev pub number_rule : Text → Rule
+number_rule name = record (new_rule name) { long = Some name; value_names = 1; action = Some Set }
+
 -- a command of this name with these arguments
 abbrev pub shape_with : Text → List Rule → Shape
 shape_with name rules = record (new_shape name) { rules = rules }
 
--- `races [--all] [--json] RECORDING`
+-- `races [--all] [--json] [--mend] [--witness N] RECORDING`
 abbrev pub races_shape : Shape
-races_shape = shape_with (codes "races") (flag_rule (codes "all") ∷ flag_rule (codes "json") ∷ recording_rule ∷ [])
+races_shape =
+    shape_with (codes "races")
+    (flag_rule (codes "all") ∷ flag_rule (codes "json") ∷ flag_rule (codes "mend") ∷ number_rule (codes "witness") ∷ recording_rule ∷ [])
 
 -- `replay RECORDING`
 abbrev pub replay_shape : Shape
 replay_shape = shape_with (codes "replay") (recording_rule ∷ [])
 
--- `ask RECORDING`
+-- `ask [--json] RECORDING`
 abbrev pub ask_shape : Shape
-ask_shape = shape_with (codes "ask") (recording_rule ∷ [])
+ask_shape = shape_with (codes "ask") (flag_rule (codes "json") ∷ recording_rule ∷ [])
+
+-- the file to write, which may be left out
+abbrev pub out_rule : Rule
+out_rule = record (new_rule (codes "OUT")) { action = Some Set }
+
+-- `picture [--html] [--event N] RECORDING [OUT]`
+abbrev pub picture_shape : Shape
+picture_shape =
+    shape_with (codes "picture")
+    (flag_rule (codes "html") ∷ number_rule (codes "event") ∷ recording_rule ∷ out_rule ∷ [])
 
 -- the program without its words: one has to be given
 abbrev pub bare_program : App
@@ -36,11 +52,16 @@ bare_program = on_top (λ s. record s { has_version = true; subcommand_required 
 
 -- the program
 abbrev pub program : App
-program = with_subcommand (with_subcommand (with_subcommand bare_program races_shape) replay_shape) ask_shape
+program =
+    with_subcommand (with_subcommand (with_subcommand (with_subcommand bare_program races_shape) replay_shape) ask_shape)
+    picture_shape
 
 -- the word that a name is
 abbrev pub word_named : Text → Word
-word_named name = if bytes_eq name (codes "replay") then Replay else if bytes_eq name (codes "ask") then Ask else Races
+word_named name =
+    if bytes_eq name (codes "replay") then Replay else
+    if bytes_eq name (codes "ask") then Ask else
+    if bytes_eq name (codes "picture") then Picture else Races
 
 -- the word that was given, and what was given to it
 abbrev pub given_name : List Text → Text

@@ -2,7 +2,7 @@
 ghost use Rattle.std.specs.Prelude.{◌≡◌, false, IfOk};
 ghost use Rattle.clap.specs.Words.{app_of, rule_of, shape_of};
 ghost use Rattle.clap.specs.declared.builder.command.Command.TheViews.{out-Command};
-ghost use Rattle.rev_asking.specs.Asking.{ask_shape, bare_program, flag_rule, program, races_shape, recording_rule, replay_shape};
+ghost use Rattle.rev_asking.specs.Asking.{ask_shape, bare_program, flag_rule, number_rule, out_rule, picture_shape, program, races_shape, recording_rule, replay_shape};
 
 use clap::{Arg, ArgAction, Command};
 use std::alloc::{AllocError, Global};
@@ -39,6 +39,18 @@ fn flag<'a>(alloc: Global, name: &'a str, help: &'a str) -> Arg<'a>
         .action(ArgAction::SetTrue)
 }
 
+// An option that takes a number.
+fn number<'a>(alloc: Global, name: &'a str, value: &'a str, help: &'a str) -> Arg<'a>
+    ensures rule { rule_of result ≡ number_rule name.entry.now }
+    ensures alone { result.global ≡ false }
+{
+    Arg::new(alloc, name)
+        .long(name)
+        .value_name(value)
+        .help(help)
+        .action(ArgAction::Set)
+}
+
 // `races RECORDING`
 fn races<'a>(alloc: Global) -> Result<Command<'a>, AllocError>
     ensures shape { IfOk result (λ c. shape_of c ≡ races_shape) }
@@ -58,6 +70,17 @@ fn races<'a>(alloc: Global) -> Result<Command<'a>, AllocError>
             "json",
             "Writes a JSON object a line in place of words",
         ))?
+        .arg(flag(
+            alloc,
+            "mend",
+            "Writes a patch of the manifest that mends the races, or says what does where it is generated",
+        ))?
+        .arg(number(
+            alloc,
+            "witness",
+            "N",
+            "Writes a trace from nothing in which the user of race N, as --json counts, starts before its maker",
+        ))?
         .arg(recording(alloc))
 }
 
@@ -71,14 +94,53 @@ fn replay<'a>(alloc: Global) -> Result<Command<'a>, AllocError>
         .arg(recording(alloc))
 }
 
-// `ask RECORDING`
+// `ask [--json] RECORDING`
 fn ask<'a>(alloc: Global) -> Result<Command<'a>, AllocError>
     ensures shape { IfOk result (λ c. shape_of c ≡ ask_shape) }
     ensures local { IfOk result (λ c. (out-Command c).has_globals ≡ false) }
 {
     Command::new(alloc, "ask")
         .about("Answers questions about the recording, a line of standard input each")
+        .arg(flag(
+            alloc,
+            "json",
+            "Writes a JSON object a line in place of words",
+        ))?
         .arg(recording(alloc))
+}
+
+// The file that is written.
+fn out<'a>(alloc: Global) -> Arg<'a>
+    ensures rule { rule_of result ≡ out_rule }
+    ensures alone { result.global ≡ false }
+{
+    Arg::new(alloc, "OUT")
+        .help("The file to write, which ends in .svg or .html; else standard output")
+        .action(ArgAction::Set)
+}
+
+// `picture RECORDING [OUT]`
+fn picture<'a>(alloc: Global) -> Result<Command<'a>, AllocError>
+    ensures shape { IfOk result (λ c. shape_of c ≡ picture_shape) }
+    ensures local { IfOk result (λ c. (out-Command c).has_globals ≡ false) }
+{
+    Command::new(alloc, "picture")
+        .about(
+            "Draws the recording as SVG, to the file OUT if it is named: a row for each job, races in red",
+        )
+        .arg(flag(
+            alloc,
+            "html",
+            "Writes a page that folds and zooms, without a network, in place of SVG",
+        ))?
+        .arg(number(
+            alloc,
+            "event",
+            "N",
+            "Draws what the event of this number rests on, and what rests on it",
+        ))?
+        .arg(recording(alloc))?
+        .arg(out(alloc))
 }
 
 // The program without its words.
@@ -99,8 +161,10 @@ pub(crate) fn command<'a>(alloc: Global) -> Result<Command<'a>, AllocError>
     let races = races(alloc)?;
     let replay = replay(alloc)?;
     let ask = ask(alloc)?;
+    let picture = picture(alloc)?;
     bare_command(alloc)
         .subcommand(races)?
         .subcommand(replay)?
-        .subcommand(ask)
+        .subcommand(ask)?
+        .subcommand(picture)
 }

@@ -1,5 +1,5 @@
 //! The words of the command line, read.
-ghost use Rattle.std.specs.Prelude.{◌≡◌, ◌↔◌, [], codes, false, IfOk, IsTrue, Some, map, string_bytes, unwrap_or};
+ghost use Rattle.std.specs.Prelude.{◌≡◌, ◌↔◌, [], codes, false, IfOk, IsTrue, None, Some, map, option_map, string_bytes, unwrap_or};
 ghost use Rattle.clap.specs.Words.{FailsBy, fault_of, first_value, found_of, subcommand_of, subcommand_rows_of};
 ghost use Rattle.rev_asking.specs.Asking.{given_name, program, value_in, word_named};
 
@@ -16,6 +16,8 @@ pub enum Word {
     Replay,
     /// Whatever is asked on standard input.
     Ask,
+    /// Its picture.
+    Picture,
 }
 
 /// What the words of a command line ask for.
@@ -25,10 +27,20 @@ pub struct Asked<'a> {
     pub word: Word,
     /// The recorder's folder, or its manifest.
     pub recording: &'a str,
+    /// The file to write, if it was named.
+    pub out: Option<&'a str>,
+    /// Whether a page is written in place of a picture.
+    pub html: bool,
+    /// The number of the event whose dependences are drawn, as it was given, if it was.
+    pub event: Option<&'a str>,
     /// Whether nothing is left out.
     pub all: bool,
     /// Whether a JSON object a line is written in place of words.
     pub json: bool,
+    /// Whether a patch that mends the races is written in place of them.
+    pub mend: bool,
+    /// The number of the race of which a witness is written in place of all of them, as it was given.
+    pub witness: Option<&'a str>,
 }
 
 /// What the words of a command line ask for, the first of which is the program's name.
@@ -40,10 +52,20 @@ pub fn read_words<'a>(alloc: Global, words: &'a [String]) -> Result<Asked<'a>, E
     ensures word { IfOk result (λ a. a.word ≡ word_named (given_name (map string_bytes words.entry.now))) }
     ensures recording { IfOk result (λ a. a.recording.now
         ≡ unwrap_or (value_in (map string_bytes words.entry.now) (codes "RECORDING")) []) }
+    ensures out { IfOk result (λ a. option_map (λ s. s.now) a.out
+        ≡ value_in (map string_bytes words.entry.now) (codes "OUT")) }
+    ensures html { IfOk result (λ a. IsTrue a.html
+        ↔ value_in (map string_bytes words.entry.now) (codes "html") ≡ Some (codes "true")) }
+    ensures event { IfOk result (λ a. option_map (λ s. s.now) a.event
+        ≡ value_in (map string_bytes words.entry.now) (codes "event")) }
     ensures all { IfOk result (λ a. IsTrue a.all
         ↔ value_in (map string_bytes words.entry.now) (codes "all") ≡ Some (codes "true")) }
     ensures json { IfOk result (λ a. IsTrue a.json
         ↔ value_in (map string_bytes words.entry.now) (codes "json") ≡ Some (codes "true")) }
+    ensures mend { IfOk result (λ a. IsTrue a.mend
+        ↔ value_in (map string_bytes words.entry.now) (codes "mend") ≡ Some (codes "true")) }
+    ensures witness { IfOk result (λ a. option_map (λ s. s.now) a.witness
+        ≡ value_in (map string_bytes words.entry.now) (codes "witness")) }
     ensures fails { FailsBy (fault_of program (map string_bytes words.entry.now)) result }
 {
     let matches = matches_of(alloc, words)?;
@@ -67,14 +89,24 @@ fn matches_of<'a>(alloc: Global, words: &'a [String]) -> Result<ArgMatches<'a>, 
 fn asked_of<'a>(name: &str, given: &ArgMatches<'a>) -> Asked<'a>
     ensures word { result.word ≡ word_named name.now }
     ensures recording { result.recording.now ≡ unwrap_or (first_value (found_of given.now) (codes "RECORDING")) [] }
+    ensures out { option_map (λ s. s.now) result.out ≡ first_value (found_of given.now) (codes "OUT") }
+    ensures html { IsTrue result.html ↔ first_value (found_of given.now) (codes "html") ≡ Some (codes "true") }
+    ensures event { option_map (λ s. s.now) result.event ≡ first_value (found_of given.now) (codes "event") }
     ensures all { IsTrue result.all ↔ first_value (found_of given.now) (codes "all") ≡ Some (codes "true") }
     ensures json { IsTrue result.json ↔ first_value (found_of given.now) (codes "json") ≡ Some (codes "true") }
+    ensures mend { IsTrue result.mend ↔ first_value (found_of given.now) (codes "mend") ≡ Some (codes "true") }
+    ensures witness { option_map (λ s. s.now) result.witness ≡ first_value (found_of given.now) (codes "witness") }
 {
     Asked {
         word: word_named(name),
         recording: recording_of(given),
+        out: given.get_str("OUT"),
+        html: is_on(given, "html"),
+        event: given.get_str("event"),
         all: is_on(given, "all"),
         json: is_on(given, "json"),
+        mend: is_on(given, "mend"),
+        witness: given.get_str("witness"),
     }
 }
 
@@ -82,14 +114,24 @@ fn asked_of<'a>(name: &str, given: &ArgMatches<'a>) -> Asked<'a>
 fn nothing_asked<'a>() -> Asked<'a>
     ensures word { result.word ≡ word_named [] }
     ensures recording { result.recording.now ≡ [] }
+    ensures out { option_map (λ s. s.now) result.out ≡ None }
+    ensures html { result.html ≡ false }
+    ensures event { option_map (λ s. s.now) result.event ≡ None }
     ensures all { result.all ≡ false }
     ensures json { result.json ≡ false }
+    ensures mend { result.mend ≡ false }
+    ensures witness { result.witness ≡ None }
 {
     Asked {
         word: Word::Races,
         recording: "",
+        out: None,
+        html: false,
+        event: None,
         all: false,
         json: false,
+        mend: false,
+        witness: None,
     }
 }
 
@@ -111,6 +153,8 @@ fn word_named(name: &str) -> Word
         Word::Replay
     } else if name == "ask" {
         Word::Ask
+    } else if name == "picture" {
+        Word::Picture
     } else {
         Word::Races
     }

@@ -10,7 +10,9 @@ returns c =
     let one = c.in_ok-subcommand.ensures.shape c.in_ok-races.ensures.local
     ∙ ap₂ with_subcommand c.bare_command.ensures c.in_ok-races.ensures.shape in
     let two = c.in_ok-subcommand-2.ensures.shape c.in_ok-replay.ensures.local
-    ∙ ap₂ with_subcommand one c.in_ok-replay.ensures.shape in record {
-      program = IfOk-weaker c.subcommand-3.result (AddsSubcommand c.in_ok-subcommand-2.field-0 c.in_ok-ask.ask) (λ (k : Command). app_of k ≡ program)
-          (λ k added. added.shape c.in_ok-ask.ensures.local ∙ ap₂ with_subcommand two c.in_ok-ask.ensures.shape) c.subcommand-3.ensures;
+    ∙ ap₂ with_subcommand one c.in_ok-replay.ensures.shape in
+    let three = c.in_ok-subcommand-3.ensures.shape c.in_ok-ask.ensures.local
+    ∙ ap₂ with_subcommand two c.in_ok-ask.ensures.shape in record {
+      program = IfOk-weaker c.subcommand-4.result (AddsSubcommand c.in_ok-subcommand-3.field-0 c.in_ok-picture.picture) (λ (k : Command). app_of k ≡ program)
+          (λ k added. added.shape c.in_ok-picture.ensures.local ∙ ap₂ with_subcommand three c.in_ok-picture.ensures.shape) c.subcommand-4.ensures;
     }

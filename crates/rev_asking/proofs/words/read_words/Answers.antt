@@ -1,9 +1,8 @@
-use Rattle.std.proofs.Common.{◌≡◌, ◌∙◌, [], List, Option, Some, ap, codes, map, string_bytes, sym, unwrap_or}
-use Rattle.std.specs.Option.{option_map}
-use Rattle.clap.specs.Words.{Row, Text, first_of, first_value, found_of, rows_of, subcommand_rows_of}
+use Rattle.std.proofs.Common.{◌≡◌, ◌∙◌, [], List, Option, ap, codes, map, string_bytes, sym, unwrap_or}
+use Rattle.clap.specs.Words.{Text, first_of, first_value, found_of, rows_of}
 use Rattle.clap.specs.declared.parser.matches.ArgMatches.{ArgMatches}
 use Rattle.clap.proofs.WalkLemmas.{first_value-rows}
-use Rattle.rev_asking.specs.Asking.{given_rows, program, value_in}
+use Rattle.rev_asking.specs.Asking.{given_rows, value_in}
 use Rattle.rev_asking.proofs.Given.{rows-given}
 use Rattle.rev_asking.proofs.words.read_words.Goals as goal
 
@@ -16,6 +15,25 @@ returns-in-Some-clause-recording c =
     let words = map string_bytes c.args.words.now in
     let rows = rows-given words c.in_ok-matches.matches (rows_of (found_of c.in-Some.given.now)) c.in_ok-matches.ensures.rows c.in-Some.ensures.rows in
     c.asked_of.ensures.recording ∙ ap (λ (o : Option Text). unwrap_or o []) (same words c.in-Some.given.now (codes "RECORDING") rows)
+
+pub returns-in-Some-clause-html : goal.returns-in-Some-clause-html
+returns-in-Some-clause-html c =
+    let words = map string_bytes c.args.words.now in
+    let rows = rows-given words c.in_ok-matches.matches (rows_of (found_of c.in-Some.given.now)) c.in_ok-matches.ensures.rows c.in-Some.ensures.rows in
+    let is = same words c.in-Some.given.now (codes "html") rows in
+    ((λ on. sym is ∙ c.asked_of.ensures.html.0 on), (λ e. c.asked_of.ensures.html.1 (is ∙ e)))
+
+pub returns-in-Some-clause-out : goal.returns-in-Some-clause-out
+returns-in-Some-clause-out c =
+    let words = map string_bytes c.args.words.now in
+    let rows = rows-given words c.in_ok-matches.matches (rows_of (found_of c.in-Some.given.now)) c.in_ok-matches.ensures.rows c.in-Some.ensures.rows in
+    c.asked_of.ensures.out ∙ same words c.in-Some.given.now (codes "OUT") rows
+
+pub returns-in-Some-clause-event : goal.returns-in-Some-clause-event
+returns-in-Some-clause-event c =
+    let words = map string_bytes c.args.words.now in
+    let rows = rows-given words c.in_ok-matches.matches (rows_of (found_of c.in-Some.given.now)) c.in_ok-matches.ensures.rows c.in-Some.ensures.rows in
+    c.asked_of.ensures.event ∙ same words c.in-Some.given.now (codes "event") rows
 
 pub returns-in-Some-clause-all : goal.returns-in-Some-clause-all
 returns-in-Some-clause-all c =
@@ -30,3 +48,16 @@ returns-in-Some-clause-json c =
     let rows = rows-given words c.in_ok-matches.matches (rows_of (found_of c.in-Some.given.now)) c.in_ok-matches.ensures.rows c.in-Some.ensures.rows in
     let is = same words c.in-Some.given.now (codes "json") rows in
     ((λ on. sym is ∙ c.asked_of.ensures.json.0 on), (λ e. c.asked_of.ensures.json.1 (is ∙ e)))
+
+pub returns-in-Some-clause-mend : goal.returns-in-Some-clause-mend
+returns-in-Some-clause-mend c =
+    let words = map string_bytes c.args.words.now in
+    let rows = rows-given words c.in_ok-matches.matches (rows_of (found_of c.in-Some.given.now)) c.in_ok-matches.ensures.rows c.in-Some.ensures.rows in
+    let is = same words c.in-Some.given.now (codes "mend") rows in
+    ((λ on. sym is ∙ c.asked_of.ensures.mend.0 on), (λ e. c.asked_of.ensures.mend.1 (is ∙ e)))
+
+pub returns-in-Some-clause-witness : goal.returns-in-Some-clause-witness
+returns-in-Some-clause-witness c =
+    let words = map string_bytes c.args.words.now in
+    let rows = rows-given words c.in_ok-matches.matches (rows_of (found_of c.in-Some.given.now)) c.in_ok-matches.ensures.rows c.in-Some.ensures.rows in
+    c.asked_of.ensures.witness ∙ same words c.in-Some.given.now (codes "witness") rows

@@ -1,0 +1,132 @@
+//! Hints: paths that a list has, and that were other names of outputs.
+ghost use Rattle.std.specs.Prelude.{◌≡◌, ◌<◌, length};
+ghost use Rattle.rev_graph.specs.Graph.{successor_lists};
+ghost use Rattle.rev_ranks.specs.Graph.{graph_of};
+ghost use Rattle.rev_waits.specs.Waits.{phony_lists};
+
+use indexmap::IndexMap;
+use rev_dirty::deps_record;
+use rev_fields::{LineFault, path, read_fields};
+use rev_history::History;
+use rev_paths::Name;
+use rev_races_text::Hint;
+use rev_waits::{makers, phony_steps, steps, waited_for};
+use std::alloc::{AllocError, Global};
+
+// The first line of a file of names.
+const HEAD: &[u8] = b"rebug-names 1";
+
+// A name, where there is one.
+fn name_of(alloc: Global, text: Option<&Vec<u8>>) -> Result<Option<Name>, AllocError> {
+    let Some(text) = text else {
+        return Ok(None);
+    };
+    match path(alloc, text) {
+        Ok(name) => Ok(Some(name)),
+        Err(LineFault::Memory) => Err(AllocError),
+        Err(_) => Ok(None),
+    }
+}
+
+// Adds what a line says: a path and an output. A line that says something else is left out.
+fn add_line(
+    alloc: Global,
+    line: &[u8],
+    names: &mut IndexMap<Name, Name>,
+) -> Result<(), AllocError> {
+    let texts = match read_fields(alloc, line) {
+        Ok(texts) => texts,
+        Err(LineFault::Memory) => return Err(AllocError),
+        Err(_) => return Ok(()),
+    };
+    let name = name_of(alloc, texts.first())?;
+    let output = name_of(alloc, texts.get(1))?;
+    if let (Some(name), Some(output)) = (name, output) {
+        names.insert(name, output)?;
+    }
+    Ok(())
+}
+
+/// What a file of names says; nothing where it has another first line.
+pub fn names_in(alloc: Global, text: &[u8]) -> Result<IndexMap<Name, Name>, AllocError> {
+    let mut names = IndexMap::new(alloc);
+    let mut lines = text.split(|byte| *byte == b'\n');
+    if lines.next() == Some(HEAD) {
+        for line in lines {
+            add_line(alloc, line, &mut names)?;
+        }
+    }
+    Ok(names)
+}
+
+// Whether one of these paths is another name of an output.
+fn has_other(names: &IndexMap<Name, Name>, paths: &[Name]) -> bool {
+    paths.iter().any(|path| names.contains_key(path))
+}
+
+// Whether an edge has a mark.
+fn is_marked(marks: &[bool], edge: u32) -> bool {
+    match marks.get(edge as usize) {
+        Some(mark) => *mark,
+        None => false,
+    }
+}
+
+// Adds the hints of an edge: each listed path that is another name of what an edge makes for which it does not wait.
+fn add_hints<'a>(
+    alloc: Global,
+    history: &'a History,
+    names: &'a IndexMap<Name, Name>,
+    steps: &[Vec<u32>],
+    phony: &[Vec<u32>],
+    user: u32,
+    hints: &mut Vec<Hint<'a>>,
+) -> Result<(), AllocError>
+    requires user { user < length history.now.timeline.manifest.builds }
+    requires steps { graph_of steps.now ≡ successor_lists history.now.timeline.manifest.builds }
+    requires phony { graph_of phony.now ≡ phony_lists history.now.timeline.manifest.builds }
+{
+    let graph = history.graph();
+    let Some(record) = deps_record(graph, history.cells(), user) else {
+        return Ok(());
+    };
+    let paths = record.paths.as_slice();
+    if !has_other(names, paths) {
+        return Ok(());
+    }
+    let waited = waited_for(alloc, graph, steps, user)?;
+    for path in paths {
+        if let Some(output) = names.get(path) {
+            for maker in &makers(alloc, graph, phony, output)? {
+                if *maker != user && !is_marked(&waited, *maker) {
+                    hints.push(Hint {
+                        user,
+                        path,
+                        output,
+                        maker: *maker,
+                    })?;
+                }
+            }
+        }
+    }
+    Ok(())
+}
+
+/// The hints of a history, in the order of their users and of the paths in what these list.
+pub fn hints_in<'a>(
+    alloc: Global,
+    history: &'a History,
+    names: &'a IndexMap<Name, Name>,
+) -> Result<Vec<Hint<'a>>, AllocError> {
+    let mut hints = Vec::new(alloc);
+    if names.is_empty() {
+        return Ok(hints);
+    }
+    let graph = history.graph();
+    let steps = steps(alloc, graph)?;
+    let phony = phony_steps(alloc, graph)?;
+    for user in 0..graph.edges() {
+        add_hints(alloc, history, names, &steps, &phony, user, &mut hints)?;
+    }
+    Ok(hints)
+}
