@@ -13,19 +13,19 @@ Lines = List (List ℕ) × (List (List ℕ) × (List (List ℕ) × (List (List �
 
 -- what else is said of an edge
 abbrev pub Rest : Type 0
-Rest = Bool × (List ℕ × (Bool × (Bool × (Bool × (Option ℕ × (ℕ × ℕ))))))
+Rest = Bool × (List ℕ × (List ℕ × (Bool × (Bool × (Bool × (Option ℕ × (ℕ × ℕ)))))))
 
 abbrev pub coded_build : Coded BuildValue
 coded_build =
     code_by (Lines × Rest)
     (coded× (coded× coded_paths
     (coded× coded_paths (coded× coded_paths (coded× coded_paths (coded× coded_paths coded_paths)))))
-    (coded× coded_bool (coded× (coded_list coded_ℕ)
+    (coded× coded_bool (coded× (coded_list coded_ℕ) (coded× (coded_list coded_ℕ)
     (coded× coded_bool (coded× coded_bool
-    (coded× coded_bool (coded× (coded_option coded_ℕ) (coded× coded_ℕ coded_ℕ))))))))
+    (coded× coded_bool (coded× (coded_option coded_ℕ) (coded× coded_ℕ coded_ℕ)))))))))
     (λ b. (
       (b.explicit_outs, (b.implicit_outs, (b.explicit, (b.implicit, (b.order_only, b.validations))))),
-      (b.phony, (b.command, (b.keeps_deps, (b.restat, (b.generator, (b.pool, (b.file, b.line))))))),
+      (b.phony, (b.command, (b.depfile, (b.keeps_deps, (b.restat, (b.generator, (b.pool, (b.file, b.line)))))))),
     ))
     (λ p. record {
       phony = p.1.0;
@@ -36,12 +36,13 @@ coded_build =
       order_only = p.0.1.1.1.1.0;
       validations = p.0.1.1.1.1.1;
       command = p.1.1.0;
-      keeps_deps = p.1.1.1.0;
-      restat = p.1.1.1.1.0;
-      generator = p.1.1.1.1.1.0;
-      pool = p.1.1.1.1.1.1.0;
-      file = p.1.1.1.1.1.1.1.0;
-      line = p.1.1.1.1.1.1.1.1;
+      depfile = p.1.1.1.0;
+      keeps_deps = p.1.1.1.1.0;
+      restat = p.1.1.1.1.1.0;
+      generator = p.1.1.1.1.1.1.0;
+      pool = p.1.1.1.1.1.1.1.0;
+      file = p.1.1.1.1.1.1.1.1.0;
+      line = p.1.1.1.1.1.1.1.1.1;
     })
     (λ _. refl)
 
@@ -52,4 +53,6 @@ coded_manifest =
     (λ m. (m.builds, (m.pools, m.defaults))) (λ p. record { builds = p.0; pools = p.1.0; defaults = p.1.1 }) (λ _. refl)
 
 abbrev pub coded_graph : Coded GraphValue
-coded_graph = code_by (ManifestValue × List ℕ) (coded× coded_manifest (coded_list coded_ℕ)) (λ g. (g.manifest, g.ranks)) (λ p. record { manifest = p.0; ranks = p.1 }) (λ _. refl)
+coded_graph =
+    code_by (ManifestValue × List ℕ) (coded× coded_manifest (coded_list coded_ℕ)) (λ g. (g.manifest, g.ranks))
+    (λ p. record { manifest = p.0; ranks = p.1 }) (λ _. refl)

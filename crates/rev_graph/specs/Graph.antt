@@ -24,6 +24,7 @@ no_build =
       order_only = [];
       validations = [];
       command = [];
+      depfile = [];
       keeps_deps = false;
       restat = false;
       generator = false;

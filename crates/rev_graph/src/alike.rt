@@ -92,7 +92,8 @@ fn same_edges(
     edges: &[Build],
     other_edges: &[Build],
 ) -> bool
-    ensures { result ≡ pointwise (same_edge_of (seen_pools pools.now) (seen_pools others.now)) edges.now other_edges.now }
+    ensures { result ≡ pointwise (same_edge_of (seen_pools pools.now) (seen_pools others.now))
+        edges.now other_edges.now }
 {
     if edges.len() != other_edges.len() {
         return false;

@@ -182,6 +182,7 @@ module _ (scopes : List ScopeValue) (pools : List PoolValue) where
         pool = tt;
         phony = λ _. record {
           no_command = refl;
+          no_depfile = refl;
           no_deps = refl;
           no_restat = refl;
           no_generator = refl;

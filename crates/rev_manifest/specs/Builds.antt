@@ -12,6 +12,7 @@ pub record BuildValue : Type 0 where
   pub order_only : List (List ℕ)
   pub validations : List (List ℕ)
   pub command : List ℕ
+  pub depfile : List ℕ
   pub keeps_deps : Bool
   pub restat : Bool
   pub generator : Bool
@@ -42,6 +43,7 @@ pub record AreOutputs (paths : List (List ℕ)) : Type 0 where
 -- an input of its own.
 pub record IsPhony (build : BuildValue) : Type 0 where
   pub no_command : build.command ≡ []
+  pub no_depfile : build.depfile ≡ []
   pub no_deps : build.keeps_deps ≡ false
   pub no_restat : build.restat ≡ false
   pub no_generator : build.generator ≡ false

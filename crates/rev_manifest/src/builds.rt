@@ -15,6 +15,7 @@ pub struct Build {
     pub(crate) order_only: Vec<Name>,
     pub(crate) validations: Vec<Name>,
     pub(crate) command: SharedText,
+    pub(crate) depfile: Vec<u8>,
     pub(crate) keeps_deps: bool,
     pub(crate) restat: bool,
     pub(crate) generator: bool,
@@ -35,6 +36,7 @@ impl Drop for Build {
             order_only: _order_only,
             validations: _validations,
             command: _command,
+            depfile: _depfile,
             keeps_deps: _keeps_deps,
             restat: _restat,
             generator: _generator,
@@ -59,6 +61,7 @@ impl Model for Build {
       order_only = build.order_only.items;
       validations = build.validations.items;
       command = build.command;
+      depfile = build.depfile.items;
       keeps_deps = build.keeps_deps;
       restat = build.restat;
       generator = build.generator;
@@ -123,6 +126,13 @@ impl Build {
         ensures { result.now ≡ self.now.command }
     {
         self.command.as_bytes()
+    }
+
+    /// Where its command leaves its depfile, as its rule says; empty where it leaves none. A phony edge has none.
+    pub fn depfile(&self) -> &[u8]
+        ensures { result.now ≡ self.now.depfile }
+    {
+        &self.depfile
     }
 
     /// Whether the listing of a depfile is kept.

@@ -21,6 +21,7 @@ returns c =
       order_only = (c.in_ok-order_only.ensures ∙ left c.deref-5.result.now ∙ ap (without own) c.deref-5.ensures.value) i;
       validations = paths.validations.items;
       command = (c.in_ok-shared.ensures ∙ c.new.ensures.items) i;
+      depfile = c.new-2.ensures.items i;
       keeps_deps = false;
       restat = false;
       generator = false;
