@@ -19,7 +19,10 @@ pub record IsReady (b : Bench) (n : ℕ) : Type 0 where
 
 -- A command was answered: by the refusal, where there is one, and then nothing changed; else by this reply, and with
 -- this change. It may have failed for lack of memory, and then nothing changed either.
-pub record Does (old new : Bench) (n : ℕ) (refusal : Option Refusal) (answer : Reply) (moved : BenchValue) (r : Result Reply AllocError) : Type 0 where
+pub record Does
+    (old new : Bench) (n : ℕ) (refusal : Option Refusal) (answer : Reply) (moved : BenchValue)
+    (r : Result Reply AllocError)
+    : Type 0 where
   pub reply : IfOk r (λ reply. reply ≡ reply_by answer refusal)
   pub ok : OnOk r (bench_value new ≡ moved_by (bench_value old) moved refusal)
   pub err : OnErr r (bench_value new ≡ bench_value old)

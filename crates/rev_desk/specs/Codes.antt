@@ -85,7 +85,8 @@ refusal_of-refusal_parts refusal.NoSuchBreak = refl
 
 abbrev pub coded_refusal : Coded Refusal
 coded_refusal =
-    code_by RefusalParts (coded× coded_ℕ (coded× (coded_option coded_ℕ) (coded_option coded_ℕ))) refusal_parts refusal_of
+    code_by RefusalParts (coded× coded_ℕ (coded× (coded_option coded_ℕ) (coded_option coded_ℕ))) refusal_parts
+    refusal_of
     refusal_of-refusal_parts
 
 abbrev pub WhichParts : Type 0
@@ -206,4 +207,5 @@ coded_reply =
 
 abbrev pub coded_entry : Coded Entry
 coded_entry =
-    code_by (ℕ × (Command × Reply)) (coded× coded_ℕ (coded× coded_command coded_reply)) (λ e. (e.lane, (e.command, e.reply))) (λ p. record { lane = p.0; command = p.1.0; reply = p.1.1 }) (λ _. refl)
+    code_by (ℕ × (Command × Reply)) (coded× coded_ℕ (coded× coded_command coded_reply))
+    (λ e. (e.lane, (e.command, e.reply))) (λ p. record { lane = p.0; command = p.1.0; reply = p.1.1 }) (λ _. refl)

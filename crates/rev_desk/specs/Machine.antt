@@ -36,11 +36,14 @@ desk_code =
     code_by (Timeline × (List (ℕ × Point) × (Bool × (List Entry × ℕ))))
     (coded× timeline_code (coded× (coded_list (coded× coded_ℕ coded_point))
     (coded× coded_bool (coded× (coded_list coded_entry) coded_ℕ))))
-    (λ d. (d.history, (d.breaks, (d.paused, (d.journal, d.lanes))))) (λ p. record { history = p.0; breaks = p.1.0; paused = p.1.1.0; journal = p.1.1.1.0; lanes = p.1.1.1.1 }) (λ _. refl)
+    (λ d. (d.history, (d.breaks, (d.paused, (d.journal, d.lanes)))))
+    (λ p. record { history = p.0; breaks = p.1.0; paused = p.1.1.0; journal = p.1.1.1.0; lanes = p.1.1.1.1 })
+    (λ _. refl)
 
 -- nothing was said yet
 abbrev pub opened_desk : ManifestValue → ℕ → State → ℕ → DeskValue
-opened_desk manifest jobs state lanes = record { history = opened manifest jobs state; breaks = []; paused = false; journal = []; lanes = lanes }
+opened_desk manifest jobs state lanes =
+    record { history = opened manifest jobs state; breaks = []; paused = false; journal = []; lanes = lanes }
 
 abbrev pub bench_of : DeskValue → BenchValue
 bench_of d = record { history = d.history; breaks = d.breaks; paused = d.paused }
@@ -111,7 +114,14 @@ abbrev pub entry_of : DeskValue → ℕ → Command → Entry
 entry_of d lane c = record { lane = lane; command = c; reply = reply_to d c }
 
 abbrev pub with_bench : DeskValue → BenchValue → Entry → DeskValue
-with_bench d s e = record { history = s.history; breaks = s.breaks; paused = s.paused; journal = d.journal ++ e ∷ []; lanes = d.lanes }
+with_bench d s e =
+    record {
+      history = s.history;
+      breaks = s.breaks;
+      paused = s.paused;
+      journal = d.journal ++ e ∷ [];
+      lanes = d.lanes;
+    }
 
 -- The desk after a command of a lane, which has one entry more, also where the command is refused.
 abbrev pub after : DeskValue → ℕ → Command → DeskValue

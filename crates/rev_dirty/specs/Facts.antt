@@ -23,8 +23,20 @@ seen_edge builds state path = if stamp_of state path == 0 then phony_only builds
 -- what is asked of an input; of an order-only one nothing
 abbrev pub input_facts : List BuildValue → State → InputKind → List ℕ → Input
 input_facts builds state OrderOnly path = record { kind = OrderOnly; stamp = 0; produced = false; through = None }
-input_facts builds state OnLine path = record { kind = OnLine; stamp = stamp_of state path; produced = is_some (producer_of builds path); through = seen_edge builds state path }
-input_facts builds state Listed path = record { kind = Listed; stamp = stamp_of state path; produced = is_some (producer_of builds path); through = seen_edge builds state path }
+input_facts builds state OnLine path =
+    record {
+      kind = OnLine;
+      stamp = stamp_of state path;
+      produced = is_some (producer_of builds path);
+      through = seen_edge builds state path;
+    }
+input_facts builds state Listed path =
+    record {
+      kind = Listed;
+      stamp = stamp_of state path;
+      produced = is_some (producer_of builds path);
+      through = seen_edge builds state path;
+    }
 
 abbrev pub facts_of_input : List BuildValue → State → InputValue → Input
 facts_of_input builds state input = input_facts builds state input.kind input.path
@@ -32,4 +44,9 @@ facts_of_input builds state input = input_facts builds state input.kind input.pa
 -- what is asked of an output
 abbrev pub output_facts : State → BuildValue → List ℕ → Output
 output_facts state build path =
-    record { stamp = stamp_of state path; effective = effective_stamp state build path; unrecorded = lacks_record state build path; command_changed = has_other_command state build path }
+    record {
+      stamp = stamp_of state path;
+      effective = effective_stamp state build path;
+      unrecorded = lacks_record state build path;
+      command_changed = has_other_command state build path;
+    }

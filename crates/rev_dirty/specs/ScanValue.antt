@@ -14,4 +14,6 @@ pub record ScanValue : Type 0 where
   pub state : State
 
 abbrev pub scan_code : Coded ScanValue
-scan_code = code_by (GraphValue × State) (coded× coded_graph (map.code coded_cell coded_value)) (λ s. (s.graph, s.state)) (λ p. record { graph = p.0; state = p.1 }) (λ _. refl)
+scan_code =
+    code_by (GraphValue × State) (coded× coded_graph (map.code coded_cell coded_value)) (λ s. (s.graph, s.state))
+    (λ p. record { graph = p.0; state = p.1 }) (λ _. refl)

@@ -57,7 +57,8 @@ module _ (manifest : ManifestValue) where
   -- START: the edge runs in its job and slot, and has seen the greatest visible stamp of the inputs that count
   unfoldable pub start_refusal : ℕ → ℕ → ℕ → Option ℕ → State → Option Refusal
   start_refusal jobs edge job slot state =
-      start_tests (build_of edge) (present_pool manifest state edge) jobs job slot (is_halted state) (mark_of state edge)
+      start_tests (build_of edge) (present_pool manifest state edge) jobs job slot (is_halted state)
+      (mark_of state edge)
       (first_blocking manifest.builds state (inputs state (build_of edge)))
       (reasons_of manifest.builds state edge) (job_of state job) (slot_holder state (pool_of manifest edge) slot)
 

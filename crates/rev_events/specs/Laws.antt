@@ -26,7 +26,8 @@ pub record WritesOnce : Type 0 where
 -- at an opening what is held is what runs, and each accepted event keeps that
 pub record HeldIsRunning : Type 0 where
   pub opened : (manifest : ManifestValue) (s : State) → IsOpened s → IsHeldExactly manifest s
-  pub kept : (manifest : ManifestValue) (jobs : ℕ) (s : State) (e : Event) → refusal manifest jobs s e ≡ None → IsHeldExactly manifest s → IsHeldExactly manifest (after manifest s e)
+  pub kept : (manifest : ManifestValue) (jobs : ℕ) (s : State) (e : Event) → refusal manifest jobs s e ≡ None
+      → IsHeldExactly manifest s → IsHeldExactly manifest (after manifest s e)
 
 -- An accepted plan leaves the edges with its marks, and stamps and records as they were. So in the state after it the
 -- chain of an edge whose mark is Wanted ends at an edge with reasons, and all its edges are Wanted.

@@ -37,4 +37,5 @@ slots_lost depth (Some present) =
 
 -- the first of these slots that is held, with its holder
 abbrev pub first_held : State → ℕ → List ℕ → Option (ℕ × ℕ)
-first_held state pool slots = first_some (map (λ slot. option_map (λ edge. (slot, edge)) (slot_of state pool slot)) slots)
+first_held state pool slots =
+    first_some (map (λ slot. option_map (λ edge. (slot, edge)) (slot_of state pool slot)) slots)

@@ -124,7 +124,8 @@ fn pass_effect(alloc: Global, graph: &Graph, cells: &Cells, edge: u32) -> Result
     Ok(writes)
 }
 
-/// What a finish writes whose command read these paths: the edge is done, and its outputs have their stamps and records.
+/// What a finish writes whose command read these paths: the edge is done, and its outputs have their stamps and
+/// records.
 pub(crate) fn finish_effect(
     alloc: Global,
     graph: &Graph,

@@ -215,8 +215,8 @@ fn report_edges<R: Threads + Wait + Sync, W: Write>(
     }
 }
 
-/// As `run_parallel`, but the desk, and the trace where no thread took it, stand in `memory` at the end, whether the run
-/// went to its end or not, so that the caller chooses when they are freed.
+/// As `run_parallel`, but the desk, and the trace where no thread took it, stand in `memory` at the end, whether the
+/// run went to its end or not, so that the caller chooses when they are freed.
 pub fn run_parallel_in<R: Threads + Wait + Sync, W: Write>(
     rt: &R,
     alloc: Global,

@@ -78,8 +78,8 @@ fn are_near(one: &Change, other: &Change) -> bool {
     other.line.saturating_sub(one.line) <= 2 * CONTEXT
 }
 
-/// The changes of a file as `diff -u` tells them and `patch -p0` takes them; nothing where there are none. They stand in
-/// rising order.
+/// The changes of a file as `diff -u` tells them and `patch -p0` takes them; nothing where there are none. They stand
+/// in rising order.
 ///
 /// # Errors
 /// [`AllocError`] only where an allocation was refused.

@@ -81,8 +81,8 @@ fn place_in(seen: Seen, number: usize, line: &[u8]) -> Place {
     }
 }
 
-/// Where order-only inputs are added to the statement that begins at a line: before its validations, or at its end. None
-/// where there is no such line.
+/// Where order-only inputs are added to the statement that begins at a line: before its validations, or at its end.
+/// None where there is no such line.
 pub(crate) fn place_of(lines: &[&[u8]], first: usize) -> Option<Place> {
     let rest = lines.get(first..)?;
     let mut seen = Seen {

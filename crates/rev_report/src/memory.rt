@@ -2,8 +2,8 @@
 use rev_desk::Desk;
 use rev_trace::Trace;
 
-/// What a run read and made, and handed back in place of freeing it: the trace, and the desk with its graph. A value that
-/// is dropped frees both piece by piece.
+/// What a run read and made, and handed back in place of freeing it: the trace, and the desk with its graph. A value
+/// that is dropped frees both piece by piece.
 #[derive(Drop)]
 pub struct RunMemory {
     /// The trace, where it was read without a fault.

@@ -33,7 +33,8 @@ pub enum Word {
     Why(Name),
     /// `dependents WHICH` lists the kept events that depend on a kept one.
     Dependents(Which),
-    /// `order N...` tells whether these accepted events, in this order from the opening, are equivalent to the kept ones.
+    /// `order N...` tells whether these accepted events, in this order from the opening, are equivalent to the kept
+    /// ones.
     Order(Numbers),
 }
 

@@ -107,9 +107,9 @@ fn push_round<'a>(
     Ok(())
 }
 
-/// All commands of the lanes of a trace, at most 63, in the order of their turns: the first command of each lane in rising number of
-/// the lanes, then the second command of each lane that has one, and so on. A round asks only the lanes that have
-/// commands left.
+/// All commands of the lanes of a trace, at most 63, in the order of their turns: the first command of each lane in
+/// rising number of the lanes, then the second command of each lane that has one, and so on. A round asks only the
+/// lanes that have commands left.
 pub fn turns_of<'a>(alloc: Global, lanes: &'a [Vec<Command>]) -> Result<Vec<Turn<'a>>, AllocError>
     requires { length lanes.now ≤ Trace.MAX_LANES }
     ensures { IfOk result (λ list. seen_turns list.items ≡ turns (lanes_of lanes.now)) }

@@ -4,8 +4,7 @@ ghost use Rattle.rev_ranks.specs.Graph.{graph_of};
 ghost use Rattle.rev_graph.specs.Graph.{build_at, producer_of};
 ghost use Rattle.rev_waits.specs.Waits.{IsBehind, Makes, passes_on, phony_lists};
 
-use crate::waiting::edges_among;
-use rev_graph::Graph;
+use rev_graph::{Graph, edges_among};
 use rev_paths::Name;
 use rev_ranks::reachable_from;
 use std::alloc::{AllocError, Global};
@@ -23,8 +22,8 @@ fn passed_on(alloc: Global, graph: &Graph, edge: u32) -> Result<Vec<u32>, AllocE
     }
 }
 
-/// For each phony edge the edges that produce its inputs, and for each other edge none, in time and memory linear in the
-/// inputs.
+/// For each phony edge the edges that produce its inputs, and for each other edge none, in time and memory linear in
+/// the inputs.
 ///
 /// # Errors
 /// [`AllocError`] only where an allocation was refused.
@@ -61,8 +60,8 @@ fn makers_behind(
 }
 
 /// The edges that make a path: its producer, or, where that is phony, the first edges with a command that are met from
-/// it through phony edges. It takes constant time up to hashing where no phony edge produces the path, and else time and
-/// memory linear in edges and steps. `phony` has for each phony edge the edges that it steps to.
+/// it through phony edges. It takes constant time up to hashing where no phony edge produces the path, and else time
+/// and memory linear in edges and steps. `phony` has for each phony edge the edges that it steps to.
 ///
 /// # Errors
 /// [`AllocError`] only where an allocation was refused.

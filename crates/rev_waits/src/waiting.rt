@@ -1,23 +1,12 @@
 //! Which edges wait for which.
 ghost use Rattle.std.specs.Prelude.{◌≡◌, ◌<◌, length, IfOk};
-ghost use Rattle.std.specs.List.{filter_map};
 ghost use Rattle.rev_ranks.specs.Graph.{graph_of};
 ghost use Rattle.rev_graph.specs.Graph.{successor_lists};
 ghost use Rattle.rev_waits.specs.Waits.{AreWaitedFor};
 
-use rev_graph::Graph;
+use rev_graph::{Graph, edges_among};
 use rev_ranks::reachable_from;
 use std::alloc::{AllocError, Global};
-
-/// The edges among producers.
-pub(crate) fn edges_among(alloc: Global, producers: &[Option<u32>]) -> Result<Vec<u32>, AllocError>
-    ensures { IfOk result (λ edges. edges.items ≡ filter_map (λ producer. producer) producers.now) }
-{
-    producers
-        .iter()
-        .filter_map(|producer| *producer)
-        .collect(alloc)
-}
 
 /// For each edge the edges that produce its explicit, implicit and order-only inputs, in time and memory linear in the
 /// inputs.

@@ -115,7 +115,8 @@ fn keep_one(standing: &mut Standing, entries: u64)
     }
 }
 
-// Notes one entry more, by whether its command touches a file, and its reply: a touch that meets no break makes no input.
+// Notes one entry more, by whether its command touches a file, and its reply: a touch that meets no break makes no
+// input.
 pub(crate) fn keep_waiting(standings: &mut [Standing], entries: u64, touches: bool, reply: Reply)
     requires { entries < 2 ^ 32 }
     ensures { standings.new ≡ (if touches && is_plain reply then map (kept_waiting entries) standings.old
