@@ -1,7 +1,7 @@
 //! The access lists.
 ghost use Rattle.std.specs.Prelude.{◌≡◌, true, [], None, Some, OnOk, OnErr};
 ghost use Rattle.rev_causal.specs.AccessLists.{numbers_by};
-ghost use Rattle.rev_causal.specs.Chosen.{IsRising as IsRisingNumbers};
+ghost use Rattle.rev_causal.specs.Chosen.{IsRising as IsRisingNumbers, is_among};
 ghost use Rattle.rev_causal.specs.History.{IsRising, event_at, put, without};
 ghost use Rattle.rev_causal.specs.KeptHistory.{nearest_in};
 ghost use Rattle.rev_causal.specs.Store.{Footprint, Footprint.Whole, conflict};
@@ -10,9 +10,12 @@ ghost use Rattle.rev_order.specs.Pairs.{partner_of};
 ghost use Rattle.rev_cells.specs.declared.cell.Cell.{Cell};
 ghost use Rattle.rev_cells.specs.Keys.{cell_cmp};
 ghost use Rattle.rev_accesses.specs.Following.{IsFollowed};
+ghost use Rattle.rev_accesses.specs.Thinned.{AreThinned, AreThinnedUnder, IsGone, IsGoneUnder};
 ghost use Rattle.rev_accesses.specs.Value.{Names, PartlyPut, Prints, PutUnder, Shows, TakenFrom};
 
-use crate::index::{add_firsts, add_users, first_turned, nearest, partner, put_all, take_all};
+use crate::index::{
+    add_firsts, add_users, first_turned, nearest, partner, put_all, take_all, thin_all,
+};
 use crate::numbers::add_between;
 use crate::pending::Pending;
 use crate::rising::Rising;
@@ -117,6 +120,27 @@ impl Accesses {
         self.take_from(number, reads, writes);
     }
 
+    /// Takes the number of an event that reads and writes these cells out from under each; where it is one of many
+    /// members, all of these may go with it, so that each list is gone through once for all members. It takes no memory.
+    pub fn thin(&mut self, number: u32, members: &[u32], reads: &[Cell], writes: &[Cell])
+        requires rising { IsRisingNumbers members.now }
+        requires member { is_among members.now number ≡ true }
+        ensures thinned { AreThinned members.now self.old self.new }
+        ensures gone { (f : Footprint Cell) → Names f reads.now writes.now → IsGone number f self.new }
+    {
+        self.thin_from(number, members, reads, writes);
+    }
+
+    /// The same for a whole event.
+    pub fn thin_whole(&mut self, number: u32, members: &[u32])
+        requires rising { IsRisingNumbers members.now }
+        requires member { is_among members.now number ≡ true }
+        ensures thinned { AreThinned members.now self.old self.new }
+        ensures gone { IsGone number Whole self.new }
+    {
+        self.whole.thin(number, members);
+    }
+
     /// The least number above another whose event conflicts with one that reads and writes these cells. It takes no
     /// memory, and time linear in the cells, up to hashing, and in the logarithm of the longest list.
     pub fn nearest(&self, number: u32, reads: &[Cell], writes: &[Cell]) -> Option<u32>
@@ -212,6 +236,20 @@ impl Accesses {
         put_all(self.alloc, &mut self.users, Access::Read, reads, number)?;
         put_all(self.alloc, &mut self.users, Access::Write, writes, number)?;
         Ok(())
+    }
+
+    // Takes a number out from under cells, which is one of some members, or all of these with it.
+    fn thin_from(&mut self, number: u32, members: &[u32], reads: &[Cell], writes: &[Cell])
+        requires rising { IsRisingNumbers members.now }
+        requires member { is_among members.now number ≡ true }
+        ensures writers { AreThinnedUnder members.now self.old.writers self.new.writers }
+        ensures readers { AreThinnedUnder members.now self.old.readers self.new.readers }
+        ensures written { IsGoneUnder number writes.now self.new.writers }
+        ensures read { IsGoneUnder number reads.now self.new.readers }
+        ensures whole { self.new.whole ≡ self.old.whole }
+    {
+        thin_all(&mut self.users, Access::Read, reads, number, members);
+        thin_all(&mut self.users, Access::Write, writes, number, members);
     }
 
     // Takes a number out from under cells.

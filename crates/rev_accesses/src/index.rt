@@ -1,14 +1,15 @@
 //! Numbers under cells.
-ghost use Rattle.std.specs.Prelude.{◌≡◌, ℕ, ◌||◌, false, cond, map, IsSome, OnOk};
+ghost use Rattle.std.specs.Prelude.{◌≡◌, ℕ, ◌||◌, false, true, cond, map, IsSome, OnOk};
 ghost use Rattle.std.specs.List.{IsDistinct};
 ghost use Rattle.std.specs.Ordering.{eq_by_cmp};
 ghost use Rattle.std.specs.Map.{lookup};
 ghost use Rattle.rev_causal.specs.AccessLists.{first_above as first_above_in};
-ghost use Rattle.rev_causal.specs.Chosen.{is_among, without};
+ghost use Rattle.rev_causal.specs.Chosen.{IsRising, is_among, without};
 ghost use Rattle.rev_order.specs.Overtaken.{first_overtaking as first_overtaking_of};
 ghost use Rattle.rev_cells.specs.declared.cell.Cell.{Cell};
 ghost use Rattle.rev_cells.specs.Keys.{cell_cmp};
 ghost use Rattle.rev_accesses.specs.Following.{is_first_under, is_user_under};
+ghost use Rattle.rev_accesses.specs.Thinned.{AreThinnedUnder, IsGoneUnder};
 ghost use Rattle.rev_accesses.specs.Turned.{first_turned_among, partner_at};
 ghost use Rattle.rev_accesses.specs.Users.{IsSame, is_user, listed, other};
 ghost use Rattle.rev_accesses.specs.declared.users.Access.TheVariants.{Read, Write};
@@ -62,6 +63,27 @@ fn take_at(index: &mut IndexMap<Cell, Users>, access: Access, cell: &Cell, numbe
     }
 }
 
+// Takes a number out of one of the lists of a cell, if it is there, which is one of some members, or all of these with
+// it.
+fn thin_at(
+    index: &mut IndexMap<Cell, Users>,
+    access: Access,
+    cell: &Cell,
+    number: u32,
+    members: &[u32],
+)
+    requires rising { IsRising members.now }
+    requires member { is_among members.now number ≡ true }
+    ensures thinned { AreThinnedUnder members.now
+        (listed access index.old.entries) (listed access index.new.entries) }
+    ensures gone { is_among (numbers_at (listed access index.new.entries) cell.now) number ≡ false }
+    ensures rest { IsSame (listed (other access) index.old.entries) (listed (other access) index.new.entries) }
+{
+    if let Some(users) = index.get_mut(cell) {
+        users.thin(access, number, members);
+    }
+}
+
 // The first number above another in one of the lists of a cell.
 fn first_at(index: &IndexMap<Cell, Users>, access: Access, cell: &Cell, number: u32) -> Option<u32>
     ensures { result ≡ first_above_in number (numbers_at (listed access index.now.entries) cell.now) }
@@ -105,6 +127,27 @@ pub(crate) fn take_all(
 {
     for cell in cells {
         take_at(index, access, cell, number);
+    }
+}
+
+/// Takes a number out of one of the lists of each of the cells, which is one of some members, or all of these with it.
+/// It takes no memory.
+pub(crate) fn thin_all(
+    index: &mut IndexMap<Cell, Users>,
+    access: Access,
+    cells: &[Cell],
+    number: u32,
+    members: &[u32],
+)
+    requires rising { IsRising members.now }
+    requires member { is_among members.now number ≡ true }
+    ensures thinned { AreThinnedUnder members.now
+        (listed access index.old.entries) (listed access index.new.entries) }
+    ensures gone { IsGoneUnder number cells.now (listed access index.new.entries) }
+    ensures rest { IsSame (listed (other access) index.old.entries) (listed (other access) index.new.entries) }
+{
+    for cell in cells {
+        thin_at(index, access, cell, number, members);
     }
 }
 

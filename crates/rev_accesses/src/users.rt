@@ -1,6 +1,7 @@
 //! Those that use one cell.
-ghost use Rattle.std.specs.Prelude.{◌≡◌, ◌∷◌, [], IfOk, OnOk};
-ghost use Rattle.rev_causal.specs.Chosen.{without};
+ghost use Rattle.std.specs.Prelude.{◌≡◌, ◌∷◌, [], false, true, IfOk, OnOk};
+ghost use Rattle.rev_causal.specs.Chosen.{IsRising, is_among, without};
+ghost use Rattle.rev_accesses.specs.Thinned.{IsThinned};
 ghost use Rattle.rev_accesses.specs.Turned.{first_turned_in};
 ghost use Rattle.rev_accesses.specs.Users.{numbers_of, other};
 ghost use Rattle.rev_accesses.specs.Value.{with_number};
@@ -68,6 +69,20 @@ impl Users {
         match access {
             Access::Read => self.readers.take(number),
             Access::Write => self.writers.take(number),
+        }
+    }
+
+    // Takes a number out, if it is there, which is one of some members, or all of these with it. It takes no memory.
+    pub(crate) fn thin(&mut self, access: Access, number: u32, members: &[u32])
+        requires rising { IsRising members.now }
+        requires member { is_among members.now number ≡ true }
+        ensures thinned { IsThinned members.now (numbers_of access self.old) (numbers_of access self.new) }
+        ensures gone { is_among (numbers_of access self.new) number ≡ false }
+        ensures rest { numbers_of (other access) self.new ≡ numbers_of (other access) self.old }
+    {
+        match access {
+            Access::Read => self.readers.thin(number, members),
+            Access::Write => self.writers.thin(number, members),
         }
     }
 

@@ -7,9 +7,9 @@ use Rattle.rev_cells.specs.Keys.{cell_cmp}
 use Rattle.rev_cells.proofs.EntryLemmas.{cells_total}
 use Rattle.rev_causal.specs.Store.{Footprint, Footprint.Whole, Footprint.Cells, among, is_accessed, conflict}
 use Rattle.rev_footprint.specs.declared.footprints.Footprint.TheInside.{Inside}
-use Rattle.rev_footprint.specs.Held.{cells_read}
 use Rattle.rev_footprint.specs.Sound.{value_of, IsSound}
 use Rattle.rev_footprint.specs.Value.{FootprintValue, print_of}
+use Rattle.rev_footprint.proofs.ListedLemmas.{among-take}
 
 covered : (w k : Bool) → (w ≡ true → k ≡ true) → (w || k) ≡ k
 covered true k h = sym (h refl)
@@ -21,7 +21,7 @@ Covers f = (c : Cell) → among cell_cmp f.writes c ≡ true → cells.contains 
 
 pub covers-of : (a : Inside) → IsSound a → (f : FootprintValue) → value_of a ≡ f → Covers f
 covers-of a sound f is =
-    subst Covers is (λ c h. cells.contains-from_list cells_total (cells_read a.reads a.writes.items) c ∙ sound.read c h)
+    subst Covers is (λ c h. cells.contains-from_list cells_total a.cells.items c ∙ among-take a.written a.cells.items c h)
 
 -- what is accessed is in the set
 accessed-in : (f : FootprintValue) → Covers f → (c : Cell) → is_accessed cell_cmp (Cells (cells.items f.reads) f.writes) c ≡ cells.contains f.reads c

@@ -4,6 +4,7 @@ pub mod ConflictLemmas
 pub mod EqualLemmas
 pub mod HeldRuns
 pub mod KindLemmas
+pub mod ListedLemmas
 pub mod Local
 pub mod MadeLemmas
 pub mod OnceLemmas

@@ -1,8 +1,7 @@
 -- A footprint that is made of its cells.
-use Rattle.std.proofs.Common.{◌≡◌, Bool, true, ◌||◌, List, [], ◌++◌, sym, ap, ◌∙◌}
+use Rattle.std.proofs.Common.{◌≡◌, Bool, true, false, ◌||◌, List, [], ◌++◌, refl, sym, ap, ◌∙◌}
 use Rattle.std.specs.FinSet as cells
 use Rattle.std.specs.Ordering.{eq_by_cmp}
-use Rattle.std.proofs.lemmas.List.{append-nil}
 use Rattle.std.proofs.lemmas.List.Folds.{list_any-append}
 use Rattle.rev_cells.specs.declared.cell.Cell.{Cell}
 use Rattle.rev_cells.specs.Keys.{cell_cmp}
@@ -21,14 +20,14 @@ pub made : (keys writes besides : List Cell) (whole : Bool) → Adds [] keys (wr
     → (let value : FootprintValue = record { reads = cells.from_list {R = cell_cmp} keys; writes = writes; whole = whole } in value ≡ footprint_by whole besides writes)
 made keys writes besides whole added = λ i. record { reads = same-set keys (writes ++ besides) added i; writes = writes; whole = whole }
 
-or-left : (a b : Bool) → a ≡ true → (a || b) ≡ true
-or-left a b h = ap (λ x. x || b) h
-
--- what is written is among them
-pub written-read : (keys writes besides : List Cell) → Adds [] keys (writes ++ besides) → (c : Cell) → among cell_cmp writes c ≡ true → among cell_cmp keys c ≡ true
-written-read keys writes besides added c h =
-    added c ∙ list_any-append (eq_by_cmp cell_cmp c) writes besides ∙ or-left (among cell_cmp writes c) (among cell_cmp besides c) h
-
 -- what is written, where nothing is read besides
-pub adds-themselves : (writes besides : List Cell) → besides ≡ [] → Adds [] writes (writes ++ besides)
-adds-themselves writes besides none c = ap (λ ks. among cell_cmp ks c) (sym (ap (λ more. writes ++ more) none ∙ append-nil writes))
+pub adds-none : (written besides : List Cell) → besides ≡ [] → Adds written written besides
+adds-none written besides none c = or_none (among cell_cmp written c) ∙ ap (λ ks. among cell_cmp written c || among cell_cmp ks c) (sym none)
+  where
+    or_none : (b : Bool) → b ≡ (b || false)
+    or_none true = refl
+    or_none false = refl
+
+-- what was added to what is written
+pub adds-both : (written all besides : List Cell) → Adds written all besides → Adds [] all (written ++ besides)
+adds-both written all besides added c = added c ∙ sym (list_any-append (eq_by_cmp cell_cmp c) written besides)

@@ -1,8 +1,8 @@
 pub mod Adds
 pub mod Behind
 pub mod Footprint
-pub mod Held
 pub mod Laws
+pub mod Listed
 pub mod Machine
 pub mod Reads
 pub mod Run

@@ -14,7 +14,12 @@ use Rattle.rev_footprint.specs.Value.{print_of}
 
 -- what is said of each event of a build in a state: why it is refused, what it writes, and its footprint
 abbrev pub table : ManifestValue → ℕ → Table Cell Value Event Refusal cell_cmp
-table manifest jobs = record { refusal = refusal manifest jobs; effect = effect manifest; footprint = λ s e. print_of (footprint manifest s e) }
+table manifest jobs =
+    record {
+      refusal = refusal manifest jobs;
+      effect = effect manifest;
+      footprint = λ s e. print_of (footprint manifest s e);
+    }
 
 abbrev pub machine : ManifestValue → ℕ → Machine
 machine manifest jobs = machine_of (table manifest jobs)

@@ -1,20 +1,17 @@
--- How a footprint is held: the cells that are read, and a list of those that are written.
-use Rattle.std.specs.Prelude.{◌≡◌, true}
+-- How a footprint is held: the cells that are read in one list, the written ones first.
+use Rattle.std.specs.Prelude.{◌≤◌, length, take}
 use Rattle.std.specs.FinSet as cells
 use Rattle.std.specs.List.{IsDistinct}
 use Rattle.std.specs.Ordering.{eq_by_cmp}
-use Rattle.rev_cells.specs.declared.cell.Cell.{Cell}
 use Rattle.rev_cells.specs.Keys.{cell_cmp}
-use Rattle.rev_causal.specs.Store.{among}
 use Rattle.rev_footprint.specs.declared.footprints.Footprint.TheInside.{Inside}
-use Rattle.rev_footprint.specs.Held.{cells_read}
 use Rattle.rev_footprint.specs.Value.{FootprintValue}
 
 abbrev pub value_of : Inside → FootprintValue
-value_of a = record { reads = cells.from_list (cells_read a.reads a.writes.items); writes = a.writes.items; whole = a.whole }
+value_of a =
+    record { reads = cells.from_list a.cells.items; writes = take a.written a.cells.items; whole = a.whole }
 
--- what is written is read, and each cell that is read stands once, as does each that is written
+-- so many are there as are written, and each cell stands once
 pub record IsSound (a : Inside) : Type 0 where
-  pub read : (c : Cell) → among cell_cmp a.writes.items c ≡ true → among cell_cmp (cells_read a.reads a.writes.items) c ≡ true
-  pub distinct : IsDistinct (eq_by_cmp cell_cmp) (cells_read a.reads a.writes.items)
-  pub once : IsDistinct (eq_by_cmp cell_cmp) a.writes.items
+  pub within : a.written ≤ length a.cells.items
+  pub distinct : IsDistinct (eq_by_cmp cell_cmp) a.cells.items

@@ -24,4 +24,5 @@ abbrev pub print_of : FootprintValue → Footprint Cell
 print_of f = if f.whole then Whole else Cells (cells.items f.reads) f.writes
 
 abbrev pub footprint_by : Bool → List Cell → List Cell → FootprintValue
-footprint_by whole besides writes = record { reads = cells.from_list (writes ++ besides); writes = writes; whole = whole }
+footprint_by whole besides writes =
+    record { reads = cells.from_list (writes ++ besides); writes = writes; whole = whole }

@@ -1,21 +1,21 @@
 //! Footprints, and when two of them conflict.
-ghost use Rattle.std.specs.Prelude.{◌≡◌, true};
+ghost use Rattle.std.specs.Prelude.{◌≡◌, ◌≤◌, length, take, true};
 ghost use Rattle.std.specs.FinSet as cells;
 ghost use Rattle.std.specs.List.{IsDistinct, list_any};
 ghost use Rattle.std.specs.Ordering.{eq_by_cmp};
-ghost use Rattle.rev_causal.specs.Store.{among, conflict as conflict_of};
+ghost use Rattle.rev_causal.specs.Store.{conflict as conflict_of};
 ghost use Rattle.rev_cells.specs.Keys.{cell_cmp};
-ghost use Rattle.rev_footprint.specs.Held.{cells_read};
 ghost use Rattle.rev_footprint.specs.Value.{print_of};
 
-use crate::held::Held;
+use crate::listed::is_among;
 use rev_cells::Cell;
 use std::marker::Model;
 
-/// The cells that an event reads and writes in a state. A written cell is read too.
+/// The cells that an event reads and writes in a state. A written cell is read too, so all stand in one list, which has
+/// room for them and no more: the written ones first, and behind them those that are only read.
 pub struct Footprint {
-    reads: Held,
-    writes: Vec<Cell>,
+    cells: Vec<Cell>,
+    written: usize,
     whole: bool,
 }
 
@@ -23,8 +23,8 @@ pub struct Footprint {
 impl Drop for Footprint {
     fn drop(self) {
         let Footprint {
-            reads: _reads,
-            writes: _writes,
+            cells: _cells,
+            written: _written,
             whole: _whole,
         } = self;
     }
@@ -45,22 +45,22 @@ impl Model for Footprint {
 }
 
 impl Footprint {
-    // The footprint of an event that writes these cells, and reads these, in which the written ones are.
-    pub(crate) fn of(reads: Held, writes: Vec<Cell>, whole: bool) -> Footprint
-        requires read { (c : Cell) → among cell_cmp writes.items c ≡ true
-            → among cell_cmp (cells_read reads writes.items) c ≡ true }
-        requires distinct { IsDistinct (eq_by_cmp cell_cmp) (cells_read reads writes.items) }
-        requires once { IsDistinct (eq_by_cmp cell_cmp) writes.items }
+    // The footprint of an event that reads these cells, of which it writes the first ones.
+    pub(crate) fn of(read: Vec<Cell>, written: usize, whole: bool) -> Footprint
+        requires within { written ≤ length read.items }
+        requires distinct { IsDistinct (eq_by_cmp cell_cmp) read.items }
         ensures { result ≡ record {
-          reads = cells.from_list (cells_read reads writes.items);
-          writes = writes.items;
+          reads = cells.from_list read.items;
+          writes = take written read.items;
           whole =
               whole;
         } }
     {
+        let mut cells = read;
+        cells.shrink_to_fit();
         Footprint {
-            reads,
-            writes,
+            cells,
+            written,
             whole,
         }
     }
@@ -71,21 +71,7 @@ impl Footprint {
         ensures same { cells.from_list result.now ≡ self.now.reads }
         ensures distinct { IsDistinct (eq_by_cmp cell_cmp) result.now }
     {
-        match &self.reads {
-            Held::Written => self.writes.as_slice(),
-            Held::Listed(cells) => cells.as_slice(),
-            Held::Hashed(cells) => cells.as_slice(),
-        }
-    }
-
-    // Whether a cell is read. Where there are many it is looked up.
-    fn has(&self, cell: &Cell) -> bool
-        ensures { result ≡ cells.contains self.now.reads cell.now }
-    {
-        match &self.reads {
-            Held::Hashed(cells) => cells.contains(cell),
-            Held::Written | Held::Listed(_) => self.reads().contains(cell),
-        }
+        self.cells.as_slice()
     }
 
     // Whether one of the cells is read.
@@ -95,12 +81,19 @@ impl Footprint {
         asked.iter().any(|cell| self.has(cell))
     }
 
+    // Whether a cell is read.
+    fn has(&self, cell: &Cell) -> bool
+        ensures { result ≡ cells.contains self.now.reads cell.now }
+    {
+        is_among(self.reads(), cell)
+    }
+
     /// The cells that are written, each once, in the order of the event's effect.
     pub fn writes(&self) -> &[Cell]
         ensures same { result.now ≡ self.now.writes }
         ensures distinct { IsDistinct (eq_by_cmp cell_cmp) result.now }
     {
-        self.writes.as_slice()
+        &self.cells[..self.written]
     }
 
     /// Whether the event reads every cell, as a plan does.
@@ -113,7 +106,7 @@ impl Footprint {
 
 /// Whether two footprints conflict: one is whole, or a cell that one writes is read or written by the other.
 ///
-/// It takes no memory, and time linear in the cells that they write, up to hashing.
+/// It takes no memory. Each cell that one writes is looked for among those that the other reads, one by one.
 pub fn conflict(first: &Footprint, second: &Footprint) -> bool
     ensures { result ≡ conflict_of cell_cmp (print_of first.now) (print_of second.now) }
 {

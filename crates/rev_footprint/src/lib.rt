@@ -3,8 +3,8 @@
 
 mod behind;
 mod footprints;
-mod held;
 pub mod laws;
+mod listed;
 mod of_event;
 mod reads;
 mod writes;

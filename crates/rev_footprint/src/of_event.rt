@@ -1,5 +1,5 @@
 //! The footprint of an event.
-ghost use Rattle.std.specs.Prelude.{◌≡◌, ◌<◌, ◌++◌, true, [], length, map, IfOk, OnOk};
+ghost use Rattle.std.specs.Prelude.{◌≡◌, ◌<◌, ◌++◌, true, [], length, map, take, IfOk, OnOk};
 ghost use Rattle.std.specs.List.{IsDistinct};
 ghost use Rattle.std.specs.Ordering.{eq_by_cmp};
 ghost use Rattle.rev_events.specs.Machine.{of_edge, edge_of};
@@ -14,12 +14,11 @@ ghost use Rattle.rev_events.specs.Written.{written as written_by};
 ghost use Rattle.rev_manifest.specs.Manifest.{ManifestValue};
 ghost use Rattle.rev_footprint.specs.Adds.{Adds};
 ghost use Rattle.rev_footprint.specs.Footprint.{footprint as footprint_of, is_plan as is_plan_event};
-ghost use Rattle.rev_footprint.specs.Held.{cells_read};
 ghost use Rattle.rev_footprint.specs.Reads.{depth_cells, start_reads, clean_reads, pass_reads, resize_reads, reads_besides};
 
 use crate::footprints::Footprint;
-use crate::held::{Held, are_few, set_held};
-use crate::reads::{add, add_all, add_built, add_producer_marks, add_seen_stamps, add_stamps};
+use crate::listed::add_others;
+use crate::reads::{add, add_built, add_producer_marks, add_seen_stamps, add_stamps};
 use crate::writes::{deps_cell, written};
 use indexmap::IndexSet;
 use rev_cells::{Cell, Cells};
@@ -310,40 +309,27 @@ fn reads_its_writes(event: &Event) -> bool
     }
 }
 
-// Whether the list of so many cells that an event writes does for those that it reads: it reads no others, and they are
-// few, or the event is whole, whose cells are not looked through.
-fn do_for_reads(event: &Event, writes: usize) -> bool
-    ensures { result ≡ true → (manifest : ManifestValue) (state : State)
-        → reads_besides manifest state event.now ≡ [] }
-{
-    if !reads_its_writes(event) {
-        return false;
-    }
-    is_plan(event) || are_few(writes)
-}
-
-// The cells that an event reads which writes these.
-fn cells_held(
+// Puts what an event reads besides behind the cells that it writes.
+fn add_reads(
     alloc: Global,
     graph: &Graph,
     cells: &Cells,
     event: &Event,
-    writes: &[Cell],
-) -> Result<Held, AllocError>
-    requires written { writes.now ≡ written_by graph.now.manifest cells.now.state event.now }
-    requires once { IsDistinct (eq_by_cmp cell_cmp) writes.now }
-    ensures cells { IfOk result (λ held. Adds [] (cells_read held writes.now)
-        (writes.now ++ reads_besides graph.now.manifest cells.now.state event.now)) }
-    ensures distinct { IfOk result (λ held. IsDistinct (eq_by_cmp cell_cmp) (cells_read held writes.now)) }
+    written: &mut Vec<Cell>,
+) -> Result<(), AllocError>
+    requires { IsDistinct (eq_by_cmp cell_cmp) written.old.items }
+    ensures front { OnOk result (take (length written.old.items) written.new.items ≡ written.old.items) }
+    ensures all { OnOk result (Adds written.old.items written.new.items
+        (reads_besides graph.now.manifest cells.now.state event.now)) }
+    ensures distinct { OnOk result (IsDistinct (eq_by_cmp cell_cmp) written.new.items) }
 {
-    if do_for_reads(event, writes.len()) {
-        return Ok(Held::Written);
+    if reads_its_writes(event) {
+        return Ok(());
     }
-    let mut reads = IndexSet::with_capacity(alloc, USUAL)?;
-    add_all(&mut reads, writes)?;
-    add_besides(alloc, graph, cells, &mut reads, event)?;
-    let held = set_held(alloc, reads)?;
-    Ok(held)
+    let mut read = IndexSet::with_capacity(alloc, USUAL)?;
+    add_besides(alloc, graph, cells, &mut read, event)?;
+    add_others(alloc, written, read)?;
+    Ok(())
 }
 
 /// The footprint of an event in a state: exactly the cells that an accepted event of its kind reads and writes there. A
@@ -370,7 +356,8 @@ pub fn footprint(
 {
     // What it promises of every graph, that no output stands twice on a build line, is why no cell is written twice.
     let _edges = graph.edges();
-    let writes = written(alloc, graph, cells, event)?;
-    let reads = cells_held(alloc, graph, cells, event, &writes)?;
-    Ok(Footprint::of(reads, writes, is_plan(event)))
+    let mut listed = written(alloc, graph, cells, event)?;
+    let writes = listed.len();
+    add_reads(alloc, graph, cells, event, &mut listed)?;
+    Ok(Footprint::of(listed, writes, is_plan(event)))
 }

@@ -24,16 +24,6 @@ pub(crate) fn add(reads: &mut IndexSet<Cell>, cell: Cell) -> Result<(), AllocErr
     Ok(())
 }
 
-/// Adds copies of cells.
-pub(crate) fn add_all(reads: &mut IndexSet<Cell>, cells: &[Cell]) -> Result<(), AllocError>
-    ensures { OnOk result (Adds reads.old.keys reads.new.keys cells.now) }
-{
-    for cell in cells {
-        add(reads, cell.copy()?)?;
-    }
-    Ok(())
-}
-
 /// Adds the stamps of paths.
 pub(crate) fn add_stamps(reads: &mut IndexSet<Cell>, paths: &[Name]) -> Result<(), AllocError>
     ensures { OnOk result (Adds reads.old.keys reads.new.keys (stamp_cells paths.now)) }

@@ -107,7 +107,7 @@ event_at-apart : {A : Type 0} (n k : ℕ) (x : A) (xs : List (ℕ × A)) → nat
 event_at-apart n k x [] other = ap (λ b. cond b (Some x) None) other
 event_at-apart n k x (y ∷ ys) other = ap (cond (nat_eq y.0 k) (Some y.1)) (event_at-apart n k x ys other)
 
-mapped_beside : {E A B : Type 0} (f : A → B) (n : ℕ) (es : List (ℕ × E)) (xs : List A) → event_at n (numbered_by es (map f xs)) ≡ option_map f (event_at n (numbered_by es xs))
+pub mapped_beside : {E A B : Type 0} (f : A → B) (n : ℕ) (es : List (ℕ × E)) (xs : List A) → event_at n (numbered_by es (map f xs)) ≡ option_map f (event_at n (numbered_by es xs))
 mapped_beside f n [] xs = refl
 mapped_beside f n (e ∷ es) [] = refl
 mapped_beside f n (e ∷ es) (x ∷ xs) = by (nat_eq e.0 n) (mapped_beside f n es xs)

@@ -20,7 +20,14 @@ use Rattle.rev_history.specs.Timeline.{Timeline, last_of}
 use Rattle.rev_history.specs.Value.{HistoryValue}
 
 abbrev pub timeline_of : Inside → Timeline
-timeline_of a = record { manifest = a.graph.manifest; jobs = a.opening.jobs; opening = a.opening.state; accepted = a.accepted.entries; kept = a.kept.items }
+timeline_of a =
+    record {
+      manifest = a.graph.manifest;
+      jobs = a.opening.jobs;
+      opening = a.opening.state;
+      accepted = a.accepted.entries;
+      kept = a.kept.items;
+    }
 
 abbrev pub value_of : Inside → HistoryValue
 value_of a = record { timeline = timeline_of a; writes = a.cells.writes }
@@ -42,7 +49,8 @@ HaveFootprints manifest (e ∷ es) [] = Unit {0}
 HaveFootprints manifest (e ∷ es) (s ∷ steps) =
     IfSome s (λ x. IsFootprintOf manifest e.1 x.footprint) × HaveFootprints manifest es steps
 
--- beside the event of a number stands a step exactly where it is kept: what is not kept keeps no footprint and no values
+-- beside the event of a number stands a step exactly where it is kept: what is not kept keeps no footprint and no
+-- values
 abbrev pub StandBesideKept : List (ℕ × Event) → List Beside → List ℕ → Type 0
 StandBesideKept es steps ks = (n : ℕ) (s : Beside) → step_at n es steps ≡ Some s → is_some s ≡ is_among ks n
 

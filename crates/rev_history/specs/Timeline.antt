@@ -40,7 +40,8 @@ timeline_code =
     (coded× (finmap.code coded_cell coded_value)
     (coded× (coded_list (coded× coded_ℕ coded_event)) (coded_list coded_ℕ)))))
     (λ t. (t.manifest, (t.jobs, (t.opening, (t.accepted, t.kept)))))
-    (λ p. record { manifest = p.0; jobs = p.1.0; opening = p.1.1.0; accepted = p.1.1.1.0; kept = p.1.1.1.1 }) (λ _. refl)
+    (λ p. record { manifest = p.0; jobs = p.1.0; opening = p.1.1.0; accepted = p.1.1.1.0; kept = p.1.1.1.1 })
+    (λ _. refl)
 
 -- a history in which nothing was accepted yet
 abbrev pub opened : ManifestValue → ℕ → State → Timeline

@@ -10,7 +10,9 @@ pub record HistoryValue : Type 0 where
   pub writes : ℕ
 
 abbrev pub value_code : Coded HistoryValue
-value_code = code_by (Timeline × ℕ) (coded× timeline_code coded_ℕ) (λ h. (h.timeline, h.writes)) (λ p. record { timeline = p.0; writes = p.1 }) (λ _. refl)
+value_code =
+    code_by (Timeline × ℕ) (coded× timeline_code coded_ℕ) (λ h. (h.timeline, h.writes))
+    (λ p. record { timeline = p.0; writes = p.1 }) (λ _. refl)
 
 -- how many cells the event of a kept number writes at its place
 abbrev pub cells_written : ℕ → Timeline → ℕ

@@ -17,7 +17,7 @@ use crate::order::{Order, both, first_pair};
 use crate::prints::{nearest, write_noted};
 use crate::step::{Checked, effect, effect_if_accepted, refusal};
 use crate::steps::{Step, footprint_at};
-use crate::taken::{put_all_back, put_back, take_all_out};
+use crate::taken::{put_all_back, put_back, take_all_out, thin_lists};
 use indexmap::IndexMap;
 use rev_accesses::{Accesses, place_of, put_in, take_out};
 use rev_cells::{Cells, Opening};
@@ -319,19 +319,14 @@ impl History {
         )
     }
 
-    // Takes the members of a cone out, and their numbers in one pass over the kept ones.
+    // Takes the members of a cone out: out of each list under a cell, and out of the kept numbers, in one pass.
     fn take_down(&mut self, number: u32, members: &[u32])
         requires rising { IsRising members.now }
         requires members { members.now ≡ cone_numbers number self.old.timeline }
         ensures { self.new.timeline ≡ coned number self.old.timeline }
     {
-        put_all_back(
-            members,
-            &self.accepted,
-            &mut self.steps,
-            &mut self.cells,
-            &mut self.accesses,
-        );
+        thin_lists(members, &self.accepted, &self.steps, &mut self.accesses);
+        put_all_back(members, &self.accepted, &mut self.steps, &mut self.cells);
         take_all_out(&mut self.kept, members);
     }
 
@@ -471,13 +466,8 @@ impl History {
         ensures timeline { self.new.timeline ≡ undone number self.old.timeline }
         ensures writes { self.new.writes ≡ raised_by (cells_written number self.old.timeline) self.old.writes }
     {
-        put_back(
-            number,
-            &self.accepted,
-            &mut self.steps,
-            &mut self.cells,
-            &mut self.accesses,
-        );
+        thin_lists(&[number], &self.accepted, &self.steps, &mut self.accesses);
+        put_back(number, &self.accepted, &mut self.steps, &mut self.cells);
         take_out(&mut self.kept, number);
     }
 

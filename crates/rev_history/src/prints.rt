@@ -3,9 +3,10 @@ ghost use Rattle.std.specs.Prelude.{◌≡◌, ℕ, List, None, Some, true, Cont
 ghost use Rattle.std.specs.List.{AllByRecursion, IsDistinct};
 ghost use Rattle.std.specs.Ordering.{eq_by_cmp};
 ghost use Rattle.rev_accesses.specs.Following.{IsFollowed};
+ghost use Rattle.rev_accesses.specs.Thinned.{AreThinned, IsGone};
 ghost use Rattle.rev_accesses.specs.Value.{Prints, Shows};
 ghost use Rattle.rev_causal.specs.AccessLists.{numbers_by};
-ghost use Rattle.rev_causal.specs.Chosen.{IsRising as IsRisingNumbers};
+ghost use Rattle.rev_causal.specs.Chosen.{IsRising as IsRisingNumbers, is_among};
 ghost use Rattle.rev_causal.specs.History.{IsRising, event_at, put, without};
 ghost use Rattle.rev_causal.specs.KeptHistory.{nearest_in};
 ghost use Rattle.rev_causal.specs.Store.{conflict};
@@ -39,8 +40,8 @@ fn put_print(accesses: &mut Accesses, number: u32, footprint: &Footprint) -> Res
     Ok(())
 }
 
-/// Takes a number out of the lists of its footprint. It takes no memory.
-pub(crate) fn take_print(accesses: &mut Accesses, number: u32, footprint: &Footprint)
+// Takes a number out of the lists of its footprint. It takes no memory.
+fn take_print(accesses: &mut Accesses, number: u32, footprint: &Footprint)
     ensures { (prints : Prints) → IsRising prints → event_at number prints ≡ Some (print_of footprint.now)
         → Shows accesses.old prints → Shows accesses.new (without number prints) }
 {
@@ -49,6 +50,26 @@ pub(crate) fn take_print(accesses: &mut Accesses, number: u32, footprint: &Footp
         return;
     }
     accesses.take(number, footprint.reads(), footprint.writes());
+}
+
+/// Takes a number out of the lists of its footprint, which is one of some members; others of these may go with it. It
+/// takes no memory.
+pub(crate) fn thin_print(
+    accesses: &mut Accesses,
+    number: u32,
+    members: &[u32],
+    footprint: &Footprint,
+)
+    requires rising { IsRisingNumbers members.now }
+    requires member { is_among members.now number ≡ true }
+    ensures thinned { AreThinned members.now accesses.old accesses.new }
+    ensures gone { IsGone number (print_of footprint.now) accesses.new }
+{
+    if footprint.whole() {
+        accesses.thin_whole(number, members);
+        return;
+    }
+    accesses.thin(number, members, footprint.reads(), footprint.writes());
 }
 
 /// The least of the kept numbers above another whose footprint conflicts with one. It takes no memory.
@@ -109,8 +130,17 @@ pub(crate) fn follow(
     Ok(())
 }
 
+// The same values, with room for these and no more, where a smaller room can be had.
+fn fitted(values: Vec<(Cell, Value)>) -> Vec<(Cell, Value)>
+    ensures { result.items ≡ values.items }
+{
+    let mut fitted = values;
+    fitted.shrink_to_fit();
+    fitted
+}
+
 /// Puts a number into the lists of its footprint and writes the cells of its event, or does neither. It gives what the
-/// cells held.
+/// cells held, with room for no more.
 pub(crate) fn write_noted(
     accesses: &mut Accesses,
     cells: &mut Cells,
@@ -139,7 +169,7 @@ pub(crate) fn write_noted(
 {
     put_print(accesses, number, footprint)?;
     match cells.write_all(writes) {
-        Ok(former) => Ok(former),
+        Ok(former) => Ok(fitted(former)),
         Err(AllocError) => {
             take_print(accesses, number, footprint);
             Err(AllocError)

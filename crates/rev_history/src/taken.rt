@@ -1,30 +1,72 @@
 //! Events that are taken out.
-ghost use Rattle.std.specs.Prelude.{◌≡◌, Some, slice_get};
+ghost use Rattle.std.specs.Prelude.{◌≡◌, ℕ, Some, length, true};
+ghost use Rattle.rev_accesses.specs.Thinned.{AreThinned, IsGone, without_all};
 ghost use Rattle.rev_causal.specs.Chosen.{IsRising, is_among, without};
-ghost use Rattle.rev_history.specs.Taken.{IsConeHere, IsFreeHere, TakesConeOut, TakesOut, without_all};
+ghost use Rattle.rev_causal.specs.History.{event_at};
+ghost use Rattle.rev_causal.specs.Store.{Footprint as Print};
+ghost use Rattle.rev_cells.specs.declared.cell.Cell.{Cell};
+ghost use Rattle.rev_history.specs.Steps.{prints_of};
+ghost use Rattle.rev_history.specs.Taken.{IsConeHere, IsFreeHere, TakesConeOut, TakesOut};
 
-use crate::prints::take_print;
-use crate::steps::Step;
+use crate::prints::thin_print;
+use crate::steps::{Step, footprint_at};
 use indexmap::IndexMap;
-use rev_accesses::{Accesses, place_of, take_out};
+use rev_accesses::{Accesses, is_one_of, place_of, take_out};
 use rev_cells::Cells;
 use rev_events::Event;
 
 // The most members that are taken out one by one.
 const FEW: usize = 64;
 
-/// Puts back what an event replaced on which no kept one depends, drops what stands beside it, and takes its number out
-/// of the access lists. From among the kept numbers it is the caller's to take out. It takes no memory.
+// Takes a member out of the lists of the footprint that stands beside its event; other members may go with it.
+fn thin_member(
+    number: u32,
+    members: &[u32],
+    accepted: &IndexMap<u32, Event>,
+    steps: &[Option<Step>],
+    accesses: &mut Accesses,
+)
+    requires many { length steps.now ≡ length accepted.now.entries }
+    requires rising { IsRising members.now }
+    requires member { is_among members.now number ≡ true }
+    ensures thinned { AreThinned members.now accesses.old accesses.new }
+    ensures gone { (f : Print Cell) → event_at number (prints_of accepted.now.entries steps.now) ≡ Some f
+        → IsGone number f accesses.new }
+{
+    if let Some(footprint) = footprint_at(accepted, steps, number) {
+        thin_print(accesses, number, members, footprint);
+    }
+}
+
+/// Takes members out of the access lists of the footprints that stand beside their events. Where they are many, each
+/// list is gone through once for all of them. It takes no memory.
+pub(crate) fn thin_lists(
+    members: &[u32],
+    accepted: &IndexMap<u32, Event>,
+    steps: &[Option<Step>],
+    accesses: &mut Accesses,
+)
+    requires many { length steps.now ≡ length accepted.now.entries }
+    requires rising { IsRising members.now }
+    ensures thinned { AreThinned members.now accesses.old accesses.new }
+    ensures gone { (n : ℕ) (f : Print Cell) → is_among members.now n ≡ true
+        → event_at n (prints_of accepted.now.entries steps.now) ≡ Some f → IsGone n f accesses.new }
+{
+    for member in members {
+        thin_member(*member, members, accepted, steps, accesses);
+    }
+}
+
+/// Puts back what an event replaced on which no kept one depends, and drops what stands beside it. From among the kept
+/// numbers and out of the access lists it is the caller's to take it. It takes no memory.
 pub(crate) fn put_back(
     number: u32,
     accepted: &IndexMap<u32, Event>,
     steps: &mut Vec<Option<Step>>,
     cells: &mut Cells,
-    accesses: &mut Accesses,
 )
-    requires { IsFreeHere number accepted.now.entries steps.old.items cells.old accesses.old }
-    ensures { TakesOut number accepted.now.entries steps.old.items cells.old accesses.old
-        steps.new.items cells.new accesses.new }
+    requires { IsFreeHere number accepted.now.entries steps.old.items cells.old }
+    ensures { TakesOut number accepted.now.entries steps.old.items cells.old steps.new.items cells.new }
 {
     let Some(index) = accepted.get_index_of(&number) else {
         unreachable!()
@@ -33,7 +75,6 @@ pub(crate) fn put_back(
         unreachable!()
     };
     cells.exchange(&mut step.replaced);
-    take_print(accesses, number, &step.footprint);
 }
 
 /// The same for the members of a cone, from the last down: on the last none depends, and without it the others are the
@@ -43,29 +84,15 @@ pub(crate) fn put_all_back(
     accepted: &IndexMap<u32, Event>,
     steps: &mut Vec<Option<Step>>,
     cells: &mut Cells,
-    accesses: &mut Accesses,
 )
-    requires { IsConeHere members.now accepted.now.entries steps.old.items cells.old accesses.old }
-    ensures { TakesConeOut members.now accepted.now.entries steps.old.items cells.old accesses.old
-        steps.new.items cells.new accesses.new }
+    requires { IsConeHere members.now accepted.now.entries steps.old.items cells.old }
+    ensures { TakesConeOut members.now accepted.now.entries steps.old.items cells.old steps.new.items cells.new }
 {
     let mut left = members.len();
     while left > 0 {
         left -= 1;
-        put_back(members[left], accepted, steps, cells, accesses);
+        put_back(members[left], accepted, steps, cells);
     }
-}
-
-// Whether a number is one of those, found by halving. Below the first none is.
-fn is_one_of(numbers: &[u32], first: u32, number: u32) -> bool
-    requires rising { IsRising numbers.now }
-    requires first { slice_get numbers.now 0 ≡ Some first }
-    ensures { result ≡ is_among numbers.now number }
-{
-    if number < first {
-        return false;
-    }
-    place_of(numbers, number).is_some()
 }
 
 // Takes members out of numbers in one pass over them.

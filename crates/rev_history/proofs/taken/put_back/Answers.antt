@@ -23,7 +23,7 @@ exchange-requires-clause-fits c =
 
 pub returns : goal.returns
 returns c =
-    out_of c.args.number c.in-Some.index c.in-Some-take.step c.args.accepted.now.entries c.args.steps.now.items c.args.cells.now c.args.accesses.now (with_item c.args.steps.now c.in-Some.index c.take.new.self).items c.exchange.new.self c.take_print.new.accesses
+    out_of c.args.number c.in-Some.index c.in-Some-take.step c.args.accepted.now.entries c.args.steps.now.items c.args.cells.now (with_item c.args.steps.now c.in-Some.index c.take.new.self).items c.exchange.new.self
     (place_found c.args.number c.args.accepted.now.entries c.in-Some.index (sym c.in-Some.ensures.index))
     (c.in-Some-take.ensures.value ∙ c.index_mut.ensures.value ∙ ap (get_or c.args.steps.now.items c.in-Some.index) (sym c.in-Some-take.ensures.value))
-    (ap (set c.args.steps.now.items c.in-Some.index) c.take.ensures.after) c.exchange.ensures.after c.take_print.ensures
+    (ap (set c.args.steps.now.items c.in-Some.index) c.take.ensures.after) c.exchange.ensures.after

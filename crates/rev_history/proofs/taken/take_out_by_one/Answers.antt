@@ -1,8 +1,9 @@
 use Rattle.std.proofs.Common.{◌≡◌, ◌≤◌, ◌<◌, ◌-◌, ℕ, List, not, length, drop, get_or, nat_eq, sym, ap, subst, ◌∙◌, arith}
 use Rattle.rev_causal.specs.Chosen.{IsRising, without}
 use Rattle.rev_causal.proofs.Chosen.{IsRising-filter}
-use Rattle.rev_history.specs.Taken.{without_all}
-use Rattle.rev_history.proofs.TakenLemmas.{without_more, without_none, dropped-before, dropped-all}
+use Rattle.rev_accesses.specs.Thinned.{without_all}
+use Rattle.rev_accesses.proofs.ThinnedLemmas.{without_more, without_none}
+use Rattle.rev_history.proofs.TakenLemmas.{dropped-before, dropped-all}
 use Rattle.rev_history.proofs.taken.take_out_by_one.Goals as goal
 
 pub loop-left-init : goal.loop-left-init

@@ -1,6 +1,6 @@
 use Rattle.std.proofs.Common.{◌≡◌, ◌≤◌, length, drop}
 use Rattle.rev_causal.specs.Chosen.{IsRising}
-use Rattle.rev_history.specs.Taken.{without_all}
+use Rattle.rev_accesses.specs.Thinned.{without_all}
 use Rattle.rev_history.proofs.taken.take_out_by_one.Given as goal
 
 -- the members from the place on are out

@@ -1,7 +1,7 @@
 use Rattle.std.proofs.Common.{rules, not, sym}
 use Rattle.std.proofs.lemmas.Fn.{filter_same}
 use Rattle.rev_causal.specs.Chosen.{is_among}
-use Rattle.rev_history.proofs.TakenLemmas.{without_nobody}
+use Rattle.rev_accesses.proofs.ThinnedLemmas.{without_nobody}
 use Rattle.rev_history.proofs.taken.take_out_in_one.Goals as goal
 
 pub returns-in-Some : goal.returns-in-Some

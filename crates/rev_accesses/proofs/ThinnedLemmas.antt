@@ -1,0 +1,324 @@
+-- Lists out of which members of a set of numbers are taken.
+use Rattle.std.proofs.Common.{◌≡◌, ℕ, ◌+◌, ◌<◌, Bool, true, false, not, ◌&&◌, ◌||◌, cond, List, [], ◌∷◌, filter, Option, None, Some, length, get_or, take, refl, sym, ap, ap₂, subst, subst₂, ◌∙◌, inl, inr, true≢false, eq-eqb, eqb-true, ne_eqb, slice_get, arith, add-one}
+use Rattle.std.specs.Prelude.{nat_eq}
+use Rattle.std.specs.List.{AllByRecursion}
+use Rattle.std.specs.List.Retain.{RetainsInTurn}
+use Rattle.std.specs.Map.{lookup}
+use Rattle.std.specs.Ordering.{eq_by_cmp}
+use Rattle.std.specs.Cmp.{Equal-is, eq_by_cmp_equiv}
+use Rattle.rev_causal.specs.AccessLists.{numbers_by, lists_read, lists_write}
+use Rattle.rev_causal.specs.Chosen.{IsRising, is_among, without}
+use Rattle.rev_causal.specs.History as causal
+use Rattle.rev_causal.specs.Store.{Footprint, Footprint.Whole, Footprint.Cells, among, is_whole}
+use Rattle.rev_causal.proofs.AccessLists.{numbers_by-without}
+use Rattle.rev_causal.proofs.ByNumber.{without_rises}
+use Rattle.rev_causal.proofs.Chosen.{without-not_among}
+use Rattle.rev_causal.proofs.Runs.{either}
+use Rattle.rev_cells.specs.declared.cell.Cell.{Cell}
+use Rattle.rev_cells.specs.Keys.{cell_cmp}
+use Rattle.rev_cells.proofs.EntryLemmas.{cells_total, cells_exact, cell_eq}
+use Rattle.rev_accesses.specs.Thinned.{without_all, prints_without, IsThinned, AreThinned, AreThinnedUnder, IsGone, IsGoneUnder}
+use Rattle.rev_accesses.specs.Value.{AccessesValue, Index, Prints, Names, Shows, numbers_at}
+use Rattle.rev_accesses.proofs.IndexLemmas.{at_some, at_write, among_next}
+use Rattle.rev_accesses.proofs.ShowsLemmas.{number_absent, number_fails}
+
+-- where no call changes the closure or the element, what is kept is what passes the test
+pub filter_from_retain : {X F : Type 0} (R : F → X → Bool → F → X → Type 0) (test : X → Bool) (f : F)
+    → ((x : X) (b : Bool) (f' : F) (y : X) → R f x b f' y → (b ≡ test x) × (f' ≡ f) × (y ≡ x))
+    → (xs ys : List X) → RetainsInTurn R f xs ys → ys ≡ filter test xs
+filter_from_retain R test f says [] ys h = h
+filter_from_retain R test f says (x ∷ xs) ys h =
+    let said = says x h.0 h.1 h.2 h.3 in
+    let later = subst (λ g. RetainsInTurn R g xs h.4) said.1 h.5 in
+    let rest = filter_from_retain R test f says xs h.4 later in
+    h.6 ∙ (λ i. cond (said.0 i) (said.2 i ∷ rest i) (rest i))
+
+-- numbers without some
+
+pub without_more : (k : ℕ) (ms ks : List ℕ) → without k (without_all ms ks) ≡ without_all (k ∷ ms) ks
+without_more k ms [] = refl
+without_more k ms (x ∷ xs) = by (is_among ms x) (nat_eq x k) refl (without_more k ms xs)
+  where
+    by : (b d : Bool) → nat_eq x k ≡ d → without k (without_all ms xs) ≡ without_all (k ∷ ms) xs
+        → without k (cond (not b) (x ∷ without_all ms xs) (without_all ms xs)) ≡ cond (not (d || b)) (x ∷ without_all (k ∷ ms) xs) (without_all (k ∷ ms) xs)
+    by true true same rest = rest
+    by true false same rest = rest
+    by false true same rest = ap (λ z. cond (not z) (x ∷ without k (without_all ms xs)) (without k (without_all ms xs))) same ∙ rest
+    by false false same rest = ap (λ z. cond (not z) (x ∷ without k (without_all ms xs)) (without k (without_all ms xs))) same ∙ ap (λ ys. x ∷ ys) rest
+
+pub without_none : (ks : List ℕ) → without_all [] ks ≡ ks
+without_none [] = refl
+without_none (k ∷ ks) = ap (λ xs. k ∷ xs) (without_none ks)
+
+pub without_nobody : (ms ks : List ℕ) → slice_get ms 0 ≡ None → without_all ms ks ≡ ks
+without_nobody [] ks none = without_none ks
+without_nobody (m ∷ ms) ks none = cc
+
+-- a number below all
+below_apart : (k n : ℕ) (ks : List ℕ) → k < n → AllByRecursion (λ y. n < y) ks → is_among ks k ≡ false
+below_apart k n [] less above = refl
+below_apart k n (y ∷ ys) less above =
+    let lt : n < y = above.0 in
+    ap (λ b. b || is_among ys k) (ne_eqb k y (λ e. omega arith)) ∙ below_apart k n ys less above.1
+
+pub first_apart : (k first : ℕ) (ks : List ℕ) → k < first → IsRising ks → slice_get ks 0 ≡ Some first → is_among ks k ≡ false
+first_apart k first [] less rising is = refl
+first_apart k first (y ∷ ys) less rising is =
+    let same : y ≡ first = cc in
+    let lt : k < y = subst (λ z. k < z) (sym same) less in
+    ap (λ b. b || is_among ys k) (ne_eqb k y (λ e. omega arith)) ∙ below_apart k y ys lt rising.0
+
+filter_all : (ks : List ℕ) → ks ≡ filter (λ k. true) ks
+filter_all [] = refl
+filter_all (k ∷ ks) = ap (λ xs. k ∷ xs) (filter_all ks)
+
+filter_twice : (p q : ℕ → Bool) (ks : List ℕ) → filter q (filter p ks) ≡ filter (λ k. p k && q k) ks
+filter_twice p q [] = refl
+filter_twice p q (k ∷ ks) = by (p k) (filter_twice p q ks)
+  where
+    by : (b : Bool) → filter q (filter p ks) ≡ filter (λ x. p x && q x) ks
+        → filter q (cond b (k ∷ filter p ks) (filter p ks)) ≡ cond (b && q k) (k ∷ filter (λ x. p x && q x) ks) (filter (λ x. p x && q x) ks)
+    by true rest = ap (λ xs. cond (q k) (k ∷ xs) xs) rest
+    by false rest = rest
+
+or_false : (a b : Bool) → (a || b) ≡ false → (a ≡ false) × (b ≡ false)
+or_false true b h = absurd (true≢false h)
+or_false false b h = (refl, h)
+
+or_true : (a b : Bool) → b ≡ true → (a || b) ≡ true
+or_true true b h = refl
+or_true false b h = h
+
+-- what is not there stays away
+filter_absent : (p : ℕ → Bool) (n : ℕ) (ks : List ℕ) → is_among ks n ≡ false → is_among (filter p ks) n ≡ false
+filter_absent p n [] h = refl
+filter_absent p n (k ∷ ks) h =
+    let apart = or_false (nat_eq n k) (is_among ks n) h in
+    let rest = filter_absent p n ks apart.1 in
+    elim (p k) as (λ b. is_among (cond b (k ∷ filter p ks) (filter p ks)) n ≡ false) [
+      | true ↦ ap (λ b. b || is_among (filter p ks) n) apart.0 ∙ rest
+      | false ↦ rest
+    ]
+
+-- what fails goes
+filter_fails : (p : ℕ → Bool) (n : ℕ) → p n ≡ false → (ks : List ℕ) → is_among (filter p ks) n ≡ false
+filter_fails p n fails [] = refl
+filter_fails p n fails (k ∷ ks) = by (p k) refl (filter_fails p n fails ks)
+  where
+    by : (b : Bool) → p k ≡ b → is_among (filter p ks) n ≡ false → is_among (cond b (k ∷ filter p ks) (filter p ks)) n ≡ false
+    by true passes rest = elim (either (nat_eq n k)) [
+      | inl t ↦ absurd (true≢false (sym passes ∙ sym (ap p (eqb-true n k t)) ∙ fails))
+      | inr f ↦ ap (λ b. b || is_among (filter p ks) n) f ∙ rest
+    ]
+    by false passes rest = rest
+
+-- what passes stays
+filter_stays : (p : ℕ → Bool) (n : ℕ) → p n ≡ true → (ks : List ℕ) → is_among ks n ≡ true → is_among (filter p ks) n ≡ true
+filter_stays p n passes [] h = h
+filter_stays p n passes (k ∷ ks) h = elim (either (nat_eq n k)) [
+  | inl t ↦
+      let kept : p k ≡ true = sym (ap p (eqb-true n k t)) ∙ passes in
+      ap (λ b. is_among (cond b (k ∷ filter p ks) (filter p ks)) n) kept ∙ ap (λ b. b || is_among (filter p ks) n) t
+  | inr f ↦
+      let rest : is_among (filter p ks) n ≡ true = filter_stays p n passes ks (sym (ap (λ b. b || is_among ks n) f) ∙ h) in
+      elim (p k) as (λ b. is_among (cond b (k ∷ filter p ks) (filter p ks)) n ≡ true) [
+        | true ↦ or_true (nat_eq n k) (is_among (filter p ks) n) rest
+        | false ↦ rest
+      ]
+]
+
+-- tests that agree on what is there
+filter_agree : (p q : ℕ → Bool) (ks : List ℕ) → ((k : ℕ) → is_among ks k ≡ true → p k ≡ q k) → filter p ks ≡ filter q ks
+filter_agree p q [] same = refl
+filter_agree p q (k ∷ ks) same = λ i.
+    cond (same k (ap (λ b. b || is_among ks k) (eq-eqb k k refl)) i)
+    (k ∷ filter_agree p q ks (λ x h. same x (or_true (nat_eq x k) (is_among ks x) h)) i)
+    (filter_agree p q ks (λ x h. same x (or_true (nat_eq x k) (is_among ks x) h)) i)
+
+-- lists that are thinned
+
+pub thinned_not : (members ks : List ℕ) → IsThinned members ks ks
+thinned_not members ks = record { keeps = λ k. true; is = filter_all ks; others = λ k h. refl }
+
+pub thinned_then : (members a b d : List ℕ) → IsThinned members a b → IsThinned members b d → IsThinned members a d
+thinned_then members a b d f g = record {
+  keeps = λ k. f.keeps k && g.keeps k;
+  is = g.is ∙ ap (filter g.keeps) f.is ∙ filter_twice f.keeps g.keeps a;
+  others = λ k h. ap₂ (λ x y. x && y) (f.others k h) (g.others k h);
+}
+
+-- a member was taken out
+pub thinned_one : (members old new : List ℕ) (n : ℕ) → is_among members n ≡ true → new ≡ without n old → IsThinned members old new
+thinned_one members old new n among is = record {
+  keeps = λ k. not (nat_eq k n);
+  is = is;
+  others = λ k apart. ap not (other k apart);
+}
+  where
+    other : (k : ℕ) → is_among members k ≡ false → nat_eq k n ≡ false
+    other k apart = elim (either (nat_eq k n)) [
+      | inl t ↦ absurd (true≢false (sym among ∙ sym (ap (is_among members) (eqb-true k n t)) ∙ apart))
+      | inr f ↦ f
+    ]
+
+pub gone_one : (old new : List ℕ) (n : ℕ) → new ≡ without n old → is_among new n ≡ false
+gone_one old new n is = ap (λ ks. is_among ks n) is ∙ without-not_among n old
+
+-- all members were
+pub thinned_all : (members old new : List ℕ) → new ≡ without_all members old → IsThinned members old new
+thinned_all members old new is = record { keeps = λ k. not (is_among members k); is = is; others = λ k apart. ap not apart }
+
+pub gone_all : (members old new : List ℕ) (n : ℕ) → is_among members n ≡ true → new ≡ without_all members old → is_among new n ≡ false
+gone_all members old new n among is = ap (λ ks. is_among ks n) is ∙ filter_fails (λ k. not (is_among members k)) n (ap not among) old
+
+-- what is gone stays away
+pub gone_still : (members old new : List ℕ) (n : ℕ) → IsThinned members old new → is_among old n ≡ false → is_among new n ≡ false
+gone_still members old new n f gone = ap (λ ks. is_among ks n) f.is ∙ filter_absent f.keeps n old gone
+
+-- lists under cells
+
+-- one cell's numbers were thinned
+pub thinned_write : (members : List ℕ) (es fs : Index) (c : Cell) (v w : List ℕ) → Some v ≡ lookup (cell_eq c) es → IsThinned members v w
+    → ((q : Cell) → lookup (cell_eq q) fs ≡ cond (cell_eq c q) (Some w) (lookup (cell_eq q) es)) → AreThinnedUnder members es fs
+thinned_write members es fs c v w was thinned at q = by (eq_by_cmp cell_cmp q c) refl
+  where
+    is : numbers_at fs q ≡ cond (eq_by_cmp cell_cmp q c) w (numbers_at es q)
+    is = at_write es fs c (λ ks. w) v w was refl at q
+
+    by : (b : Bool) → eq_by_cmp cell_cmp q c ≡ b → IsThinned members (numbers_at es q) (numbers_at fs q)
+    by true e =
+        let here : q ≡ c = cells_exact q c ((Equal-is (cell_cmp q c)).0 e) in
+        let old : numbers_at es q ≡ v = ap (numbers_at es) here ∙ at_some es c v was in
+        let new : numbers_at fs q ≡ w = is ∙ ap (λ b. cond b w (numbers_at es q)) e in
+        subst₂ (IsThinned members) (sym old) (sym new) thinned
+    by false e =
+        let new : numbers_at fs q ≡ numbers_at es q = is ∙ ap (λ b. cond b w (numbers_at es q)) e in
+        subst (IsThinned members (numbers_at es q)) (sym new) (thinned_not members (numbers_at es q))
+
+-- and a number is gone from them
+pub gone_here : (es fs : Index) (c : Cell) (v w : List ℕ) (n : ℕ) → Some v ≡ lookup (cell_eq c) es → is_among w n ≡ false
+    → ((q : Cell) → lookup (cell_eq q) fs ≡ cond (cell_eq c q) (Some w) (lookup (cell_eq q) es)) → is_among (numbers_at fs c) n ≡ false
+gone_here es fs c v w n was gone at =
+    ap (λ ks. is_among ks n) (at_write es fs c (λ ks. w) v w was refl at c ∙ ap (λ b. cond b w (numbers_at es c)) ((eq_by_cmp_equiv cells_total).refl c)) ∙ gone
+
+pub thinned_same : (members : List ℕ) (es fs : Index) → ((q : Cell) → numbers_at fs q ≡ numbers_at es q) → AreThinnedUnder members es fs
+thinned_same members es fs same q = subst (IsThinned members (numbers_at es q)) (sym (same q)) (thinned_not members (numbers_at es q))
+
+-- lists that stayed the same before or behind
+pub thinned_behind : (members : List ℕ) (a b d : Index) → ((q : Cell) → numbers_at b q ≡ numbers_at a q) → AreThinnedUnder members b d → AreThinnedUnder members a d
+thinned_behind members a b d same f q = subst (λ ks. IsThinned members ks (numbers_at d q)) (same q) (f q)
+
+pub thinned_before : (members : List ℕ) (a b d : Index) → AreThinnedUnder members a b → ((q : Cell) → numbers_at d q ≡ numbers_at b q) → AreThinnedUnder members a d
+thinned_before members a b d f same q = subst (IsThinned members (numbers_at a q)) (sym (same q)) (f q)
+
+pub gone_before : (n : ℕ) (cs : List Cell) (b d : Index) → IsGoneUnder n cs b → ((q : Cell) → numbers_at d q ≡ numbers_at b q) → IsGoneUnder n cs d
+gone_before n cs b d gone same q h = ap (λ ks. is_among ks n) (same q) ∙ gone q h
+
+-- one cell more
+pub gone_next : (members : List ℕ) (n : ℕ) (cs : List Cell) (i : ℕ) (d : Cell) (old new : Index) → i < length cs → AreThinnedUnder members old new
+    → IsGoneUnder n (take i cs) old → is_among (numbers_at new (get_or cs i d)) n ≡ false → IsGoneUnder n (take (i + 1) cs) new
+gone_next members n cs i d old new lt thinned so_far here q among_all = by (among cell_cmp (take i cs) q) (eq_by_cmp cell_cmp q (get_or cs i d)) refl refl
+  where
+    split : (among cell_cmp (take i cs) q || eq_by_cmp cell_cmp q (get_or cs i d)) ≡ true
+    split = sym (ap (λ j. among cell_cmp (take j cs) q) (add-one i) ∙ among_next cs i d q lt) ∙ among_all
+
+    by : (a b : Bool) → among cell_cmp (take i cs) q ≡ a → eq_by_cmp cell_cmp q (get_or cs i d) ≡ b → is_among (numbers_at new q) n ≡ false
+    by true b e f = gone_still members (numbers_at old q) (numbers_at new q) n (thinned q) (so_far q e)
+    by false true e f = ap (λ c. is_among (numbers_at new c) n) (cells_exact q (get_or cs i d) ((Equal-is (cell_cmp q (get_or cs i d))).0 f)) ∙ here
+    by false false e f = absurd (true≢false (sym split ∙ ap₂ (λ x y. x || y) e f))
+
+-- all lists
+
+pub are_thinned_not : (members : List ℕ) (a : AccessesValue) → AreThinned members a a
+are_thinned_not members a = record {
+  writers = λ c. thinned_not members (numbers_at a.writers c);
+  readers = λ c. thinned_not members (numbers_at a.readers c);
+  whole = thinned_not members a.whole;
+}
+
+pub are_thinned_then : (members : List ℕ) (a b d : AccessesValue) → AreThinned members a b → AreThinned members b d → AreThinned members a d
+are_thinned_then members a b d f g = record {
+  writers = λ c. thinned_then members (numbers_at a.writers c) (numbers_at b.writers c) (numbers_at d.writers c) (f.writers c) (g.writers c);
+  readers = λ c. thinned_then members (numbers_at a.readers c) (numbers_at b.readers c) (numbers_at d.readers c) (f.readers c) (g.readers c);
+  whole = thinned_then members a.whole b.whole d.whole f.whole g.whole;
+}
+
+pub is_gone_still : (members : List ℕ) (n : ℕ) (f : Footprint Cell) (a b : AccessesValue) → AreThinned members a b → IsGone n f a → IsGone n f b
+is_gone_still members n f a b thinned gone = record {
+  written = λ c h. gone_still members (numbers_at a.writers c) (numbers_at b.writers c) n (thinned.writers c) (gone.written c h);
+  read = λ c h. gone_still members (numbers_at a.readers c) (numbers_at b.readers c) n (thinned.readers c) (gone.read c h);
+  whole = λ h. gone_still members a.whole b.whole n thinned.whole (gone.whole h);
+}
+
+-- the number of an event that reads and writes these cells is gone from under each
+pub gone_from : (n : ℕ) (reads writes : List Cell) (f : Footprint Cell) (a : AccessesValue) → Names f reads writes → IsGoneUnder n writes a.writers → IsGoneUnder n reads a.readers → IsGone n f a
+gone_from n reads writes f a names written read = record {
+  written = λ c h. written c (sym (ap (lists_write cell_cmp c) names.is) ∙ h);
+  read = λ c h. read c (sym (ap (lists_read cell_cmp c) names.is ∙ names.same c) ∙ h);
+  whole = λ h. absurd (true≢false (sym h ∙ ap is_whole names.is));
+}
+
+pub gone_whole : (n : ℕ) (a : AccessesValue) → is_among a.whole n ≡ false → IsGone n Whole a
+gone_whole n a gone = record {
+  written = λ c h. absurd (true≢false (sym h));
+  read = λ c h. absurd (true≢false (sym h));
+  whole = λ h. gone;
+}
+
+-- a footprint that names no cell
+pub gone_nowhere : (n : ℕ) (a : AccessesValue) → IsGone n (Cells [] []) a
+gone_nowhere n a = record {
+  written = λ c h. absurd (true≢false (sym h));
+  read = λ c h. absurd (true≢false (sym h));
+  whole = λ h. absurd (true≢false (sym h));
+}
+
+-- what the lists show when all members are gone
+
+pub prints_without_rise : (members : List ℕ) (ps : Prints) → causal.IsRising ps → causal.IsRising (prints_without members ps)
+prints_without_rise [] ps rising = rising
+prints_without_rise (m ∷ ms) ps rising = without_rises m (prints_without ms ps) (prints_without_rise ms ps rising)
+
+numbers_without : (test : Footprint Cell → Bool) (members : List ℕ) (ps : Prints) → causal.IsRising ps
+    → numbers_by test (prints_without members ps) ≡ without_all members (numbers_by test ps)
+numbers_without test [] ps rising = sym (without_none (numbers_by test ps))
+numbers_without test (m ∷ ms) ps rising =
+    numbers_by-without test m (prints_without ms ps) (prints_without_rise ms ps rising)
+    ∙ ap (without m) (numbers_without test ms ps rising) ∙ without_more m ms (numbers_by test ps)
+
+-- a number in a list has a footprint that passes
+passes_in : (test : Footprint Cell → Bool) (n : ℕ) (ps : Prints) → causal.IsRising ps → is_among (numbers_by test ps) n ≡ true
+    → (f : Footprint Cell) × (causal.event_at n ps ≡ Some f) × (test f ≡ true)
+passes_in test n ps rising among = by (causal.event_at n ps) refl
+  where
+    by : (o : Option (Footprint Cell)) → causal.event_at n ps ≡ o → (f : Footprint Cell) × (causal.event_at n ps ≡ Some f) × (test f ≡ true)
+    by None e = absurd (true≢false (sym among ∙ number_absent test n ps e))
+    by (Some f) e = elim (either (test f)) [
+      | inl t ↦ (f, e, t)
+      | inr fails ↦
+          absurd (true≢false (sym among ∙ sym (ap (λ ks. is_among ks n) (number_fails test n f ps rising e fails)) ∙ without-not_among n (numbers_by test ps)))
+    ]
+
+list_thinned : (test : Footprint Cell → Bool) (members old new : List ℕ) (ps : Prints) → causal.IsRising ps → old ≡ numbers_by test ps → IsThinned members old new
+    → ((n : ℕ) (f : Footprint Cell) → is_among members n ≡ true → causal.event_at n ps ≡ Some f → test f ≡ true → is_among new n ≡ false)
+    → new ≡ numbers_by test (prints_without members ps)
+list_thinned test members old new ps rising was thinned gone =
+    thinned.is ∙ filter_agree thinned.keeps (λ k. not (is_among members k)) old (λ k h. agree k h (is_among members k) refl)
+    ∙ ap (without_all members) was ∙ sym (numbers_without test members ps rising)
+  where
+    agree : (k : ℕ) → is_among old k ≡ true → (b : Bool) → is_among members k ≡ b → thinned.keeps k ≡ not (is_among members k)
+    agree k h true e = elim (either (thinned.keeps k)) [
+      | inl t ↦
+          let at = passes_in test k ps rising (sym (ap (λ ks. is_among ks k) was) ∙ h) in
+          absurd (true≢false (sym (ap (λ ks. is_among ks k) thinned.is ∙ filter_stays thinned.keeps k t old h) ∙ gone k at.0 e at.1 at.2))
+      | inr f ↦ f ∙ sym (ap not e)
+    ]
+    agree k h false e = thinned.others k e ∙ sym (ap not e)
+
+pub shows_thinned : (members : List ℕ) (a b : AccessesValue) (ps : Prints) → causal.IsRising ps → Shows a ps → AreThinned members a b
+    → ((n : ℕ) (f : Footprint Cell) → is_among members n ≡ true → causal.event_at n ps ≡ Some f → IsGone n f b) → Shows b (prints_without members ps)
+shows_thinned members a b ps rising shown thinned gone = record {
+  writers = λ c. list_thinned (lists_write cell_cmp c) members (numbers_at a.writers c) (numbers_at b.writers c) ps rising (shown.writers c) (thinned.writers c) (λ n f among at passes. (gone n f among at).written c passes);
+  readers = λ c. list_thinned (lists_read cell_cmp c) members (numbers_at a.readers c) (numbers_at b.readers c) ps rising (shown.readers c) (thinned.readers c) (λ n f among at passes. (gone n f among at).read c passes);
+  whole = list_thinned is_whole members a.whole b.whole ps rising shown.whole thinned.whole (λ n f among at passes. (gone n f among at).whole passes);
+}

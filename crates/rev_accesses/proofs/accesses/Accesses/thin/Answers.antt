@@ -1,0 +1,15 @@
+use Rattle.std.proofs.Common.{subst, sym}
+use Rattle.rev_accesses.specs.Thinned.{IsThinned}
+use Rattle.rev_accesses.proofs.ThinnedLemmas.{gone_from, thinned_not}
+use Rattle.rev_accesses.proofs.accesses.Accesses.thin.Goals as goal
+
+pub returns-clause-thinned : goal.returns-clause-thinned
+returns-clause-thinned c = record {
+  writers = c.thin_from.ensures.writers;
+  readers = c.thin_from.ensures.readers;
+  whole = subst (IsThinned c.args.members.now c.args.self.now.whole) (sym c.thin_from.ensures.whole) (thinned_not c.args.members.now c.args.self.now.whole);
+}
+
+pub returns-clause-gone : goal.returns-clause-gone
+returns-clause-gone c = λ f names.
+    gone_from c.args.number c.args.reads.now c.args.writes.now f c.thin_from.new.self names c.thin_from.ensures.written c.thin_from.ensures.read

@@ -1,0 +1,26 @@
+use Rattle.std.proofs.Common.{subst}
+use Rattle.rev_accesses.specs.declared.users.Access.TheVariants.{Read, Write}
+use Rattle.rev_accesses.specs.Thinned.{AreThinnedUnder}
+use Rattle.rev_accesses.specs.Users.{listed}
+use Rattle.rev_accesses.specs.Value.{AccessesValue}
+use Rattle.rev_accesses.proofs.ThinnedLemmas.{gone_before, thinned_before, thinned_behind}
+use Rattle.rev_accesses.proofs.accesses.Accesses.thin_from.Goals as goal
+
+pub returns-clause-writers : goal.returns-clause-writers
+returns-clause-writers c =
+    subst (λ (a : AccessesValue). AreThinnedUnder c.args.members.now a.writers (listed Write c.thin_all-2.new.index.entries)) c.self.view_is
+    (thinned_behind c.args.members.now (listed Write c.self.inside.users.entries) (listed Write c.thin_all.new.index.entries) (listed Write c.thin_all-2.new.index.entries)
+    c.thin_all.ensures.rest c.thin_all-2.ensures.thinned)
+
+pub returns-clause-readers : goal.returns-clause-readers
+returns-clause-readers c =
+    subst (λ (a : AccessesValue). AreThinnedUnder c.args.members.now a.readers (listed Read c.thin_all-2.new.index.entries)) c.self.view_is
+    (thinned_before c.args.members.now (listed Read c.self.inside.users.entries) (listed Read c.thin_all.new.index.entries) (listed Read c.thin_all-2.new.index.entries)
+    c.thin_all.ensures.thinned c.thin_all-2.ensures.rest)
+
+pub returns-clause-written : goal.returns-clause-written
+returns-clause-written c = c.thin_all-2.ensures.gone
+
+pub returns-clause-read : goal.returns-clause-read
+returns-clause-read c =
+    gone_before c.args.number c.args.reads.now (listed Read c.thin_all.new.index.entries) (listed Read c.thin_all-2.new.index.entries) c.thin_all.ensures.gone c.thin_all-2.ensures.rest
