@@ -1,3 +1,2 @@
 pub mod Links
 pub mod Racing
-pub mod Runs

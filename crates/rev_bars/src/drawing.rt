@@ -1,18 +1,16 @@
 //! A history drawn.
-use crate::cells::{first_output, push_cell};
 use crate::labels::label_bars;
-use crate::linked::{Link, links};
+use crate::linked::links;
 use crate::places::{Places, narrow, places_of};
 use crate::racing::is_racing;
-use crate::ran::{Run, runs};
-use crate::steps::is_kept;
 use rev_events::Event;
 use rev_fields::push_number;
-use rev_held::dependence;
+use rev_held::Link;
 use rev_history::History;
 use rev_picture::{Bar, Line, push_picture};
 use rev_races::{Race, Story, path_of};
-use rev_shown::{push_event_words, push_shown};
+use rev_runs::{Run, is_kept, runs};
+use rev_shown::{first_output, push_cell, push_event_words, push_shown};
 use std::alloc::{AllocError, Global};
 
 // The least number of units of a bar.
@@ -133,12 +131,12 @@ fn push_numbered(text: &mut Vec<u8>, history: &History, number: u32) -> Result<(
 }
 
 // The words of a dependence, as `12 start main.o (job 5) rests on 3 start table.h (job 1) through the mark of table.h`.
-fn link_words(alloc: Global, history: &History, link: Link) -> Result<Vec<u8>, AllocError> {
+fn link_words(alloc: Global, history: &History, link: &Link) -> Result<Vec<u8>, AllocError> {
     let mut words = Vec::new(alloc);
     push_numbered(&mut words, history, link.other)?;
     words.extend_from_slice(b" rests on ")?;
     push_numbered(&mut words, history, link.one)?;
-    match dependence(history, link.one, link.other) {
+    match &link.cell {
         Some(cell) => {
             words.extend_from_slice(b" through ")?;
             push_cell(&mut words, history.graph(), cell)?;
@@ -159,7 +157,7 @@ fn add_links(
         all.push(Drawn {
             one: link.one,
             other: link.other,
-            words: link_words(alloc, history, *link)?,
+            words: link_words(alloc, history, link)?,
             racing: false,
         })?;
     }

@@ -1,5 +1,5 @@
 //! Where events stand in a picture.
-use crate::ran::Run;
+use rev_runs::Run;
 use std::alloc::{AllocError, Global};
 
 // How far the first event is from the left edge, behind the names of rows.

@@ -4,3 +4,4 @@ pub mod NameLemmas
 pub mod ExactLemmas
 pub mod FindLemmas
 pub mod SeveralLemmas
+pub mod NotedLemmas

@@ -1,5 +1,5 @@
 -- Cells that are named, and dependence as a relation.
-use Rattle.std.proofs.Common.{◌≡◌, ℕ, suc, ◌+◌, ◌<◌, ◌≤◌, length, get_or, drop, arith, Bool, true, false, ◌||◌, ◌&&◌, List, [], ◌∷◌, Option, Some, None, refl, sym, ap, ◌∙◌, inl, inr, ◌⊎◌, true≢false, if◌then◌else◌}
+use Rattle.std.proofs.Common.{◌≡◌, ℕ, suc, ◌+◌, ◌<◌, ◌≤◌, length, get_or, drop, arith, Bool, true, false, ◌||◌, ◌&&◌, List, [], ◌∷◌, Option, Some, None, is_some, refl, sym, ap, ◌∙◌, inl, inr, ◌⊎◌, true≢false, if◌then◌else◌}
 use Rattle.std.specs.Prelude.{find, nat_lt, cond}
 use Rattle.std.specs.FinSet as cells
 use Rattle.std.specs.List.{list_any}
@@ -79,6 +79,37 @@ conflict-names f g clash none = elim (either f.whole) [
     | inl whole ↦ inr whole
     | inr other ↦
         absurd (true≢false (sym clash ∙ by-cells f g part other ∙ none-named f g (find (is_accessed_by g) f.writes) (find (is_accessed_by f) g.writes) refl refl none))
+  ]
+]
+
+-- whether two events of which none is whole conflict, by the cell that is found
+pub clash-by-cell : (f g : FootprintValue) (a : Bool) (o : Option Cell) → a ≡ is_some o → o ≡ first_cell f g → f.whole ≡ false → g.whole ≡ false
+    → a ≡ conflict cell_cmp (print_of f) (print_of g)
+clash-by-cell f g a (Some c) told found one other = told ∙ sym (cell-conflicts f g c (sym found))
+clash-by-cell f g a None told found one other =
+    told ∙ sym (by-cells f g one other ∙ none-named f g (find (is_accessed_by g) f.writes) (find (is_accessed_by f) g.writes) refl refl (sym found))
+
+-- one that is whole conflicts with each
+pub first-whole : (f g : FootprintValue) → f.whole ≡ true → true ≡ conflict cell_cmp (print_of f) (print_of g)
+first-whole f g whole = sym (ap (λ p. conflict cell_cmp p (print_of g)) (print-whole f whole))
+
+pub second-whole : (f g : FootprintValue) → g.whole ≡ true → true ≡ conflict cell_cmp (print_of f) (print_of g)
+second-whole f g whole = sym (ap (conflict cell_cmp (print_of f)) (print-whole g whole) ∙ whole-second (print_of f))
+
+-- and a conflict is one whichever comes first
+or-turned : (a b : Bool) → (a || b) ≡ (b || a)
+or-turned true true = refl
+or-turned true false = refl
+or-turned false true = refl
+or-turned false false = refl
+
+pub conflict-turned : (f g : FootprintValue) → conflict cell_cmp (print_of f) (print_of g) ≡ conflict cell_cmp (print_of g) (print_of f)
+conflict-turned f g = elim (either f.whole) [
+  | inl whole ↦ sym (first-whole f g whole) ∙ second-whole g f whole
+  | inr part ↦ elim (either g.whole) [
+    | inl whole ↦ sym (second-whole f g whole) ∙ first-whole g f whole
+    | inr other ↦
+        by-cells f g part other ∙ or-turned (list_any (is_accessed_by g) f.writes) (list_any (is_accessed_by f) g.writes) ∙ sym (by-cells g f other part)
   ]
 ]
 

@@ -1,5 +1,5 @@
 -- Cells that are noted once, and what is found of them.
-use Rattle.std.proofs.Common.{◌≡◌, ℕ, ◌+◌, ◌<◌, ◌≤◌, Bool, true, false, cond, ◌||◌, List, [], ◌∷◌, ◌++◌, length, get_or, take, map, Option, Some, None, refl, sym, ap, ◌∙◌, arith, append_assoc, slice_get, position, nat_lt}
+use Rattle.std.proofs.Common.{◌≡◌, ℕ, ◌+◌, ◌<◌, ◌≤◌, Bool, true, false, cond, ◌&&◌, ◌||◌, List, [], ◌∷◌, ◌++◌, length, get_or, take, map, Option, Some, None, refl, sym, ap, ◌∙◌, arith, append_assoc, slice_get, position, nat_lt, true≢false}
 use Rattle.std.specs.Prelude.{find, filter, if◌then◌else◌}
 use Rattle.std.specs.FinSet as cells
 use Rattle.std.specs.List.{list_any, position_or_len}
@@ -10,13 +10,13 @@ use Rattle.std.proofs.lemmas.List.{take_more}
 use Rattle.std.proofs.lemmas.List.Elements.{filter-append}
 use Rattle.std.proofs.lemmas.List.Folds.{find_at}
 use Rattle.indexmap.specs.IndexSet.{insert_key}
-use Rattle.rev_causal.specs.Store.{among}
+use Rattle.rev_causal.specs.Store.{among, conflict}
 use Rattle.rev_cells.specs.declared.cell.Cell.{Cell}
 use Rattle.rev_cells.specs.Keys.{cell_cmp}
 use Rattle.rev_cells.proofs.EntryLemmas.{cell_eq, cell_eq-is, cells_total}
-use Rattle.rev_footprint.specs.Value.{FootprintValue}
+use Rattle.rev_footprint.specs.Value.{FootprintValue, print_of}
 use Rattle.rev_history.specs.Timeline.{Timeline, kept_footprint}
-use Rattle.rev_held.specs.Dependence.{dependence_of, is_accessed_by}
+use Rattle.rev_held.specs.Dependence.{dependence_of, depends_on, holds_between, is_accessed_by}
 use Rattle.rev_held.specs.Several.{FindsAs, IsNamed, earlier_of}
 use Rattle.rev_held.proofs.CellLemmas.{same-cell, set-same}
 use Rattle.rev_held.proofs.NameLemmas.{cell-by, first-by, second-by}
@@ -150,3 +150,32 @@ filter-next p xs i x done after b within is before passes pushed =
     ∙ (λ j. before j ++ (if passes j then x ∷ [] else []))
     ∙ sym (filter-append p (take i xs) (x ∷ []))
     ∙ ap (filter p) (sym (take_more xs i x within ∙ ap (λ y. take i xs ++ y ∷ []) (sym is)))
+
+-- KEPT NUMBERS
+filter-nothing : (p : ℕ → Bool) (ks : List ℕ) → ((k : ℕ) → p k ≡ false) → filter p ks ≡ []
+filter-nothing p [] never = refl
+filter-nothing p (k ∷ ks) never = ap (λ b. cond b (k ∷ filter p ks) (filter p ks)) (never k) ∙ filter-nothing p ks never
+
+never-on : (t : Timeline) (one k : ℕ) → kept_footprint t one ≡ None → depends_on t one k ≡ false
+never-on t one k none = by (nat_lt one k) (kept_footprint t one) (kept_footprint t k) none
+  where
+    by : (b : Bool) (o q : Option FootprintValue) → o ≡ None → (b && holds_between (λ f g. conflict cell_cmp (print_of f) (print_of g)) o q) ≡ false
+    by b (Some f) q h = absurd (true≢false cc)
+    by true None q h = refl
+    by false None q h = refl
+
+never-of : (t : Timeline) (k other : ℕ) → kept_footprint t other ≡ None → depends_on t k other ≡ false
+never-of t k other none = by (nat_lt k other) (kept_footprint t k) (kept_footprint t other) none
+  where
+    by : (b : Bool) (o q : Option FootprintValue) → q ≡ None → (b && holds_between (λ f g. conflict cell_cmp (print_of f) (print_of g)) o q) ≡ false
+    by b o (Some g) h = absurd (true≢false cc)
+    by true None None h = refl
+    by true (Some f) None h = refl
+    by false o None h = refl
+
+-- where a number is not kept, none depends on it, and it on none
+pub none-on : (t : Timeline) (one : ℕ) → kept_footprint t one ≡ None → [] ≡ filter (λ k. depends_on t one k) t.kept
+none-on t one none = sym (filter-nothing (λ k. depends_on t one k) t.kept (λ k. never-on t one k none))
+
+pub none-of : (t : Timeline) (other : ℕ) → kept_footprint t other ≡ None → [] ≡ filter (λ k. depends_on t k other) t.kept
+none-of t other none = sym (filter-nothing (λ k. depends_on t k other) t.kept (λ k. never-of t k other none))

@@ -21,7 +21,8 @@ abbrev pub cell_between : Option FootprintValue → Option FootprintValue → Op
 cell_between (Some f) (Some g) = first_cell f g
 cell_between _ _ = None
 
-abbrev pub holds_between : (FootprintValue → FootprintValue → Bool) → Option FootprintValue → Option FootprintValue → Bool
+abbrev pub holds_between : (FootprintValue → FootprintValue → Bool)
+    → Option FootprintValue → Option FootprintValue → Bool
 holds_between test (Some f) (Some g) = test f g
 holds_between test _ _ = false
 
@@ -29,8 +30,10 @@ holds_between test _ _ = false
 abbrev pub depends_on : Timeline → ℕ → ℕ → Bool
 depends_on t one other =
     nat_lt one other
-    && holds_between (λ f g. conflict cell_cmp (print_of f) (print_of g)) (kept_footprint t one) (kept_footprint t other)
+    && holds_between (λ f g. conflict cell_cmp (print_of f) (print_of g))
+    (kept_footprint t one) (kept_footprint t other)
 
 -- the first cell by which it does
 abbrev pub dependence_of : Timeline → ℕ → ℕ → Option Cell
-dependence_of t one other = if nat_lt one other then cell_between (kept_footprint t one) (kept_footprint t other) else None
+dependence_of t one other =
+    if nat_lt one other then cell_between (kept_footprint t one) (kept_footprint t other) else None

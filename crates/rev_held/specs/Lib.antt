@@ -1,4 +1,7 @@
 pub mod Beside
 pub mod Dependence
 pub mod Laws
+pub mod Links
+pub mod Noted
 pub mod Several
+pub mod Ways

@@ -47,8 +47,8 @@ fn add_later(
     Ok(())
 }
 
-/// A kept number and, in rising order, each later one whose event depends on a member by a cell that is none of a job or
-/// a slot: its cone, without what is held by the jobs and slots alone. None where the number is not kept.
+/// A kept number and, in rising order, each later one whose event depends on a member by a cell that is none of a job
+/// or a slot: its cone, without what is held by the jobs and slots alone. None where the number is not kept.
 ///
 /// It takes memory and time linear in what the kept events read and write, up to hashing.
 ///

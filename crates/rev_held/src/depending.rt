@@ -29,11 +29,11 @@ pub(crate) fn first_accessed<'a>(cells: &'a [Cell], footprint: &Footprint) -> Op
     None
 }
 
-/// Whether the event of a later kept number depends on that of an earlier one: each with the footprint of its place, one
-/// is a plan, or a cell that one writes is read or written by the other. Not where a number is not kept, or the second
+/// Whether the event of a later kept number depends on that of an earlier one: each with the footprint of its place,
+/// one is a plan, or a cell that one writes is read or written by the other. Not where a number is not kept, or the second
 /// is not the later one.
 ///
-/// It takes no memory, and time linear in the cells that the two write, up to hashing.
+/// It takes no memory. Each cell that one of the two writes is looked for among those that the other reads, one by one.
 pub fn depends(history: &History, one: u32, other: u32) -> bool
     ensures { result ≡ depends_on history.now.timeline one other }
 {
@@ -49,9 +49,9 @@ pub fn depends(history: &History, one: u32, other: u32) -> bool
     conflict(first, second)
 }
 
-/// The first cell by which the event of a later kept number depends on that of an earlier one: of those that the earlier
-/// one writes, in the order of its effect, the first that the later one reads or writes; else, of those that the later
-/// one writes, the first that the earlier one reads. None where it does not depend ([`depends`]), and where it does for
+/// The first cell by which the event of a later kept number depends on that of an earlier one: of those that the
+/// earlier one writes, in the order of its effect, the first that the later one reads or writes; else, of those that the
+/// later one writes, the first that the earlier one reads. None where it does not depend ([`depends`]), and where it does for
 /// no named cell, since one of the two is a plan, which reads every cell.
 ///
 /// It takes no memory. Each cell that one of the two writes is looked for among those that the other names, one by one.

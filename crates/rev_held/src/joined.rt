@@ -97,7 +97,8 @@ fn has_some(set: &IndexSet<Cell>, cells: &[Cell]) -> bool
 /// Adds the cells of one more event.
 pub(crate) fn join(joined: &mut Joined, footprint: &Footprint) -> Result<(), AllocError>
     ensures { OnOk result ((f : Print Cell) → conflict cell_cmp (joined_print joined.new) f
-        ≡ (conflict cell_cmp (joined_print joined.old) f || conflict cell_cmp (beside_places (print_of footprint.now)) f)) }
+        ≡ (conflict cell_cmp (joined_print joined.old) f
+        || conflict cell_cmp (beside_places (print_of footprint.now)) f)) }
 {
     if footprint.whole() {
         joined.whole = true;

@@ -6,8 +6,8 @@ pub fn depends_is_exact()
     ensures { DependsIsExact }
 {}
 
-/// Where a cell is named the later event depends on the earlier one, and where it depends a cell is named, unless one of
-/// the two is a plan.
+/// Where a cell is named the later event depends on the earlier one, and where it depends a cell is named, unless one
+/// of the two is a plan.
 pub fn cells_are_named()
     ensures { CellsAreNamed }
 {}

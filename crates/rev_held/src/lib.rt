@@ -6,8 +6,12 @@ mod beside;
 mod depending;
 mod joined;
 pub mod laws;
+mod linked;
 mod several;
+mod ways;
 
 pub use beside::held_beside;
 pub use depending::{dependence, depends};
-pub use several::{dependences_of, dependences_on, dependents, needed};
+pub use linked::{Link, links_of, links_to};
+pub use several::{dependents, links_on, needed};
+pub use ways::ways_to;

@@ -2,15 +2,16 @@
 ghost use Rattle.std.specs.Prelude.{◌≡◌, ◌||◌, ◌∷◌, ◌++◌, [], if◌then◌else◌, Bool, IfOk, List, None, OnOk, Some, find, map};
 ghost use Rattle.std.specs.List.{position_or_len};
 ghost use Rattle.std.specs.Option.{option_copied};
-ghost use Rattle.rev_causal.specs.Store.{among};
+ghost use Rattle.rev_causal.specs.Store.{among, conflict};
 ghost use Rattle.rev_cells.specs.declared.cell.Cell.{Cell};
 ghost use Rattle.rev_cells.specs.Keys.{cell_cmp};
-ghost use Rattle.rev_footprint.specs.Value.{FootprintValue};
+ghost use Rattle.rev_footprint.specs.Value.{FootprintValue, print_of};
 ghost use Rattle.rev_history.specs.Timeline.{kept_footprint};
-ghost use Rattle.rev_held.specs.Dependence.{dependence_of, first_cell, is_accessed_by};
-ghost use Rattle.rev_held.specs.Several.{FindsAs, IsNamed, IsWritten, dependences_of as dependences_of_all, dependences_on as dependences_on_all, dependents_of, earlier_of, needed_by};
+ghost use Rattle.rev_held.specs.Dependence.{dependence_of, depends_on, first_cell, is_accessed_by};
+ghost use Rattle.rev_held.specs.Links.{link, link_between};
+ghost use Rattle.rev_held.specs.Several.{FindsAs, IsNamed, IsTold, IsToldOf, IsWritten, dependents_of, earlier_of, needed_by};
 
-use crate::depending::{depends, first_accessed};
+use crate::linked::Link;
 use indexmap::IndexSet;
 use rev_cells::Cell;
 use rev_footprint::Footprint;
@@ -28,8 +29,8 @@ fn add_all(set: &mut IndexSet<Cell>, cells: &[Cell]) -> Result<(), AllocError>
     Ok(())
 }
 
-// The cells that an event writes, in the order of its effect.
-fn written(alloc: Global, footprint: &Footprint) -> Result<IndexSet<Cell>, AllocError>
+/// The cells that an event writes, in the order of its effect.
+pub(crate) fn written(alloc: Global, footprint: &Footprint) -> Result<IndexSet<Cell>, AllocError>
     ensures { IfOk result (λ set. IsWritten footprint.now set.keys) }
 {
     let mut set = IndexSet::new(alloc);
@@ -37,8 +38,8 @@ fn written(alloc: Global, footprint: &Footprint) -> Result<IndexSet<Cell>, Alloc
     Ok(set)
 }
 
-// The cells that an event reads or writes.
-fn named(alloc: Global, footprint: &Footprint) -> Result<IndexSet<Cell>, AllocError>
+/// The cells that an event reads or writes.
+pub(crate) fn named(alloc: Global, footprint: &Footprint) -> Result<IndexSet<Cell>, AllocError>
     ensures { IfOk result (λ set. IsNamed footprint.now set.keys) }
 {
     let mut set = IndexSet::new(alloc);
@@ -79,8 +80,8 @@ fn first_written<'a>(set: &'a IndexSet<Cell>, other: &Footprint) -> Option<&'a C
     set.get_index(place)
 }
 
-// The first of some cells that an event reads or writes.
-fn first_named<'a>(cells: &'a [Cell], set: &IndexSet<Cell>) -> Option<&'a Cell>
+/// The first of some cells that an event reads or writes.
+pub(crate) fn first_named<'a>(cells: &'a [Cell], set: &IndexSet<Cell>) -> Option<&'a Cell>
     ensures { option_copied result ≡ find (among cell_cmp set.now.keys) cells.entry.now }
 {
     for cell in cells {
@@ -106,8 +107,8 @@ fn cell_on<'a>(
     }
 }
 
-// An equal cell, where there is one.
-fn copied(cell: Option<&Cell>) -> Result<Option<Cell>, AllocError>
+/// An equal cell, where there is one.
+pub(crate) fn copied(cell: Option<&Cell>) -> Result<Option<Cell>, AllocError>
     ensures { IfOk result (λ copy. copy ≡ option_copied cell.entry) }
 {
     match cell {
@@ -137,93 +138,52 @@ fn one_on(
     copied(cell_on(written, named, second))
 }
 
-// Nothing, for each number.
-fn no_cells(alloc: Global, numbers: &[u32]) -> Result<Vec<Option<Cell>>, AllocError>
-    ensures { IfOk result (λ cells. cells.items ≡ map (λ number. None) numbers.now) }
+// Links from an earlier number to each of some others, by no cell.
+fn no_links(alloc: Global, one: u32, others: &[u32]) -> Result<Vec<Link>, AllocError>
+    ensures { IfOk result (λ links. links.items ≡ map (link one None) others.now) }
 {
-    let mut cells = Vec::new(alloc);
-    for _number in numbers {
-        cells.push(None)?;
+    let mut links = Vec::new(alloc);
+    for other in others {
+        links.push(Link {
+            one,
+            other: *other,
+            cell: None,
+        })?;
     }
-    Ok(cells)
+    Ok(links)
 }
 
-/// For each of some numbers the first cell by which its event depends on that of an earlier one ([`crate::dependence`]).
+/// For each of some numbers the link from an earlier one to it, with the first cell by which its event depends on that
+/// one's ([`crate::dependence`]).
 ///
-/// The cells of that event are noted once, and those of each other one are looked up. It takes memory and time linear in
-/// the cells that they read and write, up to hashing.
+/// The cells of the earlier event are noted once, and those of each other one are looked up. It takes memory and time
+/// linear in the cells that they read and write, up to hashing.
 ///
 /// # Errors
 /// [`AllocError`] only where an allocation was refused.
-pub fn dependences_on(
+pub fn links_on(
     alloc: Global,
     history: &History,
     one: u32,
     others: &[u32],
-) -> Result<Vec<Option<Cell>>, AllocError>
-    ensures { IfOk result (λ cells. cells.items ≡ dependences_on_all history.now.timeline one others.now) }
+) -> Result<Vec<Link>, AllocError>
+    ensures { IfOk result (λ links. links.items ≡ map (link_between history.now.timeline one) others.now) }
 {
     let Some(first) = history.footprint_of(one) else {
-        return no_cells(alloc, others);
+        return no_links(alloc, one, others);
     };
     let written = written(alloc, first)?;
     let named = named(alloc, first)?;
-    let mut cells = Vec::new(alloc);
+    let mut links = Vec::new(alloc);
     for other in others {
-        cells.push(one_on(history, &written, &named, one, *other)?)?;
+        let cell = one_on(history, &written, &named, one, *other)?;
+        links.push(Link {
+            one,
+            other: *other,
+            cell,
+        })?;
     }
-    Ok(cells)
-}
-
-// The first cell by which the event of a later number, whose cells stand in a set, depends on that of an earlier one.
-fn one_of(
-    history: &History,
-    second: &Footprint,
-    named: &IndexSet<Cell>,
-    one: u32,
-    other: u32,
-) -> Result<Option<Cell>, AllocError>
-    ensures { IfOk result (λ cell. Some second.now ≡ kept_footprint history.now.timeline other
-        → IsNamed second.now named.now.keys → cell ≡ dependence_of history.now.timeline one other) }
-{
-    if one >= other {
-        return Ok(None);
-    }
-    let Some(first) = history.footprint_of(one) else {
-        return Ok(None);
-    };
-    match first_named(first.writes(), named) {
-        Some(cell) => copied(Some(cell)),
-        None => copied(first_accessed(second.writes(), first)),
-    }
-}
-
-/// For each of some numbers the first cell by which the event of a later one depends on its event
-/// ([`crate::dependence`]).
-///
-/// The cells of the later event are noted once. It takes memory linear in these, and time linear in what the earlier
-/// ones write, up to hashing; where none of that is named, what the later one writes is looked for among the cells of
-/// the earlier one.
-///
-/// # Errors
-/// [`AllocError`] only where an allocation was refused.
-pub fn dependences_of(
-    alloc: Global,
-    history: &History,
-    ones: &[u32],
-    other: u32,
-) -> Result<Vec<Option<Cell>>, AllocError>
-    ensures { IfOk result (λ cells. cells.items ≡ dependences_of_all history.now.timeline ones.now other) }
-{
-    let Some(second) = history.footprint_of(other) else {
-        return no_cells(alloc, ones);
-    };
-    let named = named(alloc, second)?;
-    let mut cells = Vec::new(alloc);
-    for one in ones {
-        cells.push(one_of(history, second, &named, *one, other)?)?;
-    }
-    Ok(cells)
+    Ok(links)
 }
 
 // Adds a number that passes.
@@ -236,32 +196,139 @@ fn add_where(numbers: &mut Vec<u32>, number: u32, passes: bool) -> Result<(), Al
     Ok(())
 }
 
-/// The kept numbers whose events depend on that of a number ([`crate::depends`]), in rising order. It goes over the kept
-/// events once.
+// Whether an event, of which it is told whether it is a plan, and whose cells stand in sets, conflicts with another.
+fn do_conflict(
+    whole: bool,
+    written: &IndexSet<Cell>,
+    named: &IndexSet<Cell>,
+    other: &Footprint,
+) -> bool
+    ensures { (f : FootprintValue) → IsTold f whole written.now.keys named.now.keys
+        → result ≡ conflict cell_cmp (print_of f) (print_of other.now) }
+{
+    if whole || other.whole() {
+        return true;
+    }
+    match cell_on(written, named, other) {
+        Some(_cell) => true,
+        None => false,
+    }
+}
+
+// Whether the event of a later number depends on that of an earlier one, whose cells stand in sets.
+pub(crate) fn is_on_noted(
+    history: &History,
+    whole: bool,
+    written: &IndexSet<Cell>,
+    named: &IndexSet<Cell>,
+    one: u32,
+    other: u32,
+) -> bool
+    requires { IsToldOf history.now.timeline one whole written.now.keys named.now.keys }
+    ensures { result ≡ depends_on history.now.timeline one other }
+{
+    if one >= other {
+        return false;
+    }
+    match history.footprint_of(other) {
+        Some(second) => do_conflict(whole, written, named, second),
+        None => false,
+    }
+}
+
+/// Whether the event of a later number, whose cells stand in sets, depends on that of an earlier one.
+pub(crate) fn is_noted_on(
+    history: &History,
+    whole: bool,
+    written: &IndexSet<Cell>,
+    named: &IndexSet<Cell>,
+    one: u32,
+    other: u32,
+) -> bool
+    requires { IsToldOf history.now.timeline other whole written.now.keys named.now.keys }
+    ensures { result ≡ depends_on history.now.timeline one other }
+{
+    if one >= other {
+        return false;
+    }
+    match history.footprint_of(one) {
+        Some(first) => do_conflict(whole, written, named, first),
+        None => false,
+    }
+}
+
+// The kept numbers whose events depend on that of one, whose cells stand in sets.
+fn all_on_noted(
+    alloc: Global,
+    history: &History,
+    whole: bool,
+    written: &IndexSet<Cell>,
+    named: &IndexSet<Cell>,
+    one: u32,
+) -> Result<Vec<u32>, AllocError>
+    requires { IsToldOf history.now.timeline one whole written.now.keys named.now.keys }
+    ensures { IfOk result (λ numbers. numbers.items ≡ dependents_of history.now.timeline one) }
+{
+    let mut numbers = Vec::new(alloc);
+    for kept in history.kept() {
+        let passes = is_on_noted(history, whole, written, named, one, *kept);
+        add_where(&mut numbers, *kept, passes)?;
+    }
+    Ok(numbers)
+}
+
+// The kept numbers on whose events that of one depends, whose cells stand in sets.
+fn all_noted_on(
+    alloc: Global,
+    history: &History,
+    whole: bool,
+    written: &IndexSet<Cell>,
+    named: &IndexSet<Cell>,
+    other: u32,
+) -> Result<Vec<u32>, AllocError>
+    requires { IsToldOf history.now.timeline other whole written.now.keys named.now.keys }
+    ensures { IfOk result (λ numbers. numbers.items ≡ needed_by history.now.timeline other) }
+{
+    let mut numbers = Vec::new(alloc);
+    for kept in history.kept() {
+        let passes = is_noted_on(history, whole, written, named, *kept, other);
+        add_where(&mut numbers, *kept, passes)?;
+    }
+    Ok(numbers)
+}
+
+/// The kept numbers whose events depend on that of a number ([`crate::depends`]), in rising order.
+///
+/// The cells of that event are noted once, and those of each kept one are looked up. It takes memory and time linear in
+/// the cells that they read and write, up to hashing.
 ///
 /// # Errors
 /// [`AllocError`] only where an allocation was refused.
 pub fn dependents(alloc: Global, history: &History, one: u32) -> Result<Vec<u32>, AllocError>
     ensures { IfOk result (λ numbers. numbers.items ≡ dependents_of history.now.timeline one) }
 {
-    let mut numbers = Vec::new(alloc);
-    for kept in history.kept() {
-        add_where(&mut numbers, *kept, depends(history, one, *kept))?;
-    }
-    Ok(numbers)
+    let Some(first) = history.footprint_of(one) else {
+        return Ok(Vec::new(alloc));
+    };
+    let written = written(alloc, first)?;
+    let named = named(alloc, first)?;
+    all_on_noted(alloc, history, first.whole(), &written, &named, one)
 }
 
-/// The kept numbers on whose events that of a number depends ([`crate::depends`]), in rising order. It goes over the kept
-/// events once.
+/// The kept numbers on whose events that of a number depends ([`crate::depends`]), in rising order.
+///
+/// The cells of that event are noted once, and those of each kept one are looked up. It takes memory and time linear in
+/// the cells that they read and write, up to hashing.
 ///
 /// # Errors
 /// [`AllocError`] only where an allocation was refused.
 pub fn needed(alloc: Global, history: &History, other: u32) -> Result<Vec<u32>, AllocError>
     ensures { IfOk result (λ numbers. numbers.items ≡ needed_by history.now.timeline other) }
 {
-    let mut numbers = Vec::new(alloc);
-    for kept in history.kept() {
-        add_where(&mut numbers, *kept, depends(history, *kept, other))?;
-    }
-    Ok(numbers)
+    let Some(second) = history.footprint_of(other) else {
+        return Ok(Vec::new(alloc));
+    };
+    let written = written(alloc, second)?;
+    let named = named(alloc, second)?;
+    all_noted_on(alloc, history, second.whole(), &written, &named, other)
 }

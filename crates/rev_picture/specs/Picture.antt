@@ -1,4 +1,5 @@
--- A picture of a build as SVG: below a line of words a row of 20 units for the events without a job, and one for each job.
+-- A picture of a build as SVG: below a line of words a row of 20 units for the events without a job, and one for each
+-- job.
 use Rattle.std.specs.Prelude.{ℕ, Bool, true, false, nat_lt, ◌==◌, ◌*◌, ◌+◌, ◌-◌, List, [], ◌∷◌, ◌++◌, Option, Some, None, codes, decimal, if◌then◌else◌}
 use Rattle.std.specs.List.{flat_map, range_with_len}
 use Rattle.std.specs.Option.{option_copied}

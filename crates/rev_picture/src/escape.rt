@@ -45,8 +45,8 @@ fn push_word_byte(text: &mut Vec<u8>, byte: &u8) -> Result<(), AllocError>
     push_byte(text, byte)
 }
 
-/// Adds words as they stand in XML, in which names are shown already (`push_shown` of `rev_shown`): as a name, but that a
-/// space and a backslash stay as they are.
+/// Adds words as they stand in XML, in which names are shown already (`push_shown` of `rev_shown`): as a name, but that
+/// a space and a backslash stay as they are.
 ///
 /// # Errors
 /// [`AllocError`] only where an allocation was refused.

@@ -110,8 +110,8 @@ fn push_lines(text: &mut Vec<u8>, lines: &[Line<'_>]) -> Result<(), AllocError>
     Ok(())
 }
 
-/// Adds the picture of a build as one element of SVG, so many units wide and high, with so many rows: the words above all, the
-/// rows' names, the bars in the order given, and the lines above them.
+/// Adds the picture of a build as one element of SVG, so many units wide and high, with so many rows: the words above
+/// all, the rows' names, the bars in the order given, and the lines above them.
 ///
 /// # Errors
 /// [`AllocError`] only where an allocation was refused.

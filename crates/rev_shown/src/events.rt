@@ -5,8 +5,8 @@ ghost use Rattle.rev_shown.specs.Events.{event_words, slot_words};
 ghost use Rattle.rev_shown.specs.Shown.{shown};
 
 use crate::names::push_shown;
+use crate::parts::{push_counted, push_named};
 use rev_events::Event;
-use rev_fields::push_number;
 use rev_paths::Name;
 use std::alloc::AllocError;
 
@@ -19,22 +19,6 @@ fn push_names(text: &mut Vec<u8>, names: &[Name]) -> Result<(), AllocError>
         push_shown(text, name.as_bytes())?;
     }
     Ok(())
-}
-
-// Adds a word and a name.
-fn push_named(text: &mut Vec<u8>, word: &[u8], name: &Name) -> Result<(), AllocError>
-    ensures { OnOk result (text.new.items ≡ text.old.items ++ word.now ++ shown name.now) }
-{
-    text.extend_from_slice(word)?;
-    push_shown(text, name.as_bytes())
-}
-
-// Adds a word and a number.
-fn push_counted(text: &mut Vec<u8>, word: &[u8], number: u64) -> Result<(), AllocError>
-    ensures { OnOk result (text.new.items ≡ text.old.items ++ word.now ++ decimal number) }
-{
-    text.extend_from_slice(word)?;
-    push_number(text, number)
 }
 
 // Adds a slot behind a comma, if there is one.

@@ -1,8 +1,11 @@
-//! What people read of names and events.
+//! What people read of names, cells and events.
 #![tactic(auto)]
 
+mod cells;
 mod events;
 mod names;
+mod parts;
 
+pub use cells::{first_output, push_cell};
 pub use events::push_event_words;
 pub use names::push_shown;
