@@ -54,7 +54,7 @@ use Rattle.rev_events.proofs.WriteLemmas.{unwritten, written-first, read-mark}
 use Rattle.rev_events.proofs.WrittenLemmas.{written-same, keys-append, keys-slot, keys-held, keys-stamps, keys-built, keys-deps}
 use Rattle.rev_footprint.specs.Machine.{machine}
 use Rattle.rev_history.specs.Timeline.{Numbered}
-use Rattle.rev_races.specs.Laws.{CanEnd, CanEnd.settled, CanEnd.passes, CanEnd.runs, IsReady, StartsAlone, WaitingIsEnough}
+use Rattle.rev_races.specs.Laws.{CanEnd, CanEnd.settled, CanEnd.passes, CanEnd.runs, IsReady, first_slot, StartsAlone, WaitingIsEnough}
 use Rattle.rev_races.proofs.Waiting.{IsFree, decide, no-mark, none-append, none-stamps, none-built, none-deps, none-slot, none-held, same-marks, MarksOnly, start-only, mark-only, finish-only, settled-not-running}
 
 -- CELLS
@@ -147,12 +147,8 @@ unfolding reasons_of
 missing-dirty builds s x plain h =
     dirty-by s (is_reason builds s (build_at builds x)) (positions_in (inputs s (build_at builds x))) (outputs_of (build_at builds x)) h (rw plain h)
 
-abbrev slot-for : Option (ℕ × ℕ) → Option ℕ
-slot-for None = None
-slot-for (Some pool) = Some 0
-
 slot-fits : (s : State) → ((pool : ℕ) → given_depth_of s pool ≡ Some 0 → ⊥) → (pools : List (List ℕ × ℕ)) (o : Option ℕ)
-    → pool_slot (at_present s (numbered_pool pools o)) (slot-for (numbered_pool pools o)) ≡ None
+    → pool_slot (at_present s (numbered_pool pools o)) (first_slot (numbered_pool pools o)) ≡ None
 slot-fits s roomy pools None = refl
 slot-fits s roomy pools (Some number) = by (slice_get pools number)
   where
@@ -164,18 +160,18 @@ slot-fits s roomy pools (Some number) = by (slice_get pools number)
     present depth (Some d) is h = small d (λ e. roomy number (is ∙ ap Some e))
 
     with-zero : (depth : ℕ) (b : Bool) → (depth == 0) ≡ b
-        → pool_slot (at_present s (if b then None else Some (number, depth))) (slot-for (if b then None else Some (number, depth))) ≡ None
+        → pool_slot (at_present s (if b then None else Some (number, depth))) (first_slot (if b then None else Some (number, depth))) ≡ None
     with-zero depth true e = refl
     with-zero depth false e = ap (λ b. refuse_if (not b) PoolSlot) (present depth (given_depth_of s number) refl (eqb-false depth 0 e))
 
-    deep : (depth : ℕ) → pool_slot (at_present s (if depth == 0 then None else Some (number, depth))) (slot-for (if depth == 0 then None else Some (number, depth))) ≡ None
+    deep : (depth : ℕ) → pool_slot (at_present s (if depth == 0 then None else Some (number, depth))) (first_slot (if depth == 0 then None else Some (number, depth))) ≡ None
     deep depth = with-zero depth (depth == 0) refl
 
-    by : (o : Option (List ℕ × ℕ)) → pool_slot (at_present s (slots_of number o)) (slot-for (slots_of number o)) ≡ None
+    by : (o : Option (List ℕ × ℕ)) → pool_slot (at_present s (slots_of number o)) (first_slot (slots_of number o)) ≡ None
     by None = refl
     by (Some pool) = deep pool.1
 
-slot-free : (s : State) (pool : Option (ℕ × ℕ)) → ((p : ℕ) → slot_of s p 0 ≡ None) → slot_busy (slot_holder s pool (slot-for pool)) ≡ None
+slot-free : (s : State) (pool : Option (ℕ × ℕ)) → ((p : ℕ) → slot_of s p 0 ≡ None) → slot_busy (slot_holder s pool (first_slot pool)) ≡ None
 slot-free s None free = refl
 slot-free s (Some pool) free = ap slot_busy (free pool.0)
 
@@ -197,13 +193,42 @@ end-not-running s build m (settled h) = settled-not-running m h
 end-not-running s build m (passes p h) = due-not-running m h
 end-not-running s build m (runs p h k) = ap is_running_mark h
 
+no-element : {path : List ℕ} → Contains [] path → ⊥
+no-element {path} (k, within, at) = omega (arith, within)
+
 and-off : (a b : Bool) → b ≡ false → (a && b) ≡ false
 and-off true b h = h
 and-off false b h = refl
 
 module _ (manifest : ManifestValue) (single : first_double manifest.builds ≡ None) where
+  module _ (s : State) (unlisted : (path : List ℕ) → paths_in (deps_of s path) ≡ []) where
+    no-list : (build : BuildValue) → paths_in (deps_record s build) ≡ []
+    no-list build = by build.keeps_deps (outputs_of build)
+      where
+        by : (b : Bool) (outs : List (List ℕ)) → paths_in (if b then first_deps s outs else None) ≡ []
+        by true [] = refl
+        by true (o ∷ os) = unlisted o
+        by false outs = refl
+
+    -- nothing blocks an edge whose producers are settled
+    pub no-blocking : (x : ℕ) → IsFree manifest.builds s x → first_blocking manifest.builds s (inputs s (build_at manifest.builds x)) ≡ None
+    no-blocking x free =
+        let build = build_at manifest.builds x in
+        sym (blocking-is manifest.builds s build)
+        ∙ ap (λ os. position (is_waiting s) os) (sym (producers-are manifest.builds s build) ∙ (λ i. map (producer_of manifest.builds) (inputs_of build) ++ map (producer_of manifest.builds) (no-list build i)) ∙ append-nil (map (producer_of manifest.builds) (inputs_of build)))
+        ∙ places.position-none (is_waiting s) (map (producer_of manifest.builds) (inputs_of build)) (producer_of manifest.builds []) (λ k within.
+        subst (λ o. is_waiting s o ≡ false) (sym (get_or-map (producer_of manifest.builds) (inputs_of build) k []))
+        (at (get_or (inputs_of build) k []) (Contains-get_or (inputs_of build) k [] (omega (arith, within, length-map (inputs_of build) (producer_of manifest.builds))))))
+      where
+        at : (path : List ℕ) → Contains (inputs_of (build_at manifest.builds x)) path → is_waiting s (producer_of manifest.builds path) ≡ false
+        at path h = by (producer_of manifest.builds path) refl
+          where
+            by : (o : Option ℕ) → producer_of manifest.builds path ≡ o → is_waiting s o ≡ false
+            by None e = refl
+            by (Some q) e = ap not (free q (record { path = path; is_input = h; produced = e }))
+
   module _ (s : State) (ready : IsReady manifest s) where
-    rests : (x : ℕ) → x < length manifest.builds → is_running_mark (mark_of s x) ≡ false
+    pub rests : (x : ℕ) → x < length manifest.builds → is_running_mark (mark_of s x) ≡ false
     rests x within = end-not-running s (build_at manifest.builds x) (mark_of s x) (ready.marks x within)
 
     job-free : (j : ℕ) → job_of s j ≡ None
@@ -224,45 +249,20 @@ module _ (manifest : ManifestValue) (single : first_double manifest.builds ≡ N
             let r = (ready.held.slots p 0 x).0 e in
             absurd (no-running (mark_of s x) r.job (Some 0) r.seen (rests x (ready.held.edges x r.job (record { slot = Some 0; seen = r.seen; is = r.is }))) r.is)
 
-    no-list : (build : BuildValue) → paths_in (deps_record s build) ≡ []
-    no-list build = by build.keeps_deps (outputs_of build)
-      where
-        by : (b : Bool) (outs : List (List ℕ)) → paths_in (if b then first_deps s outs else None) ≡ []
-        by true [] = refl
-        by true (o ∷ os) = ready.unlisted o
-        by false outs = refl
-
-    -- nothing blocks an edge whose producers are settled
-    no-blocking : (x : ℕ) → IsFree manifest.builds s x → first_blocking manifest.builds s (inputs s (build_at manifest.builds x)) ≡ None
-    no-blocking x free =
-        let build = build_at manifest.builds x in
-        sym (blocking-is manifest.builds s build)
-        ∙ ap (λ os. position (is_waiting s) os) (sym (producers-are manifest.builds s build) ∙ (λ i. map (producer_of manifest.builds) (inputs_of build) ++ map (producer_of manifest.builds) (no-list build i)) ∙ append-nil (map (producer_of manifest.builds) (inputs_of build)))
-        ∙ places.position-none (is_waiting s) (map (producer_of manifest.builds) (inputs_of build)) (producer_of manifest.builds []) (λ k within.
-        subst (λ o. is_waiting s o ≡ false) (sym (get_or-map (producer_of manifest.builds) (inputs_of build) k []))
-        (at (get_or (inputs_of build) k []) (Contains-get_or (inputs_of build) k [] (omega (arith, within, length-map (inputs_of build) (producer_of manifest.builds))))))
-      where
-        at : (path : List ℕ) → Contains (inputs_of (build_at manifest.builds x)) path → is_waiting s (producer_of manifest.builds path) ≡ false
-        at path h = by (producer_of manifest.builds path) refl
-          where
-            by : (o : Option ℕ) → producer_of manifest.builds path ≡ o → is_waiting s o ≡ false
-            by None e = refl
-            by (Some q) e = ap not (free q (record { path = path; is_input = h; produced = e }))
-
     -- START
     start-ok : (x : ℕ) → (build_at manifest.builds x).phony ≡ false → mark_of s x ≡ mark.Wanted → holds_at (is_missing s) (outputs_of (build_at manifest.builds x)) 0 ≡ true → IsFree manifest.builds s x
-        → start_refusal manifest 1 x 0 (slot-for (pool_of manifest x)) s ≡ None
+        → start_refusal manifest 1 x 0 (first_slot (pool_of manifest x)) s ≡ None
     unfolding start_refusal
     start-ok x plain wants gone free =
         let e1 : phony_edge (build_at manifest.builds x) ≡ None = ap (λ b. refuse_if b Phony) plain in
         let e2 : halted (is_halted s) ≡ None = ap halted ready.going in
         let e3 : not_wanted (mark_of s x) ≡ None = ap not_wanted wants in
-        let e4 : blocked (first_blocking manifest.builds s (inputs s (build_at manifest.builds x))) ≡ None = ap blocked (no-blocking x free) in
+        let e4 : blocked (first_blocking manifest.builds s (inputs s (build_at manifest.builds x))) ≡ None = ap blocked (no-blocking s ready.unlisted x free) in
         let e5 : not_dirty (reasons_of manifest.builds s x) ≡ None = missing-dirty manifest.builds s x plain gone in
         let e6 : no_such_job 1 0 ≡ None = refl in
         let e7 : job_busy (job_of s 0) ≡ None = ap job_busy (job-free 0) in
-        let e8 : pool_slot (present_pool manifest s x) (slot-for (pool_of manifest x)) ≡ None = slot-fits s ready.roomy manifest.pools (build_at manifest.builds x).pool in
-        let e9 : slot_busy (slot_holder s (pool_of manifest x) (slot-for (pool_of manifest x))) ≡ None = slot-free s (pool_of manifest x) place-free in
+        let e8 : pool_slot (present_pool manifest s x) (first_slot (pool_of manifest x)) ≡ None = slot-fits s ready.roomy manifest.pools (build_at manifest.builds x).pool in
+        let e9 : slot_busy (slot_holder s (pool_of manifest x) (first_slot (pool_of manifest x))) ≡ None = slot-free s (pool_of manifest x) place-free in
         λ i. first_some (e1 i ∷ e2 i ∷ e3 i ∷ e4 i ∷ e5 i ∷ e6 i ∷ e7 i ∷ e8 i ∷ e9 i ∷ [])
 
     pass-ok : (x : ℕ) → (build_at manifest.builds x).phony ≡ true → (is_wanted_mark (mark_of s x) || is_through_mark (mark_of s x)) ≡ true → IsFree manifest.builds s x → pass_refusal manifest x s ≡ None
@@ -270,7 +270,7 @@ module _ (manifest : ManifestValue) (single : first_double manifest.builds ≡ N
     pass-ok x plain due free =
         let e1 : not_phony (build_at manifest.builds x) (mark_of s x) ≡ None = ap (λ b. refuse_if b NotPhony) (and-off (is_wanted_mark (mark_of s x)) (not (build_at manifest.builds x).phony) (ap not plain)) in
         let e2 : not_marked (mark_of s x) ≡ None = ap (λ b. refuse_if (not b) NotWanted) due in
-        let e3 : blocked (first_blocking manifest.builds s (inputs s (build_at manifest.builds x))) ≡ None = ap blocked (no-blocking x free) in
+        let e3 : blocked (first_blocking manifest.builds s (inputs s (build_at manifest.builds x))) ≡ None = ap blocked (no-blocking s ready.unlisted x free) in
         λ i. first_some (e1 i ∷ e2 i ∷ e3 i ∷ [])
 
   -- FINISH
@@ -284,6 +284,12 @@ module _ (manifest : ManifestValue) (single : first_double manifest.builds ≡ N
       ap (λ b. refuse_if (not b) (WrongOutputs (length (outputs_of build)))) (ap (λ n. n == length (outputs_of build)) (length-map (outputs_of build) (λ out. 1)) ∙ same-number (length (outputs_of build))) in
       λ i. first_some (e1 i ∷ e2 i ∷ e3 i ∷ None ∷ None ∷ [])
 
+  -- an edge with a command that is still to run has its first output missing
+  pub missing-by : (s : State) (build : BuildValue) (m : Mark) → build.phony ≡ false → m ≡ mark.Wanted → CanEnd s build m → holds_at (is_missing s) (outputs_of build) 0 ≡ true
+  missing-by s build m plain is (settled h) = absurd (true≢false (sym h ∙ ap is_settled is))
+  missing-by s build m plain is (passes p h) = absurd (true≢false (sym p ∙ plain))
+  missing-by s build m plain is (runs p h k) = k
+
   -- WHAT IS WRITTEN
   abbrev Allowed : List (List ℕ) → Type 0 → Cell → Type 0
   Allowed outs D (cell.Stamp path) = Contains outs path
@@ -295,10 +301,10 @@ module _ (manifest : ManifestValue) (single : first_double manifest.builds ≡ N
   Allowed outs D cell.Halted = ⊥
   Allowed outs D (cell.Depth p) = ⊥
 
-  record Kept (s t : State) (outs : List (List ℕ)) : Type 0 where
-    halts : is_halted t ≡ is_halted s
-    stamps : (path : List ℕ) → (Contains outs path → ⊥) → stamp_of t path ≡ stamp_of s path
-    depths : (pool : ℕ) → given_depth_of t pool ≡ given_depth_of s pool
+  pub record Kept (s t : State) (outs : List (List ℕ)) : Type 0 where
+    pub halts : is_halted t ≡ is_halted s
+    pub stamps : (path : List ℕ) → (Contains outs path → ⊥) → stamp_of t path ≡ stamp_of s path
+    pub depths : (pool : ℕ) → given_depth_of t pool ≡ given_depth_of s pool
 
   same-cell : (P : Cell → Type 0) (s : State) (e : Event) (c : Cell) → Each P (written manifest s e) → (P c → ⊥) → get (after manifest s e) c ≡ get s c
   same-cell P s e c all none = unwritten s (effect manifest s e) c (λ h. none (each-has P (written manifest s e) c all (subst (λ cs. Has cs c) (written-same manifest s e) h)))
@@ -421,13 +427,16 @@ module _ (manifest : ManifestValue) (single : first_double manifest.builds ≡ N
       ) path
 
   -- MARKS THAT ARE WRITTEN
-  start-mark : (x : ℕ) (slot : Option ℕ) (s : State) → is_running_mark (mark_of (set_cells cell_cmp s (start_effect manifest x 0 slot s)) x) ≡ true
+  start-mark-is : (x : ℕ) (slot : Option ℕ) (s : State) → mark_of (set_cells cell_cmp s (start_effect manifest x 0 slot s)) x ≡ mark.Running 0 slot (newest_stamp manifest.builds s (inputs s (build_at manifest.builds x)))
   unfolding start_effect
-  start-mark x slot s =
+  start-mark-is x slot s =
       let m = mark.Running 0 slot (newest_stamp manifest.builds s (inputs s (build_at manifest.builds x))) in
-      ap is_running_mark (head-written s x m (write (cell.Job 0) (value.Job (Some x)) ∷ write_slot (pool_of manifest x) slot (Some x)) (cell.Job 0 ∷ slot_cells (pool_of manifest x) slot)
+      head-written s x m (write (cell.Job 0) (value.Job (Some x)) ∷ write_slot (pool_of manifest x) slot (Some x)) (cell.Job 0 ∷ slot_cells (pool_of manifest x) slot)
       (λ i. cell.Mark x ∷ cell.Job 0 ∷ keys-slot (pool_of manifest x) slot (Some x) i)
-      (no-mark (cell.Job 0 ∷ slot_cells (pool_of manifest x) slot) x (refl, none-slot (pool_of manifest x) slot)))
+      (no-mark (cell.Job 0 ∷ slot_cells (pool_of manifest x) slot) x (refl, none-slot (pool_of manifest x) slot))
+
+  start-mark : (x : ℕ) (slot : Option ℕ) (s : State) → is_running_mark (mark_of (set_cells cell_cmp s (start_effect manifest x 0 slot s)) x) ≡ true
+  start-mark x slot s = ap is_running_mark (start-mark-is x slot s)
 
   pass-mark : (x : ℕ) (s : State) → is_settled (mark_of (set_cells cell_cmp s (pass_effect manifest x s)) x) ≡ true
   unfolding pass_effect
@@ -456,7 +465,7 @@ module _ (manifest : ManifestValue) (single : first_double manifest.builds ≡ N
       (none-append (built_cells outs) (deps_cells build) (none-built outs) (none-deps build))))))
 
   -- READY AFTER A STEP
-  first-same : (s t : State) (outs : List (List ℕ)) → ((path : List ℕ) → Contains outs path → stamp_of t path ≡ stamp_of s path) → holds_at (is_missing s) outs 0 ≡ true → holds_at (is_missing t) outs 0 ≡ true
+  pub first-same : (s t : State) (outs : List (List ℕ)) → ((path : List ℕ) → Contains outs path → stamp_of t path ≡ stamp_of s path) → holds_at (is_missing s) outs 0 ≡ true → holds_at (is_missing t) outs 0 ≡ true
   first-same s t [] same h = h
   first-same s t (o ∷ os) same h = ap (λ n. n == 0) (same o (Contains-get_or (o ∷ os) 0 o (omega arith))) ∙ h
 
@@ -481,28 +490,29 @@ module _ (manifest : ManifestValue) (single : first_double manifest.builds ≡ N
   }
 
   -- events that end one edge
-  record EndsOne (s : State) (x : ℕ) : Type 0 where
-    events : Numbered
-    legal : Legal (machine manifest 1) s events
-    ready : IsReady manifest (run (machine manifest 1) s events)
-    ended : is_settled (mark_of (run (machine manifest 1) s events) x) ≡ true
-    others : (y : ℕ) → y ≢ x → mark_of (run (machine manifest 1) s events) y ≡ mark_of s y
+  pub record EndsOne (s : State) (x : ℕ) : Type 0 where
+    pub events : Numbered
+    pub legal : Legal (machine manifest 1) s events
+    pub ready : IsReady manifest (run (machine manifest 1) s events)
+    pub ended : is_settled (mark_of (run (machine manifest 1) s events) x) ≡ true
+    pub others : (y : ℕ) → y ≢ x → mark_of (run (machine manifest 1) s events) y ≡ mark_of s y
+    pub depths : (pool : ℕ) → given_depth_of (run (machine manifest 1) s events) pool ≡ given_depth_of s pool
 
-  others-same : (s : State) (e : Event) (x : ℕ) → MarksOnly x (written manifest s e) → (y : ℕ) → y ≢ x → mark_of (after manifest s e) y ≡ mark_of s y
+  pub others-same : (s : State) (e : Event) (x : ℕ) → MarksOnly x (written manifest s e) → (y : ℕ) → y ≢ x → mark_of (after manifest s e) y ≡ mark_of s y
   others-same s e x only y other = same-marks manifest s e y (λ h. other (only y h))
 
   module _ (x : ℕ) (out : List ℕ) (named : producer_of manifest.builds out ≡ Some x) where
     abbrev begin : Event
-    begin = Start out 0 (slot-for (pool_of manifest x))
+    begin = Start out 0 (first_slot (pool_of manifest x))
 
     abbrev finish : Event
     finish = Finish out (map (λ o. 1) (outputs_of (build_at manifest.builds x))) Nothing
 
     pub begin-accepted : (s : State) → IsReady manifest s → (build_at manifest.builds x).phony ≡ false → mark_of s x ≡ mark.Wanted → holds_at (is_missing s) (outputs_of (build_at manifest.builds x)) 0 ≡ true → IsFree manifest.builds s x
-        → refusal manifest 1 s (Start out 0 (slot-for (pool_of manifest x))) ≡ None
+        → refusal manifest 1 s (Start out 0 (first_slot (pool_of manifest x))) ≡ None
     unfolding refusal
     begin-accepted s ready plain wants gone free =
-        subst (λ o. of_edge (Some NoSuchEdge) (λ edge. start_refusal manifest 1 edge 0 (slot-for (pool_of manifest x)) s) o ≡ None) (sym named) (start-ok s ready x plain wants gone free)
+        subst (λ o. of_edge (Some NoSuchEdge) (λ edge. start_refusal manifest 1 edge 0 (first_slot (pool_of manifest x)) s) o ≡ None) (sym named) (start-ok s ready x plain wants gone free)
 
     finish-accepted : (s : State) → (build_at manifest.builds x).phony ≡ false → is_running_mark (mark_of s x) ≡ true → refusal manifest 1 s (Finish out (map (λ o. 1) (outputs_of (build_at manifest.builds x))) Nothing) ≡ None
     unfolding refusal
@@ -513,9 +523,9 @@ module _ (manifest : ManifestValue) (single : first_double manifest.builds ≡ N
     unfolding refusal
     pass-accepted s ready plain due free = subst (λ o. of_edge (Some NoSuchEdge) (λ edge. pass_refusal manifest edge s) o ≡ None) (sym named) (pass-ok s ready x plain due free)
 
-    begin-written : (s : State) → start_writes manifest x 0 (slot-for (pool_of manifest x)) s ≡ written manifest s (Start out 0 (slot-for (pool_of manifest x)))
+    begin-written : (s : State) → start_writes manifest x 0 (first_slot (pool_of manifest x)) s ≡ written manifest s (Start out 0 (first_slot (pool_of manifest x)))
     unfolding written
-    begin-written s = ap (λ o. of_edge [] (λ edge. start_writes manifest edge 0 (slot-for (pool_of manifest x)) s) o) (sym named)
+    begin-written s = ap (λ o. of_edge [] (λ edge. start_writes manifest edge 0 (first_slot (pool_of manifest x)) s) o) (sym named)
 
     finish-written : (s : State) → finish_writes manifest x s ≡ written manifest s (Finish out (map (λ o. 1) (outputs_of (build_at manifest.builds x))) Nothing)
     unfolding written
@@ -525,9 +535,9 @@ module _ (manifest : ManifestValue) (single : first_double manifest.builds ≡ N
     unfolding written
     pass-written s = ap (λ o. of_edge [] (λ edge. mark_writes manifest edge s) o) (sym named)
 
-    begin-effect : (s : State) → start_effect manifest x 0 (slot-for (pool_of manifest x)) s ≡ effect manifest s (Start out 0 (slot-for (pool_of manifest x)))
+    begin-effect : (s : State) → start_effect manifest x 0 (first_slot (pool_of manifest x)) s ≡ effect manifest s (Start out 0 (first_slot (pool_of manifest x)))
     unfolding effect
-    begin-effect s = ap (λ o. of_edge [] (λ edge. start_effect manifest edge 0 (slot-for (pool_of manifest x)) s) o) (sym named)
+    begin-effect s = ap (λ o. of_edge [] (λ edge. start_effect manifest edge 0 (first_slot (pool_of manifest x)) s) o) (sym named)
 
     finish-effect : (s : State) → finish_effect manifest x (map (λ o. 1) (outputs_of (build_at manifest.builds x))) Nothing s ≡ effect manifest s (Finish out (map (λ o. 1) (outputs_of (build_at manifest.builds x))) Nothing)
     unfolding effect
@@ -537,41 +547,88 @@ module _ (manifest : ManifestValue) (single : first_double manifest.builds ≡ N
     unfolding effect
     pass-effect s = ap (λ o. of_edge [] (λ edge. pass_effect manifest edge s) o) (sym named)
 
-    run-ends : (s : State) → IsReady manifest s → (build_at manifest.builds x).phony ≡ false → mark_of s x ≡ mark.Wanted → holds_at (is_missing s) (outputs_of (build_at manifest.builds x)) 0 ≡ true → IsFree manifest.builds s x → EndsOne s x
-    run-ends s ready plain wants gone free =
+    -- what a start leaves: the edge runs on job 0 in the slot, and nothing else is written but what it holds
+    pub record Begun (s t : State) : Type 0 where
+      pub runs : mark_of t x ≡ mark.Running 0 (first_slot (pool_of manifest x)) (newest_stamp manifest.builds s (inputs s (build_at manifest.builds x)))
+      pub others : (y : ℕ) → y ≢ x → mark_of t y ≡ mark_of s y
+      pub kept : Kept s t []
+      pub deps : (path : List ℕ) → deps_of t path ≡ deps_of s path
+
+    pub begun : (s : State) → Begun s (after manifest s (Start out 0 (first_slot (pool_of manifest x))))
+    begun s =
+        let e = Start out 0 (first_slot (pool_of manifest x)) in
+        let each : Each (Allowed [] ⊥) (written manifest s e) = subst (λ cs. Each (Allowed [] ⊥) cs) (begin-written s) (start-each [] ⊥ x (first_slot (pool_of manifest x)) s) in
+        record {
+          runs =
+              subst (λ ws. mark_of (set_cells cell_cmp s ws) x ≡ mark.Running 0 (first_slot (pool_of manifest x)) (newest_stamp manifest.builds s (inputs s (build_at manifest.builds x))))
+              (begin-effect s) (start-mark-is x (first_slot (pool_of manifest x)) s);
+          others = λ y other. others-same s e x (subst (λ cs. MarksOnly x cs) (begin-written s) (start-only manifest 0 (first_slot (pool_of manifest x)) s x)) y other;
+          kept = kept-of s e [] ⊥ each;
+          deps = deps-kept s e [] each;
+        }
+
+    -- one of a run, and of a pass: the events are accepted one after the other, and the edge is settled after them
+    pub record Ran (s t u : State) : Type 0 where
+      pub begins : refusal manifest 1 s (Start out 0 (first_slot (pool_of manifest x))) ≡ None
+      pub finishes : refusal manifest 1 t (Finish out (map (λ o. 1) (outputs_of (build_at manifest.builds x))) Nothing) ≡ None
+      pub ready : IsReady manifest u
+      pub ended : is_settled (mark_of u x) ≡ true
+      pub others : (y : ℕ) → y ≢ x → mark_of u y ≡ mark_of s y
+      pub depths : (pool : ℕ) → given_depth_of u pool ≡ given_depth_of s pool
+
+    pub record Passed (s t : State) : Type 0 where
+      pub passes : refusal manifest 1 s (Pass out) ≡ None
+      pub ready : IsReady manifest t
+      pub ended : is_settled (mark_of t x) ≡ true
+      pub others : (y : ℕ) → y ≢ x → mark_of t y ≡ mark_of s y
+      pub depths : (pool : ℕ) → given_depth_of t pool ≡ given_depth_of s pool
+
+    pub ran : (s : State) → IsReady manifest s → (build_at manifest.builds x).phony ≡ false → mark_of s x ≡ mark.Wanted → holds_at (is_missing s) (outputs_of (build_at manifest.builds x)) 0 ≡ true → IsFree manifest.builds s x
+        → Ran s (after manifest s (Start out 0 (first_slot (pool_of manifest x))))
+        (after manifest (after manifest s (Start out 0 (first_slot (pool_of manifest x)))) (Finish out (map (λ o. 1) (outputs_of (build_at manifest.builds x))) Nothing))
+    ran s ready plain wants gone free =
         let outs = outputs_of (build_at manifest.builds x) in
-        let e = Start out 0 (slot-for (pool_of manifest x)) in
+        let e = Start out 0 (first_slot (pool_of manifest x)) in
         let f = Finish out (map (λ o. 1) outs) Nothing in
         let one_ok : refusal manifest 1 s e ≡ None = begin-accepted s ready plain wants gone free in
         let t = after manifest s e in
-        let busy : is_running_mark (mark_of t x) ≡ true = subst (λ ws. is_running_mark (mark_of (set_cells cell_cmp s ws) x) ≡ true) (begin-effect s) (start-mark x (slot-for (pool_of manifest x)) s) in
-        let two_ok : refusal manifest 1 t f ≡ None = finish-accepted t plain busy in
+        let left = begun s in
+        let two_ok : refusal manifest 1 t f ≡ None = finish-accepted t plain (ap is_running_mark left.runs) in
         let u = after manifest t f in
         let ended : is_settled (mark_of u x) ≡ true = subst (λ ws. is_settled (mark_of (set_cells cell_cmp t ws) x) ≡ true) (finish-effect t) (finish-mark x (map (λ o. 1) outs) t) in
-        let each_one : Each (Allowed outs ⊥) (written manifest s e) = subst (λ cs. Each (Allowed outs ⊥) cs) (begin-written s) (start-each outs ⊥ x (slot-for (pool_of manifest x)) s) in
         let each_two : Each (Allowed outs (Unit {0})) (written manifest t f) = subst (λ cs. Each (Allowed outs (Unit {0})) cs) (finish-written t) (finish-each x t) in
-        let kept_one = kept-of s e outs ⊥ each_one in
         let kept_two = kept-of t f outs (Unit {0}) each_two in
-        let unlisted_t : (path : List ℕ) → paths_in (deps_of t path) ≡ [] = λ path. ap paths_in (deps-kept s e outs each_one path) ∙ ready.unlisted path in
+        let unlisted_t : (path : List ℕ) → paths_in (deps_of t path) ≡ [] = λ path. ap paths_in (left.deps path) ∙ ready.unlisted path in
         let unlisted : (path : List ℕ) → paths_in (deps_of u path) ≡ [] = λ path. subst (λ ws. paths_in (deps_of (set_cells cell_cmp t ws) path) ≡ []) (finish-effect t) (finish-unlists x (map (λ o. 1) outs) t unlisted_t path) in
-        let others : (y : ℕ) → y ≢ x → mark_of u y ≡ mark_of s y = λ y other.
-        others-same t f x (subst (λ cs. MarksOnly x cs) (finish-written t) (finish-only manifest t x)) y other
-        ∙ others-same s e x (subst (λ cs. MarksOnly x cs) (begin-written s) (start-only manifest 0 (slot-for (pool_of manifest x)) s x)) y other in
+        let others : (y : ℕ) → y ≢ x → mark_of u y ≡ mark_of s y = λ y other. others-same t f x (subst (λ cs. MarksOnly x cs) (finish-written t) (finish-only manifest t x)) y other ∙ left.others y other in
         let held = held-is-running.kept manifest 1 t f two_ok (held-is-running.kept manifest 1 s e one_ok ready.held) in
         record {
-          events = (0, e) ∷ (0, f) ∷ [];
-          legal = (one_ok, (two_ok, tt));
+          begins = one_ok;
+          finishes = two_ok;
           ready = ready-after s u x ready held (record {
-            halts = kept_two.halts ∙ kept_one.halts;
-            stamps = λ path none. kept_two.stamps path none ∙ kept_one.stamps path none;
-            depths = λ pool. kept_two.depths pool ∙ kept_one.depths pool;
+            halts = kept_two.halts ∙ left.kept.halts;
+            stamps = λ path none. kept_two.stamps path none ∙ left.kept.stamps path no-element;
+            depths = λ pool. kept_two.depths pool ∙ left.kept.depths pool;
           }) unlisted ended others;
           ended = ended;
           others = others;
+          depths = λ pool. kept_two.depths pool ∙ left.kept.depths pool;
         }
 
-    pass-ends : (s : State) → IsReady manifest s → (build_at manifest.builds x).phony ≡ true → (is_wanted_mark (mark_of s x) || is_through_mark (mark_of s x)) ≡ true → IsFree manifest.builds s x → EndsOne s x
-    pass-ends s ready plain due free =
+    run-ends : (s : State) → IsReady manifest s → (build_at manifest.builds x).phony ≡ false → mark_of s x ≡ mark.Wanted → holds_at (is_missing s) (outputs_of (build_at manifest.builds x)) 0 ≡ true → IsFree manifest.builds s x → EndsOne s x
+    run-ends s ready plain wants gone free =
+        let r = ran s ready plain wants gone free in
+        record {
+          events = (0, Start out 0 (first_slot (pool_of manifest x))) ∷ (0, Finish out (map (λ o. 1) (outputs_of (build_at manifest.builds x))) Nothing) ∷ [];
+          legal = (r.begins, (r.finishes, tt));
+          ready = r.ready;
+          ended = r.ended;
+          others = r.others;
+          depths = r.depths;
+        }
+
+    pub passed : (s : State) → IsReady manifest s → (build_at manifest.builds x).phony ≡ true → (is_wanted_mark (mark_of s x) || is_through_mark (mark_of s x)) ≡ true → IsFree manifest.builds s x → Passed s (after manifest s (Pass out))
+    passed s ready plain due free =
         let outs = outputs_of (build_at manifest.builds x) in
         let e = Pass out in
         let ok : refusal manifest 1 s e ≡ None = pass-accepted s ready plain due free in
@@ -580,46 +637,53 @@ module _ (manifest : ManifestValue) (single : first_double manifest.builds ≡ N
         let each : Each (Allowed outs ⊥) (written manifest s e) = subst (λ cs. Each (Allowed outs ⊥) cs) (pass-written s) (mark-each outs ⊥ x s) in
         let others : (y : ℕ) → y ≢ x → mark_of t y ≡ mark_of s y = λ y other. others-same s e x (subst (λ cs. MarksOnly x cs) (pass-written s) (mark-only manifest s x)) y other in
         record {
-          events = (0, e) ∷ [];
-          legal = (ok, tt);
+          passes = ok;
           ready = ready-after s t x ready (held-is-running.kept manifest 1 s e ok ready.held) (kept-of s e outs ⊥ each) (λ path. ap paths_in (deps-kept s e outs each path) ∙ ready.unlisted path) ended others;
           ended = ended;
           others = others;
+          depths = λ pool. (kept-of s e outs ⊥ each).depths pool;
         }
 
+    pass-ends : (s : State) → IsReady manifest s → (build_at manifest.builds x).phony ≡ true → (is_wanted_mark (mark_of s x) || is_through_mark (mark_of s x)) ≡ true → IsFree manifest.builds s x → EndsOne s x
+    pass-ends s ready plain due free =
+        let r = passed s ready plain due free in
+        record { events = (0, Pass out) ∷ []; legal = (r.passes, tt); ready = r.ready; ended = r.ended; others = r.others; depths = r.depths }
+
     ends-by : (s : State) → IsReady manifest s → IsFree manifest.builds s x → CanEnd s (build_at manifest.builds x) (mark_of s x) → EndsOne s x
-    ends-by s ready free (settled h) = record { events = []; legal = tt; ready = ready; ended = h; others = λ y other. refl }
+    ends-by s ready free (settled h) = record { events = []; legal = tt; ready = ready; ended = h; others = λ y other. refl; depths = λ pool. refl }
     ends-by s ready free (passes p h) = pass-ends s ready p h free
     ends-by s ready free (runs p h k) = run-ends s ready p h k free
 
   -- WHOLE LISTS
-  legal-append : (s : State) (xs ys : Numbered) → Legal (machine manifest 1) s xs → Legal (machine manifest 1) (run (machine manifest 1) s xs) ys → Legal (machine manifest 1) s (xs ++ ys)
+  pub legal-append : (s : State) (xs ys : Numbered) → Legal (machine manifest 1) s xs → Legal (machine manifest 1) (run (machine manifest 1) s xs) ys → Legal (machine manifest 1) s (xs ++ ys)
   legal-append s [] ys a b = b
   legal-append s (x ∷ xs) ys a b = (a.0, legal-append (after manifest s x.1) xs ys a.1 b)
 
   -- an edge ends, and before it all that it waits for
-  record Ends (s : State) (x : ℕ) : Type 0 where
-    events : Numbered
-    legal : Legal (machine manifest 1) s events
-    ready : IsReady manifest (run (machine manifest 1) s events)
-    ended : is_settled (mark_of (run (machine manifest 1) s events) x) ≡ true
-    keeps : (y : ℕ) → y ≢ x → (EdgeReaches manifest.builds x y → ⊥) → mark_of (run (machine manifest 1) s events) y ≡ mark_of s y
-    stays : (y : ℕ) → is_settled (mark_of s y) ≡ true → is_settled (mark_of (run (machine manifest 1) s events) y) ≡ true
+  pub record Ends (s : State) (x : ℕ) : Type 0 where
+    pub events : Numbered
+    pub legal : Legal (machine manifest 1) s events
+    pub ready : IsReady manifest (run (machine manifest 1) s events)
+    pub ended : is_settled (mark_of (run (machine manifest 1) s events) x) ≡ true
+    pub keeps : (y : ℕ) → y ≢ x → (EdgeReaches manifest.builds x y → ⊥) → mark_of (run (machine manifest 1) s events) y ≡ mark_of s y
+    pub stays : (y : ℕ) → is_settled (mark_of s y) ≡ true → is_settled (mark_of (run (machine manifest 1) s events) y) ≡ true
+    pub depths : (pool : ℕ) → given_depth_of (run (machine manifest 1) s events) pool ≡ given_depth_of s pool
 
-  record EndsAll (s : State) (x : ℕ) (paths : List (List ℕ)) : Type 0 where
-    events : Numbered
-    legal : Legal (machine manifest 1) s events
-    ready : IsReady manifest (run (machine manifest 1) s events)
-    ended : (path : List ℕ) (q : ℕ) → Contains paths path → producer_of manifest.builds path ≡ Some q → is_settled (mark_of (run (machine manifest 1) s events) q) ≡ true
-    keeps : (y : ℕ) → (EdgeReaches manifest.builds x y → ⊥) → mark_of (run (machine manifest 1) s events) y ≡ mark_of s y
-    stays : (y : ℕ) → is_settled (mark_of s y) ≡ true → is_settled (mark_of (run (machine manifest 1) s events) y) ≡ true
+  pub record EndsAll (s : State) (x : ℕ) (paths : List (List ℕ)) : Type 0 where
+    pub events : Numbered
+    pub legal : Legal (machine manifest 1) s events
+    pub ready : IsReady manifest (run (machine manifest 1) s events)
+    pub ended : (path : List ℕ) (q : ℕ) → Contains paths path → producer_of manifest.builds path ≡ Some q → is_settled (mark_of (run (machine manifest 1) s events) q) ≡ true
+    pub keeps : (y : ℕ) → (EdgeReaches manifest.builds x y → ⊥) → mark_of (run (machine manifest 1) s events) y ≡ mark_of s y
+    pub stays : (y : ℕ) → is_settled (mark_of s y) ≡ true → is_settled (mark_of (run (machine manifest 1) s events) y) ≡ true
+    pub depths : (pool : ℕ) → given_depth_of (run (machine manifest 1) s events) pool ≡ given_depth_of s pool
 
   first-case : (p path : List ℕ) (ps : List (List ℕ)) → Contains (p ∷ ps) path → (p ≡ path) ⊎ Contains ps path
   first-case p path ps h = elim (Contains-append_cases (p ∷ []) ps path h) [ inl here ↦ inl (only p path here) | inr there ↦ inr there ]
 
-  ends-all : (x : ℕ) (each : (s : State) (path : List ℕ) (q : ℕ) → IsReady manifest s → Contains (inputs_of (build_at manifest.builds x)) path → producer_of manifest.builds path ≡ Some q → Ends s q)
+  pub ends-all : (x : ℕ) (each : (s : State) (path : List ℕ) (q : ℕ) → IsReady manifest s → Contains (inputs_of (build_at manifest.builds x)) path → producer_of manifest.builds path ≡ Some q → Ends s q)
       → (paths : List (List ℕ)) → ((path : List ℕ) → Contains paths path → Contains (inputs_of (build_at manifest.builds x)) path) → (s : State) → IsReady manifest s → EndsAll s x paths
-  ends-all x each [] inside s ready = record { events = []; legal = tt; ready = ready; ended = λ path q h e. absurd (none path h); keeps = λ y h. refl; stays = λ y h. h }
+  ends-all x each [] inside s ready = record { events = []; legal = tt; ready = ready; ended = λ path q h e. absurd (none path h); keeps = λ y h. refl; stays = λ y h. h; depths = λ pool. refl }
     where
       none : (path : List ℕ) → Contains [] path → ⊥
       none path (k, within, at) = omega (arith, within)
@@ -644,6 +708,7 @@ module _ (manifest : ManifestValue) (single : first_double manifest.builds ≡ N
             ];
             keeps = r.keeps;
             stays = r.stays;
+            depths = r.depths;
           }
       by (Some z) is rest =
           let a = each s p z ready (inside p here) is in
@@ -664,10 +729,11 @@ module _ (manifest : ManifestValue) (single : first_double manifest.builds ≡ N
             ]);
             keeps = λ y none. ap (λ u. mark_of u y) whole ∙ r.keeps y none ∙ a.keeps y (λ same. none (one (subst (λ n. EdgeSteps manifest.builds x n) (sym same) step))) (λ way. none (on step way));
             stays = λ y h. subst (λ u. is_settled (mark_of u y) ≡ true) (sym whole) (r.stays y (a.stays y h));
+            depths = λ pool. ap (λ u. given_depth_of u pool) whole ∙ r.depths pool ∙ a.depths pool;
           }
 
   module _ (ranks : List ℕ) (ranked : IsRanked manifest.builds ranks) where
-    ends : (fuel : ℕ) (s : State) (x : ℕ) (out : List ℕ) → producer_of manifest.builds out ≡ Some x → rank_at ranks x < fuel → IsReady manifest s → Ends s x
+    pub ends : (fuel : ℕ) (s : State) (x : ℕ) (out : List ℕ) → producer_of manifest.builds out ≡ Some x → rank_at ranks x < fuel → IsReady manifest s → Ends s x
     ends zero s x out named below ready = absurd (omega (arith, below))
     ends (suc fuel) s x out named below ready =
         let build = build_at manifest.builds x in
@@ -686,6 +752,7 @@ module _ (manifest : ManifestValue) (single : first_double manifest.builds ≡ N
             | inl same ↦ ap (λ n. is_settled (mark_of (run (machine manifest 1) t r.events) n)) same ∙ r.ended
             | inr other ↦ ap is_settled (r.others y other) ∙ a.stays y h
           ]);
+          depths = λ pool. ap (λ u. given_depth_of u pool) whole ∙ r.depths pool ∙ a.depths pool;
         }
 
     some-first : (s : State) (outs : List (List ℕ)) → holds_at (is_missing s) outs 0 ≡ true → (out : List ℕ) × Contains outs out
@@ -699,22 +766,17 @@ module _ (manifest : ManifestValue) (single : first_double manifest.builds ≡ N
         let t = run (machine manifest 1) s a.events in
         let free : IsFree manifest.builds t b = λ q step. a.ended step.path q step.is_input step.produced in
         let wants_t : mark_of t b ≡ mark.Wanted = a.keeps b (ranked-acyclic manifest.builds ranks ranked b) ∙ wants in
-        let gone : holds_at (is_missing t) (outputs_of build) 0 ≡ true = missing-by t (mark_of t b) wants_t (a.ready.marks b within) in
+        let gone : holds_at (is_missing t) (outputs_of build) 0 ≡ true = missing-by t build (mark_of t b) plain wants_t (a.ready.marks b within) in
         let o = some-first t (outputs_of build) gone in
         let named : producer_of manifest.builds o.0 ≡ Some b = producer-only manifest.builds o.0 b single o.1 in
         record {
           before = a.events;
           n = 0;
-          e = Start o.0 0 (slot-for (pool_of manifest b));
-          legal = legal-append s a.events ((0, Start o.0 0 (slot-for (pool_of manifest b))) ∷ []) a.legal (begin-accepted b o.0 named t a.ready plain wants_t gone free, tt);
+          e = Start o.0 0 (first_slot (pool_of manifest b));
+          legal = legal-append s a.events ((0, Start o.0 0 (first_slot (pool_of manifest b))) ∷ []) a.legal (begin-accepted b o.0 named t a.ready plain wants_t gone free, tt);
           begins = ap (λ p. holds (λ n. n == b) p) named ∙ same-number b;
           apart = a.keeps;
         }
-      where
-        missing-by : (t : State) (m : Mark) → m ≡ mark.Wanted → CanEnd t (build_at manifest.builds b) m → holds_at (is_missing t) (outputs_of (build_at manifest.builds b)) 0 ≡ true
-        missing-by t m is (settled h) = absurd (true≢false (sym h ∙ ap is_settled is))
-        missing-by t m is (passes p h) = absurd (true≢false (sym p ∙ plain))
-        missing-by t m is (runs p h k) = k
 
 pub waiting-is-enough : WaitingIsEnough
 waiting-is-enough graph s b is ready within plain wants = starts-alone graph.manifest is.single graph.ranks is.ranked s b ready within plain wants

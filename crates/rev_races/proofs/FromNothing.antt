@@ -61,7 +61,7 @@ source_in : List BuildValue → List (List ℕ) → List (List ℕ)
 source_in builds [] = []
 source_in builds (p ∷ ps) = if is_none (producer_of builds p) then p ∷ source_in builds ps else source_in builds ps
 
-sources_of : List BuildValue → List BuildValue → List (List ℕ)
+pub sources_of : List BuildValue → List BuildValue → List (List ℕ)
 sources_of all [] = []
 sources_of all (b ∷ bs) = source_in all (inputs_of b) ++ sources_of all bs
 
@@ -114,7 +114,7 @@ unfolding sources_of
 are-sources all [] path h = absurd h
 are-sources all (b ∷ bs) path h = elim (has-cases (source_in all (inputs_of b)) (sources_of all bs) path h) [ inl k ↦ is-source all (inputs_of b) path k | inr k ↦ are-sources all bs path k ]
 
-stamp_each : List (List ℕ) → Effect
+pub stamp_each : List (List ℕ) → Effect
 stamp_each [] = []
 stamp_each (p ∷ ps) = (cell.Stamp p, Some (value.Stamp 1)) ∷ stamp_each ps
 
@@ -142,17 +142,17 @@ only-stamps [] c h = absurd h
 only-stamps (p ∷ ps) c (inl e) = (p, e, inl refl)
 only-stamps (p ∷ ps) c (inr h) = let r = only-stamps ps c h in (r.0, r.1, inr r.2)
 
-abbrev opening_of : List BuildValue → State
+abbrev pub opening_of : List BuildValue → State
 opening_of builds = set_cells cell_cmp empty (stamp_each (sources_of builds builds))
 
-opening-alone : (builds : List BuildValue) → HasSourcesAlone builds (opening_of builds)
+pub opening-alone : (builds : List BuildValue) → HasSourcesAlone builds (opening_of builds)
 opening-alone builds c other =
     unwritten empty (stamp_each (sources_of builds builds)) c
     (λ h. let r = only-stamps (sources_of builds builds) c h in
     true≢false (sym (are-sources builds builds r.0 r.2) ∙ ap (is_source_stamp builds) r.1 ∙ other))
     ∙ get-empty cell_cmp c
 
-opening-stamped : (builds : List BuildValue) (x : ℕ) (path : List ℕ) → Contains (inputs_of (build_at builds x)) path → is_none (producer_of builds path) ≡ true → stamp_of (opening_of builds) path ≡ 1
+pub opening-stamped : (builds : List BuildValue) (x : ℕ) (path : List ℕ) → Contains (inputs_of (build_at builds x)) path → is_none (producer_of builds path) ≡ true → stamp_of (opening_of builds) path ≡ 1
 opening-stamped builds x path h none = stamped (sources_of builds builds) empty path (inr (has-sources builds builds x path h none))
 
 -- WHERE SOURCES ARE ALONE
@@ -192,11 +192,11 @@ no-depth (x ∷ xs) pool (inl e) = cc
 no-depth (x ∷ xs) pool (inr h) = no-depth xs pool h
 
 module _ (graph : GraphValue) (is : IsGraph graph) where
-  some-output : (x : ℕ) → x < length graph.manifest.builds → 0 < length (outputs_of (build_at graph.manifest.builds x))
+  pub some-output : (x : ℕ) → x < length graph.manifest.builds → 0 < length (outputs_of (build_at graph.manifest.builds x))
   some-output x within = (is.kept.builds x no_build within).outputs.some
 
   module _ (s : State) (alone : HasSourcesAlone graph.manifest.builds s) where
-    opened : IsOpened s
+    pub opened : IsOpened s
     opened = record {
       marks = λ x. ap (λ o. mark_in (default_or (cell.Mark x) o)) (alone (cell.Mark x) refl);
       jobs = λ j. ap (λ o. job_in (default_or (cell.Job j) o)) (alone (cell.Job j) refl);
@@ -228,7 +228,7 @@ module _ (graph : GraphValue) (is : IsGraph graph) where
     edge-way (one_step st) = one (edge-step st)
     edge-way (then_on st way) = on (edge-step st) (edge-way way)
 
-    missing-first : (t : State) → ((path : List ℕ) → stamp_of t path ≡ stamp_of s path) → (x : ℕ) → x < length graph.manifest.builds → holds_at (is_missing t) (outputs_of (build_at graph.manifest.builds x)) 0 ≡ true
+    pub missing-first : (t : State) → ((path : List ℕ) → stamp_of t path ≡ stamp_of s path) → (x : ℕ) → x < length graph.manifest.builds → holds_at (is_missing t) (outputs_of (build_at graph.manifest.builds x)) 0 ≡ true
     missing-first t same x within =
         first-missing t (outputs_of (build_at graph.manifest.builds x)) (some-output x within)
         (λ o h. same o ∙ unmade o x (producer-only graph.manifest.builds o x is.single h))
@@ -266,7 +266,7 @@ module _ (graph : GraphValue) (is : IsGraph graph) where
                   omega (arith, there, no)
               by (Some q) e = l.unproduced q (producer-has graph.manifest.builds l.path q e)
 
-      plan-accepted : refusal graph.manifest 1 s (Plan (oa ∷ ob ∷ [])) ≡ None
+      pub plan-accepted : refusal graph.manifest 1 s (Plan (oa ∷ ob ∷ [])) ≡ None
       unfolding refusal
       plan-accepted = ap (λ o. option_map of_plan o) plan-none
 
@@ -276,7 +276,7 @@ module _ (graph : GraphValue) (is : IsGraph graph) where
       to : LeadsTo graph.manifest (oa ∷ ob ∷ []) s (after graph.manifest s (Plan (oa ∷ ob ∷ [])))
       to = leads-to graph.manifest s (oa ∷ ob ∷ []) 1 plan-accepted
 
-      plan-depths : (pool : ℕ) → given_depth_of (after graph.manifest s (Plan (oa ∷ ob ∷ []))) pool ≡ given_depth_of s pool
+      pub plan-depths : (pool : ℕ) → given_depth_of (after graph.manifest s (Plan (oa ∷ ob ∷ []))) pool ≡ given_depth_of s pool
       unfolding written
       plan-depths pool =
           ap (λ o. depth_in (default_or (cell.Depth pool) o))
@@ -306,7 +306,7 @@ module _ (graph : GraphValue) (is : IsGraph graph) where
           not-both (beyond r none st t) = none
       can x m within (idle p q) = settled refl
 
-      ready : IsReady graph.manifest (after graph.manifest s (Plan (oa ∷ ob ∷ [])))
+      pub ready : IsReady graph.manifest (after graph.manifest s (Plan (oa ∷ ob ∷ [])))
       ready = record {
         held = held-is-running.kept graph.manifest 1 s (Plan (oa ∷ ob ∷ [])) plan-accepted (held-is-running.opened graph.manifest s opened);
         going = plan-going;
@@ -321,7 +321,7 @@ module _ (graph : GraphValue) (is : IsGraph graph) where
       must x m (through (beyond r none st t)) v = absurd (none v)
       must x m (idle p q) v = absurd (p v)
 
-      is-wanted : (x : ℕ) (out : List ℕ) → x < length graph.manifest.builds → Contains (oa ∷ ob ∷ []) out → Contains (outputs_of (build_at graph.manifest.builds x)) out → (build_at graph.manifest.builds x).phony ≡ false
+      pub is-wanted : (x : ℕ) (out : List ℕ) → x < length graph.manifest.builds → Contains (oa ∷ ob ∷ []) out → Contains (outputs_of (build_at graph.manifest.builds x)) out → (build_at graph.manifest.builds x).phony ≡ false
           → mark_of (after graph.manifest s (Plan (oa ∷ ob ∷ []))) x ≡ mark.Wanted
       is-wanted x out within goal of_x plain =
           must x (mark_of (after graph.manifest s (Plan (oa ∷ ob ∷ []))) x) (is-mark graph.manifest s (oa ∷ ob ∷ []) 1 plan-accepted x within)

@@ -1,17 +1,18 @@
 -- Marks of direct producers, lists with nothing to tell, and what the last search found.
-use Rattle.std.proofs.Common.{◌≡◌, ℕ, ◌+◌, ◌<◌, Bool, true, false, not, List, [], length, get_or, set, Option, Some, None, inl, inr, refl, sym, ap, subst, ◌∙◌, arith, true≢false, Contains, ◌⊎◌}
+use Rattle.std.proofs.Common.{◌≡◌, ℕ, ◌+◌, ◌<◌, Bool, true, false, not, List, [], ◌∷◌, ◌++◌, length, get_or, set, Option, Some, None, inl, inr, refl, sym, ap, subst, ◌∙◌, arith, true≢false, Contains, ◌⊎◌}
 use Rattle.std.proofs.lemmas.Bool.{cases_eq}
-use Rattle.std.proofs.lemmas.List.{length-set, get_or_default, get_or-set_same, get_or-set_other}
+use Rattle.std.specs.Prelude.{◌↔◌, All}
+use Rattle.std.specs.Global.{Vec}
+use Rattle.std.proofs.lemmas.List.{get_or-map as at-map, length-set, get_or_default, get_or-set_same, get_or-set_other}
+use Rattle.std.proofs.lemmas.List.Elements.{All-contains, Contains-append_left, Contains-get_or, Contains-push, Contains-push_cases}
 use Rattle.rev_manifest.specs.Manifest.{BuildValue}
 use Rattle.rev_graph.specs.Graph.{GraphValue, IsGraph, build_at, producer_of, successor_lists, EdgeReaches, EdgeReaches.step as one_edge_step, EdgeReaches.further as then_on_edges, inputs_of}
-use Rattle.rev_graph.proofs.StepLemmas.{edge_way, ranked-acyclic}
-use Rattle.rev_ranks.specs.Graph.{Steps, Reaches.step as one_step}
-use Rattle.rev_history.specs.Timeline.{Timeline, kept_events}
+use Rattle.rev_graph.proofs.StepLemmas.{edge_way, length-successors, node_way, ranked-acyclic}
+use Rattle.rev_ranks.specs.Graph.{Steps, graph_of, successors_of, Reaches, Reaches.step as one_step, Reaches.further as then_on}
 use Rattle.rev_waits.specs.Waits.{AreWaitedFor, Makes, Makes.itself, Makes.behind, Waits}
 use Rattle.rev_races.specs.Answer.{IsToTell.itself as tells_itself, IsToTell.another as tells_another}
-use Rattle.rev_races.specs.Keys.{IsKeyOf, IsKeyAmong}
+use Rattle.rev_races.specs.Keys.{SomeBelow, IsKeyAt, IsKeyAmong}
 use Rattle.rev_races.specs.Searches.{AreDirect, IsQuiet, IsKept}
-use Rattle.rev_races.specs.Races.{lists}
 
 -- MARKS OF DIRECT PRODUCERS
 pub no-marks : (graph : List (List ℕ)) (marks : List (Option ℕ)) → length marks ≡ length graph → ((k : ℕ) → get_or marks k None ≡ None) → AreDirect graph marks
@@ -72,37 +73,106 @@ quiet-none builds user path none = record { waits = λ maker made. absurd (nobod
     nobody {maker} (itself at plain) = let no : None ≡ Some maker = sym none ∙ at in true≢false cc
     nobody {maker} (behind {phony = phony} at h inside made) = let no : None ≡ Some phony = sym none ∙ at in true≢false cc
 
--- one path more
-pub quiet-more : (builds : List BuildValue) (user : ℕ) (paths : List (List ℕ)) (i : ℕ) (path : List ℕ) → i < length paths → path ≡ get_or paths i path → IsQuiet builds user path
-    → ((k : ℕ) → k < i → IsQuiet builds user (get_or paths k [])) → (k : ℕ) → k < i + 1 → IsQuiet builds user (get_or paths k [])
-quiet-more builds user paths i path within is quiet before k below = elim (cases_eq k i) [
-  | inl same ↦ subst (IsQuiet builds user) (sym (ap (λ n. get_or paths n []) same ∙ get_or_default paths i [] path within ∙ sym is)) quiet
+-- one place more, that may be told, or is quiet
+pub places-more : (builds : List BuildValue) (user : ℕ) (paths : List (List ℕ)) (i : ℕ) (places all : List ℕ) → all ≡ places ++ i ∷ []
+    → ((k : ℕ) → k < i → Contains places k ⊎ IsQuiet builds user (get_or paths k [])) → (k : ℕ) → k < i + 1 → Contains all k ⊎ IsQuiet builds user (get_or paths k [])
+places-more builds user paths i places all pushed before k below = elim (cases_eq k i) [
+  | inl same ↦ inl (subst (λ xs. Contains xs k) (sym pushed) (subst (Contains (places ++ i ∷ [])) (sym same) (Contains-push places i)))
+  | inr other ↦ elim (before k (omega (arith, below, other))) [
+    | inl old ↦ inl (subst (λ xs. Contains xs k) (sym pushed) (Contains-append_left places (i ∷ []) k old))
+    | inr quiet ↦ inr quiet
+  ]
+]
+
+pub places-within : (n i : ℕ) (places all : List ℕ) → all ≡ places ++ i ∷ [] → i < n → All (λ place. place < n) places → All (λ place. place < n) all
+places-within n i places all pushed below within = subst (All (λ place. place < n)) (sym pushed) (λ k d inside.
+    elim (Contains-push_cases places i (get_or (places ++ i ∷ []) k d) (Contains-get_or (places ++ i ∷ []) k d inside)) [
+      | inl old ↦ All-contains (λ place. place < n) places (get_or (places ++ i ∷ []) k d) within old
+      | inr new ↦ subst (λ place. place < n) new below
+    ])
+
+pub quiet-more : (builds : List BuildValue) (user : ℕ) (paths : List (List ℕ)) (i : ℕ) (path : List ℕ) (places : List ℕ) → i < length paths → path ≡ get_or paths i path → IsQuiet builds user path
+    → ((k : ℕ) → k < i → Contains places k ⊎ IsQuiet builds user (get_or paths k [])) → (k : ℕ) → k < i + 1 → Contains places k ⊎ IsQuiet builds user (get_or paths k [])
+quiet-more builds user paths i path places within is quiet before k below = elim (cases_eq k i) [
+  | inl same ↦ inr (subst (IsQuiet builds user) (sym (ap (λ n. get_or paths n []) same ∙ get_or_default paths i [] path within ∙ sym is)) quiet)
   | inr other ↦ before k (omega (arith, below, other))
 ]
 
--- of a list of quiet paths nothing is told
-pub nothing-told : (t : Timeline) (graph : GraphValue) (files paths : List (List ℕ)) (user : ℕ) → IsGraph graph → graph.manifest ≡ t.manifest
-    → lists t.manifest t.opening (kept_events t) user ≡ Some paths → ((k : ℕ) → k < length paths → IsQuiet graph.manifest.builds user (get_or paths k []))
-    → (k : List ℕ) → IsKeyOf t files user k → ⊥
-nothing-told t graph files paths user is same are quiet k key =
-    let both : Some key.paths ≡ Some paths = sym key.lists_are ∙ are in
-    let one : key.paths ≡ paths = cc in
-    by (subst (λ (ps : List (List ℕ)). IsKeyAmong t.manifest.builds files ps user k) one key.among)
-  where
-    by : IsKeyAmong t.manifest.builds files paths user k → ⊥
-    by among =
-        let at = among.holds in
-        let way : Waits graph.manifest.builds user at.maker =
-        (quiet among.number among.below).waits at.maker (subst (λ m. Makes m.builds at.maker (get_or paths among.number [])) (sym same) at.made) in
-        elim at.key.told [
-          | tells_itself own ↦ ranked-acyclic graph.manifest.builds graph.ranks is.ranked user (subst (λ m. Waits graph.manifest.builds user m) own way)
-          | tells_another apart ↦ apart.unordered (subst (λ m. Waits m.builds user at.maker) same way)
-        ]
+-- of a quiet path nothing is told
+pub nothing-told : (graph : GraphValue) (files paths : List (List ℕ)) (user place : ℕ) → IsGraph graph → IsQuiet graph.manifest.builds user (get_or paths place [])
+    → (k : List ℕ) → IsKeyAt graph.manifest.builds files paths user place k → ⊥
+nothing-told graph files paths user place is quiet k at =
+    let way : Waits graph.manifest.builds user at.maker = quiet.waits at.maker at.made in
+    elim at.key.told [
+      | tells_itself own ↦ ranked-acyclic graph.manifest.builds graph.ranks is.ranked user (subst (λ m. Waits graph.manifest.builds user m) own way)
+      | tells_another apart ↦ apart.unordered way
+    ]
+
+-- nothing is told at places that are not among these
+pub rest-untold : (graph : GraphValue) (files paths : List (List ℕ)) (user : ℕ) (places : List ℕ) → IsGraph graph
+    → ((place : ℕ) → place < length paths → Contains places place ⊎ IsQuiet graph.manifest.builds user (get_or paths place []))
+    → (place : ℕ) → place < length paths → Contains places place ⊎ ((k : List ℕ) → IsKeyAt graph.manifest.builds files paths user place k → ⊥)
+rest-untold graph files paths user places is rest place below = elim (rest place below) [
+  | inl among ↦ inl among
+  | inr quiet ↦ inr (nothing-told graph files paths user place is quiet)
+]
+
+-- where there is no such place, nothing is told
+pub none-among : (graph : GraphValue) (files paths : List (List ℕ)) (user : ℕ) (places : List ℕ) → IsGraph graph → length places ≡ 0
+    → ((place : ℕ) → place < length paths → Contains places place ⊎ IsQuiet graph.manifest.builds user (get_or paths place []))
+    → (k : List ℕ) → IsKeyAmong graph.manifest.builds files paths user k → ⊥
+none-among graph files paths user places is empty rest k among = elim (rest-untold graph files paths user places is rest among.number among.below) [
+  | inl c ↦ let within = c.1 in omega (arith, within, empty)
+  | inr none ↦ none k among.holds
+]
+
+-- what is told at the places, and nowhere else, is all that is told
+pub keys-among : (builds : List BuildValue) (files paths : List (List ℕ)) (user : ℕ) (places : List ℕ) → All (λ place. place < length paths) places
+    → ((place : ℕ) → place < length paths → Contains places place ⊎ ((k : List ℕ) → IsKeyAt builds files paths user place k → ⊥))
+    → (k : List ℕ) → SomeBelow (λ i. IsKeyAt builds files paths user (get_or places i 0) k) (length places) ↔ IsKeyAmong builds files paths user k
+keys-among builds files paths user places within rest k = (
+  λ s. let b = s.below in record { number = get_or places s.number 0; below = within s.number 0 b; holds = s.holds },
+  λ a. elim (rest a.number a.below) [
+    | inl c ↦
+        let at : get_or places c.0 0 ≡ a.number = get_or_default places c.0 0 a.number c.1 ∙ c.2 in
+        record { number = c.0; below = c.1; holds = subst (λ place. IsKeyAt builds files paths user place k) (sym at) a.holds }
+    | inr none ↦ absurd (none k a.holds)
+  ],
+)
 
 pub unless-not : (b : Bool) → not b ≡ false → b ≡ true
 unless-not true h = refl
 unless-not false h = absurd (true≢false h)
 
 -- THE LAST SEARCH
+-- what steps to the same nodes reaches the same ones
+same-reached : {graph : List (List ℕ)} {a b n : ℕ} → successors_of graph a ≡ successors_of graph b → Reaches graph a n → Reaches graph b n
+same-reached {graph} {a} {b} {n} same (one_step s) = one_step (subst (λ list. Contains list n) same s)
+same-reached {graph} {a} {b} {n} same (then_on {s = m} s way) = then_on (subst (λ list. Contains list m) same s) way
+
+pub same-waited : (builds : List BuildValue) (a b : ℕ) (marks : List Bool) → successors_of (successor_lists builds) a ≡ successors_of (successor_lists builds) b
+    → AreWaitedFor builds a marks → AreWaitedFor builds b marks
+same-waited builds a b marks same are = record {
+  each = are.each;
+  exact = λ other. (
+    λ h. edge_way (same-reached same (node_way ((are.exact other).0 h))),
+    λ way. (are.exact other).1 (edge_way (same-reached (sym same) (node_way way))),
+  );
+}
+
+-- the edges that one steps to, as they were read
+pub same-steps : (vectors : List (Vec ℕ)) (a b : ℕ) (v w : Vec ℕ) → a < length vectors → b < length vectors → v ≡ get_or vectors a v → w ≡ get_or vectors b w → v.items ≡ w.items
+    → successors_of (graph_of vectors) a ≡ successors_of (graph_of vectors) b
+same-steps vectors a b v w a_within b_within is also same = at a v a_within is ∙ same ∙ sym (at b w b_within also)
+  where
+    at : (k : ℕ) (x : Vec ℕ) → k < length vectors → x ≡ get_or vectors k x → successors_of (graph_of vectors) k ≡ x.items
+    at k x within here = at-map (λ (y : Vec ℕ). y.items) vectors k x [] within ∙ sym (ap (λ (y : Vec ℕ). y.items) here)
+
+pub waited-again : (builds : List BuildValue) (vectors : List (Vec ℕ)) (a b : ℕ) (v w : Vec ℕ) (marks : List Bool) → graph_of vectors ≡ successor_lists builds → a < length builds → b < length builds
+    → v ≡ get_or vectors a v → w ≡ get_or vectors b w → v.items ≡ w.items → AreWaitedFor builds a marks → AreWaitedFor builds b marks
+waited-again builds vectors a b v w marks are a_within b_within is also same =
+    let each = length-successors builds vectors are in
+    same-waited builds a b marks (subst (λ g. successors_of g a ≡ successors_of g b) are (same-steps vectors a b v w (omega (arith, each, a_within)) (omega (arith, each, b_within)) is also same))
+
 pub kept-search : (builds : List BuildValue) (edge : ℕ) (marks : List Bool) → edge < length builds → AreWaitedFor builds edge marks → IsKept builds (Some edge) marks
 kept-search builds edge marks within are = record { within = within; waited = are }

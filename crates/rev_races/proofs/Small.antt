@@ -1,6 +1,8 @@
 -- Small builds, computed: what waits, what is listed, and a race.
-use Rattle.std.proofs.Common.{◌≡◌, ℕ, true, false, List, [], ◌∷◌, Some, None, refl, sym, ◌∙◌, arith, true≢false}
+use Rattle.std.proofs.Common.{◌≡◌, ℕ, true, false, List, [], ◌∷◌, Option, Some, None, refl, sym, ap, ◌∙◌, arith, true≢false}
 use Rattle.std.specs.FinMap.{empty}
+use Rattle.std.specs.Option.{option_map}
+use Rattle.std.specs.Prelude.{unwrap_or}
 use Rattle.std.proofs.lemmas.List.Elements.{Contains-get_or}
 use Rattle.rev_manifest.specs.Manifest.{BuildValue, ManifestValue}
 use Rattle.rev_graph.specs.Graph.{no_build}
@@ -9,6 +11,7 @@ use Rattle.rev_events.specs.declared.event.Event.TheVariants.{Start, Finish, Fai
 use Rattle.rev_events.specs.declared.event.Listing.TheVariants.{Paths}
 use Rattle.rev_history.specs.Timeline.{Numbered}
 use Rattle.rev_waits.specs.Waits.{waits, Makes, Makes.itself, Makes.behind}
+use Rattle.rev_races.specs.AtOnce.{MayOverlap, ShareOneSlot}
 use Rattle.rev_races.specs.Races.{IsRace, lists}
 use Rattle.rev_races.proofs.RaceLemmas.{waits-is-decided}
 
@@ -75,6 +78,9 @@ listed-by-finish = refl
 nothing-of-a-failure : lists build empty ((1, Start (98 ∷ []) 0 None) ∷ (2, Fail (98 ∷ []) (1 ∷ [])) ∷ []) 1 ≡ None
 nothing-of-a-failure = refl
 
+none-is-no-pool : (own : ℕ × ℕ) → None ≡ Some own → ⊥
+none-is-no-pool own h = cc
+
 a-race : IsRace build [] empty listing 1 0 (97 ∷ [])
 a-race = record {
   all = (97 ∷ []) ∷ [];
@@ -85,3 +91,35 @@ a-race = record {
   unordered = λ way. true≢false (sym ((waits-is-decided build.builds 1 0).1 way) ∙ no-order);
   comes_later = λ m. let f = m.is_file in omega (arith, f.1);
 }
+
+-- in the race above nothing keeps the two from running at once; where one pool of depth 1 holds both, that does, and one
+-- of depth 2 does not
+no-order-back : waits (maker ∷ user ∷ []) 0 1 ≡ false
+unfolding leads_to
+no-order-back = refl
+
+may-overlap : MayOverlap build 1 0
+may-overlap = record {
+  others = λ e. omega (arith, e);
+  forth = λ way. true≢false (sym ((waits-is-decided build.builds 1 0).1 way) ∙ no-order);
+  back = λ way. true≢false (sym ((waits-is-decided build.builds 0 1).1 way) ∙ no-order-back);
+  room = λ (pool, mine, his). none-is-no-pool (pool, 1) mine;
+}
+
+pooled : ℕ → ManifestValue
+pooled depth = record {
+  builds = record maker { pool = Some 0 } ∷ record user { pool = Some 0 } ∷ [];
+  pools = (112 ∷ [], depth) ∷ [];
+  defaults = [];
+}
+
+one-slot : ShareOneSlot (pooled 1) 1 0
+unfolding pooled
+one-slot = (0, refl, refl)
+
+two-slots : ShareOneSlot (pooled 2) 1 0 → ⊥
+unfolding pooled
+two-slots (pool, mine, his) =
+    let same : Some 2 ≡ Some 1 = ap (λ (o : Option (ℕ × ℕ)). option_map (λ (p : ℕ × ℕ). p.1) o) mine in
+    let no : 2 ≡ 1 = ap (λ (o : Option ℕ). unwrap_or o 0) same in
+    omega (arith, no)

@@ -84,7 +84,7 @@ settled-not-running mark.Clean h = refl
 settled-not-running mark.Failed h = refl
 settled-not-running mark.Stopped h = refl
 
-running-not-due : (m : Mark) → is_running_mark m ≡ true → is_due m ≡ false
+pub running-not-due : (m : Mark) → is_running_mark m ≡ true → is_due m ≡ false
 running-not-due (mark.Running job slot seen) h = refl
 running-not-due (mark.Done changed) h = refl
 running-not-due mark.Idle h = refl
@@ -94,7 +94,7 @@ running-not-due mark.Clean h = refl
 running-not-due mark.Failed h = refl
 running-not-due mark.Stopped h = refl
 
-running-not-idle : (m : Mark) → is_running_mark m ≡ true → is_idle m ≡ false
+pub running-not-idle : (m : Mark) → is_running_mark m ≡ true → is_idle m ≡ false
 running-not-idle (mark.Running job slot seen) h = refl
 running-not-idle (mark.Done changed) h = refl
 running-not-idle mark.Idle h = sym h
@@ -114,7 +114,7 @@ due-not-idle mark.Clean h = refl
 due-not-idle mark.Failed h = refl
 due-not-idle mark.Stopped h = refl
 
-wanted-due : (m : Mark) → is_wanted_mark m ≡ true → is_due m ≡ true
+pub wanted-due : (m : Mark) → is_wanted_mark m ≡ true → is_due m ≡ true
 wanted-due m h = rw h refl
 
 not-false : (b : Bool) → not b ≡ false → b ≡ true
@@ -515,7 +515,7 @@ module _ (manifest : ManifestValue) (s : State) (targets : List (List ℕ)) (job
 
 -- WHOLE LISTS
 module _ (manifest : ManifestValue) (jobs : ℕ) where
-  event-ordered : (s : State) (e : Event) → refusal manifest jobs s e ≡ None → IsOrdered manifest.builds s → IsOrdered manifest.builds (after manifest s e)
+  pub event-ordered : (s : State) (e : Event) → refusal manifest jobs s e ≡ None → IsOrdered manifest.builds s → IsOrdered manifest.builds (after manifest s e)
   event-ordered s (Plan targets) acc ordered = ordered-planned manifest s targets jobs acc
   event-ordered s (Start out job slot) acc ordered = ordered-kept manifest.builds s _ (event-moves manifest jobs s (Start out job slot) acc refl) ordered
   event-ordered s (Finish out stamps listing) acc ordered = ordered-kept manifest.builds s _ (event-moves manifest jobs s (Finish out stamps listing) acc refl) ordered
@@ -531,7 +531,7 @@ module _ (manifest : ManifestValue) (jobs : ℕ) where
   opened-ordered s o p (e, busy, way) off q step = absurd (true≢false (sym (ap is_idle (o.marks e)) ∙ busy))
 
   -- what a start waits for
-  due-settled : (s : State) (b : ℕ) → IsOrdered manifest.builds s → is_wanted_mark (mark_of s b) ≡ true → IsFree manifest.builds s b → (a : ℕ) → EdgeReaches manifest.builds b a → is_settled (mark_of s a) ≡ true
+  pub due-settled : (s : State) (b : ℕ) → IsOrdered manifest.builds s → is_wanted_mark (mark_of s b) ≡ true → IsFree manifest.builds s b → (a : ℕ) → EdgeReaches manifest.builds b a → is_settled (mark_of s a) ≡ true
   due-settled s b ordered wants free a way = along way
     where
       behind-settled : (p : ℕ) → EdgeReaches manifest.builds b p → is_settled (mark_of s p) ≡ true → (q : ℕ) → EdgeReaches manifest.builds p q → is_settled (mark_of s q) ≡ true
@@ -543,7 +543,7 @@ module _ (manifest : ManifestValue) (jobs : ℕ) where
       along (one step) = free a step
       along (on {middle = m} step way) = behind-settled m (one step) (free m step) a way
 
-  start-named : (s : State) (e : Event) (b : ℕ) → refusal manifest jobs s e ≡ None → starts manifest b e ≡ true → (is_wanted_mark (mark_of s b) ≡ true) × IsFree manifest.builds s b
+  pub start-named : (s : State) (e : Event) (b : ℕ) → refusal manifest jobs s e ≡ None → starts manifest b e ≡ true → (is_wanted_mark (mark_of s b) ≡ true) × IsFree manifest.builds s b
   unfolding refusal
   start-named s (Plan targets) b acc h = absurd (true≢false (sym h))
   start-named s (Start out job slot) b acc h = by (producer_of manifest.builds out) acc h

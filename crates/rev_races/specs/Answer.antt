@@ -1,4 +1,5 @@
--- The answer: what is told, each once, in the order of the numbers of maker and user and of the path's place in the user's list.
+-- The answer: what is told, each once, in the order of the numbers of maker and user and of the path's place in the
+-- user's list.
 use Rattle.std.specs.Prelude.{◌≡◌, ◌≢◌, ℕ, ◌<◌, ◌↔◌, Bool, false, List, [], ◌∷◌, map, length, is_some, Some, slice_get, slice_index_or, if◌then◌else◌}
 use Rattle.std.specs.List.{Contains, list_any}
 use Rattle.std.specs.List.Sorted.{IsStrictlySortedBy}
@@ -22,7 +23,8 @@ is_noted manifest ended edge e = if ended then is_some (list_of manifest edge e)
 pub record AreNoted (t : Timeline) (ended : Bool) (marks : List Bool) : Type 0 where
   pub each : length marks ≡ length t.manifest.builds
   pub exact : (edge : ℕ) → edge < length t.manifest.builds
-      → slice_index_or marks edge false ≡ list_any (λ (e : ℕ × Event). is_noted t.manifest ended edge e.1) (kept_events t)
+      → slice_index_or marks edge false
+      ≡ list_any (λ (e : ℕ × Event). is_noted t.manifest ended edge e.1) (kept_events t)
 
 -- nothing orders a before b: it is not b, b does not wait for it, and it makes none of the files that are read before
 -- all else
@@ -38,11 +40,14 @@ pub data IsToTell (builds : List BuildValue) (files : List (List ℕ)) (b a : �
 
 -- the path at this place stands at none before it
 abbrev pub IsFirstPlace : List (List ℕ) → ℕ → Type 0
-IsFirstPlace paths place = (before : ℕ) → before < place → slice_index_or paths before [] ≢ slice_index_or paths place []
+IsFirstPlace paths place =
+    (before : ℕ) → before < place → slice_index_or paths before [] ≢ slice_index_or paths place []
 
 -- A race by numbers: what b lists has at this place, and at none before it, a path that a makes, and nothing orders a
 -- before b.
-pub record IsRaceAt (manifest : ManifestValue) (files : List (List ℕ)) (opening : State) (events : Numbered) (b a place : ℕ) : Type 0 where
+pub record IsRaceAt
+    (manifest : ManifestValue) (files : List (List ℕ)) (opening : State) (events : Numbered) (b a place : ℕ)
+    : Type 0 where
   pub path : List ℕ
   pub race : IsRace manifest files opening events b a path
   pub stands : slice_get race.all place ≡ Some path
@@ -55,9 +60,11 @@ pub record IsOwnAt (manifest : ManifestValue) (opening : State) (events : Number
   pub stands : slice_get own.all place ≡ Some path
   pub first : IsFirstPlace own.all place
 
--- What is told of b, a and a place of b's list, by its kind: a race, where a does not wait for b; a cycle, where it does;
--- and an edge's own.
-pub data IsTold (manifest : ManifestValue) (files : List (List ℕ)) (opening : State) (events : Numbered) (b a place : ℕ) : Kind → Type 0 where
+-- What is told of b, a and a place of b's list, by its kind: a race, where a does not wait for b; a cycle, where it
+-- does; and an edge's own.
+pub data IsTold
+    (manifest : ManifestValue) (files : List (List ℕ)) (opening : State) (events : Numbered) (b a place : ℕ)
+    : Kind → Type 0 where
   races : IsRaceAt manifest files opening events b a place → (Waits manifest.builds a b → ⊥)
       → IsTold manifest files opening events b a place kind.Race
   cycles : IsRaceAt manifest files opening events b a place → Waits manifest.builds a b
@@ -68,6 +75,8 @@ abbrev pub race_key : Race → List ℕ
 race_key r = r.maker ∷ r.user ∷ r.place ∷ []
 
 -- exactly what is to be told, each once, in the order of these numbers
-pub record AreRaces (manifest : ManifestValue) (files : List (List ℕ)) (opening : State) (events : Numbered) (races : List Race) : Type 0 where
+pub record AreRaces
+    (manifest : ManifestValue) (files : List (List ℕ)) (opening : State) (events : Numbered) (races : List Race)
+    : Type 0 where
   pub exact : (r : Race) → Contains races r ↔ IsTold manifest files opening events r.user r.maker r.place r.kind
   pub rising : IsStrictlySortedBy (slice_cmp nat_cmp) (map race_key races)

@@ -18,7 +18,9 @@ pub record SomeBelow (P : ℕ → Type 0) (n : ℕ) : Type 0 where
   pub holds : P number
 
 -- the numbers of what is told of the user with this maker, where the path stands at this place of the list
-pub record IsKeyBy (builds : List BuildValue) (files paths : List (List ℕ)) (user place maker : ℕ) (k : List ℕ) : Type 0 where
+pub record IsKeyBy
+    (builds : List BuildValue) (files paths : List (List ℕ)) (user place maker : ℕ) (k : List ℕ)
+    : Type 0 where
   pub is : k ≡ maker ∷ user ∷ place ∷ []
   pub told : IsToTell builds files user maker
   pub first : IsFirstPlace paths place

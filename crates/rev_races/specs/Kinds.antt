@@ -12,7 +12,13 @@ abbrev pub kind_of : List BuildValue → ℕ → ℕ → Kind
 kind_of builds b a = if a == b then kind.Own else if waits builds a b then kind.Cycle else kind.Race
 
 abbrev pub with_kind : List BuildValue → Told → Race
-with_kind builds told = record { kind = kind_of builds told.user told.maker; maker = told.maker; user = told.user; place = told.place }
+with_kind builds told =
+    record {
+      kind = kind_of builds told.user told.maker;
+      maker = told.maker;
+      user = told.user;
+      place = told.place;
+    }
 
 -- both are edges
 pub record IsBetween (builds : List BuildValue) (told : Told) : Type 0 where

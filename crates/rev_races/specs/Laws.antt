@@ -1,5 +1,5 @@
 -- What holds of waiting in every history.
-use Rattle.std.specs.Prelude.{◌≡◌, ◌≢◌, ◌↔◌, ℕ, ◌<◌, Bool, true, false, not, ◌||◌, List, [], ◌∷◌, ◌++◌, length, Some, None, is_none, if◌then◌else◌}
+use Rattle.std.specs.Prelude.{◌≡◌, ◌≢◌, ◌↔◌, ℕ, ◌<◌, Bool, true, false, not, ◌||◌, List, [], ◌∷◌, ◌++◌, length, Option, Some, None, is_none, if◌then◌else◌}
 use Rattle.std.specs.FinMap.{get}
 use Rattle.rev_cells.specs.declared.cell.Cell.{Cell}
 use Rattle.rev_cells.specs.declared.cell.Cell.TheVariants as cell
@@ -71,6 +71,11 @@ pub record IsReady (manifest : ManifestValue) (s : State) : Type 0 where
   pub unlisted : (path : List ℕ) → paths_in (deps_of s path) ≡ []
   pub roomy : (pool : ℕ) → given_depth_of s pool ≢ Some 0
   pub marks : (edge : ℕ) → edge < length manifest.builds → CanEnd s (build_at manifest.builds edge) (mark_of s edge)
+
+-- the first slot of a pool, where there is one
+abbrev pub first_slot : Option (ℕ × ℕ) → Option ℕ
+first_slot None = None
+first_slot (Some pool) = Some 0
 
 -- Events that end with a start of the edge are accepted on one job, and leave each other edge that it does not wait for
 -- as it was.

@@ -29,10 +29,13 @@ last_number test (e ∷ es) = option_or (last_number test es) (if test e then So
 
 -- the last start, and the last end after it, where there is one
 abbrev pub run_from : ManifestValue → ℕ → Numbered → ℕ → Run
-run_from manifest edge events n = record { began = n; ended = last_number (λ (e : ℕ × Event). nat_lt n e.0 && ends manifest edge e.1) events }
+run_from manifest edge events n =
+    record { began = n; ended = last_number (λ (e : ℕ × Event). nat_lt n e.0 && ends manifest edge e.1) events }
 
 abbrev pub last_run : ManifestValue → ℕ → Numbered → Option Run
-last_run manifest edge events = option_map (run_from manifest edge events) (last_number (λ (e : ℕ × Event). starts manifest edge e.1) events)
+last_run manifest edge events =
+    option_map (run_from manifest edge events)
+    (last_number (λ (e : ℕ × Event). starts manifest edge e.1) events)
 
 -- the last finish, and the last start before it
 abbrev pub run_until : ManifestValue → ℕ → Numbered → ℕ → Option Run
@@ -41,7 +44,9 @@ run_until manifest edge events n =
     (last_number (λ (e : ℕ × Event). nat_lt e.0 n && starts manifest edge e.1) events)
 
 abbrev pub finished_run : ManifestValue → ℕ → Numbered → Option Run
-finished_run manifest edge events = option_and_then (run_until manifest edge events) (last_number (λ (e : ℕ × Event). finishes manifest edge e.1) events)
+finished_run manifest edge events =
+    option_and_then (run_until manifest edge events)
+    (last_number (λ (e : ℕ × Event). finishes manifest edge e.1) events)
 
 -- AS THEY ARE FOUND
 abbrev pub is_step : Step → ManifestValue → ℕ → Event → Bool

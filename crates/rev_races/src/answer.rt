@@ -9,7 +9,7 @@ ghost use Rattle.rev_races.specs.Keys.{AreTold, IsKeyAmong, IsKeyAt, IsKeyOf};
 ghost use Rattle.rev_races.specs.Kinds.{IsBetween};
 ghost use Rattle.rev_races.specs.Searches.{AreDirect, IsKept};
 
-use crate::direct::{has_suspect, mark_direct};
+use crate::direct::{mark_direct, suspects};
 use crate::found::Found;
 use crate::kinds::with_kinds;
 use crate::listing::{listed, noted_edges};
@@ -50,7 +50,7 @@ fn add_at(
     Ok(())
 }
 
-// Adds what is told of a user, whose list has these paths.
+// Adds what is told of a user at these places of its list, of which no other has anything to tell.
 fn add_among(
     alloc: Global,
     graph: &Graph,
@@ -59,16 +59,20 @@ fn add_among(
     waited: &[bool],
     user: u32,
     paths: &[Name],
+    places: &[usize],
     found: &mut Found,
 ) -> Result<(), AllocError>
     requires phony { graph_of phony.now ≡ phony_lists graph.now.manifest.builds }
     requires waited { AreWaitedFor graph.now.manifest.builds user waited.now }
+    requires within { All (λ place. place < length paths.now) places.now }
+    requires rest { (place : ℕ) → place < length paths.now → Contains places.now place
+        ⊎ ((k : List ℕ) → IsKeyAt graph.now.manifest.builds files.now paths.now user place k → ⊥) }
     ensures { OnOk result ((k : List ℕ) → Contains found.new k
         ↔ (Contains found.old k ⊎ IsKeyAmong graph.now.manifest.builds files.now paths.now user k)) }
 {
-    for place in 0..paths.len() {
+    for place in places {
         add_at(
-            alloc, graph, phony, files, waited, user, paths, place, found,
+            alloc, graph, phony, files, waited, user, paths, *place, found,
         )?;
     }
     Ok(())
@@ -106,7 +110,8 @@ fn add_of(
     let graph = history.graph();
     let _edges = graph.edges();
     mark_direct(steps, user, direct);
-    if !has_suspect(graph, direct, user, paths) {
+    let places = suspects(alloc, graph, direct, user, paths)?;
+    if places.is_empty() {
         return Ok(());
     }
     search_for(alloc, graph, steps, user, search)?;
@@ -118,6 +123,7 @@ fn add_of(
         &search.waited,
         user,
         paths,
+        &places,
         found,
     )?;
     Ok(())
@@ -164,8 +170,8 @@ fn found_in(
 /// cycle where the maker waits for the user), and each path that an edge lists and makes itself (its own). The edges
 /// that make one of `files`, from which the manifest was read, run before all else, and race with none.
 ///
-/// Each listed path is looked up once. An edge is searched for what it waits for only where a path that it lists is made
-/// by one that it does not step to.
+/// Each listed path is looked up once, and once more where it is made by an edge that the user does not step to. Only
+/// then is that one searched for what it waits for, unless it steps to the same edges as the last that was.
 ///
 /// # Errors
 /// [`AllocError`] only where an allocation was refused.

@@ -1,5 +1,5 @@
 //! Lists with nothing to tell, found by a look at each path.
-ghost use Rattle.std.specs.Prelude.{◌≡◌, ◌<◌, ℕ, [], None, Some, false, length, slice_index_or, IsTrue};
+ghost use Rattle.std.specs.Prelude.{◌≡◌, ◌<◌, ◌⊎◌, ℕ, [], None, Some, false, length, slice_index_or, Contains, IfOk, IsTrue};
 ghost use Rattle.std.specs.List.{All};
 ghost use Rattle.rev_graph.specs.Graph.{successor_lists};
 ghost use Rattle.rev_ranks.specs.Graph.{graph_of};
@@ -8,6 +8,7 @@ ghost use Rattle.rev_races.specs.Searches.{AreDirect, IsQuiet};
 use crate::runs::at;
 use rev_graph::Graph;
 use rev_paths::Name;
+use std::alloc::{AllocError, Global};
 
 /// Marks the edges that an edge steps to with its number. Marks are not cleared: a mark with another number is none.
 pub(crate) fn mark_direct(steps: &[Vec<u32>], edge: u32, direct: &mut Vec<Option<u32>>)
@@ -32,7 +33,8 @@ fn is_marked(direct: &[Option<u32>], node: u32, edge: u32) -> bool
     }
 }
 
-// Whether an edge makes a path, or others do, that the user may not wait for: no edge that the user steps to produces it.
+// Whether an edge makes a path, or others do, that the user may not wait for: no edge that the user steps to produces
+// it.
 fn is_suspect(graph: &Graph, direct: &[Option<u32>], user: u32, path: &Name) -> bool
     requires { AreDirect (successor_lists graph.now.manifest.builds) direct.now }
     ensures { result ≡ false → IsQuiet graph.now.manifest.builds user path.now }
@@ -43,16 +45,27 @@ fn is_suspect(graph: &Graph, direct: &[Option<u32>], user: u32, path: &Name) -> 
     }
 }
 
-/// Whether a list has a path that may be told. `direct` has the marks of the user.
-pub(crate) fn has_suspect(graph: &Graph, direct: &[Option<u32>], user: u32, paths: &[Name]) -> bool
+/// The places of a list whose paths may be told. `direct` has the marks of the user.
+///
+/// # Errors
+/// [`AllocError`] only where an allocation was refused.
+pub(crate) fn suspects(
+    alloc: Global,
+    graph: &Graph,
+    direct: &[Option<u32>],
+    user: u32,
+    paths: &[Name],
+) -> Result<Vec<usize>, AllocError>
     requires { AreDirect (successor_lists graph.now.manifest.builds) direct.now }
-    ensures { result ≡ false → (place : ℕ) → place < length paths.now
-        → IsQuiet graph.now.manifest.builds user (slice_index_or paths.now place []) }
+    ensures within { IfOk result (λ places. All (λ place. place < length paths.now) places.items) }
+    ensures quiet { IfOk result (λ places. (place : ℕ) → place < length paths.now → Contains places.items place
+        ⊎ IsQuiet graph.now.manifest.builds user (slice_index_or paths.now place [])) }
 {
-    for path in paths {
+    let mut places = Vec::new(alloc);
+    for (place, path) in paths.iter().enumerate() {
         if is_suspect(graph, direct, user, path) {
-            return true;
+            places.push(place)?;
         }
     }
-    false
+    Ok(places)
 }

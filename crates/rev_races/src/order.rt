@@ -37,8 +37,8 @@ fn is_unordered(graph: &Graph, files: &[Name], waited: &[bool], user: u32, maker
     !makes_one_of(graph, files, maker)
 }
 
-/// Whether an edge that makes what another lists is to be told: it is that edge, or nothing orders it before. `waited` has
-/// the edges that the other waits for.
+/// Whether an edge that makes what another lists is to be told: it is that edge, or nothing orders it before. `waited`
+/// has the edges that the other waits for.
 pub(crate) fn is_to_tell(
     graph: &Graph,
     files: &[Name],

@@ -9,7 +9,8 @@ use rev_graph::Graph;
 use rev_waits::waited_for;
 use std::alloc::{AllocError, Global};
 
-/// The edges that an edge waits for, as a mark for each edge, and that edge, where there is one.
+/// The edges that an edge waits for, as a mark for each edge, and that edge, where there is one. All that step to the
+/// same edges wait for the same ones.
 #[derive(Drop)]
 pub(crate) struct Search {
     pub(crate) edge: Option<u32>,
@@ -26,7 +27,7 @@ pub(crate) fn no_search(alloc: Global) -> Search
     }
 }
 
-/// Searches for what an edge waits for, unless the last search was for that edge.
+/// Searches for what an edge waits for, unless the last search was for one that steps to the same edges.
 pub(crate) fn search_for(
     alloc: Global,
     graph: &Graph,
@@ -41,7 +42,7 @@ pub(crate) fn search_for(
     ensures kept { OnOk result (IsKept graph.now.manifest.builds search.new.edge search.new.waited.items) }
 {
     if let Some(last) = search.edge {
-        if last == edge {
+        if steps[last as usize] == steps[edge as usize] {
             return Ok(());
         }
     }

@@ -71,7 +71,8 @@ fn cone_for(
 ) -> Result<(), AllocError>
     requires kept { cone_refusal history.now.timeline number ≡ None }
     requires cone { IsConeOf history.now.timeline cone.old.event cone.old.members.items cone.old.beside.items }
-    ensures cone { OnOk result (IsConeOf history.now.timeline cone.new.event cone.new.members.items cone.new.beside.items) }
+    ensures cone { OnOk result (IsConeOf history.now.timeline cone.new.event
+        cone.new.members.items cone.new.beside.items) }
     ensures event { OnOk result (cone.new.event ≡ Some number) }
 {
     if cone.event == Some(number) {
@@ -106,7 +107,8 @@ fn after_end(
 ) -> Result<Happened, AllocError>
     requires kept { IfSome ended (λ number. cone_refusal history.now.timeline number ≡ None) }
     requires cone { IsConeOf history.now.timeline cone.old.event cone.old.members.items cone.old.beside.items }
-    ensures cone { OnOk result (IsConeOf history.now.timeline cone.new.event cone.new.members.items cone.new.beside.items) }
+    ensures cone { OnOk result (IsConeOf history.now.timeline cone.new.event
+        cone.new.members.items cone.new.beside.items) }
     ensures happened { IfOk result (λ happened. happened ≡ after_end_of history.now.timeline ended began) }
 {
     let Some(number) = ended else {
@@ -129,7 +131,8 @@ fn in_order(
 ) -> Result<Happened, AllocError>
     requires kept { IfSome maker.now.ended (λ number. cone_refusal history.now.timeline number ≡ None) }
     requires cone { IsConeOf history.now.timeline cone.old.event cone.old.members.items cone.old.beside.items }
-    ensures cone { OnOk result (IsConeOf history.now.timeline cone.new.event cone.new.members.items cone.new.beside.items) }
+    ensures cone { OnOk result (IsConeOf history.now.timeline cone.new.event
+        cone.new.members.items cone.new.beside.items) }
     ensures happened { IfOk result (λ happened. happened
         ≡ in_order_of history.now.timeline maker.now user.now user.now.ended) }
 {
@@ -170,7 +173,8 @@ fn what_happened(
     requires kept { IfSome maker (λ run. IfSome run.ended (λ number. cone_refusal history.now.timeline number ≡ None)) }
     requires plans { ArePlans history.now.timeline plans.now }
     requires cone { IsConeOf history.now.timeline cone.old.event cone.old.members.items cone.old.beside.items }
-    ensures cone { OnOk result (IsConeOf history.now.timeline cone.new.event cone.new.members.items cone.new.beside.items) }
+    ensures cone { OnOk result (IsConeOf history.now.timeline cone.new.event
+        cone.new.members.items cone.new.beside.items) }
     ensures happened { IfOk result (λ happened. happened ≡ happened_of history.now.timeline maker user) }
 {
     let Some(maker) = maker else {
@@ -198,7 +202,8 @@ fn one_story(
     requires runs { AreRuns history.now.timeline runs.now }
     requires plans { ArePlans history.now.timeline plans.now }
     requires cone { IsConeOf history.now.timeline cone.old.event cone.old.members.items cone.old.beside.items }
-    ensures cone { OnOk result (IsConeOf history.now.timeline cone.new.event cone.new.members.items cone.new.beside.items) }
+    ensures cone { OnOk result (IsConeOf history.now.timeline cone.new.event
+        cone.new.members.items cone.new.beside.items) }
     ensures story { IfOk result (λ story. story ≡ story_of history.now.timeline race.now) }
 {
     let maker = last_run(history, runs, race.maker);

@@ -1,8 +1,9 @@
-use Rattle.std.proofs.Common.{ℕ, List, Contains, ◌⊎◌}
+use Rattle.std.proofs.Common.{ℕ, List, get_or, Contains, ◌⊎◌}
 use Rattle.std.specs.Prelude.{◌↔◌}
 use Rattle.rev_races.specs.Keys.{SomeBelow, IsKeyAt}
 use Rattle.rev_races.proofs.answer.add_among.Given as goal
 
 abbrev pub invariant-loop-place : goal.invariant-loop-place
 invariant-loop-place l =
-    (k : List ℕ) → Contains l.found k ↔ (Contains l.initial.found k ⊎ SomeBelow (λ place. IsKeyAt l.graph.manifest.builds l.files l.paths l.user place k) l.place)
+    (k : List ℕ) → Contains l.found k
+    ↔ (Contains l.initial.found k ⊎ SomeBelow (λ i. IsKeyAt l.graph.manifest.builds l.files l.paths l.user (get_or l.places i 0) k) l.place-index)
