@@ -188,6 +188,7 @@ fn asked<R: Input + Print + AllocGlobal>(
         taken: 0,
         lane: lanes,
         builds: manifest.builds(),
+        opening: &trace.opening,
     };
     let edges = desk.history().graph().edges();
     let text = if manner.json {

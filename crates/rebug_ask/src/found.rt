@@ -1,9 +1,11 @@
 //! What a recording shows of races, as it is told.
+use rev_clashes::clashes;
 use rev_graph::Graph;
 use rev_history::History;
+use rev_manifest::Build;
 use rev_paths::Name;
 use rev_races::{Race, path_of, races, stories, unlisted, without_deps};
-use rev_races_text::{Happened, Kind, Run, Story, Told};
+use rev_races_text::{Clash, Happened, Kind, Run, Story, Told};
 use rev_waits::mend;
 use rev_witness::{find_witness, witness_text};
 use std::alloc::{AllocError, Global};
@@ -101,6 +103,22 @@ pub fn not_judged(alloc: Global, history: &History) -> Result<Vec<u32>, AllocErr
     edges.extend_from_slice(&without)?;
     edges.sort_unstable();
     Ok(edges)
+}
+
+// An edge by its number.
+fn number_of(place: usize) -> Option<u32> {
+    u32::try_from(place).ok()
+}
+
+/// The edges that leave their depfiles where an earlier one does, each with the first that does.
+pub fn told_clashes(alloc: Global, builds: &[Build]) -> Result<Vec<Clash>, AllocError> {
+    let mut told = Vec::new(alloc);
+    for clash in &clashes(alloc, builds)? {
+        if let (Some(first), Some(other)) = (number_of(clash.first), number_of(clash.other)) {
+            told.push(Clash { first, other })?;
+        }
+    }
+    Ok(told)
 }
 
 /// The trace of a build from nothing in which the user of a race starts before its maker. Races are counted from 1. None

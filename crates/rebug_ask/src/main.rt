@@ -2,6 +2,7 @@
 #![tactic(auto)]
 
 mod asking;
+mod changed;
 mod fault;
 mod files;
 mod found;

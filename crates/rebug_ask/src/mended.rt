@@ -2,7 +2,7 @@
 use rev_graph::{Graph, GraphFault};
 use rev_manifest::Manifest;
 use rev_patch::{Addition, Author, Change, author_of, changed_text, changes_of, patch_text};
-use rev_races_text::{Kind, Sources, Told, push_edge, push_placed};
+use rev_races_text::{Clash, Kind, Sources, Told, push_clash, push_edge, push_placed};
 use rev_shown::push_shown;
 use std::alloc::{AllocError, Global};
 
@@ -163,8 +163,21 @@ fn push_others(
     Ok(())
 }
 
+// Adds what no order mends either.
+fn push_clashes(
+    text: &mut Vec<u8>,
+    sources: &Sources<'_>,
+    clashes: &[Clash],
+) -> Result<(), AllocError> {
+    for clash in clashes {
+        text.extend_from_slice(b"# a depfile of its own mends this: ")?;
+        push_clash(text, sources, clash)?;
+    }
+    Ok(())
+}
+
 /// What mends races, where an order does: a patch of the manifest's files, or, where a generator wrote them, what it is
-/// to be told. A line that is no part of the patch begins with `#`.
+/// to be told. A line that is no part of the patch begins with `#`: what no order mends, clashes among it.
 ///
 /// # Errors
 /// [`AllocError`] only where an allocation was refused.
@@ -172,9 +185,11 @@ pub fn mend_text(
     alloc: Global,
     sources: &Sources<'_>,
     races: &[Told<'_>],
+    clashes: &[Clash],
 ) -> Result<Vec<u8>, AllocError> {
     let mut text = Vec::new(alloc);
     push_others(&mut text, sources, races)?;
+    push_clashes(&mut text, sources, clashes)?;
     if !races.iter().any(|race| race.mend.is_some()) {
         return Ok(text);
     }

@@ -1,15 +1,19 @@
 //! What is told of a recording.
 ghost use Rattle.std.specs.Prelude.{◌≤◌, length};
 
+use crate::changed::{changes_in, told_changes};
 use crate::fault::ProgramFault;
 use crate::files::{place_of, read_manifest, read_names, read_trace};
-use crate::found::{not_judged, told_races, witness_of};
+use crate::found::{not_judged, told_clashes, told_races, witness_of};
 use crate::hinted::{hints_in, names_in};
 use crate::mended::mend_text;
 use rev_desk::Desk;
 use rev_manifest::Manifest;
 use rev_paths::{Name, PathFault};
-use rev_races_text::{Sources, Told, hints_json, hints_text, races_json, races_text, status};
+use rev_races_text::{
+    Clash, Sources, Told, changes_json, changes_text, clashes_json, clashes_text, hints_json,
+    hints_text, races_json, races_text, status,
+};
 use rev_recording::{RecordingFault, fault_line, open, replay, replay_text};
 use rev_script::{RunFault, send};
 use rev_sentences::{Inputs, sentence};
@@ -89,10 +93,11 @@ fn answer_of(
     if let How::Witness(number) = how {
         return witness_answer(alloc, desk, &races, number);
     }
-    let mut text = races_answer(alloc, desk, &sources, &races, how)?;
+    let clashes = told_clashes(alloc, sources.builds)?;
+    let mut text = races_answer(alloc, desk, &sources, &races, &clashes, how)?;
     let hints = hints_answer(alloc, desk, &sources, read.names, how)?;
     text.extend_from_slice(&hints)?;
-    let status = status(&races);
+    let status = status(&races, &clashes);
     Ok(Answer { text, status })
 }
 
@@ -112,22 +117,62 @@ fn witness_answer(
     }
 }
 
-// The text of an answer that tells races.
+// The text of an answer that tells races and clashes.
 fn races_answer(
     alloc: Global,
     desk: &Desk,
     sources: &Sources<'_>,
     races: &[Told<'_>],
+    clashes: &[Clash],
     how: How,
 ) -> Result<Vec<u8>, AllocError> {
     if how == How::Mend {
-        return mend_text(alloc, sources, races);
+        return mend_text(alloc, sources, races, clashes);
     }
     let unjudged = not_judged(alloc, desk.history())?;
-    if how == How::Json {
-        races_json(alloc, sources, races, &unjudged)
+    let (mut text, more) = if how == How::Json {
+        let text = races_json(alloc, sources, races, &unjudged)?;
+        (text, clashes_json(alloc, sources, clashes)?)
     } else {
-        races_text(alloc, sources, races, &unjudged, how == How::All)
+        let all = how == How::All;
+        let count = clashes.len() as u64;
+        let text = races_text(alloc, sources, races, count, &unjudged, all)?;
+        (text, clashes_text(alloc, sources, clashes, all)?)
+    };
+    text.extend_from_slice(&more)?;
+    Ok(text)
+}
+
+// What other names of outputs give as hints.
+fn names_answer(
+    alloc: Global,
+    desk: &Desk,
+    sources: &Sources<'_>,
+    names: &[u8],
+    how: How,
+) -> Result<Vec<u8>, AllocError> {
+    let names = names_in(alloc, names)?;
+    let hints = hints_in(alloc, desk.history(), &names)?;
+    if how == How::Json {
+        hints_json(alloc, sources, &hints)
+    } else {
+        hints_text(alloc, sources, &hints)
+    }
+}
+
+// What changed files give as hints.
+fn changes_answer(
+    alloc: Global,
+    desk: &Desk,
+    sources: &Sources<'_>,
+    how: How,
+) -> Result<Vec<u8>, AllocError> {
+    let changed = changes_in(alloc, desk.history())?;
+    let changes = told_changes(alloc, desk.history(), &changed)?;
+    if how == How::Json {
+        changes_json(alloc, sources, &changes)
+    } else {
+        changes_text(alloc, sources, &changes)
     }
 }
 
@@ -142,13 +187,10 @@ fn hints_answer(
     if how == How::Mend {
         return Ok(Vec::new(alloc));
     }
-    let names = names_in(alloc, names)?;
-    let hints = hints_in(alloc, desk.history(), &names)?;
-    if how == How::Json {
-        hints_json(alloc, sources, &hints)
-    } else {
-        hints_text(alloc, sources, &hints)
-    }
+    let mut text = names_answer(alloc, desk, sources, names, how)?;
+    let more = changes_answer(alloc, desk, sources, how)?;
+    text.extend_from_slice(&more)?;
+    Ok(text)
 }
 
 // The answer about a trace that was read.

@@ -25,6 +25,10 @@ abbrev pub counts_words : ℕ → ℕ → ℕ → List ℕ
 counts_words races cycles own =
     if races == 0 && (cycles == 0 && own == 0) then codes "no race" else three_words races cycles own
 
+-- how many clashes there are, where there is one
+abbrev pub clashes_words : ℕ → List ℕ
+clashes_words n = if n == 0 then [] else codes "; " ++ counted n (codes "clash") (codes "clashes")
+
 -- edges, each but the first behind a space
 abbrev pub edges_words : List BuildValue → List ℕ → List ℕ
 edges_words builds [] = []

@@ -3,3 +3,5 @@ pub mod Happened
 pub mod Lines
 pub mod Places
 pub mod Hints
+pub mod Clashes
+pub mod Changes

@@ -1,7 +1,7 @@
 //! The last line: how many there are, and what was not judged.
 ghost use Rattle.std.specs.Prelude.{◌≡◌, ◌==◌, ◌&&◌, ◌++◌, codes, OnOk};
 ghost use Rattle.std.specs.List.{flat_map};
-ghost use Rattle.rev_races_text.specs.Counts.{bracketed, commands_words, counted, counts_words, listed_words, some_edges, some_words, three_words, unjudged_words};
+ghost use Rattle.rev_races_text.specs.Counts.{bracketed, clashes_words, commands_words, counted, counts_words, listed_words, some_edges, some_words, three_words, unjudged_words};
 ghost use Rattle.rev_races_text.specs.Places.{edge_words};
 
 use crate::places::{Sources, push_edge};
@@ -74,6 +74,17 @@ pub(crate) fn push_counts(
         return text.extend_from_slice(b"no race");
     }
     push_three(text, races, cycles, own)
+}
+
+/// Adds how many clashes there are, where there is one.
+pub(crate) fn push_clashes(text: &mut Vec<u8>, clashes: u64) -> Result<(), AllocError>
+    ensures { OnOk result (text.new.items ≡ text.old.items ++ clashes_words clashes) }
+{
+    if clashes == 0 {
+        return Ok(());
+    }
+    text.extend_from_slice(b"; ")?;
+    push_counted(text, clashes, b"clash", b"clashes")
 }
 
 // Adds edges, each behind a space.

@@ -122,8 +122,8 @@ fn push_mend(
     text.extend_from_slice(b"\n")
 }
 
-// Adds a number between words.
-fn push_between(
+/// Adds a number between words.
+pub(crate) fn push_between(
     text: &mut Vec<u8>,
     before: &[u8],
     number: u64,

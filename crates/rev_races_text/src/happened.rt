@@ -6,8 +6,8 @@ use crate::told::{Happened, Run, Story};
 use rev_fields::push_number;
 use std::alloc::AllocError;
 
-// Adds words and the number of an event.
-fn push_at(text: &mut Vec<u8>, words: &[u8], number: u32) -> Result<(), AllocError>
+/// Adds words and the number of an event.
+pub(crate) fn push_at(text: &mut Vec<u8>, words: &[u8], number: u32) -> Result<(), AllocError>
     ensures { OnOk result (text.new.items ≡ text.old.items ++ (words.now ++ decimal number)) }
 {
     text.extend_from_slice(words)?;

@@ -23,9 +23,9 @@ pub struct Hint<'a> {
     pub maker: u32,
 }
 
-// Adds which edge lists which path.
+/// Adds which edge lists which path.
 #[tactic(auto, unfolding(crate::specs::Hints::hint_user))]
-fn push_lists(
+pub(crate) fn push_lists(
     text: &mut Vec<u8>,
     sources: &Sources<'_>,
     user: u32,
