@@ -1,10 +1,10 @@
 //! What events rest on, in words.
-use crate::cells::push_cell;
 use crate::events::{is_kept, push_numbered};
 use rev_cells::Cell;
 use rev_graph::Graph;
 use rev_history::History;
 use rev_prompt::Link;
+use rev_shown::push_cell;
 use std::alloc::AllocError;
 
 /// Adds through which cell one event rests on another.
@@ -22,11 +22,34 @@ pub(crate) fn push_through(
     }
 }
 
-// Adds links, a line each.
-fn push_links(text: &mut Vec<u8>, history: &History, links: &[Link]) -> Result<(), AllocError> {
+/// Which end of a link is told.
+#[derive(Clone, Copy)]
+pub(crate) enum End {
+    /// The earlier event, on which the other one rests.
+    Earlier,
+    /// The later event, which rests on the other one.
+    Later,
+}
+
+/// The number at an end of a link, and the one at its other end.
+pub(crate) fn ends_of(link: &Link, end: End) -> (u32, u32) {
+    match end {
+        End::Earlier => (link.one, link.other),
+        End::Later => (link.other, link.one),
+    }
+}
+
+// Adds one end of links, a line each.
+fn push_links(
+    text: &mut Vec<u8>,
+    history: &History,
+    links: &[Link],
+    end: End,
+) -> Result<(), AllocError> {
     for link in links {
+        let (number, _other) = ends_of(link, end);
         text.extend_from_slice(b"  ")?;
-        push_numbered(text, history, link.number)?;
+        push_numbered(text, history, number)?;
         push_through(text, history.graph(), link.cell.as_ref())?;
         text.push(b'\n')?;
     }
@@ -53,7 +76,7 @@ pub(crate) fn push_needs(
     } else {
         b" rests on\n"
     })?;
-    push_links(text, history, links)
+    push_links(text, history, links, End::Earlier)
 }
 
 /// Adds what rests on an event.
@@ -68,5 +91,5 @@ pub(crate) fn push_dependents(
         return text.extend_from_slice(b": nothing rests on it, since it is not kept\n");
     }
     text.extend_from_slice(b": on it rest\n")?;
-    push_links(text, history, links)
+    push_links(text, history, links, End::Later)
 }

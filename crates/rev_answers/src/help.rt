@@ -18,7 +18,7 @@ cone EVENT         takes it back with all that rests on it
 redo N             puts back an event that was undone
 back               takes back the last one
 kept, history      the kept events
-marks, stamps [PATH], logs [PATH]     the state, as a report writes it
+marks [OUT], stamps [PATH], logs [PATH]  the state, as a report writes it
 break KIND OUT, continue, touch PATH N, plan, ..     every command of a script
 quit
 EVENT is a number, `start a.o`, `finish a.o` and so on, or `a.o`, the last kept event there. OUT is an output. A name

@@ -1,13 +1,15 @@
 //! Answers as JSON, an object a line. docs/JSON.md describes them.
+use crate::causes::End;
 use crate::events::{push_command_words, push_visible};
 use crate::help::HELP;
 use crate::meant::meant;
+use crate::object::Object;
 use crate::reasons::reason_word;
 use crate::refusals::{FULL, Subject, push_full, push_refusal, subject_of};
 use crate::told::{Told, history_of};
 use crate::values::{
-    edge_value, event_or_null, event_value, events_value, lines_value, links_value, name_value,
-    names_value, run_value, runs_value, text_value,
+    lines_value, links_value, names_value, put_edge, put_event, put_events, put_name, run_value,
+    runs_value, text_value,
 };
 use crate::words::{order_numbers, subject_asked};
 use rev_desk::Reply;
@@ -16,12 +18,17 @@ use rev_graph::Graph;
 use rev_history::History;
 use rev_paths::Name;
 use rev_prompt::{Answer, Because, Link, Span, Step, Tally, Wait, Way};
-use serde_json::{Value, json};
+use serde_json::Value;
 use std::alloc::{AllocError, Global};
 
-// A value and a line's end.
-fn line_of(alloc: Global, value: &Value) -> Result<Vec<u8>, AllocError> {
-    let line = value.to_string(alloc)?;
+// The line of a value.
+fn text_of(alloc: Global, value: Value) -> Result<String, AllocError> {
+    value.to_string(alloc)
+}
+
+// An object and a line's end.
+fn line_of(alloc: Global, object: Object) -> Result<Vec<u8>, AllocError> {
+    let line = text_of(alloc, object.value())?;
     let mut text = Vec::from_slice(alloc, line.as_bytes())?;
     text.push(b'\n')?;
     Ok(text)
@@ -37,9 +44,11 @@ pub fn opening_json(
     edges: u32,
     lanes: u32,
 ) -> Result<Vec<u8>, AllocError> {
-    let value =
-        json!(in alloc; {"kind": "recording", "commands": commands, "edges": edges, "lanes": lanes})?;
-    line_of(alloc, &value)
+    let mut object = Object::of_kind(alloc, "recording")?;
+    object.put_number(alloc, "commands", commands as u64)?;
+    object.put_number(alloc, "edges", u64::from(edges))?;
+    object.put_number(alloc, "lanes", u64::from(lanes))?;
+    line_of(alloc, object)
 }
 
 /// The object of a line that asks nothing, for these reasons.
@@ -47,37 +56,44 @@ pub fn opening_json(
 /// # Errors
 /// [`AllocError`] only where an allocation was refused.
 pub fn fault_json(alloc: Global, words: &[u8]) -> Result<Vec<u8>, AllocError> {
+    let mut object = Object::of_kind(alloc, "no question")?;
     let words = text_value(alloc, words.trim_ascii())?;
-    let value = json!(in alloc; {"kind": "no question", "words": words})?;
-    line_of(alloc, &value)
+    object.put(alloc, "words", words)?;
+    line_of(alloc, object)
 }
 
 // Lines.
-fn lines(alloc: Global, text: &[u8]) -> Result<Value, AllocError> {
+fn lines(alloc: Global, text: &[u8]) -> Result<Object, AllocError> {
     let mut visible = Vec::new(alloc);
     push_visible(&mut visible, text)?;
+    let mut object = Object::of_kind(alloc, "lines")?;
     let lines = lines_value(alloc, &visible)?;
-    json!(in alloc; {"kind": "lines", "lines": lines})
+    object.put(alloc, "lines", lines)?;
+    Ok(object)
 }
 
 // A path that is no output.
-fn no_output(alloc: Global, told: Told<'_>, path: &Name) -> Result<Value, AllocError> {
+fn no_output(alloc: Global, told: Told<'_>, path: &Name) -> Result<Object, AllocError> {
+    let mut object = Object::of_kind(alloc, "no output")?;
+    put_name(&mut object, alloc, "path", Some(path))?;
     let near = meant(alloc, told, path)?;
     let near = names_value(alloc, &near)?;
-    let path = name_value(alloc, Some(path))?;
-    json!(in alloc; {"kind": "no output", "path": path, "meant": near})
+    object.put(alloc, "meant", near)?;
+    Ok(object)
 }
 
 // An event that is not there.
-fn no_event(alloc: Global, path: Option<&Name>) -> Result<Value, AllocError> {
-    let path = name_value(alloc, path)?;
-    json!(in alloc; {"kind": "no event", "path": path})
+fn no_event(alloc: Global, path: Option<&Name>) -> Result<Object, AllocError> {
+    let mut object = Object::of_kind(alloc, "no event")?;
+    put_name(&mut object, alloc, "path", path)?;
+    Ok(object)
 }
 
 // One event.
-fn one_event(alloc: Global, history: &History, number: u32) -> Result<Value, AllocError> {
-    let event = event_value(alloc, history, number)?;
-    json!(in alloc; {"kind": "event", "event": event})
+fn one_event(alloc: Global, history: &History, number: u32) -> Result<Object, AllocError> {
+    let mut object = Object::of_kind(alloc, "event")?;
+    put_event(&mut object, alloc, "event", history, Some(number))?;
+    Ok(object)
 }
 
 // Events.
@@ -86,10 +102,11 @@ fn events(
     history: &History,
     path: Option<&Name>,
     numbers: &[u32],
-) -> Result<Value, AllocError> {
-    let path = name_value(alloc, path)?;
-    let events = events_value(alloc, history, numbers)?;
-    json!(in alloc; {"kind": "events", "path": path, "events": events})
+) -> Result<Object, AllocError> {
+    let mut object = Object::of_kind(alloc, "events")?;
+    put_name(&mut object, alloc, "path", path)?;
+    put_events(&mut object, alloc, history, numbers)?;
+    Ok(object)
 }
 
 // What an event rests on.
@@ -99,10 +116,13 @@ fn needs(
     number: u32,
     all: bool,
     links: &[Link],
-) -> Result<Value, AllocError> {
-    let event = event_value(alloc, history, number)?;
-    let links = links_value(alloc, history, links)?;
-    json!(in alloc; {"kind": "needs", "event": event, "all": all, "events": links})
+) -> Result<Object, AllocError> {
+    let mut object = Object::of_kind(alloc, "needs")?;
+    put_event(&mut object, alloc, "event", history, Some(number))?;
+    object.put_flag(alloc, "all", all)?;
+    let links = links_value(alloc, history, links, End::Earlier)?;
+    object.put(alloc, "events", links)?;
+    Ok(object)
 }
 
 // What rests on an event.
@@ -111,10 +131,12 @@ fn dependents(
     history: &History,
     number: u32,
     links: &[Link],
-) -> Result<Value, AllocError> {
-    let event = event_value(alloc, history, number)?;
-    let links = links_value(alloc, history, links)?;
-    json!(in alloc; {"kind": "dependents", "event": event, "events": links})
+) -> Result<Object, AllocError> {
+    let mut object = Object::of_kind(alloc, "dependents")?;
+    put_event(&mut object, alloc, "event", history, Some(number))?;
+    let links = links_value(alloc, history, links, End::Later)?;
+    object.put(alloc, "events", links)?;
+    Ok(object)
 }
 
 // What a cone takes, or took.
@@ -124,10 +146,12 @@ fn cone(
     number: u32,
     members: &[u32],
     done: bool,
-) -> Result<Value, AllocError> {
-    let event = event_value(alloc, history, number)?;
-    let events = events_value(alloc, history, members)?;
-    json!(in alloc; {"kind": "cone", "event": event, "done": done, "events": events})
+) -> Result<Object, AllocError> {
+    let mut object = Object::of_kind(alloc, "cone")?;
+    put_event(&mut object, alloc, "event", history, Some(number))?;
+    object.put_flag(alloc, "done", done)?;
+    put_events(&mut object, alloc, history, members)?;
+    Ok(object)
 }
 
 // What was taken back with the events of an edge.
@@ -137,10 +161,12 @@ fn without(
     path: &Name,
     members: &[u32],
     left: usize,
-) -> Result<Value, AllocError> {
-    let path = name_value(alloc, Some(path))?;
-    let events = events_value(alloc, history, members)?;
-    json!(in alloc; {"kind": "without", "path": path, "events": events, "left": left})
+) -> Result<Object, AllocError> {
+    let mut object = Object::of_kind(alloc, "without")?;
+    put_name(&mut object, alloc, "path", Some(path))?;
+    put_events(&mut object, alloc, history, members)?;
+    object.put_number(alloc, "left", left as u64)?;
+    Ok(object)
 }
 
 // Which commands ran while another did.
@@ -150,18 +176,22 @@ fn with(
     path: &Name,
     run: Option<Span>,
     others: &[Span],
-) -> Result<Value, AllocError> {
-    let path = name_value(alloc, Some(path))?;
+) -> Result<Object, AllocError> {
+    let mut object = Object::of_kind(alloc, "with")?;
+    put_name(&mut object, alloc, "path", Some(path))?;
     let run = run_value(alloc, history, run)?;
+    object.put(alloc, "run", run)?;
     let others = runs_value(alloc, history, others)?;
-    json!(in alloc; {"kind": "with", "path": path, "run": run, "others": others})
+    object.put(alloc, "others", others)?;
+    Ok(object)
 }
 
 // A step of a way.
 fn wait_value(alloc: Global, graph: &Graph, wait: &Wait) -> Result<Value, AllocError> {
-    let output = edge_value(alloc, graph, wait.edge)?;
-    let input = name_value(alloc, wait.input.as_ref())?;
-    json!(in alloc; {"output": output, "input": input})
+    let mut object = Object::new(alloc);
+    put_edge(&mut object, alloc, "output", graph, wait.edge)?;
+    put_name(&mut object, alloc, "input", wait.input.as_ref())?;
+    Ok(object.value())
 }
 
 // The steps of a way.
@@ -175,10 +205,11 @@ fn waits_value(alloc: Global, graph: &Graph, steps: &[Wait]) -> Result<Value, Al
 
 // A reason.
 fn because_value(alloc: Global, because: &Because) -> Result<Value, AllocError> {
-    let reason = reason_word(because.reason);
-    let output = name_value(alloc, because.output.as_ref())?;
-    let input = name_value(alloc, because.input.as_ref())?;
-    json!(in alloc; {"reason": reason, "output": output, "input": input})
+    let mut object = Object::new(alloc);
+    object.put_text(alloc, "reason", reason_word(because.reason))?;
+    put_name(&mut object, alloc, "output", because.output.as_ref())?;
+    put_name(&mut object, alloc, "input", because.input.as_ref())?;
+    Ok(object.value())
 }
 
 // Reasons.
@@ -198,14 +229,18 @@ fn why(
     run: Option<Span>,
     plan: Option<u32>,
     way: &Way,
-) -> Result<Value, AllocError> {
-    let path = name_value(alloc, Some(path))?;
+) -> Result<Object, AllocError> {
+    let mut object = Object::of_kind(alloc, "why")?;
+    put_name(&mut object, alloc, "path", Some(path))?;
     let run = run_value(alloc, history, run)?;
-    let plan = event_or_null(alloc, history, plan)?;
+    object.put(alloc, "run", run)?;
+    put_event(&mut object, alloc, "plan", history, plan)?;
     let steps = waits_value(alloc, history.graph(), &way.steps)?;
-    let last = edge_value(alloc, history.graph(), way.last)?;
+    object.put(alloc, "steps", steps)?;
+    put_edge(&mut object, alloc, "last", history.graph(), way.last)?;
     let reasons = reasons_value(alloc, &way.reasons)?;
-    json!(in alloc; {"kind": "why", "path": path, "run": run, "plan": plan, "steps": steps, "last": last, "reasons": reasons})
+    object.put(alloc, "reasons", reasons)?;
+    Ok(object)
 }
 
 // The second field of the line of the word `order`.
@@ -222,16 +257,20 @@ fn order_word(line: &[u8]) -> &'static str {
 }
 
 // What the word `order` tells.
-fn order(alloc: Global, history: &History, line: &[u8]) -> Result<Value, AllocError> {
+fn order(alloc: Global, history: &History, line: &[u8]) -> Result<Object, AllocError> {
     let word = order_word(line);
     let (first, second) = order_numbers(line);
-    let one = event_or_null(alloc, history, first)?;
-    if word == "refused" {
-        let code = Value::from(second);
-        return json!(in alloc; {"kind": "order", "answer": word, "first": one, "second": null, "code": code});
-    }
-    let other = event_or_null(alloc, history, second)?;
-    json!(in alloc; {"kind": "order", "answer": word, "first": one, "second": other, "code": null})
+    let (other, code) = if word == "refused" {
+        (None, second)
+    } else {
+        (second, None)
+    };
+    let mut object = Object::of_kind(alloc, "order")?;
+    object.put_text(alloc, "answer", word)?;
+    put_event(&mut object, alloc, "first", history, first)?;
+    put_event(&mut object, alloc, "second", history, other)?;
+    object.put(alloc, "code", Value::from(code))?;
+    Ok(object)
 }
 
 // A refusal.
@@ -240,25 +279,31 @@ fn refused(
     told: Told<'_>,
     refusal: Refusal,
     subject: Subject<'_>,
-) -> Result<Value, AllocError> {
+) -> Result<Object, AllocError> {
     let number = match subject {
         Subject::Event(number) => Some(number),
         _ => None,
     };
-    let event = event_or_null(alloc, history_of(told), number)?;
+    let mut object = Object::of_kind(alloc, "refused")?;
+    object.put_number(alloc, "code", u64::from(refusal.code()))?;
+    put_event(&mut object, alloc, "event", history_of(told), number)?;
     let mut text = Vec::new(alloc);
     push_refusal(&mut text, alloc, told, refusal, subject, b"; ")?;
     let words = text_value(alloc, &text)?;
-    let code = refusal.code();
-    json!(in alloc; {"kind": "refused", "code": code, "event": event, "words": words})
+    object.put(alloc, "words", words)?;
+    Ok(object)
 }
 
 // A journal that is full.
-fn full(alloc: Global) -> Result<Value, AllocError> {
+fn full(alloc: Global) -> Result<Object, AllocError> {
+    let mut object = Object::of_kind(alloc, "refused")?;
+    object.put_number(alloc, "code", u64::from(FULL))?;
+    object.put(alloc, "event", Value::Null)?;
     let mut text = Vec::new(alloc);
     push_full(&mut text)?;
     let words = text_value(alloc, &text)?;
-    json!(in alloc; {"kind": "refused", "code": FULL, "event": null, "words": words})
+    object.put(alloc, "words", words)?;
+    Ok(object)
 }
 
 // A command that was carried out.
@@ -268,14 +313,17 @@ fn carried_out(
     entry: u32,
     number: Option<u32>,
     paused: bool,
-) -> Result<Value, AllocError> {
+) -> Result<Object, AllocError> {
     let number = if history.event(entry).is_some() {
         Some(entry)
     } else {
         number
     };
-    let event = event_or_null(alloc, history, number)?;
-    json!(in alloc; {"kind": "done", "entry": entry, "event": event, "paused": paused})
+    let mut object = Object::of_kind(alloc, "done")?;
+    object.put_number(alloc, "entry", u64::from(entry))?;
+    put_event(&mut object, alloc, "event", history, number)?;
+    object.put_flag(alloc, "paused", paused)?;
+    Ok(object)
 }
 
 // What the desk replied to a command.
@@ -285,7 +333,7 @@ fn replied(
     reply: Option<Reply>,
     number: Option<u32>,
     subject: Subject<'_>,
-) -> Result<Value, AllocError> {
+) -> Result<Object, AllocError> {
     match reply {
         None => full(alloc),
         Some(Reply::Refused(refusal)) => refused(alloc, told, refusal, subject),
@@ -306,45 +354,59 @@ fn step_value(alloc: Global, told: Told<'_>, step: Step) -> Result<Value, AllocE
     let subject = subject_of(told, turn.command);
     let mut text = Vec::new(alloc);
     push_command_words(&mut text, alloc, turn.command)?;
+    let mut object = Object::new(alloc);
     let command = text_value(alloc, &text)?;
+    object.put(alloc, "command", command)?;
     let answer = replied(alloc, told, step.reply, None, subject)?;
-    json!(in alloc; {"command": command, "answer": answer})
+    object.put(alloc, "answer", answer.value())?;
+    Ok(object.value())
+}
+
+// A command of the recording, where there is one.
+fn step_or_null(alloc: Global, told: Told<'_>, step: Option<Step>) -> Result<Value, AllocError> {
+    match step {
+        Some(step) => step_value(alloc, told, step),
+        None => Ok(Value::Null),
+    }
 }
 
 // What came of `run`.
-fn tally_value(
+fn tally_object(
     alloc: Global,
     told: Told<'_>,
     tally: Tally,
     paused: bool,
-) -> Result<Value, AllocError> {
-    let first = match tally.first {
-        Some(step) => step_value(alloc, told, step)?,
-        None => Value::Null,
-    };
-    let said = tally.said;
-    let refused = tally.refused;
-    json!(in alloc; {"kind": "run", "said": said, "refused": refused, "first": first, "paused": paused})
+) -> Result<Object, AllocError> {
+    let mut object = Object::of_kind(alloc, "run")?;
+    object.put_number(alloc, "said", tally.said)?;
+    object.put_number(alloc, "refused", tally.refused)?;
+    let first = step_or_null(alloc, told, tally.first)?;
+    object.put(alloc, "first", first)?;
+    object.put_flag(alloc, "paused", paused)?;
+    Ok(object)
 }
 
 // Commands of the recording.
-fn steps_value(
+fn steps_object(
     alloc: Global,
     told: Told<'_>,
     steps: &[Step],
     ended: bool,
     paused: bool,
-) -> Result<Value, AllocError> {
+) -> Result<Object, AllocError> {
+    let mut object = Object::of_kind(alloc, "steps")?;
     let mut values = Vec::new(alloc);
     for step in steps {
         values.push(step_value(alloc, told, *step)?)?;
     }
-    let steps = Value::from(values);
-    json!(in alloc; {"kind": "steps", "steps": steps, "ended": ended, "paused": paused})
+    object.put(alloc, "steps", Value::from(values))?;
+    object.put_flag(alloc, "ended", ended)?;
+    object.put_flag(alloc, "paused", paused)?;
+    Ok(object)
 }
 
 // An answer that names events.
-fn events_answer(alloc: Global, told: Told<'_>, answer: &Answer) -> Result<Value, AllocError> {
+fn events_answer(alloc: Global, told: Told<'_>, answer: &Answer) -> Result<Object, AllocError> {
     let history = history_of(told);
     match answer {
         Answer::Event(number) => one_event(alloc, history, *number),
@@ -358,14 +420,13 @@ fn events_answer(alloc: Global, told: Told<'_>, answer: &Answer) -> Result<Value
         Answer::With(path, run, others) => with(alloc, history, path, *run, others),
         Answer::Why(path, run, plan, way) => why(alloc, history, path, *run, *plan, way),
         Answer::Order(line) => order(alloc, history, line),
-        _ => Ok(Value::Null),
+        _ => Object::of_kind(alloc, "nothing"),
     }
 }
 
-// An answer as a value.
-fn answer_value(alloc: Global, told: Told<'_>, answer: &Answer) -> Result<Value, AllocError> {
+// An answer as an object.
+fn answer_object(alloc: Global, told: Told<'_>, answer: &Answer) -> Result<Object, AllocError> {
     match answer {
-        Answer::Nothing => json!(in alloc; {"kind": "nothing"}),
         Answer::Help => lines(alloc, HELP),
         Answer::Lines(text) => lines(alloc, text),
         Answer::NoOutput(path) => no_output(alloc, told, path),
@@ -374,8 +435,8 @@ fn answer_value(alloc: Global, told: Told<'_>, answer: &Answer) -> Result<Value,
         Answer::Said(reply, number) => {
             replied(alloc, told, *reply, *number, subject_asked(told, *number))
         }
-        Answer::Run(tally, paused) => tally_value(alloc, told, *tally, *paused),
-        Answer::Steps(steps, ended, paused) => steps_value(alloc, told, steps, *ended, *paused),
+        Answer::Run(tally, paused) => tally_object(alloc, told, *tally, *paused),
+        Answer::Steps(steps, ended, paused) => steps_object(alloc, told, steps, *ended, *paused),
         other => events_answer(alloc, told, other),
     }
 }
@@ -386,6 +447,6 @@ fn answer_value(alloc: Global, told: Told<'_>, answer: &Answer) -> Result<Value,
 /// # Errors
 /// [`AllocError`] only where an allocation was refused.
 pub fn answer_json(alloc: Global, told: Told<'_>, answer: &Answer) -> Result<Vec<u8>, AllocError> {
-    let value = answer_value(alloc, told, answer)?;
-    line_of(alloc, &value)
+    let object = answer_object(alloc, told, answer)?;
+    line_of(alloc, object)
 }

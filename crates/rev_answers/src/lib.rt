@@ -2,12 +2,12 @@
 #![tactic(auto)]
 
 mod causes;
-mod cells;
 mod edges;
 mod events;
 mod help;
 mod json;
 mod meant;
+mod object;
 mod reasons;
 mod refusals;
 mod replay;

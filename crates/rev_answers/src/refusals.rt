@@ -1,6 +1,6 @@
 //! Refusals in words.
 use crate::causes::push_through;
-use crate::edges::{first_output, push_edge};
+use crate::edges::push_edge;
 use crate::events::{push_command_words, push_numbered};
 use crate::meant::push_meant;
 use crate::told::{Told, history_of};
@@ -11,7 +11,7 @@ use rev_held::dependence;
 use rev_paths::Name;
 use rev_prompt::input_at;
 use rev_sentences::meaning;
-use rev_shown::push_shown;
+use rev_shown::{first_output, push_shown};
 use std::alloc::{AllocError, Global};
 
 /// What was refused.

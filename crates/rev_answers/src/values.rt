@@ -1,14 +1,15 @@
 //! JSON of events, names and runs.
-use crate::causes::push_through;
+use crate::causes::{End, ends_of, push_through};
 use crate::edges::push_edge;
 use crate::events::is_kept;
+use crate::object::Object;
 use rev_cells::Cell;
 use rev_graph::Graph;
 use rev_history::History;
 use rev_paths::Name;
 use rev_prompt::{Link, Span};
 use rev_shown::{push_event_words, push_shown};
-use serde_json::{Value, json};
+use serde_json::Value;
 use std::alloc::{AllocError, Global};
 
 /// A text of visible bytes.
@@ -16,8 +17,8 @@ pub(crate) fn text_value(alloc: Global, text: &[u8]) -> Result<Value, AllocError
     Ok(Value::from(String::from_utf8_lossy(alloc, text)?))
 }
 
-/// A name as people read it.
-pub(crate) fn name_value(alloc: Global, name: Option<&Name>) -> Result<Value, AllocError> {
+// A name as people read it.
+fn name_value(alloc: Global, name: Option<&Name>) -> Result<Value, AllocError> {
     let Some(name) = name else {
         return Ok(Value::Null);
     };
@@ -26,30 +27,29 @@ pub(crate) fn name_value(alloc: Global, name: Option<&Name>) -> Result<Value, Al
     text_value(alloc, &text)
 }
 
-/// The first output of an edge.
-pub(crate) fn edge_value(alloc: Global, graph: &Graph, edge: u32) -> Result<Value, AllocError> {
+// The first output of an edge.
+fn edge_value(alloc: Global, graph: &Graph, edge: u32) -> Result<Value, AllocError> {
     let mut text = Vec::new(alloc);
     push_edge(&mut text, graph, edge)?;
     text_value(alloc, &text)
 }
 
-/// An event: its number, its words, and whether it is kept.
-pub(crate) fn event_value(
-    alloc: Global,
-    history: &History,
-    number: u32,
-) -> Result<Value, AllocError> {
+// An event: its number, its words, and whether it is kept.
+fn event_value(alloc: Global, history: &History, number: u32) -> Result<Value, AllocError> {
     let mut text = Vec::new(alloc);
     if let Some(event) = history.event(number) {
         push_event_words(&mut text, event)?;
     }
+    let mut object = Object::new(alloc);
+    object.put_number(alloc, "number", u64::from(number))?;
     let words = text_value(alloc, &text)?;
-    let kept = is_kept(history, number);
-    json!(in alloc; {"number": number, "words": words, "kept": kept})
+    object.put(alloc, "words", words)?;
+    object.put_flag(alloc, "kept", is_kept(history, number))?;
+    Ok(object.value())
 }
 
-/// An event, where there is one.
-pub(crate) fn event_or_null(
+// An event, where there is one.
+fn event_or_null(
     alloc: Global,
     history: &History,
     number: Option<u32>,
@@ -60,12 +60,54 @@ pub(crate) fn event_or_null(
     }
 }
 
-/// Events, in their order.
-pub(crate) fn events_value(
+/// Adds an event, or none.
+pub(crate) fn put_event(
+    object: &mut Object,
+    alloc: Global,
+    name: &str,
+    history: &History,
+    number: Option<u32>,
+) -> Result<(), AllocError> {
+    let event = event_or_null(alloc, history, number)?;
+    object.put(alloc, name, event)
+}
+
+/// Adds a name, or none.
+pub(crate) fn put_name(
+    object: &mut Object,
+    alloc: Global,
+    name: &str,
+    path: Option<&Name>,
+) -> Result<(), AllocError> {
+    let path = name_value(alloc, path)?;
+    object.put(alloc, name, path)
+}
+
+/// Adds the first output of an edge.
+pub(crate) fn put_edge(
+    object: &mut Object,
+    alloc: Global,
+    name: &str,
+    graph: &Graph,
+    edge: u32,
+) -> Result<(), AllocError> {
+    let output = edge_value(alloc, graph, edge)?;
+    object.put(alloc, name, output)
+}
+
+/// Adds events, in their order.
+pub(crate) fn put_events(
+    object: &mut Object,
     alloc: Global,
     history: &History,
     numbers: &[u32],
-) -> Result<Value, AllocError> {
+) -> Result<(), AllocError> {
+    let events = events_value(alloc, history, numbers)?;
+    object.put(alloc, "events", events)
+}
+
+// Events, in their order.
+fn events_value(alloc: Global, history: &History, numbers: &[u32]) -> Result<Value, AllocError> {
     let mut values = Vec::new(alloc);
     for number in numbers {
         values.push(event_value(alloc, history, *number)?)?;
@@ -86,32 +128,42 @@ fn cell_value(alloc: Global, graph: &Graph, cell: Option<&Cell>) -> Result<Value
     }
 }
 
-// One event that another rests on, or the other way round.
-fn link_value(alloc: Global, history: &History, link: &Link) -> Result<Value, AllocError> {
-    let event = event_value(alloc, history, link.number)?;
+// One end of a link, with the number of the other end.
+fn link_value(
+    alloc: Global,
+    history: &History,
+    link: &Link,
+    end: End,
+) -> Result<Value, AllocError> {
+    let (number, other) = ends_of(link, end);
+    let mut object = Object::new(alloc);
+    put_event(&mut object, alloc, "event", history, Some(number))?;
+    object.put_number(alloc, "other", u64::from(other))?;
     let through = cell_value(alloc, history.graph(), link.cell.as_ref())?;
-    let other = link.other;
-    json!(in alloc; {"event": event, "other": other, "through": through})
+    object.put(alloc, "through", through)?;
+    Ok(object.value())
 }
 
-/// Events that another rests on, or the other way round.
+/// One end of links.
 pub(crate) fn links_value(
     alloc: Global,
     history: &History,
     links: &[Link],
+    end: End,
 ) -> Result<Value, AllocError> {
     let mut values = Vec::new(alloc);
     for link in links {
-        values.push(link_value(alloc, history, link)?)?;
+        values.push(link_value(alloc, history, link, end)?)?;
     }
     Ok(Value::from(values))
 }
 
 // When a command ran.
 fn span_value(alloc: Global, history: &History, span: Span) -> Result<Value, AllocError> {
-    let began = event_value(alloc, history, span.began)?;
-    let ended = event_or_null(alloc, history, span.ended)?;
-    json!(in alloc; {"began": began, "ended": ended})
+    let mut object = Object::new(alloc);
+    put_event(&mut object, alloc, "began", history, Some(span.began))?;
+    put_event(&mut object, alloc, "ended", history, span.ended)?;
+    Ok(object.value())
 }
 
 /// When a command ran, where it did.

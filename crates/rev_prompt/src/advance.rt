@@ -1,11 +1,11 @@
 //! The recording replayed, command by command.
 use crate::answers::{Answer, Step, Tally};
 use crate::commands::say;
-use crate::events::is_of_edge;
 use crate::session::Session;
 use rev_commands::Command;
 use rev_desk::{Desk, Reply};
 use rev_paths::Name;
+use rev_runs::is_of_edge;
 use std::alloc::{AllocError, Global};
 
 // Says the command at a place; nothing where none is left.

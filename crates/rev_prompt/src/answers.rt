@@ -1,30 +1,8 @@
 //! What questions are answered.
-use rev_cells::Cell;
 use rev_dirty::Reason;
+use rev_held::Link;
 use rev_paths::Name;
 use std::alloc::AllocError;
-
-/// An event that an asked one rests on, or that rests on it.
-pub struct Link {
-    /// Its number.
-    pub number: u32,
-    /// Of the events that were gone out from, the one at its other end.
-    pub other: u32,
-    /// The first cell by which the later of the two depends on the earlier one; none where one is a plan and no cell is
-    /// named.
-    pub cell: Option<Cell>,
-}
-
-// Written, since a derived drop is proved again at each exit of each caller.
-impl Drop for Link {
-    fn drop(self) {
-        let Link {
-            number: _number,
-            other: _other,
-            cell: _cell,
-        } = self;
-    }
-}
 
 /// When a command ran: the numbers of its start, and of its end where it ended.
 #[derive(Clone, Copy)]
@@ -192,14 +170,6 @@ impl Drop for Answer {
 pub(crate) fn copied(name: Option<&Name>) -> Result<Option<Name>, AllocError> {
     match name {
         Some(name) => Ok(Some(name.copy()?)),
-        None => Ok(None),
-    }
-}
-
-/// An equal cell, where there is one.
-pub(crate) fn copied_cell(cell: Option<&Cell>) -> Result<Option<Cell>, AllocError> {
-    match cell {
-        Some(cell) => Ok(Some(cell.copy()?)),
         None => Ok(None),
     }
 }

@@ -4,13 +4,13 @@ ghost use Rattle.rev_history.specs.Timeline.{cone_numbers, cone_refusal};
 ghost use Rattle.rev_prompt.specs.Cones.{IsWouldCone};
 
 use crate::answers::Answer;
-use crate::events::is_of_edge;
 use crate::session::Session;
 use rev_commands::{Command, Which};
 use rev_desk::{Desk, Reply, Unsaid, Why};
 use rev_events::Refusal;
 use rev_history::History;
 use rev_paths::Name;
+use rev_runs::is_of_edge;
 use std::alloc::{AllocError, Global};
 
 // What kept a command from an entry.

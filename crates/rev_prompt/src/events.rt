@@ -1,4 +1,7 @@
 //! Events by name.
+ghost use Rattle.std.specs.Prelude.{IfOk};
+ghost use Rattle.rev_prompt.specs.Answers.{IsWho};
+
 use crate::answers::Answer;
 use crate::question::EventName;
 use rev_desk::Desk;
@@ -6,6 +9,7 @@ use rev_events::Event;
 use rev_graph::Graph;
 use rev_history::History;
 use rev_paths::Name;
+use rev_runs::events_of;
 use std::alloc::{AllocError, Global};
 
 // The output, or the path, that an event is at, and its word.
@@ -20,22 +24,6 @@ fn place_of(event: &Event) -> Option<(&Name, &'static [u8])> {
         Event::Touch { path, .. } => Some((path, b"touch")),
         Event::Plan(_) | Event::Interrupt | Event::Resize { .. } => None,
     }
-}
-
-/// The edge of which an event is one.
-pub(crate) fn edge_of_event(graph: &Graph, event: &Event) -> Option<u32> {
-    if let Event::Touch { .. } = event {
-        return None;
-    }
-    match place_of(event) {
-        Some((out, _)) => graph.producer(out),
-        None => None,
-    }
-}
-
-/// Whether an event is one of an edge.
-pub(crate) fn is_of_edge(graph: &Graph, event: &Event, edge: u32) -> bool {
-    edge_of_event(graph, event) == Some(edge)
 }
 
 // Whether an event is at an output, or a path, and of a kind where one is named.
@@ -101,17 +89,12 @@ pub(crate) fn named_event(
 }
 
 /// `who OUT`: the events of an edge, also those that were undone.
-pub(crate) fn who(alloc: Global, history: &History, out: &Name) -> Result<Answer, AllocError> {
+pub(crate) fn who(alloc: Global, history: &History, out: &Name) -> Result<Answer, AllocError>
+    ensures { IfOk result (λ answer. IsWho history.now.timeline out.now answer) }
+{
     let Some(edge) = history.graph().producer(out) else {
         return Ok(Answer::NoOutput(out.copy()?));
     };
-    let mut numbers = Vec::new(alloc);
-    for number in 1..history.last().saturating_add(1) {
-        if let Some(event) = history.event(number) {
-            if is_of_edge(history.graph(), event, edge) {
-                numbers.push(number)?;
-            }
-        }
-    }
+    let numbers = events_of(alloc, history, edge)?;
     Ok(Answer::Who(out.copy()?, numbers))
 }

@@ -8,14 +8,16 @@ mod commands;
 mod events;
 mod line;
 mod listings;
+mod past;
 mod question;
 mod reasons;
 mod session;
 mod spans;
 
-pub use answers::{Answer, Because, Link, Span, Step, Tally, Wait, Way};
+pub use answers::{Answer, Because, Span, Step, Tally, Wait, Way};
 pub use commands::would_cone;
 pub use line::{LineFault, texts_of};
 pub use question::{EventName, Question, question_of};
 pub use reasons::input_at;
+pub use rev_held::Link;
 pub use session::{Reply, Session, answer_to, asked, only_asks};

@@ -61,8 +61,8 @@ pub enum Question {
     Cone(EventName),
     /// `kept`: the kept events.
     Kept,
-    /// `marks`.
-    Marks,
+    /// `marks [OUT]`.
+    Marks(Option<Name>),
     /// `stamps [PATH]`.
     Stamps(Option<Name>),
     /// `logs [PATH]`.
@@ -97,7 +97,7 @@ impl Drop for Question {
             Question::Redo(_part) => {}
             Question::Cone(_part) => {}
             Question::Kept => {}
-            Question::Marks => {}
+            Question::Marks(_part) => {}
             Question::Stamps(_part) => {}
             Question::Logs(_part) => {}
             Question::Command(_part) => {}
@@ -238,6 +238,7 @@ fn path_question(
         b"why" => Question::Why(only_path(alloc, rest)?),
         b"with" => Question::With(only_path(alloc, rest)?),
         b"without" => Question::Without(only_path(alloc, rest)?),
+        b"marks" => Question::Marks(maybe_path(alloc, rest)?),
         b"stamps" => Question::Stamps(maybe_path(alloc, rest)?),
         b"logs" => Question::Logs(maybe_path(alloc, rest)?),
         _ => return Ok(None),
@@ -281,7 +282,6 @@ fn other_question(
         b"run" => alone(Question::Run, rest),
         b"next" => next(rest),
         b"kept" | b"history" => alone(Question::Kept, rest),
-        b"marks" => alone(Question::Marks, rest),
         b"help" | b"?" => Ok(Question::Help),
         b"quit" | b"exit" | b"q" => alone(Question::Quit, rest),
         _ => {

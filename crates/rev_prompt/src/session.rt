@@ -7,19 +7,19 @@ use crate::answers::Answer;
 use crate::causes::{dependents, needs};
 use crate::commands::{apply, cone, without, would_cone};
 use crate::events::{named_event, who};
-use crate::listings::{about, kept, order};
+use crate::listings::{kept, logs, marks, order, stamps};
 use crate::question::{EventName, Question};
 use crate::reasons::why;
 use crate::spans::with;
+use rev_cells::Opening;
 use rev_commands::{Command, Which};
 use rev_desk::Desk;
-use rev_listing::{logs_text, marks_text, stamps_text};
 use rev_manifest::Build;
 use rev_script::Turn;
 use std::alloc::{AllocError, Global};
 
-/// What a session has: the turns of the recording, how many of them were taken, the lane of what is typed, and the
-/// edges of the manifest.
+/// What a session has: the turns of the recording, how many of them were taken, the lane of what is typed, the edges
+/// of the manifest, and the opening.
 #[derive(Clone, Copy)]
 pub struct Session<'a> {
     /// The commands of the recording, in the order of their turns.
@@ -30,6 +30,8 @@ pub struct Session<'a> {
     pub lane: u32,
     /// The edges of the manifest.
     pub builds: &'a [Build],
+    /// The opening of the recording.
+    pub opening: &'a Opening,
 }
 
 /// What comes of a question.
@@ -74,11 +76,16 @@ fn asked_of_event(
 }
 
 /// What a question that only asks is answered: one that is none of `run`, `next`, `until`, `undo`, `redo`, `cone`,
-/// `without` and the commands of a script. The desk is read alone.
+/// `without` and the commands of a script. The desk is read alone, and its history has this opening.
 ///
 /// # Errors
 /// [`AllocError`] only where an allocation was refused.
-pub fn asked(alloc: Global, desk: &Desk, question: &Question) -> Result<Answer, AllocError> {
+pub fn asked(
+    alloc: Global,
+    opening: &Opening,
+    desk: &Desk,
+    question: &Question,
+) -> Result<Answer, AllocError> {
     let history = desk.history();
     match question {
         Question::Needs(name, _)
@@ -86,16 +93,13 @@ pub fn asked(alloc: Global, desk: &Desk, question: &Question) -> Result<Answer, 
         | Question::WouldCone(name)
         | Question::What(name) => asked_of_event(alloc, desk, name, question),
         Question::Who(out) => who(alloc, history, out),
-        Question::Why(out) => why(alloc, history, out),
+        Question::Why(out) => why(alloc, history, opening, out),
         Question::With(out) => with(alloc, history, out),
         Question::Order(names) => order(alloc, desk, names),
         Question::Kept => kept(alloc, history),
-        Question::Marks => {
-            let text = marks_text(alloc, history.graph(), history.cells())?;
-            Ok(Answer::Lines(text))
-        }
-        Question::Stamps(path) => about(alloc, stamps_text(alloc, history.cells())?, path.as_ref()),
-        Question::Logs(path) => about(alloc, logs_text(alloc, history.cells())?, path.as_ref()),
+        Question::Marks(out) => marks(alloc, history, out.as_ref()),
+        Question::Stamps(path) => stamps(alloc, history.cells(), path.as_ref()),
+        Question::Logs(path) => logs(alloc, history.cells(), path.as_ref()),
         Question::Help => Ok(Answer::Help),
         _ => Ok(Answer::Nothing),
     }
@@ -186,7 +190,7 @@ pub fn answer_to(
 {
     let ends = is_quit(question);
     if only_asks(question) {
-        let answer = asked(alloc, desk, question)?;
+        let answer = asked(alloc, session.opening, desk, question)?;
         return Ok(Reply {
             answer,
             taken: session.taken,

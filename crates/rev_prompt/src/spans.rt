@@ -1,114 +1,120 @@
 //! Which commands ran when.
+ghost use Rattle.std.specs.Prelude.{◌≡◌, ◌∷◌, ◌++◌, [], if◌then◌else◌, IfOk, OnOk, Some};
+ghost use Rattle.rev_prompt.specs.Answers.{IsWith};
+ghost use Rattle.rev_prompt.specs.Spans.{is_before_end, is_beside as is_beside_of, is_kept_of as is_kept, last_in, last_run as last_run_of, others_in, overlaps as overlaps_of, span_of as span_of_run};
+
 use crate::answers::{Answer, Span};
-use crate::events::edge_of_event;
-use rev_events::Event;
 use rev_history::History;
 use rev_paths::Name;
+use rev_runs::{Run, runs};
 use std::alloc::{AllocError, Global};
 
-// A run of an edge's command.
-#[derive(Clone, Copy)]
-struct Run {
-    edge: u32,
-    span: Span,
-}
-
-// Whether an event ends a command.
-fn is_end(event: &Event) -> bool {
-    matches!(
-        event,
-        Event::Finish { .. } | Event::Fail { .. } | Event::Abort { .. }
-    )
-}
-
-// Notes an event of an edge among the runs: a start is a new one, and an end is that of the open one. Under each edge
-// stands the place of its open run.
-fn note(
-    runs: &mut Vec<Run>,
-    open: &mut Vec<Option<usize>>,
-    number: u32,
-    event: &Event,
-    edge: u32,
-) -> Result<(), AllocError> {
-    let Some(place) = open.get_mut(edge as usize) else {
-        return Ok(());
-    };
-    if let Event::Start { .. } = event {
-        *place = Some(runs.len());
-        runs.push(Run {
-            edge,
-            span: Span {
-                began: number,
-                ended: None,
-            },
-        })?;
-    } else if is_end(event) {
-        if let Some(run) = place.and_then(|at| runs.get_mut(at)) {
-            run.span.ended = Some(number);
-        }
-        *place = None;
+// When a run was.
+fn span_of(run: &Run) -> Span
+    ensures { result ≡ span_of_run run.now }
+{
+    Span {
+        began: run.began,
+        ended: run.ended,
     }
-    Ok(())
 }
 
-// The runs of the kept starts, in their order.
-fn runs(alloc: Global, history: &History) -> Result<Vec<Run>, AllocError> {
-    let mut runs = Vec::new(alloc);
-    let mut open: Vec<Option<usize>> = vec![in alloc; None; history.graph().edges() as usize]?;
-    for number in history.kept() {
-        if let Some(event) = history.event(*number) {
-            if let Some(edge) = edge_of_event(history.graph(), event) {
-                note(&mut runs, &mut open, *number, event, edge)?;
-            }
-        }
-    }
-    Ok(runs)
+// Whether a run is kept and one of an edge.
+fn is_kept_of(run: &Run, edge: u32) -> bool
+    ensures { result ≡ is_kept edge run.now }
+{
+    run.kept && run.edge == edge
 }
 
-// The last of some runs that is one of an edge.
-fn last_of(runs: &[Run], edge: u32) -> Option<Span> {
-    let mut last = None;
-    for run in runs {
-        if run.edge == edge {
-            last = Some(run.span);
-        }
+// The later one of a run, where it is kept and one of an edge, and of the last such before it.
+fn later(run: &Run, edge: u32, last: Option<Span>) -> Option<Span>
+    ensures { result ≡ (if is_kept edge run.now then Some (span_of_run run.now) else last) }
+{
+    if is_kept_of(run, edge) {
+        return Some(span_of(run));
     }
     last
 }
 
-/// The last run of an edge's command.
+// The last of some runs that is kept and one of an edge.
+fn last_of(runs: &[Run], edge: u32) -> Option<Span>
+    ensures { result ≡ last_in edge runs.now }
+{
+    let mut last = None;
+    for run in runs {
+        last = later(run, edge, last);
+    }
+    last
+}
+
+/// The last run of an edge's command that is kept.
 pub(crate) fn last_run(
     alloc: Global,
     history: &History,
     edge: u32,
-) -> Result<Option<Span>, AllocError> {
+) -> Result<Option<Span>, AllocError>
+    ensures { IfOk result (λ run. run ≡ last_run_of history.now.timeline edge) }
+{
     let runs = runs(alloc, history)?;
     Ok(last_of(&runs, edge))
 }
 
-// Whether a run began before another ended.
-fn begins_within(one: Span, other: Span) -> bool {
-    match other.ended {
-        Some(ended) => one.began < ended,
+// Whether a run that began at a number began before another ended, which may still run.
+fn begins_before(began: u32, ended: Option<u32>) -> bool
+    ensures { result ≡ is_before_end began ended }
+{
+    match ended {
+        Some(ended) => began < ended,
         None => true,
     }
 }
 
+// Whether each of two began before the other ended.
+fn overlaps(one: Span, other: Span) -> bool
+    ensures { result ≡ overlaps_of one other }
+{
+    begins_before(one.began, other.ended) && begins_before(other.began, one.ended)
+}
+
+// Whether a run is kept, is another one, and overlaps this one.
+fn is_beside(run: &Run, span: Span) -> bool
+    ensures { result ≡ is_beside_of span run.now }
+{
+    run.kept && run.began != span.began && overlaps(span_of(run), span)
+}
+
+// Adds a run that passes.
+fn add_where(spans: &mut Vec<Span>, span: Span, passes: bool) -> Result<(), AllocError>
+    ensures { OnOk result (spans.new.items ≡ spans.old.items ++ (if passes then span ∷ [] else [])) }
+{
+    if passes {
+        spans.push(span)?;
+    }
+    Ok(())
+}
+
+// The kept ones of some runs that overlap this one.
+fn others(alloc: Global, runs: &[Run], span: Span) -> Result<Vec<Span>, AllocError>
+    ensures { IfOk result (λ spans. spans.items ≡ others_in span runs.now) }
+{
+    let mut spans = Vec::new(alloc);
+    for run in runs {
+        add_where(&mut spans, span_of(run), is_beside(run, span))?;
+    }
+    Ok(spans)
+}
+
 /// `with OUT`: the last run of an edge's command, and the runs that overlapped it.
-pub(crate) fn with(alloc: Global, history: &History, out: &Name) -> Result<Answer, AllocError> {
+pub(crate) fn with(alloc: Global, history: &History, out: &Name) -> Result<Answer, AllocError>
+    ensures { IfOk result (λ answer. IsWith history.now.timeline out.now answer) }
+{
     let Some(edge) = history.graph().producer(out) else {
         return Ok(Answer::NoOutput(out.copy()?));
     };
     let runs = runs(alloc, history)?;
-    let mut others = Vec::new(alloc);
     let Some(run) = last_of(&runs, edge) else {
-        return Ok(Answer::With(out.copy()?, None, others));
+        return Ok(Answer::With(out.copy()?, None, Vec::new(alloc)));
     };
-    for other in &runs {
-        let is_other = other.span.began != run.began;
-        if is_other && begins_within(other.span, run) && begins_within(run, other.span) {
-            others.push(other.span)?;
-        }
-    }
+    let others = others(alloc, &runs, run)?;
     Ok(Answer::With(out.copy()?, Some(run), others))
 }
