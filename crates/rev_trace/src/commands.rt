@@ -8,6 +8,7 @@ use crate::events::{
     BAD_LINE, abort, break_number, clean, event_name, fail, finish, nothing, pass, plan, resize,
     start, touch,
 };
+use crate::mentions::Mentions;
 use crate::points::point;
 use crate::verb::Verb;
 use rev_cells::Names;
@@ -27,6 +28,7 @@ fn bare(command: Command, texts: &[Vec<u8>]) -> Result<Command, LineFault>
 // What a word takes.
 fn taken_by(
     alloc: Global,
+    mentions: &mut Mentions,
     targets: &Names,
     verb: Verb,
     texts: &[Vec<u8>],
@@ -36,7 +38,7 @@ fn taken_by(
     match verb {
         Verb::Plan => plan(alloc, targets, texts),
         Verb::Start => start(alloc, texts),
-        Verb::Finish => finish(alloc, texts),
+        Verb::Finish => finish(alloc, mentions, texts),
         Verb::Fail => fail(alloc, texts),
         Verb::Abort => abort(alloc, texts),
         Verb::Clean => clean(alloc, texts),
@@ -54,9 +56,11 @@ fn taken_by(
     }
 }
 
-/// The command that the texts of a line's fields are, where `plan` without a path means these targets.
-pub fn command_of_texts(
+/// The command that the texts of a line's fields are, where `plan` without a path means these targets. A path that it
+/// lists and lists before it mentioned shares the bytes of that mention.
+pub(crate) fn command_among(
     alloc: Global,
+    mentions: &mut Mentions,
     targets: &Names,
     texts: &[Vec<u8>],
 ) -> Result<Command, LineFault>
@@ -67,8 +71,20 @@ pub fn command_of_texts(
     };
     match Verb::of_word(word) {
         None => Err(BAD_LINE),
-        Some(verb) => taken_by(alloc, targets, verb, rest),
+        Some(verb) => taken_by(alloc, mentions, targets, verb, rest),
     }
+}
+
+/// The command that the texts of a line's fields are, where `plan` without a path means these targets.
+pub fn command_of_texts(
+    alloc: Global,
+    targets: &Names,
+    texts: &[Vec<u8>],
+) -> Result<Command, LineFault>
+    ensures { Answers result (λ c. c) (command_of targets.now (vectors_of texts.now)) }
+{
+    let mut mentions = Mentions::new(alloc);
+    command_among(alloc, &mut mentions, targets, texts)
 }
 
 /// The command that a line is, which stands without its end. `plan` without a path has no targets.

@@ -6,6 +6,7 @@ ghost use Rattle.rev_fields.specs.Parts.{vectors_of};
 ghost use Rattle.rev_trace.specs.Commands.{alone_of, break_number_of, depfile_of, ended_of, ending_of, finish_of, list_of, listing_of, name_of, nothing_of, plan_of, resize_of, settled_of, start_of, touch_of};
 
 use crate::labels::which_of;
+use crate::mentions::Mentions;
 use rev_cells::{Names, Text};
 use rev_commands::{Command, Which};
 use rev_events::{Event, Listing, Stamps};
@@ -71,15 +72,15 @@ fn depfile(alloc: Global, texts: &[Vec<u8>]) -> Result<Listing, LineFault>
 }
 
 // `list PATH...`
-fn list(alloc: Global, texts: &[Vec<u8>]) -> Result<Listing, LineFault>
+fn list(alloc: Global, mentions: &mut Mentions, texts: &[Vec<u8>]) -> Result<Listing, LineFault>
     ensures { Answers result (λ l. l) (list_of (vectors_of texts.now)) }
 {
-    let paths = paths(alloc, texts)?;
+    let paths = mentions.paths(alloc, texts)?;
     Ok(Listing::Paths(Names::new(paths)))
 }
 
 // Nothing, `depfile TEXT` or `list PATH...`
-fn listing(alloc: Global, texts: &[Vec<u8>]) -> Result<Listing, LineFault>
+fn listing(alloc: Global, mentions: &mut Mentions, texts: &[Vec<u8>]) -> Result<Listing, LineFault>
     ensures { Answers result (λ l. l) (listing_of (vectors_of texts.now)) }
 {
     let Some((word, rest)) = texts.split_first() else {
@@ -89,7 +90,7 @@ fn listing(alloc: Global, texts: &[Vec<u8>]) -> Result<Listing, LineFault>
         return depfile(alloc, rest);
     }
     if word.as_slice() == b"list".as_slice() {
-        return list(alloc, rest);
+        return list(alloc, mentions, rest);
     }
     Err(BAD_LINE)
 }
@@ -97,6 +98,7 @@ fn listing(alloc: Global, texts: &[Vec<u8>]) -> Result<Listing, LineFault>
 // `finish OUT N,N...` and a listing, by its parts
 fn finished(
     alloc: Global,
+    mentions: &mut Mentions,
     out: &[u8],
     stamps: &[u8],
     rest: &[Vec<u8>],
@@ -104,7 +106,7 @@ fn finished(
     ensures { Answers result (λ c. c) (finish_of (out.now ∷ stamps.now ∷ vectors_of rest.now)) }
 {
     let out = path(alloc, out)?;
-    let listing = listing(alloc, rest)?;
+    let listing = listing(alloc, mentions, rest)?;
     let stamps = Stamps::new(wide_numbers(alloc, stamps)?);
     Ok(Command::Event(Event::Finish {
         out,
@@ -114,7 +116,11 @@ fn finished(
 }
 
 /// `finish OUT N,N...` and a listing
-pub(crate) fn finish(alloc: Global, texts: &[Vec<u8>]) -> Result<Command, LineFault>
+pub(crate) fn finish(
+    alloc: Global,
+    mentions: &mut Mentions,
+    texts: &[Vec<u8>],
+) -> Result<Command, LineFault>
     ensures { Answers result (λ c. c) (finish_of (vectors_of texts.now)) }
 {
     let Some((out, after_out)) = texts.split_first() else {
@@ -123,7 +129,7 @@ pub(crate) fn finish(alloc: Global, texts: &[Vec<u8>]) -> Result<Command, LineFa
     let Some((stamps, rest)) = after_out.split_first() else {
         return Err(BAD_LINE);
     };
-    finished(alloc, out, stamps, rest)
+    finished(alloc, mentions, out, stamps, rest)
 }
 
 // An output and stamps: `OUT N,N...`

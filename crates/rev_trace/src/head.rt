@@ -6,6 +6,7 @@ ghost use Rattle.rev_trace.specs.Heads.{IsAdded, record_fault, seen};
 ghost use Rattle.rev_trace.specs.Records.{empty_head, gives_jobs, head_with, opening_wrong, record_wrong};
 
 use crate::events::BAD_LINE;
+use crate::mentions::Mentions;
 use crate::record::Record;
 use crate::records::{gives_jobs, record};
 use rev_cells::{Opening, OpeningFault};
@@ -96,7 +97,12 @@ fn is_second(head: &Head, texts: &[Vec<u8>]) -> bool
 }
 
 /// Adds an opening line.
-pub(crate) fn add_line(alloc: Global, head: &mut Head, line: &[u8]) -> Result<(), LineFault>
+pub(crate) fn add_line(
+    alloc: Global,
+    mentions: &mut Mentions,
+    head: &mut Head,
+    line: &[u8],
+) -> Result<(), LineFault>
     ensures ok { OnOk result (IsAdded (seen head.old) line.now (seen head.new)) }
     ensures fault { (kind : FaultKind) → IsErrOf result (LineFault.Kind kind)
         → opening_wrong (seen head.old) line.now ≡ Some kind }
@@ -105,6 +111,6 @@ pub(crate) fn add_line(alloc: Global, head: &mut Head, line: &[u8]) -> Result<()
     if is_second(head, &texts) {
         return Err(BAD_LINE);
     }
-    let said = record(alloc, &texts)?;
+    let said = record(alloc, mentions, &texts)?;
     add(head, said)
 }

@@ -8,8 +8,9 @@ ghost use Rattle.rev_trace.specs.Lists.{IsHeld, one_lane, shown, with_command, w
 ghost use Rattle.rev_trace.specs.Traces.{wrong_in_lane};
 ghost use Rattle.rev_trace.specs.Versions.{held_line};
 
-use crate::commands::command_of_texts;
+use crate::commands::command_among;
 use crate::events::BAD_LINE;
+use crate::mentions::Mentions;
 use crate::traces::Trace;
 use crate::version::Version;
 use rev_cells::Names;
@@ -65,6 +66,7 @@ pub(crate) fn lane_line(
 fn held_line(
     alloc: Global,
     version: Version,
+    mentions: &mut Mentions,
     targets: &Names,
     line: &[u8],
 ) -> Result<Command, LineFault>
@@ -74,7 +76,7 @@ fn held_line(
     if !version.may_begin(&texts) {
         return Err(BAD_LINE);
     }
-    command_of_texts(alloc, targets, &texts)
+    command_among(alloc, mentions, targets, &texts)
 }
 
 /// The commands of each lane that lines have opened, and the lane that was named last.
@@ -142,6 +144,7 @@ fn push_held(lanes: &mut Lanes, command: Command) -> Result<(), AllocError>
 pub(crate) fn add_held(
     alloc: Global,
     version: Version,
+    mentions: &mut Mentions,
     targets: &Names,
     lanes: &mut Lanes,
     line: &[u8],
@@ -159,7 +162,7 @@ pub(crate) fn add_held(
         open_lane(alloc, lanes, number)?;
         return Ok(());
     }
-    let command = held_line(alloc, version, targets, line)?;
+    let command = held_line(alloc, version, mentions, targets, line)?;
     push_held(lanes, command)?;
     Ok(())
 }

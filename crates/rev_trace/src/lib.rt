@@ -7,6 +7,7 @@ mod head;
 mod labels;
 mod lanes;
 pub mod laws;
+mod mentions;
 mod migration;
 mod points;
 mod record;

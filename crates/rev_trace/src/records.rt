@@ -5,9 +5,10 @@ ghost use Rattle.rev_fields.specs.Parts.{vectors_of};
 ghost use Rattle.rev_trace.specs.Records.{built_of, deps_of, gives_jobs, jobs_of, record_of, stamp_of, target_of};
 
 use crate::events::BAD_LINE;
+use crate::mentions::Mentions;
 use crate::record::Record;
 use rev_cells::{Names, Text};
-use rev_fields::{LineFault, number, path, paths, wide_number};
+use rev_fields::{LineFault, number, path, wide_number};
 use std::alloc::Global;
 
 // `jobs N`
@@ -64,17 +65,23 @@ fn built(alloc: Global, texts: &[Vec<u8>]) -> Result<Record, LineFault>
 }
 
 // `deps PATH N PATH...`, by its parts
-fn listed(alloc: Global, text: &[u8], stamp: &[u8], rest: &[Vec<u8>]) -> Result<Record, LineFault>
+fn listed(
+    alloc: Global,
+    mentions: &mut Mentions,
+    text: &[u8],
+    stamp: &[u8],
+    rest: &[Vec<u8>],
+) -> Result<Record, LineFault>
     ensures { Answers result (λ r. r) (deps_of (text.now ∷ stamp.now ∷ vectors_of rest.now)) }
 {
     let path = path(alloc, text)?;
-    let paths = Names::new(paths(alloc, rest)?);
+    let paths = Names::new(mentions.paths(alloc, rest)?);
     let stamp = wide_number(stamp)?;
     Ok(Record::Deps(path, stamp, paths))
 }
 
 // `deps PATH N PATH...`
-fn deps(alloc: Global, texts: &[Vec<u8>]) -> Result<Record, LineFault>
+fn deps(alloc: Global, mentions: &mut Mentions, texts: &[Vec<u8>]) -> Result<Record, LineFault>
     ensures { Answers result (λ r. r) (deps_of (vectors_of texts.now)) }
 {
     let Some((text, after_path)) = texts.split_first() else {
@@ -83,7 +90,7 @@ fn deps(alloc: Global, texts: &[Vec<u8>]) -> Result<Record, LineFault>
     let Some((stamp, rest)) = after_path.split_first() else {
         return Err(BAD_LINE);
     };
-    listed(alloc, text, stamp, rest)
+    listed(alloc, mentions, text, stamp, rest)
 }
 
 // `target PATH`
@@ -97,7 +104,11 @@ fn target(alloc: Global, texts: &[Vec<u8>]) -> Result<Record, LineFault>
 }
 
 /// The opening line that has these texts in its fields.
-pub(crate) fn record(alloc: Global, texts: &[Vec<u8>]) -> Result<Record, LineFault>
+pub(crate) fn record(
+    alloc: Global,
+    mentions: &mut Mentions,
+    texts: &[Vec<u8>],
+) -> Result<Record, LineFault>
     ensures { Answers result (λ r. r) (record_of (vectors_of texts.now)) }
 {
     let Some((word, rest)) = texts.split_first() else {
@@ -113,7 +124,7 @@ pub(crate) fn record(alloc: Global, texts: &[Vec<u8>]) -> Result<Record, LineFau
         return built(alloc, rest);
     }
     if word.as_slice() == b"deps".as_slice() {
-        return deps(alloc, rest);
+        return deps(alloc, mentions, rest);
     }
     if word.as_slice() == b"target".as_slice() {
         return target(alloc, rest);

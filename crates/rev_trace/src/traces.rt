@@ -8,6 +8,7 @@ ghost use Rattle.rev_trace.specs.Traces.{IsOpened, lane_wrong, lanes_from, lanes
 
 use crate::head::{Head, add_line, empty_head};
 use crate::lanes::{Lanes, add_held, lane_line, opens_lane};
+use crate::mentions::Mentions;
 use crate::version::Version;
 use rev_cells::{Names, Opening};
 use rev_commands::Command;
@@ -64,7 +65,12 @@ const NO_HEADER: ReadFault = ReadFault::Numbered(TextFault {
 });
 
 // What the lines before the lane make, and how many of the lines these are. Lines are those after the first.
-fn read_head(alloc: Global, version: Version, lines: &[&[u8]]) -> Result<(Head, usize), ReadFault>
+fn read_head(
+    alloc: Global,
+    version: Version,
+    mentions: &mut Mentions,
+    lines: &[&[u8]],
+) -> Result<(Head, usize), ReadFault>
     requires { length lines.now + 1 < 2 ^ 64 }
     ensures opened { IfOk result (λ r. IsOpened version (slices_of lines.now) (seen r.0) r.1) }
     ensures fault { (f : TextFault) → IsErrOf result (ReadFault.Numbered f)
@@ -83,7 +89,7 @@ fn read_head(alloc: Global, version: Version, lines: &[&[u8]]) -> Result<(Head, 
                 Err(fault) => Err(fault.at(place + 1)),
             };
         }
-        if let Err(fault) = add_line(alloc, &mut head, line) {
+        if let Err(fault) = add_line(alloc, mentions, &mut head, line) {
             return Err(fault.at(place + 1));
         }
     }
@@ -95,6 +101,7 @@ fn read_head(alloc: Global, version: Version, lines: &[&[u8]]) -> Result<(Head, 
 fn read_lanes(
     alloc: Global,
     version: Version,
+    mentions: &mut Mentions,
     targets: &Names,
     lines: &[&[u8]],
     before: usize,
@@ -112,7 +119,7 @@ fn read_lanes(
         return Err(ReadFault::Memory);
     };
     for (place, line) in lines.iter().enumerate() {
-        if let Err(fault) = add_held(alloc, version, targets, &mut lanes, line) {
+        if let Err(fault) = add_held(alloc, version, mentions, targets, &mut lanes, line) {
             return Err(fault.at(before + place));
         }
     }
@@ -131,7 +138,8 @@ fn read_lines(alloc: Global, version: Version, lines: &[&[u8]]) -> Result<Trace,
     ensures fault { (f : TextFault) → IsErrOf result (ReadFault.Numbered f)
         → IsFirstWrong (wrong_at version (slices_of lines.now)) (length lines.now) 1 f }
 {
-    let (head, end) = read_head(alloc, version, lines)?;
+    let mut mentions = Mentions::new(alloc);
+    let (head, end) = read_head(alloc, version, &mut mentions, lines)?;
     let Head {
         opening,
         targets,
@@ -140,7 +148,14 @@ fn read_lines(alloc: Global, version: Version, lines: &[&[u8]]) -> Result<Trace,
     let targets = Names::new(targets);
     let mut lanes = Vec::new(alloc);
     if end < lines.len() {
-        lanes = read_lanes(alloc, version, &targets, &lines[end + 1..], end + 2)?;
+        lanes = read_lanes(
+            alloc,
+            version,
+            &mut mentions,
+            &targets,
+            &lines[end + 1..],
+            end + 2,
+        )?;
     }
     Ok(Trace {
         opening,
