@@ -5,3 +5,4 @@ pub mod ExactLemmas
 pub mod FindLemmas
 pub mod SeveralLemmas
 pub mod NotedLemmas
+pub mod WayLemmas

@@ -1,5 +1,5 @@
 -- What an event rests on, also by way of others.
-use Rattle.std.specs.Prelude.{ℕ, List, [], ◌∷◌, ◌++◌, Option, Some, None, find, reverse}
+use Rattle.std.specs.Prelude.{◌≡◌, ◌≤◌, ℕ, true, List, [], ◌∷◌, ◌++◌, ◌⊎◌, Option, Some, None, find, reverse}
 use Rattle.rev_history.specs.Timeline.{Timeline}
 use Rattle.rev_held.specs.Dependence.{depends_on}
 
@@ -23,3 +23,18 @@ ways_down t found (one ∷ ones) =
 -- latest of these, or the number itself, that depends on it
 abbrev pub ways_to : Timeline → ℕ → List (ℕ × ℕ)
 ways_to t n = ways_down t (n ∷ []) (reverse t.kept)
+
+-- The event of n rests on that of another number: it depends on it, or an event that n rests on does.
+pub data RestsOn (t : Timeline) (n : ℕ) : ℕ → Type 0 where
+  at_once : (k : ℕ) → depends_on t k n ≡ true → RestsOn t n k
+  by_another : (k m : ℕ) → RestsOn t n m → depends_on t k m ≡ true → RestsOn t n k
+
+-- n itself, or one that it rests on
+abbrev pub IsOnWay : Timeline → ℕ → ℕ → Type 0
+IsOnWay t n m = (n ≡ m) ⊎ RestsOn t n m
+
+-- of n and those that it rests on, m is the latest that depends on k
+pub record IsLatestOn (t : Timeline) (n k m : ℕ) : Type 0 where
+  pub on_way : IsOnWay t n m
+  pub depends : depends_on t k m ≡ true
+  pub latest : (l : ℕ) → IsOnWay t n l → depends_on t k l ≡ true → l ≤ m

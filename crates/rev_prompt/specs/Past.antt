@@ -1,12 +1,12 @@
 -- What was so when an edge was planned.
-use Rattle.std.specs.Prelude.{◌≡◌, ℕ, Bool, true, false, ◌&&◌, nat_lt, List, [], ◌∷◌, find, reverse, Option, Some, None, if◌then◌else◌}
+use Rattle.std.specs.Prelude.{◌≡◌, ℕ, Bool, true, false, not, ◌&&◌, nat_lt, List, [], ◌∷◌, filter, find, reverse, Option, Some, None, if◌then◌else◌}
 use Rattle.rev_causal.specs.Machine.{Legal}
 use Rattle.rev_cells.specs.State.{State}
 use Rattle.rev_cells.specs.Table.{Records, Table}
 use Rattle.rev_events.specs.declared.event.Event.{Event}
 use Rattle.rev_events.specs.declared.event.Event.TheVariants.{Plan}
 use Rattle.rev_events.specs.Machine.{after}
-use Rattle.rev_history.specs.Timeline.{Timeline, chosen, event_at, machine_at, state_at}
+use Rattle.rev_history.specs.Timeline.{IsHistory, Timeline, chosen, event_at, machine_at, state_at}
 use Rattle.rev_plan.specs.Chain.{has_wanted_mark}
 use Rattle.rev_prompt.specs.declared.answers.Span.{Span}
 
@@ -45,6 +45,18 @@ state_by t n = led_by t n t.opening t.kept
 abbrev pub state_then : Timeline → Option ℕ → State
 state_then t None = state_at t
 state_then t (Some n) = state_by t n
+
+-- the history that ends with n: of the kept numbers those up to it
+abbrev pub up_to : ℕ → Timeline → Timeline
+up_to n t = record t { kept = filter (λ k. not (nat_lt n k)) t.kept }
+
+-- It is a history, and the state after n is the one that it leads to.
+pub record EndsWith (t : Timeline) (n : ℕ) : Type 0 where
+  pub history : IsHistory (up_to n t)
+  pub state : state_by t n ≡ state_at (up_to n t)
+
+abbrev pub PastStatesAreLed : Type 0
+PastStatesAreLed = (t : Timeline) (n : ℕ) → IsHistory t → EndsWith t n
 
 -- the opening is that of the history
 pub record IsOpeningOf (t : Timeline) (opening : Records) : Type 0 where

@@ -6,6 +6,7 @@ mod answers;
 mod causes;
 mod commands;
 mod events;
+pub mod laws;
 mod line;
 mod listings;
 mod past;
