@@ -1,1 +1,4 @@
 pub mod WitnessLemmas
+pub mod ProgressLemmas
+pub mod EdgeLemmas
+pub mod RaceLemmas

@@ -1,2 +1,4 @@
 pub mod Witness
+pub mod Progress
+pub mod Sources
 pub mod Words

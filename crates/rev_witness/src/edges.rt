@@ -1,17 +1,22 @@
 //! What is said of edges: their first outputs, the events of their commands, and the order in which they end.
-ghost use Rattle.std.specs.Prelude.{◌≡◌, ◌<◌, ◌↔◌, length, slice_get, true, IfOk, IfSome, None, Some};
+ghost use Rattle.std.specs.Prelude.{◌≡◌, ◌<◌, length, map, slice_get, IfOk};
+ghost use Rattle.std.specs.List.{All, range_with_len};
 ghost use Rattle.std.specs.Option.{option_copied};
-ghost use Rattle.rev_graph.specs.Graph.{build_at, outputs_of};
-ghost use Rattle.rev_races.specs.Races.{starts};
+ghost use Rattle.rev_graph.specs.Graph.{build_at, outputs_of, pool_of};
+ghost use Rattle.rev_races.specs.Laws as slot;
+ghost use Rattle.rev_ranks.specs.Graph.{graph_of};
+ghost use Rattle.rev_witness.specs.Progress.{AreByRank, finish_event, first_out, plan_event, rank_list, start_event};
 
+use rev_cells::Names;
 use rev_events::{Event, Listing, Stamps};
 use rev_graph::Graph;
 use rev_paths::Name;
+use rev_ranks::reversed;
 use rev_waits::{steps, waited_for};
 use std::alloc::{AllocError, Global};
 
-/// The first output of an edge.
-pub(crate) fn first_output(graph: &Graph, edge: u32) -> Option<&Name>
+// The first output of an edge, if it has one.
+fn some_output(graph: &Graph, edge: u32) -> Option<&Name>
     requires { edge < length graph.now.manifest.builds }
     ensures { option_copied result ≡ slice_get (outputs_of (build_at graph.now.manifest.builds edge)) 0 }
 {
@@ -22,9 +27,39 @@ pub(crate) fn first_output(graph: &Graph, edge: u32) -> Option<&Name>
     }
 }
 
+/// The first output of an edge: each has one.
+pub(crate) fn first_output(graph: &Graph, edge: u32) -> &Name
+    requires { edge < length graph.now.manifest.builds }
+    ensures { result.now ≡ first_out graph.now.manifest edge }
+{
+    let _edges = graph.edges();
+    match some_output(graph, edge) {
+        Some(out) => out,
+        None => unreachable!(),
+    }
+}
+
+/// The plan of two edges, by their first outputs.
+pub(crate) fn plan_of(
+    alloc: Global,
+    graph: &Graph,
+    one: u32,
+    other: u32,
+) -> Result<Event, AllocError>
+    requires one { one < length graph.now.manifest.builds }
+    requires other { other < length graph.now.manifest.builds }
+    ensures { IfOk result (λ plan. plan ≡ plan_event graph.now.manifest one other) }
+{
+    let mut targets = Vec::new(alloc);
+    targets.push(first_output(graph, one).copy()?)?;
+    targets.push(first_output(graph, other).copy()?)?;
+    Ok(Event::Plan(Names::new(targets)))
+}
+
 // The first slot of an edge's pool, where that has slots.
 fn first_slot(graph: &Graph, edge: u32) -> Option<u32>
     requires { edge < length graph.now.manifest.builds }
+    ensures { result ≡ slot.first_slot (pool_of graph.now.manifest edge) }
 {
     match graph.pool(edge) {
         Some(_) => Some(0),
@@ -33,60 +68,69 @@ fn first_slot(graph: &Graph, edge: u32) -> Option<u32>
 }
 
 /// The start of an edge's command on the first job and in the first slot.
-pub(crate) fn start_of(graph: &Graph, edge: u32) -> Result<Option<Event>, AllocError>
+pub(crate) fn start_of(graph: &Graph, edge: u32) -> Result<Event, AllocError>
     requires { edge < length graph.now.manifest.builds }
-    ensures { IfOk result (λ start. IfSome start (λ start. starts graph.now.manifest edge start ≡ true)) }
+    ensures { IfOk result (λ start. start ≡ start_event graph.now.manifest edge) }
 {
-    let Some(out) = first_output(graph, edge) else {
-        return Ok(None);
-    };
-    let _producer = graph.producer(out);
     let slot = first_slot(graph, edge);
-    Ok(Some(Event::Start {
-        out: out.copy()?,
+    Ok(Event::Start {
+        out: first_output(graph, edge).copy()?,
         job: 0,
         slot,
-    }))
+    })
 }
 
 /// The end of an edge's command, with the stamp 1 of each output and nothing listed.
-pub(crate) fn finish_of(
-    alloc: Global,
-    graph: &Graph,
-    edge: u32,
-) -> Result<Option<Event>, AllocError>
+pub(crate) fn finish_of(alloc: Global, graph: &Graph, edge: u32) -> Result<Event, AllocError>
     requires { edge < length graph.now.manifest.builds }
+    ensures { IfOk result (λ finish. finish ≡ finish_event graph.now.manifest edge) }
 {
-    let Some(out) = first_output(graph, edge) else {
-        return Ok(None);
-    };
     let outputs = graph.outputs(edge);
-    let mut stamps = vec![in alloc; 1; outputs.explicit.len()]?;
-    for _ in outputs.implicit {
-        stamps.push(1)?;
-    }
-    Ok(Some(Event::Finish {
-        out: out.copy()?,
+    let stamps = vec![in alloc; 1; outputs.explicit.len() + outputs.implicit.len()]?;
+    Ok(Event::Finish {
+        out: first_output(graph, edge).copy()?,
         stamps: Stamps::new(stamps),
         listing: Listing::Nothing,
-    }))
+    })
 }
 
-/// The edges that an edge waits for, by their ranks: each stands behind those that it waits for itself.
-pub(crate) fn by_rank(alloc: Global, graph: &Graph, edge: u32) -> Result<Vec<Vec<u32>>, AllocError>
-    requires { edge < length graph.now.manifest.builds }
+// The rank of an edge that is waited for, and nothing of another.
+fn rank_of(alloc: Global, graph: &Graph, waited: &[bool], edge: u32) -> Result<Vec<u32>, AllocError>
+    requires edge { edge < length graph.now.manifest.builds }
+    requires each { length waited.now ≡ length graph.now.manifest.builds }
+    ensures { IfOk result (λ ranks. ranks.items ≡ rank_list graph.now waited.now edge) }
 {
-    let edges = graph.edges();
-    let steps = steps(alloc, graph)?;
-    let waited = waited_for(alloc, graph, &steps, edge)?;
     let mut ranks = Vec::new(alloc);
-    for number in 0..edges {
-        ranks.push(Vec::new(alloc))?;
-    }
-    for other in 0..edges {
-        if waited[other as usize] {
-            ranks[graph.rank(other) as usize].push(other)?;
-        }
+    if waited[edge as usize] {
+        ranks.push(graph.rank(edge))?;
     }
     Ok(ranks)
+}
+
+// For each edge its rank, where it is waited for.
+fn ranks_of(alloc: Global, graph: &Graph, waited: &[bool]) -> Result<Vec<Vec<u32>>, AllocError>
+    requires { length waited.now ≡ length graph.now.manifest.builds }
+    ensures { IfOk result (λ ranks. graph_of ranks.items
+        ≡ map (rank_list graph.now waited.now) (range_with_len 0 (length graph.now.manifest.builds))) }
+{
+    let mut ranks = Vec::new(alloc);
+    for edge in 0..graph.edges() {
+        ranks.push(rank_of(alloc, graph, waited, edge)?)?;
+    }
+    Ok(ranks)
+}
+
+/// The edges that an edge waits for, a list for each rank: each stands behind those that it waits for itself.
+pub(crate) fn by_rank(alloc: Global, graph: &Graph, edge: u32) -> Result<Vec<Vec<u32>>, AllocError>
+    requires { edge < length graph.now.manifest.builds }
+    ensures lists { IfOk result (λ lists. AreByRank graph.now edge (graph_of lists.items)) }
+    ensures inside { IfOk result (λ lists.
+        All (λ v. All (λ other. other < length graph.now.manifest.builds) v.items) lists.items) }
+{
+    let _edges = graph.edges();
+    let steps = steps(alloc, graph)?;
+    let waited = waited_for(alloc, graph, &steps, edge)?;
+    let ranks = ranks_of(alloc, graph, &waited)?;
+    let lists = reversed(alloc, &ranks)?;
+    Ok(lists)
 }

@@ -1,14 +1,21 @@
 //! The witness of two edges.
-ghost use Rattle.std.specs.Prelude.{◌≡◌, ◌<◌, length, IfOk, IfSome, OnOk, IsTrue};
+ghost use Rattle.std.specs.Prelude.{◌≡◌, ◌<◌, ◌↔◌, List, ℕ, length, Contains, IfOk, IfSome, IsSome, OnOk, IsTrue};
+ghost use Rattle.std.specs.List.{All};
+ghost use Rattle.std.specs.Option.{IsSomeAnd};
 ghost use Rattle.rev_cells.specs.State.{State};
+ghost use Rattle.rev_history.specs.Timeline.{Numbered, state_at};
 ghost use Rattle.rev_manifest.specs.Manifest.{ManifestValue};
-ghost use Rattle.rev_witness.specs.Witness.{AreSources, BeganWith, IsWitness, opening_with};
+ghost use Rattle.rev_races.specs.Laws.{HasSourcesAlone};
+ghost use Rattle.rev_races.specs.Races.{IsRace};
+ghost use Rattle.rev_waits.specs.Waits.{Waits};
+ghost use Rattle.rev_witness.specs.Progress.{GoesOn, IsFree, IsPlanned, IsUnderWay};
+ghost use Rattle.rev_witness.specs.Sources.{AreThere};
+ghost use Rattle.rev_witness.specs.Witness.{AreSources, BeganWith, IsCommand, IsWitness, opening_with};
 
-use crate::edges::{by_rank, first_output, start_of};
+use crate::edges::{by_rank, plan_of, start_of};
 use crate::happening::{ends, happens, is_wanted};
 use crate::opening::sources_of;
-use rev_cells::{Names, Opening};
-use rev_events::Event;
+use rev_cells::Opening;
 use rev_graph::Graph;
 use rev_history::History;
 use rev_paths::Name;
@@ -32,35 +39,30 @@ impl Drop for Witness {
     }
 }
 
-// The plan of two targets.
-fn plan_of(alloc: Global, one: &Name, other: &Name) -> Result<Event, AllocError> {
-    let mut targets = Vec::new(alloc);
-    targets.push(one.copy()?)?;
-    targets.push(other.copy()?)?;
-    Ok(Event::Plan(Names::new(targets)))
-}
-
-// Has edges end in their order.
+// Has edges end in their order. Where none of their inputs is still to be made, they do end, and nothing else changes.
 fn all_end(
     alloc: Global,
     history: &mut History,
     graph: &Graph,
     edges: &[u32],
 ) -> Result<bool, AllocError>
-    ensures { (manifest : ManifestValue) (opening : State) → BeganWith manifest opening history.old.timeline
+    requires { All (λ edge. edge < length graph.now.manifest.builds) edges.now }
+    ensures began { (manifest : ManifestValue) (opening : State) → BeganWith manifest opening history.old.timeline
         → OnOk result (BeganWith manifest opening history.new.timeline) }
+    ensures goes { (opening : State) → IsUnderWay graph.now.manifest opening history.old.timeline
+        → All (IsFree graph.now.manifest.builds (state_at history.old.timeline)) edges.now
+        → IfOk result (λ went. IsTrue went
+        × GoesOn graph.now.manifest opening (Contains edges.now) history.old.timeline history.new.timeline) }
 {
     for edge in edges {
-        if *edge < graph.edges() {
-            if !ends(alloc, history, graph, *edge)? {
-                return Ok(false);
-            }
+        if !ends(alloc, history, graph, *edge)? {
+            return Ok(false);
         }
     }
     Ok(true)
 }
 
-// Has all edges end that an edge waits for.
+// Has all edges end that an edge waits for. They do, and nothing else changes.
 fn waited_end(
     alloc: Global,
     history: &mut History,
@@ -68,9 +70,13 @@ fn waited_end(
     edge: u32,
 ) -> Result<bool, AllocError>
     requires { edge < length graph.now.manifest.builds }
-    ensures { (manifest : ManifestValue) (opening : State) → BeganWith manifest opening history.old.timeline
+    ensures began { (manifest : ManifestValue) (opening : State) → BeganWith manifest opening history.old.timeline
         → OnOk result (BeganWith manifest opening history.new.timeline) }
+    ensures goes { (opening : State) → IsUnderWay graph.now.manifest opening history.old.timeline
+        → IfOk result (λ went. IsTrue went × GoesOn graph.now.manifest opening
+        (Waits graph.now.manifest.builds edge) history.old.timeline history.new.timeline) }
 {
+    let _edges = graph.edges();
     let ranks = by_rank(alloc, graph, edge)?;
     for edges in &ranks {
         if !all_end(alloc, history, graph, edges)? {
@@ -91,16 +97,17 @@ fn planned(
     requires user { user < length graph.now.manifest.builds }
     requires maker { maker < length graph.now.manifest.builds }
     requires jobs { opening.now.jobs ≡ 1 }
-    ensures { IfOk result (λ history. IfSome history (λ history.
+    ensures began { IfOk result (λ history. IfSome history (λ history.
         BeganWith graph.now.manifest opening.now.state history.timeline)) }
+    // Where only sources are there, and all of them are, the plan is accepted, and both are to run.
+    ensures planned { HasSourcesAlone graph.now.manifest.builds opening.now.state
+        → AreThere graph.now.manifest.builds opening.now.state
+        → IsCommand graph.now.manifest user → IsCommand graph.now.manifest maker
+        → IfOk result (λ history. IsSomeAnd history (λ history.
+        IsPlanned graph.now.manifest opening.now.state user maker history.timeline)) }
 {
-    let Some(used) = first_output(graph, user) else {
-        return Ok(None);
-    };
-    let Some(made) = first_output(graph, maker) else {
-        return Ok(None);
-    };
-    let plan = plan_of(alloc, made, used)?;
+    let _edges = graph.edges();
+    let plan = plan_of(alloc, graph, maker, user)?;
     let again = graph.again(alloc)?;
     let mut history = History::new(alloc, again, opening)?;
     if !happens(&mut history, &plan)? {
@@ -109,21 +116,52 @@ fn planned(
     Ok(Some(history))
 }
 
-/// A build from nothing on one job, in which `user` starts while `maker` is still to run: both are planned, then all that
-/// `user` waits for ends, by rank, and `user` starts. Each event is accepted. None where one would be refused, or `maker`
-/// is no longer wanted. It takes time and memory linear in edges and inputs, and what the events take.
-///
-/// # Errors
-/// [`AllocError`] only where an allocation was refused.
-#[tactic(auto, using(crate::proofs::WitnessLemmas::is_witness, crate::proofs::WitnessLemmas::opening_jobs))]
-pub fn find_witness(
+// Has all end that an edge waits for, and then starts it, where another is still to run. Says whether it did.
+fn starts_before(
+    alloc: Global,
+    history: &mut History,
+    graph: &Graph,
+    user: u32,
+    maker: u32,
+) -> Result<bool, AllocError>
+    requires user { user < length graph.now.manifest.builds }
+    requires maker { maker < length graph.now.manifest.builds }
+    ensures witness { (sources : List (List ℕ)) → AreSources graph.now.manifest.builds sources
+        → BeganWith graph.now.manifest (opening_with sources).state history.old.timeline
+        → IfOk result (λ did. IsTrue did
+        → IsWitness graph.now.manifest user maker sources history.new.timeline) }
+    // Where both were planned it does, exactly where it does not wait for the other.
+    ensures exact { (opening : State) → IsPlanned graph.now.manifest opening user maker history.old.timeline
+        → IsCommand graph.now.manifest user
+        → IfOk result (λ did. IsTrue did ↔ (Waits graph.now.manifest.builds user maker → ⊥)) }
+{
+    let _edges = graph.edges();
+    if !waited_end(alloc, history, graph, user)? {
+        return Ok(false);
+    }
+    if !is_wanted(history.cells(), maker) {
+        return Ok(false);
+    }
+    let start = start_of(graph, user)?;
+    if !happens(history, &start)? {
+        return Ok(false);
+    }
+    let _kept = history.kept();
+    Ok(true)
+}
+
+// What `find_witness` gives of two edges.
+#[tactic(auto, using(crate::proofs::WitnessLemmas::opening_jobs))]
+fn found_between(
     alloc: Global,
     graph: &Graph,
     user: u32,
     maker: u32,
 ) -> Result<Option<Witness>, AllocError>
-    ensures { IfOk result (λ found. IfSome found (λ found.
+    ensures witness { IfOk result (λ found. IfSome found (λ found.
         IsWitness graph.now.manifest user maker found.sources.items found.history.timeline)) }
+    ensures found { IsCommand graph.now.manifest user → IsCommand graph.now.manifest maker
+        → IfOk result (λ found. IsSome found ↔ (Waits graph.now.manifest.builds user maker → ⊥)) }
 {
     let edges = graph.edges();
     if user >= edges || maker >= edges {
@@ -133,21 +171,37 @@ pub fn find_witness(
     let Some(mut history) = planned(alloc, graph, &sources.opening, user, maker)? else {
         return Ok(None);
     };
-    if !waited_end(alloc, &mut history, graph, user)? {
+    if !starts_before(alloc, &mut history, graph, user, maker)? {
         return Ok(None);
     }
-    if !is_wanted(history.cells(), maker) {
-        return Ok(None);
-    }
-    let Some(start) = start_of(graph, user)? else {
-        return Ok(None);
-    };
-    if !happens(&mut history, &start)? {
-        return Ok(None);
-    }
-    let _kept = history.kept();
     Ok(Some(Witness {
         sources: sources.paths,
         history,
     }))
+}
+
+/// A build from nothing on one job, in which `user` starts while `maker` is still to run: both are planned, then all
+/// that `user` waits for ends, by rank, and `user` starts. Each event is accepted. Of two edges with commands there is
+/// one exactly where `user` does not wait for `maker`; so each race has one. It takes time and memory linear in edges
+/// and inputs, and what the events take.
+///
+/// # Errors
+/// [`AllocError`] only where an allocation was refused.
+pub fn find_witness(
+    alloc: Global,
+    graph: &Graph,
+    user: u32,
+    maker: u32,
+) -> Result<Option<Witness>, AllocError>
+    ensures witness { IfOk result (λ found. IfSome found (λ found.
+        IsWitness graph.now.manifest user maker found.sources.items found.history.timeline)) }
+    // Of two edges with commands there is one exactly where the one does not wait for the other.
+    ensures found { IsCommand graph.now.manifest user → IsCommand graph.now.manifest maker
+        → IfOk result (λ found. IsSome found ↔ (Waits graph.now.manifest.builds user maker → ⊥)) }
+    // Each race of a history of this manifest has one.
+    ensures race { (files : List (List ℕ)) (opening : State) (events : Numbered) (path : List ℕ)
+        → IsRace graph.now.manifest files opening events user maker path → IfOk result (λ found. IsSome found) }
+{
+    let _edges = graph.edges();
+    found_between(alloc, graph, user, maker)
 }

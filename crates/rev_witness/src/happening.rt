@@ -1,10 +1,12 @@
 //! Events that happen one after the other.
-ghost use Rattle.std.specs.Prelude.{◌≡◌, ◌↔◌, ◌<◌, length, IfOk, OnOk, IsTrue};
+ghost use Rattle.std.specs.Prelude.{◌≡◌, ◌↔◌, ◌+◌, ◌<◌, ◌^◌, ◌||◌, ℕ, None, false, length, true, IfOk, OnOk, IsTrue};
 ghost use Rattle.rev_cells.specs.State.{State, mark_of};
 ghost use Rattle.rev_cells.specs.declared.mark.Mark.TheVariants as mark;
 ghost use Rattle.rev_events.specs.Refusal.{is_through_mark, is_wanted_mark};
-ghost use Rattle.rev_history.specs.Timeline.{state_at};
+ghost use Rattle.rev_graph.specs.Graph.{build_at};
+ghost use Rattle.rev_history.specs.Timeline.{accept_refusal, last_of, state_at};
 ghost use Rattle.rev_manifest.specs.Manifest.{ManifestValue};
+ghost use Rattle.rev_witness.specs.Progress.{GoesOn, IsFree, IsUnderWay, is_due};
 ghost use Rattle.rev_witness.specs.Witness.{BeganWith, HasHappened};
 
 use crate::edges::{finish_of, first_output, start_of};
@@ -41,6 +43,9 @@ pub(crate) fn happens(history: &mut History, event: &Event) -> Result<bool, Allo
         → OnOk result (BeganWith manifest opening history.new.timeline) }
     ensures happened { IfOk result (λ happened. IsTrue happened
         → HasHappened event.now history.old.timeline history.new.timeline) }
+    // It happens where it is accepted, and there is a number left.
+    ensures accepted { accept_refusal history.old.timeline event.now ≡ None
+        → last_of history.old.timeline.accepted + 1 < 2 ^ 32 → IfOk result IsTrue }
 {
     let last = history.last();
     if last == u32::MAX {
@@ -57,30 +62,36 @@ pub(crate) fn happens(history: &mut History, event: &Event) -> Result<bool, Allo
 // Has an edge's command run.
 fn runs(alloc: Global, history: &mut History, graph: &Graph, edge: u32) -> Result<bool, AllocError>
     requires { edge < length graph.now.manifest.builds }
-    ensures { (manifest : ManifestValue) (opening : State) → BeganWith manifest opening history.old.timeline
+    ensures began { (manifest : ManifestValue) (opening : State) → BeganWith manifest opening history.old.timeline
         → OnOk result (BeganWith manifest opening history.new.timeline) }
+    ensures goes { (opening : State) → IsUnderWay graph.now.manifest opening history.old.timeline
+        → IsFree graph.now.manifest.builds (state_at history.old.timeline) edge
+        → (build_at graph.now.manifest.builds edge).phony ≡ false
+        → is_due (mark_of (state_at history.old.timeline) edge) ≡ true → IfOk result (λ went. IsTrue went
+        × GoesOn graph.now.manifest opening (λ other. other ≡ edge) history.old.timeline history.new.timeline) }
 {
-    let Some(start) = start_of(graph, edge)? else {
-        return Ok(false);
-    };
+    let _edges = graph.edges();
+    let start = start_of(graph, edge)?;
     if !happens(history, &start)? {
         return Ok(false);
     }
-    let Some(finish) = finish_of(alloc, graph, edge)? else {
-        return Ok(false);
-    };
+    let finish = finish_of(alloc, graph, edge)?;
     happens(history, &finish)
 }
 
 // Has a phony edge pass.
 fn passes(history: &mut History, graph: &Graph, edge: u32) -> Result<bool, AllocError>
     requires { edge < length graph.now.manifest.builds }
-    ensures { (manifest : ManifestValue) (opening : State) → BeganWith manifest opening history.old.timeline
+    ensures began { (manifest : ManifestValue) (opening : State) → BeganWith manifest opening history.old.timeline
         → OnOk result (BeganWith manifest opening history.new.timeline) }
+    ensures goes { (opening : State) → IsUnderWay graph.now.manifest opening history.old.timeline
+        → IsFree graph.now.manifest.builds (state_at history.old.timeline) edge
+        → (build_at graph.now.manifest.builds edge).phony ≡ true
+        → is_due (mark_of (state_at history.old.timeline) edge) ≡ true → IfOk result (λ went. IsTrue went
+        × GoesOn graph.now.manifest opening (λ other. other ≡ edge) history.old.timeline history.new.timeline) }
 {
-    let Some(out) = first_output(graph, edge) else {
-        return Ok(false);
-    };
+    let _edges = graph.edges();
+    let out = first_output(graph, edge);
     happens(history, &Event::Pass { out: out.copy()? })
 }
 
@@ -92,9 +103,14 @@ pub(crate) fn ends(
     edge: u32,
 ) -> Result<bool, AllocError>
     requires { edge < length graph.now.manifest.builds }
-    ensures { (manifest : ManifestValue) (opening : State) → BeganWith manifest opening history.old.timeline
+    ensures began { (manifest : ManifestValue) (opening : State) → BeganWith manifest opening history.old.timeline
         → OnOk result (BeganWith manifest opening history.new.timeline) }
+    // Where none of its inputs is still to be made, it does end, and nothing else changes.
+    ensures goes { (opening : State) → IsUnderWay graph.now.manifest opening history.old.timeline
+        → IsFree graph.now.manifest.builds (state_at history.old.timeline) edge → IfOk result (λ went. IsTrue went
+        × GoesOn graph.now.manifest opening (λ other. other ≡ edge) history.old.timeline history.new.timeline) }
 {
+    let _edges = graph.edges();
     let is_due = is_wanted(history.cells(), edge) || is_through(history.cells(), edge);
     if !is_due {
         return Ok(true);
