@@ -1,5 +1,11 @@
 //! Lines of a manifest's file that get order-only inputs.
-use crate::lines::lines_of;
+ghost use Rattle.std.specs.Prelude.{◌≡◌, ◌≤◌, ◌<◌, ◌==◌, ◌||◌, not, ◌++◌, Some, map, length, take, drop, IfOk, OnOk};
+ghost use Rattle.std.specs.List.{flat_map, list_all};
+ghost use Rattle.rev_patch.specs.Additions.{added, edit_at, edits_for, edits_of, is_written, paths_text, place_for, same_line, spaced_path, texts_of, unless, written, written_byte};
+ghost use Rattle.rev_patch.specs.Lines.{edit_of, edited, edits, line_of, new_text};
+ghost use Rattle.rev_patch.specs.Runs.{first_run};
+
+use crate::lines::{Row, edited_rows, push_new, rows_of};
 use crate::statement::{Place, place_of};
 use std::alloc::{AllocError, Global};
 
@@ -22,19 +28,78 @@ pub struct Change {
 }
 
 // Whether a path can be written on a build line.
-fn is_written(path: &[u8]) -> bool {
+fn is_written(path: &[u8]) -> bool
+    ensures { result ≡ is_written path.now }
+{
     !path.contains(&b'|') && !path.contains(&b'\n') && !path.contains(&b'\r')
 }
 
-// Adds a path as it is written on a build line.
-fn push_path(text: &mut Vec<u8>, path: &[u8]) -> Result<(), AllocError> {
-    for byte in path {
-        if *byte == b'$' || *byte == b' ' || *byte == b':' {
-            text.push(b'$')?;
+// Whether the paths of additions can.
+fn are_written(additions: &[Addition<'_>]) -> bool
+    ensures { result ≡ list_all (λ a. is_written a.path.now) additions.now }
+{
+    for addition in additions {
+        if !is_written(addition.path) {
+            return false;
         }
-        text.push(*byte)?;
+    }
+    true
+}
+
+// Adds a path as it is written on a build line.
+fn push_path(text: &mut Vec<u8>, path: &[u8]) -> Result<(), AllocError>
+    ensures { OnOk result (text.new.items ≡ text.old.items ++ written path.now) }
+{
+    for byte in path {
+        push_byte(text, *byte)?;
     }
     Ok(())
+}
+
+// Adds a byte as it is written on a build line.
+fn push_byte(text: &mut Vec<u8>, byte: u8) -> Result<(), AllocError>
+    ensures { OnOk result (text.new.items ≡ text.old.items ++ written_byte byte) }
+{
+    if byte == b'$' || byte == b' ' || byte == b':' {
+        text.push(b'$')?;
+        text.push(byte)?;
+        return Ok(());
+    }
+    text.push(byte)?;
+    Ok(())
+}
+
+// Adds the paths of additions, each behind a space.
+fn push_spaced(text: &mut Vec<u8>, additions: &[Addition<'_>]) -> Result<(), AllocError>
+    ensures { OnOk result (text.new.items ≡ text.old.items ++ flat_map spaced_path additions.now) }
+{
+    for addition in additions {
+        text.push(b' ')?;
+        push_path(text, addition.path)?;
+    }
+    Ok(())
+}
+
+// Adds the paths of additions, with a space between each two.
+fn push_paths(text: &mut Vec<u8>, additions: &[Addition<'_>]) -> Result<(), AllocError>
+    ensures { OnOk result (text.new.items ≡ text.old.items ++ paths_text additions.now) }
+{
+    let Some((first, others)) = additions.split_first() else {
+        return Ok(());
+    };
+    push_path(text, first.path)?;
+    push_spaced(text, others)?;
+    Ok(())
+}
+
+// Adds bytes, unless they are to be left out.
+fn push_unless(text: &mut Vec<u8>, is_left_out: bool, bytes: &[u8]) -> Result<(), AllocError>
+    ensures { OnOk result (text.new.items ≡ text.old.items ++ unless is_left_out bytes.now) }
+{
+    if is_left_out {
+        return Ok(());
+    }
+    text.extend_from_slice(bytes)
 }
 
 // Adds what is added to a statement.
@@ -42,69 +107,116 @@ fn push_added(
     text: &mut Vec<u8>,
     place: Place,
     additions: &[Addition<'_>],
-) -> Result<(), AllocError> {
-    if !place.is_before_validations {
-        text.push(b' ')?;
-    }
-    if !place.has_sign {
-        text.extend_from_slice(b"|| ")?;
-    }
-    for (number, addition) in additions.iter().enumerate() {
-        if number > 0 {
-            text.push(b' ')?;
-        }
-        push_path(text, addition.path)?;
-    }
-    if place.is_before_validations {
-        text.push(b' ')?;
-    }
+) -> Result<(), AllocError>
+    ensures { OnOk result (text.new.items ≡ text.old.items ++ added place additions.now) }
+{
+    push_unless(text, place.is_before_validations, b" ")?;
+    push_unless(text, place.has_sign, b"|| ")?;
+    push_paths(text, additions)?;
+    push_unless(text, !place.is_before_validations, b" ")?;
     Ok(())
 }
 
 // The line of a place with what is added there.
-fn change_at(
+fn changed_line(
     alloc: Global,
     line: &[u8],
     place: Place,
     additions: &[Addition<'_>],
-) -> Result<Change, AllocError> {
-    let at = place.at.min(line.len());
-    let (before, behind) = line.split_at(at);
+) -> Result<Vec<u8>, AllocError>
+    ensures { IfOk result (λ text. text.items
+        ≡ take place.at line.now ++ added place additions.now ++ drop place.at line.now) }
+{
+    let (before, behind) = line.split_at(place.at.min(line.len()));
     let mut text = Vec::new(alloc);
     text.extend_from_slice(before)?;
     push_added(&mut text, place, additions)?;
     text.extend_from_slice(behind)?;
-    Ok(Change {
+    Ok(text)
+}
+
+// Adds the change for additions that are put at a place.
+fn push_change_at(
+    alloc: Global,
+    changes: &mut Vec<Change>,
+    rows: &[Row<'_>],
+    place: Place,
+    additions: &[Addition<'_>],
+) -> Result<(), AllocError>
+    ensures { OnOk result (edits changes.new.items
+        ≡ edits changes.old.items ++ edit_at (texts_of (map line_of rows.now)) additions.now (Some place)) }
+{
+    let Some(row) = rows.get(place.line) else {
+        return Ok(());
+    };
+    let text = changed_line(alloc, row.old, place, additions)?;
+    changes.push(Change {
         line: place.line,
         text,
-    })
+    })?;
+    Ok(())
 }
 
-// The change of one statement; none where its line or a path is none.
-fn change_of(
-    alloc: Global,
-    lines: &[&[u8]],
-    additions: &[Addition<'_>],
-) -> Result<Option<Change>, AllocError> {
+// Whether additions are left out, by the line of the first: it is no line, or a path is none that can be written.
+fn is_left_out(line: u64, additions: &[Addition<'_>]) -> bool
+    ensures { result ≡ (line == 0 || not (list_all (λ a. is_written a.path.now) additions.now)) }
+{
+    line == 0 || !are_written(additions)
+}
+
+// Where the additions to one statement are put; none where they are left out.
+fn place_for(rows: &[Row<'_>], additions: &[Addition<'_>]) -> Option<Place>
+    ensures { result ≡ place_for (texts_of (map line_of rows.now)) additions.now }
+{
     let Some(first) = additions.first() else {
-        return Ok(None);
+        return None;
     };
-    if first.line == 0 || additions.iter().any(|addition| !is_written(addition.path)) {
-        return Ok(None);
+    if is_left_out(first.line, additions) {
+        return None;
     }
-    let Some(place) = place_of(lines, (first.line - 1) as usize) else {
-        return Ok(None);
-    };
-    let Some(line) = lines.get(place.line) else {
-        return Ok(None);
-    };
-    let change = change_at(alloc, line, place, additions)?;
-    Ok(Some(change))
+    place_of(rows, first.line.saturating_sub(1) as usize)
 }
 
-/// The lines of a file that are others once these order-only inputs were added, in rising order. `additions` stand in
-/// the order of their lines, those of one statement beside each other. What stands on a line that the file has not, or
-/// has a path that no build line can name, is left out.
+// Adds the change for the additions to one statement.
+fn push_change(
+    alloc: Global,
+    changes: &mut Vec<Change>,
+    rows: &[Row<'_>],
+    additions: &[Addition<'_>],
+) -> Result<(), AllocError>
+    ensures { OnOk result (edits changes.new.items
+        ≡ edits changes.old.items ++ edits_for (texts_of (map line_of rows.now)) additions.now) }
+{
+    let Some(place) = place_for(rows, additions) else {
+        return Ok(());
+    };
+    push_change_at(alloc, changes, rows, place, additions)?;
+    Ok(())
+}
+
+// How many additions are to the first statement.
+fn first_statement(additions: &[Addition<'_>]) -> usize
+    ensures run { result ≡ first_run same_line additions.now }
+    ensures within { result ≤ length additions.now }
+    ensures some { 0 < length additions.now → 0 < result }
+{
+    let Some((first, rest)) = additions.split_first() else {
+        return 0;
+    };
+    let mut last = first;
+    for (number, addition) in rest.iter().enumerate() {
+        if last.line != addition.line {
+            return number + 1;
+        }
+        last = addition;
+    }
+    additions.len()
+}
+
+/// The lines of a file that are others once these order-only inputs were added. `additions` stand in the order of their
+/// lines, those of one statement beside each other. What is added to one statement is put behind all that stands in it,
+/// or before its validations, behind `||`; a `$` stands before each `$`, space and `:` of a path. Left out is what
+/// would be added to a statement that begins at no line of the file, or beside a path that no build line can name.
 ///
 /// # Errors
 /// [`AllocError`] only where an allocation was refused.
@@ -112,40 +224,32 @@ pub fn changes_of(
     alloc: Global,
     text: &[u8],
     additions: &[Addition<'_>],
-) -> Result<Vec<Change>, AllocError> {
-    let lines = lines_of(alloc, text)?;
+) -> Result<Vec<Change>, AllocError>
+    ensures { IfOk result (λ changes. edits changes.items ≡ edits_of text.now additions.now) }
+{
+    let rows = rows_of(alloc, text)?;
     let mut changes = Vec::new(alloc);
-    for group in additions.chunk_by(|one, other| one.line == other.line) {
-        if let Some(change) = change_of(alloc, &lines.lines, group)? {
-            changes.push(change)?;
-        }
+    let mut at = 0;
+    while at < additions.len() {
+        let (_, rest) = additions.split_at(at);
+        let (group, _) = rest.split_at(first_statement(rest));
+        push_change(alloc, &mut changes, &rows, group)?;
+        at += group.len();
     }
     Ok(changes)
 }
 
-/// The text with these lines changed, which stand in rising order.
+/// The text with these lines changed: each line that a change names is its text, the first one's where several name it,
+/// and every other line stays as it is. So do the ends of the lines.
 ///
 /// # Errors
 /// [`AllocError`] only where an allocation was refused.
-pub fn changed_text(alloc: Global, text: &[u8], changes: &[Change]) -> Result<Vec<u8>, AllocError> {
-    let lines = lines_of(alloc, text)?;
+pub fn changed_text(alloc: Global, text: &[u8], changes: &[Change]) -> Result<Vec<u8>, AllocError>
+    ensures { IfOk result (λ changed. changed.items ≡ flat_map new_text (edited text.now (edits changes.now))) }
+{
     let mut changed = Vec::new(alloc);
-    let mut left = changes.iter();
-    let mut next = left.next();
-    for (number, line) in lines.lines.iter().enumerate() {
-        if number > 0 {
-            changed.push(b'\n')?;
-        }
-        match next {
-            Some(change) if change.line == number => {
-                changed.extend_from_slice(&change.text)?;
-                next = left.next();
-            }
-            _ => changed.extend_from_slice(line)?,
-        }
-    }
-    if lines.is_ended {
-        changed.push(b'\n')?;
+    for row in &edited_rows(alloc, text, changes)? {
+        push_new(&mut changed, row)?;
     }
     Ok(changed)
 }
