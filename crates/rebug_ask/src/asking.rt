@@ -2,12 +2,12 @@
 ghost use Rattle.std.specs.Prelude.{◌≤◌, length};
 
 use crate::fault::ProgramFault;
-use crate::files::{place_of, read_manifest, read_trace};
-use crate::told::{leave, manifest_of, refuse, write};
+use crate::files::{Recording, place_of, read_recording};
+use crate::told::{leave, manifest_of, refuse, trace_of, write};
 use rev_answers::{Told, answer_json, answer_words, fault_json, opening_json, opening_words};
 use rev_desk::Desk;
 use rev_manifest::Manifest;
-use rev_prompt::{LineFault, Question, Session, answer_to, question_of, texts_of};
+use rev_prompt::{Answer, LineFault, Question, Session, answer_to, question_of, texts_of};
 use rev_recording::{RecordingFault, open};
 use rev_script::turns_of;
 use rev_trace::Trace;
@@ -64,6 +64,20 @@ fn told(
     })
 }
 
+// What an answer is in words, or as an object.
+fn answer_text(
+    alloc: Global,
+    told: Told<'_>,
+    answer: &Answer,
+    json: bool,
+) -> Result<Vec<u8>, AllocError> {
+    if json {
+        answer_json(alloc, told, answer)
+    } else {
+        answer_words(alloc, told, answer)
+    }
+}
+
 // What is written for a question.
 fn written_for(
     alloc: Global,
@@ -78,11 +92,7 @@ fn written_for(
         desk,
         question,
     };
-    let text = if json {
-        answer_json(alloc, told, &reply.answer)?
-    } else {
-        answer_words(alloc, told, &reply.answer)?
-    };
+    let text = answer_text(alloc, told, &reply.answer, json)?;
     Ok(Answered {
         text,
         taken: reply.taken,
@@ -98,12 +108,22 @@ fn reply_to(
     line: &[u8],
     json: bool,
 ) -> Result<Answered, AllocError> {
-    let texts = match texts_of(alloc, line) {
-        Ok(texts) => texts,
-        Err(LineFault::Memory) => return Err(AllocError),
-        Err(LineFault::OpenQuote) => return told(alloc, session, OPEN_QUOTE, json),
-    };
-    match question_of(alloc, &texts) {
+    match texts_of(alloc, line) {
+        Ok(texts) => reply_to_words(alloc, session, desk, &texts, json),
+        Err(LineFault::Memory) => Err(AllocError),
+        Err(LineFault::OpenQuote) => told(alloc, session, OPEN_QUOTE, json),
+    }
+}
+
+// What is written for the words of a line.
+fn reply_to_words(
+    alloc: Global,
+    session: &Session<'_>,
+    desk: &mut Desk,
+    texts: &[Vec<u8>],
+    json: bool,
+) -> Result<Answered, AllocError> {
+    match question_of(alloc, texts) {
         Ok(question) => written_for(alloc, session, desk, &question, json),
         Err(rev_fields::LineFault::Memory) => Err(AllocError),
         Err(_) => told(alloc, session, NOT_ASKED, json),
@@ -119,6 +139,50 @@ fn put<R: Print>(rt: &R, bytes: &[u8]) -> Result<(), Ended> {
     }
 }
 
+// What a read of a line gave.
+#[derive(Clone, Copy)]
+enum Typed {
+    Line,
+    End,
+    NoText,
+    Failed,
+}
+
+// Reads a line of the standard input.
+fn read_typed<R: Input>(rt: &R, line: &mut String) -> Typed {
+    match rt.read_line(line) {
+        Ok(0) => Typed::End,
+        Ok(_) => Typed::Line,
+        Err(error) if error.kind() == ErrorKind::InvalidData => Typed::NoText,
+        Err(_) => Typed::Failed,
+    }
+}
+
+// Answers a line that is no text.
+fn answer_no_text<R: Print + AllocGlobal>(
+    rt: &R,
+    session: &Session<'_>,
+    json: bool,
+) -> Result<bool, Ended> {
+    let no_text = told(rt.alloc(), session, NO_TEXT, json)?;
+    put(rt, &no_text.text)?;
+    Ok(true)
+}
+
+// Answers a line; whether it asked for no end.
+fn answer_line<R: Print + AllocGlobal>(
+    rt: &R,
+    session: &mut Session<'_>,
+    desk: &mut Desk,
+    line: &[u8],
+    json: bool,
+) -> Result<bool, Ended> {
+    let reply = reply_to(rt.alloc(), session, desk, line, json)?;
+    session.taken = reply.taken;
+    put(rt, &reply.text)?;
+    Ok(!reply.ends)
+}
+
 // Takes a line of the standard input and answers it; whether there was one, and it asked for no end.
 fn turn<R: Input + Print + AllocGlobal>(
     rt: &R,
@@ -127,20 +191,12 @@ fn turn<R: Input + Print + AllocGlobal>(
     json: bool,
 ) -> Result<bool, Ended> {
     let mut line = String::new(rt.alloc());
-    match rt.read_line(&mut line) {
-        Ok(0) => return Ok(false),
-        Ok(_) => {}
-        Err(error) if error.kind() == ErrorKind::InvalidData => {
-            let no_text = told(rt.alloc(), session, NO_TEXT, json)?;
-            put(rt, &no_text.text)?;
-            return Ok(true);
-        }
-        Err(_) => return Err(Ended::Read),
+    match read_typed(rt, &mut line) {
+        Typed::Line => answer_line(rt, session, desk, line.trim().as_bytes(), json),
+        Typed::End => Ok(false),
+        Typed::NoText => answer_no_text(rt, session, json),
+        Typed::Failed => Err(Ended::Read),
     }
-    let reply = reply_to(rt.alloc(), session, desk, line.trim().as_bytes(), json)?;
-    session.taken = reply.taken;
-    put(rt, &reply.text)?;
-    Ok(!reply.ends)
 }
 
 /// How a recording is asked.
@@ -170,6 +226,22 @@ fn converse<R: Input + Print + AllocGlobal>(
     Ok(())
 }
 
+// Tells what the recording has.
+fn put_opening<R: Print + AllocGlobal>(
+    rt: &R,
+    commands: usize,
+    edges: u32,
+    lanes: u32,
+    json: bool,
+) -> Result<(), Ended> {
+    let text = if json {
+        opening_json(rt.alloc(), commands, edges, lanes)?
+    } else {
+        opening_words(rt.alloc(), commands, edges, lanes)?
+    };
+    put(rt, &text)
+}
+
 // Tells what the recording has, and answers lines about it.
 fn asked<R: Input + Print + AllocGlobal>(
     rt: &R,
@@ -191,12 +263,7 @@ fn asked<R: Input + Print + AllocGlobal>(
         opening: &trace.opening,
     };
     let edges = desk.history().graph().edges();
-    let text = if manner.json {
-        opening_json(alloc, turns.len(), edges, lanes)?
-    } else {
-        opening_words(alloc, turns.len(), edges, lanes)?
-    };
-    put(rt, &text)?;
+    put_opening(rt, turns.len(), edges, lanes, manner.json)?;
     converse(rt, &mut session, desk, manner)
 }
 
@@ -221,20 +288,16 @@ fn asked_of<R: Input + Print + AllocGlobal>(
 // Answers lines about the bytes of a recording.
 fn asked_about<R: Input + Print + AllocGlobal>(
     rt: &R,
-    files: &[(Vec<u8>, Vec<u8>)],
-    trace: &[u8],
+    read: &Recording,
     manner: Manner,
 ) -> Result<(), Ended> {
-    let manifest = match manifest_of(rt.alloc(), files) {
+    let manifest = match manifest_of(rt.alloc(), &read.files) {
         Ok(manifest) => manifest,
         Err(fault) => return Err(Ended::Recording(fault)),
     };
-    match rev_trace::read(rt.alloc(), trace) {
+    match trace_of(rt.alloc(), &read.trace) {
         Ok(trace) => asked_of(rt, &manifest, &trace, manner),
-        Err(rev_fields::ReadFault::Numbered(fault)) => {
-            Err(Ended::Recording(RecordingFault::Trace(fault)))
-        }
-        Err(rev_fields::ReadFault::Memory) => Err(Ended::Recording(RecordingFault::Memory)),
+        Err(fault) => Err(Ended::Recording(fault)),
     }
 }
 
@@ -245,12 +308,11 @@ pub fn ask<'a, R: Files + Input + Print + Eprint + AllocGlobal>(
     manner: Manner,
 ) -> Result<u8, ProgramFault<'a>> {
     let place = place_of(rt, recording);
-    let files = read_manifest(rt, recording, place)?;
-    let trace = read_trace(rt, recording, place)?;
-    match asked_about(rt, &files, &trace, manner) {
+    let read = read_recording(rt, recording, place)?;
+    match asked_about(rt, &read, manner) {
         Ok(()) => Ok(0),
         Err(Ended::Write) => Err(ProgramFault::Write),
         Err(Ended::Read) => Err(ProgramFault::Read),
-        Err(Ended::Recording(fault)) => refuse(rt, &files, &trace, &fault),
+        Err(Ended::Recording(fault)) => refuse(rt, &read, &fault),
     }
 }

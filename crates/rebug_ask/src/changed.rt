@@ -41,6 +41,31 @@ fn changed_path<'a>(graph: &Graph, event: &'a Event) -> Option<&'a Name> {
     }
 }
 
+// Adds the edge whose command an event begins to those that run, or takes out the one whose it ends.
+fn note_run(graph: &Graph, event: &Event, running: &mut Vec<u32>) -> Result<(), AllocError> {
+    if let Some((edge, runs)) = begun_or_ended(graph, event) {
+        running.retain(|other| *other != edge);
+        if runs {
+            running.push(edge)?;
+        }
+    }
+    Ok(())
+}
+
+// Adds the change of a path where commands ran.
+fn note_change(
+    changes: &mut IndexMap<Name, Changed>,
+    path: &Name,
+    number: u32,
+    running: &Vec<u32>,
+) -> Result<(), AllocError> {
+    if !running.is_empty() {
+        let ran = running.clone()?;
+        changes.insert(path.copy()?, Changed { number, ran })?;
+    }
+    Ok(())
+}
+
 /// The paths that no edge makes and that changed while commands ran, each with the last such change.
 pub fn changes_in(alloc: Global, history: &History) -> Result<IndexMap<Name, Changed>, AllocError> {
     let graph = history.graph();
@@ -50,23 +75,9 @@ pub fn changes_in(alloc: Global, history: &History) -> Result<IndexMap<Name, Cha
         let Some(event) = history.event(*number) else {
             continue;
         };
-        if let Some((edge, runs)) = begun_or_ended(graph, event) {
-            running.retain(|other| *other != edge);
-            if runs {
-                running.push(edge)?;
-            }
-        }
+        note_run(graph, event, &mut running)?;
         if let Some(path) = changed_path(graph, event) {
-            if !running.is_empty() {
-                let ran = running.clone()?;
-                changes.insert(
-                    path.copy()?,
-                    Changed {
-                        number: *number,
-                        ran,
-                    },
-                )?;
-            }
+            note_change(&mut changes, path, *number, &running)?;
         }
     }
     Ok(changes)

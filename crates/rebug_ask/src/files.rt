@@ -14,9 +14,28 @@ const TRACE_BYTES: usize = 1_073_741_824;
 const MOST_FILES: usize = 16_384;
 
 // Why bytes are not there.
+#[derive(Clone, Copy)]
 enum ReadFault {
     Memory,
     Unread(Unread),
+}
+
+/// The bytes of a recording.
+pub struct Recording {
+    /// The manifest and the files that it names, each with its name.
+    pub files: Vec<(Vec<u8>, Vec<u8>)>,
+    /// The trace.
+    pub trace: Vec<u8>,
+}
+
+// Written, since a derived drop is proved again at each exit of each caller.
+impl Drop for Recording {
+    fn drop(self) {
+        let Recording {
+            files: _files,
+            trace: _trace,
+        } = self;
+    }
 }
 
 /// Where a recording is: its folder, as it stands before the name of a file in it, and the name of its manifest.
@@ -94,8 +113,19 @@ fn read_file<R: Files + AllocGlobal>(
     }
 }
 
-/// All bytes of a recording's trace.
-pub fn read_trace<'a, R: Files + AllocGlobal>(
+/// All bytes of a recording but for other names and times.
+pub fn read_recording<'a, R: Files + AllocGlobal>(
+    rt: &R,
+    recording: &'a str,
+    place: Place<'_>,
+) -> Result<Recording, ProgramFault<'a>> {
+    let files = read_manifest(rt, recording, place)?;
+    let trace = read_trace(rt, recording, place)?;
+    Ok(Recording { files, trace })
+}
+
+// All bytes of a recording's trace.
+fn read_trace<'a, R: Files + AllocGlobal>(
     rt: &R,
     recording: &'a str,
     place: Place<'_>,
@@ -181,8 +211,8 @@ fn add_named<'a, R: Files + AllocGlobal>(
     Ok(())
 }
 
-/// The manifest of a recording and the files that it names, each with its name.
-pub fn read_manifest<'a, R: Files + AllocGlobal>(
+// The manifest of a recording and the files that it names, each with its name.
+fn read_manifest<'a, R: Files + AllocGlobal>(
     rt: &R,
     recording: &'a str,
     place: Place<'_>,

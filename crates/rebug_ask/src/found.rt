@@ -77,6 +77,16 @@ pub fn told_races<'a>(
 ) -> Result<Vec<Told<'a>>, AllocError> {
     let races = races(alloc, history, files)?;
     let stories = stories(alloc, history, &races)?;
+    told_of(alloc, history, &races, &stories)
+}
+
+// The same of races with their stories.
+fn told_of<'a>(
+    alloc: Global,
+    history: &'a History,
+    races: &[Race],
+    stories: &[rev_races::Story],
+) -> Result<Vec<Told<'a>>, AllocError> {
     let mut told = Vec::new(alloc);
     let mut before = None;
     for (place, race) in races.iter().enumerate() {

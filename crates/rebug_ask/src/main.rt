@@ -23,7 +23,7 @@ use std::alloc::Global;
 use std::io::{self, IsTerminal};
 use std::process::ExitCode;
 use std::rt::{Env, Files};
-use told::{How, tell};
+use told::{How, say, tell};
 
 // The status of a command line that asks for help or is wrong.
 const USAGE: u8 = 2;
@@ -89,7 +89,7 @@ fn answer<'a, R: Files + Input + Print + Eprint + AllocGlobal>(
         Word::Races => match races_how(&asked) {
             Some(how) => how,
             None => {
-                let _ = eprintln!(rt; "rebug: --witness takes the number of a race, from 1");
+                say(rt, "--witness takes the number of a race, from 1");
                 return Ok(USAGE);
             }
         },
@@ -101,8 +101,9 @@ fn main(rt: HostRuntime) -> ExitCode {
     let words = match words(&rt) {
         Ok(words) => words,
         Err(error) if error.kind() == io::ErrorKind::InvalidData => {
-            let _ = eprintln!(rt;
-                "rebug: a word of the command line is no UTF-8 text; rename that file, or give another name for it"
+            say(
+                &rt,
+                "a word of the command line is no UTF-8 text; rename that file, or give another name for it",
             );
             return ExitCode::from(USAGE);
         }

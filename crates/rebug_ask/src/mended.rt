@@ -68,13 +68,42 @@ fn is_sound(alloc: Global, files: &[(Vec<u8>, Vec<u8>)]) -> Result<bool, AllocEr
         Err(rev_manifest::ReadFault::Memory) => return Err(AllocError),
         Err(rev_manifest::ReadFault::Manifest(_)) => return Ok(false),
     };
-    match Graph::build(alloc, &manifest) {
+    has_graph(alloc, &manifest)
+}
+
+// Whether no edge of a manifest waits for itself.
+fn has_graph(alloc: Global, manifest: &Manifest) -> Result<bool, AllocError> {
+    match Graph::build(alloc, manifest) {
         Ok(_) => Ok(true),
         Err(fault) => match &fault {
             GraphFault::Memory => Err(AllocError),
             _ => Ok(false),
         },
     }
+}
+
+// What is changed in each file.
+fn all_changes(
+    alloc: Global,
+    sources: &Sources<'_>,
+    races: &[Told<'_>],
+) -> Result<Vec<Vec<Change>>, AllocError> {
+    let mut changes = Vec::new(alloc);
+    for (file, (_, bytes)) in sources.files.iter().enumerate() {
+        let additions = additions_to(alloc, sources, races, file as u64)?;
+        changes.push(changes_of(alloc, bytes, &additions)?)?;
+    }
+    Ok(changes)
+}
+
+// Whether the files are sound with their changed lines.
+fn are_sound(
+    alloc: Global,
+    files: &[(Vec<u8>, Vec<u8>)],
+    changes: &[Vec<Change>],
+) -> Result<bool, AllocError> {
+    let changed = changed_files(alloc, files, changes)?;
+    is_sound(alloc, &changed)
 }
 
 // Adds the patch of the files.
@@ -84,13 +113,8 @@ fn push_patch(
     sources: &Sources<'_>,
     races: &[Told<'_>],
 ) -> Result<(), AllocError> {
-    let mut changes = Vec::new(alloc);
-    for (file, (_, bytes)) in sources.files.iter().enumerate() {
-        let additions = additions_to(alloc, sources, races, file as u64)?;
-        changes.push(changes_of(alloc, bytes, &additions)?)?;
-    }
-    let changed = changed_files(alloc, sources.files, &changes)?;
-    if !is_sound(alloc, &changed)? {
+    let changes = all_changes(alloc, sources, races)?;
+    if !are_sound(alloc, sources.files, &changes)? {
         return text.extend_from_slice(
             b"# no patch: with all these orders together a command waits for itself; add them one by one\n",
         );

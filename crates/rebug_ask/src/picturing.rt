@@ -1,21 +1,21 @@
 //! The picture of a recording.
-ghost use Rattle.std.specs.Prelude.{◌≤◌, length};
+ghost use Rattle.std.specs.Prelude.{◌≡◌, ◌+◌, ◌≤◌, length};
 
 use crate::fault::ProgramFault;
-use crate::files::{Place, place_of, read_manifest, read_trace};
+use crate::files::{Place, Recording, place_of, read_recording};
 use crate::page::{HEAD, TAIL};
 use crate::times::times_of;
-use crate::told::{leave, manifest_of, names_of, refuse, write};
+use crate::told::{leave, manifest_of, names_of, refuse, say, trace_of, write};
 use rev_asking::Asked;
 use rev_bars::{Drawing, push_drawing};
 use rev_desk::Desk;
 use rev_fields::number;
 use rev_history::History;
 use rev_manifest::Manifest;
-use rev_races::{races, stories};
+use rev_races::{Race, Story, races, stories};
 use rev_recording::{RecordingFault, open, replay};
 use rev_trace::Trace;
-use std::alloc::AllocError;
+use std::alloc::{AllocError, Global};
 use std::fs;
 use std::rt::Files;
 
@@ -44,6 +44,49 @@ fn is_there(history: &History, event: Option<u32>) -> bool {
     }
 }
 
+// The races of a history, whose manifest was read from these files.
+fn races_of(
+    alloc: Global,
+    history: &History,
+    files: &[(Vec<u8>, Vec<u8>)],
+) -> Result<Vec<Race>, AllocError> {
+    let names = names_of(alloc, files)?;
+    races(alloc, history, &names)
+}
+
+// The text of a drawing.
+fn text_of(alloc: Global, drawing: &Drawing<'_>, html: bool) -> Result<Vec<u8>, AllocError> {
+    let mut text = Vec::new(alloc);
+    if html {
+        text.extend_from_slice(HEAD)?;
+    }
+    push_drawing(alloc, &mut text, drawing)?;
+    if html {
+        text.extend_from_slice(TAIL)?;
+    }
+    Ok(text)
+}
+
+// The picture of a history with its races.
+fn drawn_races<R: Files + AllocGlobal>(
+    rt: &R,
+    place: Place<'_>,
+    desk: &Desk,
+    races: &[Race],
+    stories: &[Story],
+    wish: Wish,
+) -> Result<Vec<u8>, AllocError> {
+    let times = times_of(rt, place, desk)?;
+    let drawing = Drawing {
+        history: desk.history(),
+        races,
+        stories,
+        times: &times,
+        event: wish.event,
+    };
+    text_of(rt.alloc(), &drawing, wish.html)
+}
+
 // The picture of the desk of a recording that was replayed.
 fn drawn_desk<R: Files + AllocGlobal>(
     rt: &R,
@@ -52,28 +95,31 @@ fn drawn_desk<R: Files + AllocGlobal>(
     desk: &Desk,
     wish: Wish,
 ) -> Result<Vec<u8>, AllocError> {
-    let alloc = rt.alloc();
-    let history = desk.history();
-    let names = names_of(alloc, files)?;
-    let races = races(alloc, history, &names)?;
-    let stories = stories(alloc, history, &races)?;
-    let times = times_of(rt, place, desk)?;
-    let drawing = Drawing {
-        history,
-        races: &races,
-        stories: &stories,
-        times: &times,
-        event: wish.event,
-    };
-    let mut text = Vec::new(alloc);
-    if wish.html {
-        text.extend_from_slice(HEAD)?;
+    let races = races_of(rt.alloc(), desk.history(), files)?;
+    let stories = stories(rt.alloc(), desk.history(), &races)?;
+    drawn_races(rt, place, desk, &races, &stories, wish)
+}
+
+// The picture of a trace, by the desk of its recording.
+fn drawn_from<R: Files + AllocGlobal>(
+    rt: &R,
+    place: Place<'_>,
+    files: &[(Vec<u8>, Vec<u8>)],
+    trace: &Trace,
+    desk: &mut Desk,
+    wish: Wish,
+) -> Result<Made, RecordingFault>
+    requires few { length trace.now.lanes.items ≤ Trace.MAX_LANES }
+    requires lanes { desk.old.lanes ≡ length trace.now.lanes.items + 1 }
+{
+    replay(rt.alloc(), desk, trace)?;
+    if !is_there(desk.history(), wish.event) {
+        return Ok(Made::NoEvent(desk.history().last()));
     }
-    push_drawing(alloc, &mut text, &drawing)?;
-    if wish.html {
-        text.extend_from_slice(TAIL)?;
+    match drawn_desk(rt, place, files, desk, wish) {
+        Ok(text) => Ok(Made::Text(text)),
+        Err(_) => Err(RecordingFault::Memory),
     }
-    Ok(text)
 }
 
 // The picture of a trace that was read.
@@ -87,16 +133,8 @@ fn drawn_trace<R: Files + AllocGlobal>(
 ) -> Result<Made, RecordingFault>
     requires { length trace.now.lanes.items ≤ Trace.MAX_LANES }
 {
-    let alloc = rt.alloc();
-    let mut desk = open(alloc, manifest, trace)?;
-    let drawn = match replay(alloc, &mut desk, trace) {
-        Err(fault) => Err(fault),
-        Ok(()) if !is_there(desk.history(), wish.event) => Ok(Made::NoEvent(desk.history().last())),
-        Ok(()) => match drawn_desk(rt, place, files, &desk, wish) {
-            Ok(text) => Ok(Made::Text(text)),
-            Err(_) => Err(RecordingFault::Memory),
-        },
-    };
+    let mut desk = open(rt.alloc(), manifest, trace)?;
+    let drawn = drawn_from(rt, place, files, trace, &mut desk, wish);
     leave(desk);
     drawn
 }
@@ -105,16 +143,12 @@ fn drawn_trace<R: Files + AllocGlobal>(
 fn picture_of_bytes<R: Files + AllocGlobal>(
     rt: &R,
     place: Place<'_>,
-    files: &[(Vec<u8>, Vec<u8>)],
-    trace: &[u8],
+    read: &Recording,
     wish: Wish,
 ) -> Result<Made, RecordingFault> {
-    let manifest = manifest_of(rt.alloc(), files)?;
-    match rev_trace::read(rt.alloc(), trace) {
-        Ok(trace) => drawn_trace(rt, place, files, &manifest, &trace, wish),
-        Err(rev_fields::ReadFault::Numbered(fault)) => Err(RecordingFault::Trace(fault)),
-        Err(rev_fields::ReadFault::Memory) => Err(RecordingFault::Memory),
-    }
+    let manifest = manifest_of(rt.alloc(), &read.files)?;
+    let trace = trace_of(rt.alloc(), &read.trace)?;
+    drawn_trace(rt, place, &read.files, &manifest, &trace, wish)
 }
 
 // What is wished for, or a sentence where it is not understood.
@@ -157,32 +191,44 @@ fn put<'a, R: Files + Print>(
     }
 }
 
-/// Writes the picture of a recording, and gives the program's status.
-pub fn picture<'a, R: Files + Print + Eprint + AllocGlobal>(
+// Says that an event is not kept, and which is the last.
+fn say_no_event<R: Eprint>(rt: &R, last: u32) {
+    let _ = eprintln!(rt;
+        "rebug: no kept event has that number; the last one is {last}, and `./rebug ask` lists them by `kept`"
+    );
+}
+
+// Writes the picture of a recording as it is wished for, and gives the program's status.
+fn picture_wished<'a, R: Files + Print + Eprint + AllocGlobal>(
     rt: &R,
     asked: &Asked<'a>,
+    wish: Wish,
 ) -> Result<u8, ProgramFault<'a>> {
-    let wish = match wish_of(asked) {
-        Ok(wish) => wish,
-        Err(sentence) => {
-            let _ = eprintln!(rt; "rebug: {sentence}");
-            return Ok(USAGE);
-        }
-    };
     let place = place_of(rt, asked.recording);
-    let files = read_manifest(rt, asked.recording, place)?;
-    let trace = read_trace(rt, asked.recording, place)?;
-    match picture_of_bytes(rt, place, &files, &trace, wish) {
+    let read = read_recording(rt, asked.recording, place)?;
+    match picture_of_bytes(rt, place, &read, wish) {
         Ok(Made::Text(text)) => {
             put(rt, asked.out, &text)?;
             Ok(0)
         }
         Ok(Made::NoEvent(last)) => {
-            let _ = eprintln!(rt;
-                "rebug: no kept event has that number; the last one is {last}, and `./rebug ask` lists them by `kept`"
-            );
+            say_no_event(rt, last);
             Ok(USAGE)
         }
-        Err(fault) => refuse(rt, &files, &trace, &fault),
+        Err(fault) => refuse(rt, &read, &fault),
+    }
+}
+
+/// Writes the picture of a recording, and gives the program's status.
+pub fn picture<'a, R: Files + Print + Eprint + AllocGlobal>(
+    rt: &R,
+    asked: &Asked<'a>,
+) -> Result<u8, ProgramFault<'a>> {
+    match wish_of(asked) {
+        Ok(wish) => picture_wished(rt, asked, wish),
+        Err(sentence) => {
+            say(rt, sentence);
+            Ok(USAGE)
+        }
     }
 }

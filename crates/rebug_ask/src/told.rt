@@ -1,13 +1,14 @@
 //! What is told of a recording.
-ghost use Rattle.std.specs.Prelude.{◌≤◌, length};
+ghost use Rattle.std.specs.Prelude.{◌≡◌, ◌+◌, ◌≤◌, length, IfOk};
 
 use crate::changed::{changes_in, told_changes};
 use crate::fault::ProgramFault;
-use crate::files::{place_of, read_manifest, read_names, read_trace};
+use crate::files::{Recording, place_of, read_names, read_recording};
 use crate::found::{not_judged, told_clashes, told_races, witness_of};
 use crate::hinted::{hints_in, names_in};
 use crate::mended::mend_text;
 use rev_desk::Desk;
+use rev_history::History;
 use rev_manifest::Manifest;
 use rev_paths::{Name, PathFault};
 use rev_races_text::{
@@ -44,12 +45,12 @@ pub enum How {
     Replay,
 }
 
-// A recording, as it was read.
+// What is asked of the bytes of a recording, and the file of other names.
 #[derive(Clone, Copy)]
-struct Read<'a> {
-    files: &'a [(Vec<u8>, Vec<u8>)],
-    trace: &'a [u8],
+struct Inquiry<'a> {
+    read: &'a Recording,
     names: &'a [u8],
+    how: How,
 }
 
 /// An answer: what is written, and the status.
@@ -72,32 +73,50 @@ pub fn names_of(alloc: Global, files: &[(Vec<u8>, Vec<u8>)]) -> Result<Vec<Name>
     Ok(names)
 }
 
+// The races of a history, whose manifest was read from these files.
+fn races_of<'a>(
+    alloc: Global,
+    history: &'a History,
+    files: &[(Vec<u8>, Vec<u8>)],
+) -> Result<Vec<Told<'a>>, AllocError> {
+    let names = names_of(alloc, files)?;
+    told_races(alloc, history, &names)
+}
+
 // The answer about the desk of a recording that was replayed.
 fn answer_of(
     alloc: Global,
-    read: Read<'_>,
+    inquiry: Inquiry<'_>,
     manifest: &Manifest,
     desk: &Desk,
-    how: How,
 ) -> Result<Answer, AllocError> {
-    if how == How::Replay {
+    if inquiry.how == How::Replay {
         let text = replay_text(alloc, desk)?;
         return Ok(Answer { text, status: 0 });
     }
-    let sources = Sources {
-        builds: manifest.builds(),
-        files: read.files,
-    };
-    let names = names_of(alloc, read.files)?;
-    let races = told_races(alloc, desk.history(), &names)?;
-    if let How::Witness(number) = how {
+    let races = races_of(alloc, desk.history(), &inquiry.read.files)?;
+    if let How::Witness(number) = inquiry.how {
         return witness_answer(alloc, desk, &races, number);
     }
+    let sources = Sources {
+        builds: manifest.builds(),
+        files: &inquiry.read.files,
+    };
+    found_answer(alloc, inquiry, desk, &sources, &races)
+}
+
+// The answer that tells what was found.
+fn found_answer(
+    alloc: Global,
+    inquiry: Inquiry<'_>,
+    desk: &Desk,
+    sources: &Sources<'_>,
+    races: &[Told<'_>],
+) -> Result<Answer, AllocError> {
     let clashes = told_clashes(alloc, sources.builds)?;
-    let mut text = races_answer(alloc, desk, &sources, &races, &clashes, how)?;
-    let hints = hints_answer(alloc, desk, &sources, read.names, how)?;
-    text.extend_from_slice(&hints)?;
-    let status = status(&races, &clashes);
+    let mut text = races_answer(alloc, desk, sources, races, &clashes, inquiry.how)?;
+    add_hints(alloc, &mut text, inquiry, desk, sources)?;
+    let status = status(races, &clashes);
     Ok(Answer { text, status })
 }
 
@@ -117,6 +136,37 @@ fn witness_answer(
     }
 }
 
+// The text that tells races.
+fn races_told(
+    alloc: Global,
+    desk: &Desk,
+    sources: &Sources<'_>,
+    races: &[Told<'_>],
+    clashes: u64,
+    how: How,
+) -> Result<Vec<u8>, AllocError> {
+    let unjudged = not_judged(alloc, desk.history())?;
+    if how == How::Json {
+        races_json(alloc, sources, races, &unjudged)
+    } else {
+        races_text(alloc, sources, races, clashes, &unjudged, how == How::All)
+    }
+}
+
+// The text that tells clashes.
+fn clashes_told(
+    alloc: Global,
+    sources: &Sources<'_>,
+    clashes: &[Clash],
+    how: How,
+) -> Result<Vec<u8>, AllocError> {
+    if how == How::Json {
+        clashes_json(alloc, sources, clashes)
+    } else {
+        clashes_text(alloc, sources, clashes, how == How::All)
+    }
+}
+
 // The text of an answer that tells races and clashes.
 fn races_answer(
     alloc: Global,
@@ -129,16 +179,8 @@ fn races_answer(
     if how == How::Mend {
         return mend_text(alloc, sources, races, clashes);
     }
-    let unjudged = not_judged(alloc, desk.history())?;
-    let (mut text, more) = if how == How::Json {
-        let text = races_json(alloc, sources, races, &unjudged)?;
-        (text, clashes_json(alloc, sources, clashes)?)
-    } else {
-        let all = how == How::All;
-        let count = clashes.len() as u64;
-        let text = races_text(alloc, sources, races, count, &unjudged, all)?;
-        (text, clashes_text(alloc, sources, clashes, all)?)
-    };
+    let mut text = races_told(alloc, desk, sources, races, clashes.len() as u64, how)?;
+    let more = clashes_told(alloc, sources, clashes, how)?;
     text.extend_from_slice(&more)?;
     Ok(text)
 }
@@ -176,42 +218,52 @@ fn changes_answer(
     }
 }
 
-// The text of an answer that gives hints.
-fn hints_answer(
+// Adds the hints of an answer.
+fn add_hints(
     alloc: Global,
+    text: &mut Vec<u8>,
+    inquiry: Inquiry<'_>,
     desk: &Desk,
     sources: &Sources<'_>,
-    names: &[u8],
-    how: How,
-) -> Result<Vec<u8>, AllocError> {
-    if how == How::Mend {
-        return Ok(Vec::new(alloc));
+) -> Result<(), AllocError> {
+    if inquiry.how == How::Mend {
+        return Ok(());
     }
-    let mut text = names_answer(alloc, desk, sources, names, how)?;
-    let more = changes_answer(alloc, desk, sources, how)?;
-    text.extend_from_slice(&more)?;
-    Ok(text)
+    let hints = names_answer(alloc, desk, sources, inquiry.names, inquiry.how)?;
+    text.extend_from_slice(&hints)?;
+    let changes = changes_answer(alloc, desk, sources, inquiry.how)?;
+    text.extend_from_slice(&changes)
+}
+
+// The answer about a trace, by the desk of its recording.
+fn answer_from(
+    alloc: Global,
+    inquiry: Inquiry<'_>,
+    manifest: &Manifest,
+    trace: &Trace,
+    desk: &mut Desk,
+) -> Result<Answer, RecordingFault>
+    requires few { length trace.now.lanes.items ≤ Trace.MAX_LANES }
+    requires lanes { desk.old.lanes ≡ length trace.now.lanes.items + 1 }
+{
+    replay(alloc, desk, trace)?;
+    match answer_of(alloc, inquiry, manifest, desk) {
+        Ok(answer) => Ok(answer),
+        Err(_) => Err(RecordingFault::Memory),
+    }
 }
 
 // The answer about a trace that was read.
 fn replayed(
     alloc: Global,
-    read: Read<'_>,
+    inquiry: Inquiry<'_>,
     manifest: &Manifest,
     trace: &Trace,
-    how: How,
 ) -> Result<Answer, RecordingFault>
     requires { length trace.now.lanes.items ≤ Trace.MAX_LANES }
 {
     let mut desk = open(alloc, manifest, trace)?;
-    let ended = replay(alloc, &mut desk, trace);
-    let answer = match ended {
-        Ok(()) => match answer_of(alloc, read, manifest, &desk, how) {
-            Ok(answer) => Ok(answer),
-            Err(_) => Err(RecordingFault::Memory),
-        },
-        Err(fault) => Err(fault),
-    };
+    let answer = answer_from(alloc, inquiry, manifest, trace, &mut desk);
     leave(desk);
     answer
 }
@@ -233,35 +285,55 @@ pub fn manifest_of(
     }
 }
 
-// The answer about the bytes of a recording.
-fn answer_about(alloc: Global, read: Read<'_>, how: How) -> Result<Answer, RecordingFault> {
-    let manifest = manifest_of(alloc, read.files)?;
-    match rev_trace::read(alloc, read.trace) {
-        Ok(trace) => replayed(alloc, read, &manifest, &trace, how),
+/// The trace of bytes.
+pub fn trace_of(alloc: Global, bytes: &[u8]) -> Result<Trace, RecordingFault>
+    ensures { IfOk result (λ trace. length trace.lanes.items ≤ Trace.MAX_LANES) }
+{
+    match rev_trace::read(alloc, bytes) {
+        Ok(trace) => Ok(trace),
         Err(rev_fields::ReadFault::Numbered(fault)) => Err(RecordingFault::Trace(fault)),
         Err(rev_fields::ReadFault::Memory) => Err(RecordingFault::Memory),
     }
 }
 
-/// Says why a recording is not replayed.
-pub fn refuse<'a, 'b, R: Eprint + AllocGlobal>(
-    rt: &R,
-    files: &'b [(Vec<u8>, Vec<u8>)],
-    trace: &'b [u8],
+// The answer about the bytes of a recording.
+fn answer_about(alloc: Global, inquiry: Inquiry<'_>) -> Result<Answer, RecordingFault> {
+    let manifest = manifest_of(alloc, &inquiry.read.files)?;
+    let trace = trace_of(alloc, &inquiry.read.trace)?;
+    replayed(alloc, inquiry, &manifest, &trace)
+}
+
+/// Says a sentence on the standard error. One function prints, since what a print stands for is proved at each.
+pub fn say<R: Eprint>(rt: &R, sentence: &str) {
+    let _ = eprintln!(rt; "rebug: {sentence}");
+}
+
+// The sentence that says why a recording is not replayed; none where there is nothing to say.
+fn reason_of(
+    alloc: Global,
+    read: &Recording,
     fault: &RecordingFault,
-) -> Result<u8, ProgramFault<'a>> {
-    let alloc = rt.alloc();
-    let Ok(line) = fault_line(alloc, files, fault) else {
-        return Err(ProgramFault::Memory);
+) -> Result<Option<Vec<u8>>, AllocError> {
+    let Ok(line) = fault_line(alloc, &read.files, fault) else {
+        return Err(AllocError);
     };
     let inputs = Inputs {
-        files,
-        trace: (b"trace", trace),
+        files: &read.files,
+        trace: (b"trace", &read.trace),
         script: (b"script", b""),
     };
-    if let Some(said) = sentence(alloc, &line, inputs)? {
-        let text = String::from_utf8_lossy(alloc, &said)?;
-        let _ = eprintln!(rt; "rebug: {text}");
+    sentence(alloc, &line, inputs)
+}
+
+/// Says why a recording is not replayed.
+pub fn refuse<'a, R: Eprint + AllocGlobal>(
+    rt: &R,
+    read: &Recording,
+    fault: &RecordingFault,
+) -> Result<u8, ProgramFault<'a>> {
+    if let Some(said) = reason_of(rt.alloc(), read, fault)? {
+        let text = String::from_utf8_lossy(rt.alloc(), &said)?;
+        say(rt, &text);
     }
     Ok(FAULT)
 }
@@ -275,6 +347,19 @@ pub fn write<'a, R: Print>(rt: &R, bytes: &[u8]) -> Result<(), ProgramFault<'a>>
     }
 }
 
+// Writes an answer, and gives the program's status.
+fn put<'a, R: Print + Eprint>(rt: &R, answer: &Answer) -> Result<u8, ProgramFault<'a>> {
+    if answer.status == USAGE {
+        say(
+            rt,
+            "no race has that number; those that `races --json` tells are counted from 1, and own outputs have no witness",
+        );
+        return Ok(USAGE);
+    }
+    write(rt, &answer.text)?;
+    Ok(answer.status)
+}
+
 /// Writes what is asked of a recording to the standard output, and gives the program's status.
 pub fn tell<'a, R: Files + Print + Eprint + AllocGlobal>(
     rt: &R,
@@ -282,25 +367,15 @@ pub fn tell<'a, R: Files + Print + Eprint + AllocGlobal>(
     how: How,
 ) -> Result<u8, ProgramFault<'a>> {
     let place = place_of(rt, recording);
-    let files = read_manifest(rt, recording, place)?;
-    let trace = read_trace(rt, recording, place)?;
+    let read = read_recording(rt, recording, place)?;
     let names = read_names(rt, place)?;
-    let read = Read {
-        files: &files,
-        trace: &trace,
+    let inquiry = Inquiry {
+        read: &read,
         names: &names,
+        how,
     };
-    match answer_about(rt.alloc(), read, how) {
-        Ok(answer) if answer.status == USAGE => {
-            let _ = eprintln!(rt;
-                "rebug: no race has that number; those that `races --json` tells are counted from 1, and own outputs have no witness"
-            );
-            Ok(USAGE)
-        }
-        Ok(answer) => {
-            write(rt, &answer.text)?;
-            Ok(answer.status)
-        }
-        Err(fault) => refuse(rt, &files, &trace, &fault),
+    match answer_about(rt.alloc(), inquiry) {
+        Ok(answer) => put(rt, &answer),
+        Err(fault) => refuse(rt, &read, &fault),
     }
 }

@@ -1,6 +1,6 @@
 //! The command line as `clap` is told of it.
-ghost use Rattle.std.specs.Prelude.{◌≡◌, false, IfOk};
-ghost use Rattle.clap.specs.Words.{app_of, rule_of, shape_of};
+ghost use Rattle.std.specs.Prelude.{◌≡◌, false, IfOk, IsOkAnd};
+ghost use Rattle.clap.specs.Words.{AddsSubcommand, app_of, rule_of, shape_of};
 ghost use Rattle.clap.specs.declared.builder.command.Command.TheViews.{out-Command};
 ghost use Rattle.rev_asking.specs.Asking.{ask_shape, bare_program, flag_rule, number_rule, out_rule, picture_shape, program, races_shape, recording_rule, replay_shape};
 
@@ -154,17 +154,24 @@ fn bare_command<'a>(alloc: Global) -> Command<'a>
         .subcommand_required(true)
 }
 
+// Adds a word's command to the program's, where it was made. So `command` owns one value at a time: the drop of a command
+// is proved again at each exit that it lives across.
+fn with_word<'a>(
+    program: Command<'a>,
+    word: Result<Command<'a>, AllocError>,
+) -> Result<Command<'a>, AllocError>
+    ensures { IfOk result (λ c. IsOkAnd word.entry (λ w. AddsSubcommand program.entry w c)) }
+{
+    let word = word?;
+    program.subcommand(word)
+}
+
 // The command line of the program.
 pub(crate) fn command<'a>(alloc: Global) -> Result<Command<'a>, AllocError>
     ensures program { IfOk result (λ c. app_of c ≡ program) }
 {
-    let races = races(alloc)?;
-    let replay = replay(alloc)?;
-    let ask = ask(alloc)?;
-    let picture = picture(alloc)?;
-    bare_command(alloc)
-        .subcommand(races)?
-        .subcommand(replay)?
-        .subcommand(ask)?
-        .subcommand(picture)
+    let program = with_word(bare_command(alloc), races(alloc))?;
+    let program = with_word(program, replay(alloc))?;
+    let program = with_word(program, ask(alloc))?;
+    with_word(program, picture(alloc))
 }

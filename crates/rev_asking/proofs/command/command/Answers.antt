@@ -1,18 +1,30 @@
-use Rattle.std.proofs.Common.{◌≡◌, ◌∙◌, ap₂}
+use Rattle.std.proofs.Common.{◌≡◌, ◌∙◌, ap, Err, IfOk, IsOkAnd, Ok, Result, false}
 use Rattle.std.proofs.lemmas.Result.{IfOk-weaker}
-use Rattle.clap.specs.Words.{AddsSubcommand, app_of, with_subcommand}
+use Rattle.clap.specs.Words.{AddsSubcommand, Shape, app_of, shape_of, with_subcommand}
 use Rattle.clap.specs.declared.builder.command.Command.{Command}
-use Rattle.rev_asking.specs.Asking.{program}
+use Rattle.clap.specs.declared.builder.command.Command.TheViews.{out-Command}
+use Rattle.rev_asking.specs.Asking.{ask_shape, picture_shape, program, races_shape, replay_shape}
 use Rattle.rev_asking.proofs.command.command.Goals as goal
+
+-- a program to which the command of this shape was added
+added : {E : Type 0} (word : Result Command E) (s : Shape) (old new : Command) → IfOk word (λ w. shape_of w ≡ s)
+    → IfOk word (λ w. (out-Command w).has_globals ≡ false) → IsOkAnd word (λ w. AddsSubcommand old w new)
+    → app_of new ≡ with_subcommand (app_of old) s
+added (Ok w) s old new shape local adds = adds.shape local ∙ ap (with_subcommand (app_of old)) shape
+added (Err e) s old new shape local adds = absurd adds
 
 pub returns : goal.returns
 returns c =
-    let one = c.in_ok-subcommand.ensures.shape c.in_ok-races.ensures.local
-    ∙ ap₂ with_subcommand c.bare_command.ensures c.in_ok-races.ensures.shape in
-    let two = c.in_ok-subcommand-2.ensures.shape c.in_ok-replay.ensures.local
-    ∙ ap₂ with_subcommand one c.in_ok-replay.ensures.shape in
-    let three = c.in_ok-subcommand-3.ensures.shape c.in_ok-ask.ensures.local
-    ∙ ap₂ with_subcommand two c.in_ok-ask.ensures.shape in record {
-      program = IfOk-weaker c.subcommand-4.result (AddsSubcommand c.in_ok-subcommand-3.field-0 c.in_ok-picture.picture) (λ (k : Command). app_of k ≡ program)
-          (λ k added. added.shape c.in_ok-picture.ensures.local ∙ ap₂ with_subcommand three c.in_ok-picture.ensures.shape) c.subcommand-4.ensures;
+    let first = c.in_ok-program.program in
+    let second = c.in_ok-program-2.program in
+    let third = c.in_ok-program-3.program in
+    let one = added c.races.result races_shape c.bare_command.result first c.races.ensures.shape c.races.ensures.local c.in_ok-program.ensures
+    ∙ ap (λ a. with_subcommand a races_shape) c.bare_command.ensures in
+    let two = added c.replay.result replay_shape first second c.replay.ensures.shape c.replay.ensures.local c.in_ok-program-2.ensures
+    ∙ ap (λ a. with_subcommand a replay_shape) one in
+    let three = added c.ask.result ask_shape second third c.ask.ensures.shape c.ask.ensures.local c.in_ok-program-3.ensures
+    ∙ ap (λ a. with_subcommand a ask_shape) two in record {
+      program = IfOk-weaker c.with_word-4.result (λ k. IsOkAnd c.picture.result (λ w. AddsSubcommand third w k)) (λ (k : Command). app_of k ≡ program)
+          (λ k adds. added c.picture.result picture_shape third k c.picture.ensures.shape c.picture.ensures.local adds ∙ ap (λ a. with_subcommand a picture_shape) three)
+          c.with_word-4.ensures;
     }
