@@ -33,10 +33,15 @@ fn begun_or_ended(graph: &Graph, event: &Event) -> Option<(u32, bool)> {
     }
 }
 
-// The path that an event changed, where no edge makes it.
-fn changed_path<'a>(graph: &Graph, event: &'a Event) -> Option<&'a Name> {
+// The path that an event changed, where no edge makes it, and where it is no other name of an output.
+fn changed_path<'a>(
+    graph: &Graph,
+    names: &IndexMap<Name, Name>,
+    event: &'a Event,
+) -> Option<&'a Name> {
     match event {
-        Event::Touch { path, .. } if graph.producer(path).is_none() => Some(path),
+        Event::Touch { path, .. } if graph.producer(path).is_none() && !names.contains_key(path) =>
+            { Some(path) }
         _ => None,
     }
 }
@@ -66,8 +71,13 @@ fn note_change(
     Ok(())
 }
 
-/// The paths that no edge makes and that changed while commands ran, each with the last such change.
-pub fn changes_in(alloc: Global, history: &History) -> Result<IndexMap<Name, Changed>, AllocError> {
+/// The paths that no edge makes and that changed while commands ran, each with the last such change. Another name of an
+/// output, of which `names` has the output's own, is none of them: an edge makes that file.
+pub fn changes_in(
+    alloc: Global,
+    history: &History,
+    names: &IndexMap<Name, Name>,
+) -> Result<IndexMap<Name, Changed>, AllocError> {
     let graph = history.graph();
     let mut running: Vec<u32> = Vec::new(alloc);
     let mut changes = IndexMap::new(alloc);
@@ -76,7 +86,7 @@ pub fn changes_in(alloc: Global, history: &History) -> Result<IndexMap<Name, Cha
             continue;
         };
         note_run(graph, event, &mut running)?;
-        if let Some(path) = changed_path(graph, event) {
+        if let Some(path) = changed_path(graph, names, event) {
             note_change(&mut changes, path, *number, &running)?;
         }
     }
