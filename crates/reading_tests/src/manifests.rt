@@ -153,6 +153,10 @@ const FAULTS: &[(&[u8], Answer)] = &[
         Read(1, 1, 1),
     ),
     (b"build x: phony x y |@ z\nbuild z: phony\n", Read(2, 1, 2)),
+    (
+        b"rule r\n  command = c\n  rspfile = $rspfile\nbuild x: r\n",
+        Read(1, 1, 1),
+    ),
 ];
 
 #[test]
@@ -191,18 +195,19 @@ fn a_response_file_counts(rt: HostRuntime) -> Result<(), Fail> {
     Ok(())
 }
 
-// What is read of the one edge of a file: the numbers of its explicit and implicit outputs, whether it leaves the depfile
-// o.d and keeps deps, has restat and is a generator, its pool, and its line.
+// What is read of the one edge of a file: the numbers of its explicit and implicit outputs, whether it leaves the
+// depfile o.d, has the response file o.rsp, keeps deps, has restat and is a generator, its pool, and its line.
 fn edge_text(alloc: Global, content: &[u8]) -> Result<String, Fail> {
     let files = given(alloc, &[(b"build.ninja", content)])?;
     let manifest = read(alloc, &files)?;
     let mut text = String::new(alloc);
     for build in manifest.builds() {
         let told = format!(in alloc;
-            "{} {} {} {} {} {} {:?} {}; ",
+            "{} {} {} {} {} {} {} {:?} {}; ",
             build.explicit_outs().len(),
             build.implicit_outs().len(),
             build.depfile() == b"o.d".as_slice(),
+            build.rspfile() == b"o.rsp".as_slice(),
             build.keeps_deps(),
             build.restat(),
             build.generator(),
@@ -215,12 +220,12 @@ fn edge_text(alloc: Global, content: &[u8]) -> Result<String, Fail> {
 }
 
 const EDGE: &[u8] =
-    b"pool p\n  depth = 0\nrule r\n  command = c\n  depfile = $out.d\n  deps = gcc\n  restat = $x\n  pool = $which\nbuild d/../o ./o | o q: r i | j || k |@ v\n  generator = 1\n  which = p\n";
+    b"pool p\n  depth = 0\nrule r\n  command = c\n  depfile = $out.d\n  deps = gcc\n  rspfile = $out.rsp\n  restat = $x\n  pool = $which\nbuild d/../o ./o | o q: r i | j || k |@ v\n  generator = 1\n  which = p\n";
 
 #[test]
 fn an_edge(rt: HostRuntime) -> Result<(), Fail> {
     let told = edge_text(rt.alloc(), EDGE)?;
-    assert!(rt; told.as_str() == "1 1 true true false true Some(1) 9; ");
+    assert!(rt; told.as_str() == "1 1 true true true false true Some(1) 10; ");
     Ok(())
 }
 
@@ -245,6 +250,10 @@ const BEHIND_DOUBLES: &[(&[u8], Answer)] = &[
     (b"", Read(0, 1, 0)),
     (b"build $a20: phony\n", Fault(2, 0, 22)),
     (b"a21 = $a20$a20\n", Fault(23, 0, 22)),
+    (
+        b"rule r\n  command = c\n  rspfile = $a20$a20\nbuild x: r\n",
+        Read(1, 1, 1),
+    ),
 ];
 
 #[test]

@@ -243,7 +243,7 @@ struct Edge {
     outer: &'static str,
     ins: &'static str,
     scope: usize,
-    // Its command, depfile, restat and generator, with bars between them, or its fault.
+    // Its command, depfile, restat, generator and response file, with bars between them, or its fault.
     wanted: &'static str,
 }
 
@@ -253,7 +253,7 @@ const EDGE: Edge = Edge {
     outer: "",
     ins: "a",
     scope: 0,
-    wanted: "cc|||",
+    wanted: "cc||||",
 };
 
 const EDGES: &[Edge] = &[
@@ -261,26 +261,26 @@ const EDGES: &[Edge] = &[
     Edge {
         rule: "command=$in > $out; ${in_newline}",
         ins: "a b|c",
-        wanted: "'a b' c > o; 'a b'\nc|||",
+        wanted: "'a b' c > o; 'a b'\nc||||",
         ..EDGE
     },
     // An edge looks up in its own scope.
     Edge {
         rule: "command=r $f $in",
         scope: 1,
-        wanted: "r 2 a|||",
+        wanted: "r 2 a||||",
         ..EDGE
     },
     Edge {
         rule: "command=r $f $in",
         ins: "b",
-        wanted: "r 1 b|||",
+        wanted: "r 1 b||||",
         ..EDGE
     },
     // Rule variables lead to one another.
     Edge {
         rule: "command=cc @$rspfile # $description\nrspfile=$out.rsp\ndescription=$f $rspfile",
-        wanted: "cc @o.rsp # 1 o.rsp|||",
+        wanted: "cc @o.rsp # 1 o.rsp||||o.rsp",
         ..EDGE
     },
     // A rule that needs itself is refused.
@@ -294,25 +294,40 @@ const EDGES: &[Edge] = &[
         rule: "command=cc\ndescription=of $description",
         ..EDGE
     },
+    // The path of a response file, for which no edge is refused.
+    Edge {
+        rule: "command=cc\nrspfile=$description.rsp\ndescription=$out$f",
+        wanted: "cc||||o1.rsp",
+        ..EDGE
+    },
+    Edge {
+        rule: "command=cc\nrspfile=$description\ndescription=of $rspfile",
+        ..EDGE
+    },
     // A block hides the rule.
     Edge {
         rule: "command=cc $depfile\ndepfile=$depfile",
         block: "depfile=o.d",
-        wanted: "cc o.d|o.d||",
+        wanted: "cc o.d|o.d|||",
         ..EDGE
     },
     // A scope gives rule variables too.
     Edge {
         outer: "restat=1",
         scope: 1,
-        wanted: "cc||1|",
+        wanted: "cc||1||",
         ..EDGE
     },
 ];
 
 fn values_text(alloc: Global, values: &EdgeVariables) -> Result<Vec<u8>, AllocError> {
     let mut text = Vec::from_slice(alloc, &values.command)?;
-    for value in [&values.depfile, &values.restat, &values.generator] {
+    for value in [
+        &values.depfile,
+        &values.restat,
+        &values.generator,
+        &values.rspfile,
+    ] {
         text.push(b'|')?;
         text.extend_from_slice(value)?;
     }

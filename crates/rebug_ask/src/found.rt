@@ -1,5 +1,5 @@
 //! What a recording shows of races, as it is told.
-use rev_clashes::clashes;
+use rev_clashes::{SideFile, clashes};
 use rev_graph::Graph;
 use rev_history::History;
 use rev_manifest::Build;
@@ -120,14 +120,27 @@ fn number_of(place: usize) -> Option<u32> {
     u32::try_from(place).ok()
 }
 
-/// The edges that leave their depfiles where an earlier one does, each with the first that does.
-pub fn told_clashes(alloc: Global, builds: &[Build]) -> Result<Vec<Clash>, AllocError> {
-    let mut told = Vec::new(alloc);
-    for clash in &clashes(alloc, builds)? {
+// Adds the edges that have their file of a kind where an earlier one has its own, each with the first that has.
+fn push_clashes(
+    told: &mut Vec<Clash>,
+    alloc: Global,
+    kind: SideFile,
+    builds: &[Build],
+) -> Result<(), AllocError> {
+    for clash in &clashes(alloc, kind, builds)? {
         if let (Some(first), Some(other)) = (number_of(clash.first), number_of(clash.other)) {
-            told.push(Clash { first, other })?;
+            told.push(Clash { kind, first, other })?;
         }
     }
+    Ok(())
+}
+
+/// The edges that have their depfile where an earlier one has its own, each with the first that has, and then those of
+/// which that is so of response files.
+pub fn told_clashes(alloc: Global, builds: &[Build]) -> Result<Vec<Clash>, AllocError> {
+    let mut told = Vec::new(alloc);
+    push_clashes(&mut told, alloc, SideFile::Depfile, builds)?;
+    push_clashes(&mut told, alloc, SideFile::ResponseFile, builds)?;
     Ok(told)
 }
 

@@ -1,4 +1,5 @@
 //! What mends the races of a recording: a patch of its manifest, or what to tell the generator that wrote it.
+use rev_clashes::SideFile;
 use rev_graph::{Graph, GraphFault};
 use rev_manifest::Manifest;
 use rev_patch::{Addition, Author, Change, author_of, changed_text, changes_of, patch_text};
@@ -194,7 +195,10 @@ fn push_clashes(
     clashes: &[Clash],
 ) -> Result<(), AllocError> {
     for clash in clashes {
-        text.extend_from_slice(b"# a depfile of its own mends this: ")?;
+        text.extend_from_slice(match clash.kind {
+            SideFile::Depfile => b"# a depfile of its own mends this: ",
+            SideFile::ResponseFile => b"# a response file of its own mends this: ",
+        })?;
         push_clash(text, sources, clash)?;
     }
     Ok(())

@@ -73,6 +73,7 @@ module _ (p q : List (List ℕ × ℕ)) where
           validations = sym ((paths a.validations b.validations).0 n.3) i;
           command = sym ((bytes_eq-Decides a.command b.command).0 r.1) i;
           depfile = [];
+          rspfile = [];
           keeps_deps = sym ((booleans_Decides a.keeps_deps b.keeps_deps).0 r.2) i;
           restat = sym ((booleans_Decides a.restat b.restat).0 r.3) i;
           generator = sym ((booleans_Decides a.generator b.generator).0 r.4) i;

@@ -5,17 +5,18 @@ use Rattle.std.specs.Cmp.Lexicographic.{pointwise}
 use Rattle.rev_manifest.specs.Builds.{BuildValue, ManifestValue}
 use Rattle.rev_graph.specs.Graph.{numbered_pool}
 
--- what a graph lends of an edge: all but its depfile's name and where its statement stands, and the number and depth of
--- its pool
+-- what a graph lends of an edge: all but the names of its depfile and its response file and where its statement stands,
+-- and the number and depth of its pool
 abbrev pub lent_edge : List (List ℕ × ℕ) → BuildValue → BuildValue × Option (ℕ × ℕ)
-lent_edge pools build = (record build { depfile = []; pool = None; file = 0; line = 0 }, numbered_pool pools build.pool)
+lent_edge pools build =
+    (record build { depfile = []; rspfile = []; pool = None; file = 0; line = 0 }, numbered_pool pools build.pool)
 
 -- the depths of pools by their numbers, without the names
 abbrev pub depths_of : List (List ℕ × ℕ) → List ℕ
 depths_of pools = map (λ (pool : List ℕ × ℕ). pool.1) pools
 
 -- The graphs of two manifests lend the same: of each edge, of the pools their depths, and the defaults. The names of
--- pools, of depfiles, and where a statement stands in which file, no graph lends.
+-- pools, of depfiles and response files, and where a statement stands in which file, no graph lends.
 pub record LendAlike (m n : ManifestValue) : Type 0 where
   pub edges : map (lent_edge n.pools) n.builds ≡ map (lent_edge m.pools) m.builds
   pub depths : depths_of n.pools ≡ depths_of m.pools

@@ -7,25 +7,32 @@ use Rattle.rev_graph.specs.Graph.{GraphValue}
 abbrev pub coded_paths : Coded (List (List ℕ))
 coded_paths = coded_list (coded_list coded_ℕ)
 
+-- the paths of a depfile and a response file
+abbrev pub coded_files : Coded (List ℕ × List ℕ)
+coded_files = coded× (coded_list coded_ℕ) (coded_list coded_ℕ)
+
+abbrev pub files_of : BuildValue → List ℕ × List ℕ
+files_of build = (build.depfile, build.rspfile)
+
 -- the paths on a build line
 abbrev pub Lines : Type 0
 Lines = List (List ℕ) × (List (List ℕ) × (List (List ℕ) × (List (List ℕ) × (List (List ℕ) × List (List ℕ)))))
 
 -- what else is said of an edge
 abbrev pub Rest : Type 0
-Rest = Bool × (List ℕ × (List ℕ × (Bool × (Bool × (Bool × (Option ℕ × (ℕ × ℕ)))))))
+Rest = Bool × (List ℕ × ((List ℕ × List ℕ) × (Bool × (Bool × (Bool × (Option ℕ × (ℕ × ℕ)))))))
 
 abbrev pub coded_build : Coded BuildValue
 coded_build =
     code_by (Lines × Rest)
     (coded× (coded× coded_paths
     (coded× coded_paths (coded× coded_paths (coded× coded_paths (coded× coded_paths coded_paths)))))
-    (coded× coded_bool (coded× (coded_list coded_ℕ) (coded× (coded_list coded_ℕ)
+    (coded× coded_bool (coded× (coded_list coded_ℕ) (coded× coded_files
     (coded× coded_bool (coded× coded_bool
     (coded× coded_bool (coded× (coded_option coded_ℕ) (coded× coded_ℕ coded_ℕ)))))))))
     (λ b. (
       (b.explicit_outs, (b.implicit_outs, (b.explicit, (b.implicit, (b.order_only, b.validations))))),
-      (b.phony, (b.command, (b.depfile, (b.keeps_deps, (b.restat, (b.generator, (b.pool, (b.file, b.line)))))))),
+      (b.phony, (b.command, (files_of b, (b.keeps_deps, (b.restat, (b.generator, (b.pool, (b.file, b.line)))))))),
     ))
     (λ p. record {
       phony = p.1.0;
@@ -36,7 +43,8 @@ coded_build =
       order_only = p.0.1.1.1.1.0;
       validations = p.0.1.1.1.1.1;
       command = p.1.1.0;
-      depfile = p.1.1.1.0;
+      depfile = p.1.1.1.0.0;
+      rspfile = p.1.1.1.0.1;
       keeps_deps = p.1.1.1.1.0;
       restat = p.1.1.1.1.1.0;
       generator = p.1.1.1.1.1.1.0;

@@ -25,6 +25,7 @@ no_build =
       validations = [];
       command = [];
       depfile = [];
+      rspfile = [];
       keeps_deps = false;
       restat = false;
       generator = false;

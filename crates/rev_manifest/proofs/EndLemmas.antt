@@ -6,7 +6,7 @@ use Rattle.std.proofs.lemmas.Slice.Eq.{bytes_eq-Decides}
 use Rattle.rev_syntax.specs.Texts.{PieceValue, Byte, Variable}
 use Rattle.rev_scopes.specs.Bindings.{value_of}
 use Rattle.rev_scopes.specs.Scopes.{variable_in}
-use Rattle.rev_scopes.specs.Edges.{EdgeEnvValue, Source, Known, Needs, first_source, paths_named, source, HasValue, Given, Expanded, IsExpanded, Nothing, Plain, Named, AllHaveValues, SomeNeedsItself, SomeIsTooLarge, given_for}
+use Rattle.rev_scopes.specs.Edges.{EdgeEnvValue, Source, Known, Needs, first_source, paths_named, source, HasValue, Given, Expanded, IsExpanded, Nothing, Plain, Named, AllHaveValues, SomeNeedsItself, SomeIsTooLarge, IsResponseFile, HasPath, IsLarge, HasNone, given_for}
 use Rattle.rev_scopes.specs.declared.edge.EdgeVariables.{EdgeVariables}
 use Rattle.rev_scopes.specs.declared.rule_variable.RuleVariable.{RuleVariable}
 use Rattle.rev_scopes.specs.declared.rule_variable.RuleVariable.TheVariants.{Command, Depfile, Deps, MsvcDepsPrefix, Description, Generator, Restat, Rspfile, RspfileContent, Pool}
@@ -14,7 +14,7 @@ use Rattle.rev_scopes.specs.Expansion.{is_too_large}
 use Rattle.rev_scopes.specs.RuleNames.{name_of, is_needed}
 use Rattle.rev_manifest.specs.declared.fault.FaultKind.TheVariants.{VariableCycle, TooLarge}
 use Rattle.rev_manifest.specs.Held.{seen_values}
-use Rattle.rev_manifest.specs.Ends.{both, text_by, value_by, value_within, value_at, needed, or_empty, fault_at_end, values_at_end}
+use Rattle.rev_manifest.specs.Ends.{both, text_by, value_by, value_within, value_at, needed, or_empty, response_path, fault_at_end, values_at_end}
 
 abbrev pub Look : Type 0
 Look = List ℕ → Option (List ℕ)
@@ -318,9 +318,21 @@ module _ (edge : EdgeEnvValue) where
       (λ i. if none_missing (value_at edge) needed (all_found all) i then Some VariableCycle
       else (if any_needed (λ name. is_too_large (or_empty (value_at edge name))) h.0 h.2 large i then Some TooLarge else None))
 
+  -- what is given for the response file is its path
+  response_is : (path : List ℕ) → IsResponseFile edge path → response_path (value_at edge (codes "rspfile")) ≡ path
+  response_is path (HasPath has within) =
+      ap response_path (derived edge (codes "rspfile") path has) ∙ ap (λ b. if b then [] else path) (not_larger path within)
+  response_is path (IsLarge {value} has large) =
+      ap response_path (derived edge (codes "rspfile") value has) ∙ ap (λ b. if b then [] else value) (lt-ltb 1048576 (length value) large)
+  response_is path (HasNone none) = by (value_at edge (codes "rspfile")) refl
+    where
+      by : (o : Option (List ℕ)) → value_at edge (codes "rspfile") ≡ o → response_path o ≡ []
+      by None e = refl
+      by (Some v) e = absurd (none v (at_derived edge (codes "rspfile") v e))
+
   -- what is given for each variable is its value
   module _ (values : EdgeVariables) (right : (variable : RuleVariable) → IsTrue (is_needed variable) → HasValue edge (name_of variable) (given_for variable values))
-      (small : (variable : RuleVariable) → length (given_for variable values) ≤ 1048576) where
+      (small : (variable : RuleVariable) → length (given_for variable values) ≤ 1048576) (response : IsResponseFile edge values.rspfile.items) where
     given_at : (variable : RuleVariable) → IsTrue (is_needed variable) → value_at edge (name_of variable) ≡ Some (given_for variable values)
     given_at variable h = derived edge (name_of variable) (given_for variable values) (right variable h)
 
@@ -342,6 +354,7 @@ module _ (edge : EdgeEnvValue) where
           deps = or_empty (given_at Deps refl i);
           generator = or_empty (given_at Generator refl i);
           restat = or_empty (given_at Restat refl i);
+          rspfile = response_is values.rspfile.items response i;
           rspfile_content = or_empty (given_at RspfileContent refl i);
           pool = or_empty (given_at Pool refl i);
         })

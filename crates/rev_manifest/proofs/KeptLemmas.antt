@@ -183,6 +183,7 @@ module _ (scopes : List ScopeValue) (pools : List PoolValue) where
         phony = λ _. record {
           no_command = refl;
           no_depfile = refl;
+          no_rspfile = refl;
           no_deps = refl;
           no_restat = refl;
           no_generator = refl;

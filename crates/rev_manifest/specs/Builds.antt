@@ -13,6 +13,7 @@ pub record BuildValue : Type 0 where
   pub validations : List (List ℕ)
   pub command : List ℕ
   pub depfile : List ℕ
+  pub rspfile : List ℕ
   pub keeps_deps : Bool
   pub restat : Bool
   pub generator : Bool
@@ -44,6 +45,7 @@ pub record AreOutputs (paths : List (List ℕ)) : Type 0 where
 pub record IsPhony (build : BuildValue) : Type 0 where
   pub no_command : build.command ≡ []
   pub no_depfile : build.depfile ≡ []
+  pub no_rspfile : build.rspfile ≡ []
   pub no_deps : build.keeps_deps ≡ false
   pub no_restat : build.restat ≡ false
   pub no_generator : build.generator ≡ false

@@ -34,16 +34,18 @@ value_within (suc n) edge name = value_by (value_within n edge) (source edge nam
 abbrev pub value_at : EdgeEnvValue → List ℕ → Option (List ℕ)
 value_at edge name = value_within (length edge.rule + 2) edge name
 
--- the variables that an edge needs
+-- the values of the variables that are expanded for an edge
 pub record EndValues : Type 0 where
   pub command : List ℕ
   pub depfile : List ℕ
   pub deps : List ℕ
   pub generator : List ℕ
   pub restat : List ℕ
+  pub rspfile : List ℕ
   pub rspfile_content : List ℕ
   pub pool : List ℕ
 
+-- the variables that an edge needs: it is refused where one of them has no value, or one that is too large
 abbrev pub needed : List (List ℕ)
 needed =
     codes "command" ∷ codes "depfile" ∷ codes "deps" ∷ codes "generator" ∷ codes "restat" ∷ codes "rspfile_content"
@@ -52,6 +54,12 @@ needed =
 abbrev pub or_empty : Option (List ℕ) → List ℕ
 or_empty None = []
 or_empty (Some value) = value
+
+-- the path of a response file, for which no edge is refused: it is empty where `rspfile` has no value, or one that is
+-- too large
+abbrev pub response_path : Option (List ℕ) → List ℕ
+response_path None = []
+response_path (Some value) = if is_too_large value then [] else value
 
 -- an edge, with its rule, among all scopes
 abbrev pub at_end : List ScopeValue → declarations.DeclaredEdgeValue → RuleValue → EdgeEnvValue
@@ -71,6 +79,7 @@ values_at_end edge =
       deps = or_empty (value_at edge (codes "deps"));
       generator = or_empty (value_at edge (codes "generator"));
       restat = or_empty (value_at edge (codes "restat"));
+      rspfile = response_path (value_at edge (codes "rspfile"));
       rspfile_content = or_empty (value_at edge (codes "rspfile_content"));
       pool = or_empty (value_at edge (codes "pool"));
     }

@@ -39,6 +39,7 @@ seen_values values =
       deps = values.deps.items;
       generator = values.generator.items;
       restat = values.restat.items;
+      rspfile = values.rspfile.items;
       rspfile_content = values.rspfile_content.items;
       pool = values.pool.items;
     }

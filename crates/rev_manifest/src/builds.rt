@@ -16,6 +16,7 @@ pub struct Build {
     pub(crate) validations: Vec<Name>,
     pub(crate) command: SharedText,
     pub(crate) depfile: Vec<u8>,
+    pub(crate) rspfile: Vec<u8>,
     pub(crate) keeps_deps: bool,
     pub(crate) restat: bool,
     pub(crate) generator: bool,
@@ -37,6 +38,7 @@ impl Drop for Build {
             validations: _validations,
             command: _command,
             depfile: _depfile,
+            rspfile: _rspfile,
             keeps_deps: _keeps_deps,
             restat: _restat,
             generator: _generator,
@@ -62,6 +64,7 @@ impl Model for Build {
       validations = build.validations.items;
       command = build.command;
       depfile = build.depfile.items;
+      rspfile = build.rspfile.items;
       keeps_deps = build.keeps_deps;
       restat = build.restat;
       generator = build.generator;
@@ -133,6 +136,14 @@ impl Build {
         ensures { result.now ≡ self.now.depfile }
     {
         &self.depfile
+    }
+
+    /// Where its response file is written before its command runs, as its rule says; empty where there is none. A phony
+    /// edge has none.
+    pub fn rspfile(&self) -> &[u8]
+        ensures { result.now ≡ self.now.rspfile }
+    {
+        &self.rspfile
     }
 
     /// Whether the listing of a depfile is kept.

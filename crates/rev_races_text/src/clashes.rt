@@ -1,11 +1,12 @@
-//! Clashes: edges that leave their depfiles at one path.
+//! Clashes: edges that have their depfiles, or their response files, at one path.
 ghost use Rattle.std.specs.Prelude.{◌≡◌, ◌++◌, slice_get, OnOk};
 ghost use Rattle.rev_manifest.specs.Seen.{seen_files};
-ghost use Rattle.rev_races_text.specs.Clashes.{clash_line, depfile_words, more_clashes, of_first, of_other};
+ghost use Rattle.rev_races_text.specs.Clashes.{clash_line, more_clashes, of_first, of_other, outcome, path_words, whose};
 
 use crate::group::push_between;
 use crate::json::{edge_value, push_value};
 use crate::places::{Sources, push_placed};
+use rev_clashes::SideFile;
 use rev_manifest::Build;
 use rev_shown::push_shown;
 use serde_json::{Value, json};
@@ -14,47 +15,84 @@ use std::alloc::{AllocError, Global};
 // How many clashes are told.
 const CLASHES: usize = 3;
 
-/// Two edges that leave their depfiles at one path.
+/// Two edges that have a file of one kind at one path.
 #[derive(Clone, Copy, Debug)]
 pub struct Clash {
-    /// The first edge that does.
+    /// Which file it is.
+    pub kind: SideFile,
+    /// The first edge that has it there.
     pub first: u32,
     /// A later one.
     pub other: u32,
 }
 
-// Adds where an edge leaves its depfile, as its rule says; nothing where there is no such edge.
-fn push_depfile(text: &mut Vec<u8>, builds: &[Build], edge: u32) -> Result<(), AllocError>
+// Whose file it is, by its kind.
+fn whose(kind: SideFile) -> &'static [u8]
+    ensures { result.now ≡ whose kind }
+{
+    match kind {
+        SideFile::Depfile => b": the depfile of ",
+        SideFile::ResponseFile => b": the response file of ",
+    }
+}
+
+// What can come of it, by the kind of the file.
+fn outcome(kind: SideFile) -> &'static [u8]
+    ensures { result.now ≡ outcome kind }
+{
+    match kind {
+        SideFile::Depfile => b": one of them can lose its list\n",
+        SideFile::ResponseFile => b": one can read the other's\n",
+    }
+}
+
+// Adds the path of an edge's file of a kind, as its rule says; nothing where there is no such edge.
+fn push_file(
+    text: &mut Vec<u8>,
+    kind: SideFile,
+    builds: &[Build],
+    edge: u32,
+) -> Result<(), AllocError>
     ensures { OnOk result (text.new.items
-        ≡ text.old.items ++ depfile_words (slice_get builds.now edge)) }
+        ≡ text.old.items ++ path_words kind (slice_get builds.now edge)) }
 {
     match builds.get(edge as usize) {
-        Some(build) => push_shown(text, build.depfile()),
+        Some(build) => push_shown(text, kind.path_in(build)),
         None => Ok(()),
     }
 }
 
-// Adds whose depfile it is.
-fn push_first(text: &mut Vec<u8>, sources: &Sources<'_>, first: u32) -> Result<(), AllocError>
-    ensures { OnOk result (text.new.items ≡ text.old.items ++ of_first sources.now.builds.now
+// Adds whose file it is.
+fn push_first(
+    text: &mut Vec<u8>,
+    kind: SideFile,
+    sources: &Sources<'_>,
+    first: u32,
+) -> Result<(), AllocError>
+    ensures { OnOk result (text.new.items ≡ text.old.items ++ of_first kind sources.now.builds.now
         (seen_files sources.now.files.now) first) }
 {
     text.extend_from_slice(b"clash ")?;
-    push_depfile(text, sources.builds, first)?;
-    text.extend_from_slice(b": the depfile of ")?;
+    push_file(text, kind, sources.builds, first)?;
+    text.extend_from_slice(whose(kind))?;
     push_placed(text, sources, first)?;
     Ok(())
 }
 
 // Adds whose it is as well.
 #[tactic(auto, unfolding(crate::specs::Clashes::of_other))]
-fn push_other(text: &mut Vec<u8>, sources: &Sources<'_>, other: u32) -> Result<(), AllocError>
-    ensures { OnOk result (text.new.items ≡ text.old.items ++ of_other sources.now.builds.now
+fn push_other(
+    text: &mut Vec<u8>,
+    kind: SideFile,
+    sources: &Sources<'_>,
+    other: u32,
+) -> Result<(), AllocError>
+    ensures { OnOk result (text.new.items ≡ text.old.items ++ of_other kind sources.now.builds.now
         (seen_files sources.now.files.now) other) }
 {
     text.extend_from_slice(b" and of ")?;
     push_placed(text, sources, other)?;
-    text.extend_from_slice(b": one of them can lose its list\n")
+    text.extend_from_slice(outcome(kind))
 }
 
 /// Adds the line of a clash.
@@ -66,11 +104,11 @@ pub fn push_clash(
     sources: &Sources<'_>,
     clash: &Clash,
 ) -> Result<(), AllocError>
-    ensures { OnOk result (text.new.items ≡ text.old.items ++ clash_line sources.now.builds.now
+    ensures { OnOk result (text.new.items ≡ text.old.items ++ clash_line clash.now.kind sources.now.builds.now
         (seen_files sources.now.files.now) clash.now.first clash.now.other) }
 {
-    push_first(text, sources, clash.first)?;
-    push_other(text, sources, clash.other)
+    push_first(text, clash.kind, sources, clash.first)?;
+    push_other(text, clash.kind, sources, clash.other)
 }
 
 // Adds how many clashes are left out.
@@ -104,14 +142,23 @@ pub fn clashes_text(
     Ok(text)
 }
 
+// The word for the kind of file that is shared, as an object has it.
+fn kind_word(kind: SideFile) -> &'static str {
+    match kind {
+        SideFile::Depfile => "depfile",
+        SideFile::ResponseFile => "rspfile",
+    }
+}
+
 // One clash.
 fn clash_value(alloc: Global, sources: &Sources<'_>, clash: &Clash) -> Result<Value, AllocError> {
     let mut path = Vec::new(alloc);
-    push_depfile(&mut path, sources.builds, clash.first)?;
+    push_file(&mut path, clash.kind, sources.builds, clash.first)?;
     let path = String::from_utf8_lossy(alloc, &path)?;
     let first = edge_value(alloc, sources, clash.first, None)?;
     let other = edge_value(alloc, sources, clash.other, None)?;
-    json!(in alloc; {"kind": "clash", "path": path, "first": first, "other": other})
+    let of = kind_word(clash.kind);
+    json!(in alloc; {"kind": "clash", "of": of, "path": path, "first": first, "other": other})
 }
 
 /// Clashes as JSON, an object a line.

@@ -1,5 +1,5 @@
 -- The texts of a rule with their values so far.
-use Rattle.std.proofs.Common.{◌≡◌, ℕ, zero, suc, ◌+◌, ◌<◌, Bool, true, false, List, [], ◌∷◌, ◌++◌, ◌≤◌, length, slice_get, map, Option, Some, None, is_some, cond, option_map, bytes_eq, if◌then◌else◌, refl, sym, ap, ◌∙◌, subst, inl, inr, arith}
+use Rattle.std.proofs.Common.{◌≡◌, ℕ, zero, suc, ◌+◌, ◌<◌, Bool, true, false, List, [], ◌∷◌, ◌++◌, ◌≤◌, length, slice_get, map, Option, Some, None, is_some, cond, option_map, bytes_eq, codes, if◌then◌else◌, refl, sym, ap, ◌∙◌, subst, inl, inr, arith}
 use Rattle.std.proofs.lemmas.List.{append-nil}
 use Rattle.std.proofs.lemmas.Bool.{ltb-true, ltb-false}
 use Rattle.std.proofs.Math.ListN.{set}
@@ -9,8 +9,8 @@ use Rattle.rev_scopes.specs.Bindings.{value_of}
 use Rattle.rev_scopes.specs.RuleNames.{name_of}
 use Rattle.rev_scopes.specs.Scopes.{RuleValue, variable_in}
 use Rattle.rev_scopes.specs.Expansion.{is_too_large, limited, appended}
-use Rattle.rev_scopes.specs.Edges.{EdgeEnvValue, paths_named, first_source, source, Source, Known, Needs, HasValue, Given, Expanded, IsExpanded, Nothing, Plain, Named}
-use Rattle.rev_scopes.specs.Slots.{SlotValue, seen_slots, unknown_slot, rule_of, IsRight, AreRight, AreOf, IsWaiting, Waits, AreStuck, IsAdded}
+use Rattle.rev_scopes.specs.Edges.{EdgeEnvValue, paths_named, first_source, source, Source, Known, Needs, HasValue, Given, Expanded, IsExpanded, Nothing, Plain, Named, IsResponseFile, HasPath, IsLarge, HasNone}
+use Rattle.rev_scopes.specs.Slots.{SlotValue, seen_slots, unknown_slot, rule_of, IsRight, AreRight, AreOf, IsWaiting, Waits, AreStuck, IsSettledFor, IsAdded}
 
 -- the rule has the text that the slot of that name has
 pub value_of-rule : (name : List ℕ) (slots : List (List ℕ × SlotValue)) → value_of name (rule_of slots) ≡ option_map (λ slot. slot.text) (value_of name slots)
@@ -133,13 +133,23 @@ one_name : (edge : EdgeEnvValue) {name value : List ℕ} → IsExpanded edge (Va
 one_name edge (Named {name} {value} {others} has rest) =
     subst (λ (v : List ℕ). HasValue edge name v) (sym (ap (λ t. value ++ t) (no_bytes edge rest) ∙ append-nil value)) has
 
+-- a name that has been added by itself
+pub name_added : (edge : EdgeEnvValue) (slots : List (List ℕ × SlotValue)) (name : List ℕ) (new : Option (List ℕ)) → IsAdded edge slots (Variable name ∷ []) (Some []) true new
+    → (value : List ℕ) × HasValue edge name value × (new ≡ limited value)
+name_added edge slots name new (value, given, is, within) =
+    (value, subst (λ (v : List ℕ). HasValue edge name v) (append-nil value) (one_name edge (given [] [] Nothing)), is)
+
+-- a name that has not been added by itself waits
+pub name_waits : (edge : EdgeEnvValue) (slots : List (List ℕ × SlotValue)) (name : List ℕ) → Waits (IsWaiting edge slots) (Variable name ∷ []) → IsWaiting edge slots name
+name_waits edge slots name (inl waits) = waits
+name_waits edge slots name (inr none) = absurd none
+
 -- a name that does not wait has been added
 pub known_added : (edge : EdgeEnvValue) (slots : List (List ℕ × SlotValue)) (name : List ℕ) (new : Option (List ℕ)) (b : Bool) → (IsWaiting edge slots name → ⊥) → IsAdded edge slots (Variable name ∷ []) (Some []) b new
     → (value : List ℕ) × HasValue edge name value × (new ≡ limited value)
 known_added edge slots name new false known (inl waits) = absurd (known waits)
 known_added edge slots name new false known (inr none) = absurd none
-known_added edge slots name new true known (value, given, is, within) =
-    (value, subst (λ (v : List ℕ). HasValue edge name v) (append-nil value) (one_name edge (given [] [] Nothing)), is)
+known_added edge slots name new true known added = name_added edge slots name new added
 
 pub limited-some : (value v : List ℕ) → limited value ≡ Some v → (value ≡ v) × (length v ≤ 1048576)
 limited-some value v e = by (is_too_large value) refl e
@@ -156,6 +166,29 @@ limited-none value e = by (is_too_large value) refl e
     by : (b : Bool) → is_too_large value ≡ b → (if b then None else Some value) ≡ None → 1048576 < length value
     by true h e = ltb-true 1048576 (length value) h
     by false h e = cc
+
+-- the path of a response file, by what was added for `rspfile`
+module _ (edge : EdgeEnvValue) (slots : List (List ℕ × SlotValue)) (new : Option (List ℕ)) where
+  abbrev pub AddedPath : Bool → Type 0
+  AddedPath b = IsAdded edge slots (Variable (codes "rspfile") ∷ []) (Some []) b new
+
+  pub response-none : (b : Bool) → b ≡ false → IsSettledFor (codes "rspfile") edge slots → AddedPath b → IsResponseFile edge []
+  response-none true h settled added = cc
+  response-none false h settled added =
+      let waits = name_waits edge slots (codes "rspfile") added in HasNone (stuck_name edge slots (settled waits) (codes "rspfile") waits)
+
+  pub response-some : (b : Bool) → b ≡ true → AddedPath b → (path : List ℕ) → new ≡ Some path → IsResponseFile edge path
+  response-some false h added path e = cc
+  response-some true h added path e =
+      let given = name_added edge slots (codes "rspfile") new added in
+      let same = limited-some given.0 path (sym given.2 ∙ e) in
+      HasPath (subst (λ (v : List ℕ). HasValue edge (codes "rspfile") v) same.0 given.1) same.1
+
+  pub response-large : (b : Bool) → b ≡ true → AddedPath b → new ≡ None → IsResponseFile edge []
+  response-large false h added e = cc
+  response-large true h added e =
+      let given = name_added edge slots (codes "rspfile") new added in
+      IsLarge given.1 (limited-none given.0 (sym given.2 ∙ e))
 
 -- what is known where nothing more can be found out
 abbrev pub Stuck : (List ℕ → Type 0) → List (List ℕ × SlotValue) → Type 0

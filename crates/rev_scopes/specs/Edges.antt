@@ -1,5 +1,5 @@
 -- Expansion at the end: what a name stands for at an edge, once all files are read.
-use Rattle.std.specs.Prelude.{◌≡◌, ℕ, ◌<◌, IsTrue, List, [], ◌∷◌, ◌++◌, length, Option, None, Some, bytes_eq, codes, if◌then◌else◌}
+use Rattle.std.specs.Prelude.{◌≡◌, ℕ, ◌<◌, ◌≤◌, IsTrue, List, [], ◌∷◌, ◌++◌, length, Option, None, Some, bytes_eq, codes, if◌then◌else◌}
 use Rattle.std.specs.List.{flat_map}
 use Rattle.rev_paths.specs.Quoting.{quote}
 use Rattle.rev_syntax.specs.Texts.{PieceValue, Byte, Variable}
@@ -97,9 +97,18 @@ given_for MsvcDepsPrefix values = []
 given_for Description values = []
 given_for Generator values = values.generator.items
 given_for Restat values = values.restat.items
-given_for Rspfile values = []
+given_for Rspfile values = values.rspfile.items
 given_for RspfileContent values = values.rspfile_content.items
 given_for Pool values = values.pool.items
+
+-- The path of an edge's response file. An edge is not refused for it: the path is empty where `rspfile` has a value
+-- that is too large, or none, since it needs itself.
+pub data IsResponseFile (edge : EdgeEnvValue) : List ℕ → Type 0 where
+  HasPath : {path : List ℕ} → HasValue edge (codes "rspfile") path → length path ≤ MAX_VALUE_BYTES
+      → IsResponseFile edge path
+  IsLarge : {value : List ℕ} → HasValue edge (codes "rspfile") value → MAX_VALUE_BYTES < length value
+      → IsResponseFile edge []
+  HasNone : ((value : List ℕ) → HasValue edge (codes "rspfile") value → ⊥) → IsResponseFile edge []
 
 -- the command that is compared with the recorded one: behind the command stands the content of its response file, where
 -- there is any

@@ -91,6 +91,10 @@ IsKnowable edge slots place known =
     (slot : Slot) × (slice_get slots place ≡ Some slot) × (slot.value ≡ None)
     × IsRight edge slot.bound.now.text (Some known)
 
+-- where a name waits, no more can be found out
+abbrev pub IsSettledFor : List ℕ → EdgeEnvValue → List (List ℕ × SlotValue) → Type 0
+IsSettledFor name edge slots = IsWaiting edge slots name → AreStuck edge slots
+
 -- of the variables that an edge needs none waits, or one does
 abbrev pub NoneWaits : EdgeEnvValue → List (List ℕ × SlotValue) → Type 0
 NoneWaits edge slots =

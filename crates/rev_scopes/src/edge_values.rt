@@ -1,12 +1,12 @@
 //! Expansion at the end, edge by edge.
-ghost use Rattle.std.specs.Prelude.{◌≡◌, ◌≢◌, ◌≤◌, [], List, ℕ, IsTrue, length, IfOk, OnOk, IsErrOf, IfSome, IfNone, not, false, ◌↔◌, None, Some, option_map};
+ghost use Rattle.std.specs.Prelude.{◌≡◌, ◌≢◌, ◌≤◌, [], List, ℕ, IsTrue, codes, length, IfOk, OnOk, IsErrOf, IfSome, IfNone, not, false, ◌↔◌, None, Some, option_map};
 ghost use Rattle.rev_paths.specs.Quoting.{quote};
 ghost use Rattle.rev_syntax.specs.Pieces.{seen_piece};
 ghost use Rattle.rev_scopes.specs.Expansion.{limited, appended};
 ghost use Rattle.rev_scopes.specs.declared.rule_variable.RuleVariable.{RuleVariable};
 ghost use Rattle.rev_scopes.specs.RuleNames.{name_of, is_needed};
-ghost use Rattle.rev_scopes.specs.Edges.{joined, paths_named, seen_edge, HasValue, AllHaveValues, SomeNeedsItself, SomeIsTooLarge, given_for, compared};
-ghost use Rattle.rev_scopes.specs.Slots.{seen_slots, AreOf, IsFound, IsAdded, IsTried, IsRight, IsWaiting, Waits, IsKnowable, AreStuck, NoneWaits, SomeWaits};
+ghost use Rattle.rev_scopes.specs.Edges.{joined, paths_named, seen_edge, HasValue, AllHaveValues, SomeNeedsItself, SomeIsTooLarge, IsResponseFile, given_for, compared};
+ghost use Rattle.rev_scopes.specs.Slots.{seen_slots, AreOf, IsFound, IsAdded, IsTried, IsRight, IsWaiting, Waits, IsKnowable, AreStuck, IsSettledFor, NoneWaits, SomeWaits};
 ghost use Rattle.rev_scopes.specs.declared.growth.TheConstants.{MAX_VALUE_BYTES};
 
 use crate::edge::{EdgeEnv, EdgeVariables};
@@ -162,8 +162,15 @@ fn text_value(
     Ok(Some(value))
 }
 
+// Whether the text of a variable is tried before others: it is one that each edge needs, or names its response file.
+fn is_tried_first(variable: RuleVariable) -> bool
+    ensures { IsTrue (is_needed variable) → IsTrue result }
+{
+    variable.is_needed() || matches!(variable, RuleVariable::Rspfile)
+}
+
 // The value of a text, if it can be found out by now. With `needed_only` no text is tried but those of variables that
-// each edge needs.
+// each edge needs, and that of its response file's path.
 fn try_slot(
     alloc: Global,
     edge: &EdgeEnv<'_>,
@@ -180,7 +187,7 @@ fn try_slot(
         → Waits (IsWaiting (seen_edge edge.now) (seen_slots slots.now))
         slot.now.bound.now.text)) }
 {
-    if needed_only && !slot.bound.variable.is_needed() {
+    if needed_only && !is_tried_first(slot.bound.variable) {
         return Ok(None);
     }
     match &slot.value {
@@ -314,10 +321,56 @@ fn known_value(
     }
 }
 
+// The path of an edge's response file, once no more can be found out of it.
+fn settled_response(
+    alloc: Global,
+    edge: &EdgeEnv<'_>,
+    slots: &[Slot<'_>],
+) -> Result<Vec<u8>, AllocError>
+    requires slots { AreOf (seen_edge edge.now) (seen_slots slots.now) }
+    requires settled { IsSettledFor (codes "rspfile") (seen_edge edge.now) (seen_slots slots.now) }
+    ensures path { IfOk result (λ path. IsResponseFile (seen_edge edge.now) path.items) }
+    ensures within { IfOk result (λ path. length path.items ≤ MAX_VALUE_BYTES) }
+{
+    let mut value = Growth::new(alloc);
+    let is_known = push_piece(
+        alloc,
+        &mut value,
+        edge,
+        slots,
+        Piece::Variable(RuleVariable::Rspfile.name()),
+    )?;
+    if !is_known {
+        return Ok(Vec::new(alloc));
+    }
+    match value.into_value() {
+        Some(path) => Ok(path),
+        None => Ok(Vec::new(alloc)),
+    }
+}
+
+// The path of an edge's response file. Texts that the edge does not need are expanded only where it leads to them.
+fn response_file(
+    alloc: Global,
+    edge: &EdgeEnv<'_>,
+    slots: Vec<Slot<'_>>,
+) -> Result<Vec<u8>, AllocError>
+    requires slots { AreOf (seen_edge edge.now) (seen_slots slots.items) }
+    ensures path { IfOk result (λ path. IsResponseFile (seen_edge edge.now) path.items) }
+    ensures within { IfOk result (λ path. length path.items ≤ MAX_VALUE_BYTES) }
+{
+    if !is_waiting(edge, &slots, RuleVariable::Rspfile) {
+        return settled_response(alloc, edge, &slots);
+    }
+    let slots = settled(alloc, edge, slots, false)?;
+    settled_response(alloc, edge, &slots)
+}
+
 /// The values of the variables that are expanded for an edge that is not phony. A name is looked up as `in`,
 /// `in_newline` and `out`, in the block, in the rule, whose texts are expanded by this same look-up, and then in the
 /// scopes. Each text of the rule is expanded at most once, and those that the edge does not need only where one that it
-/// needs leads to them.
+/// needs, or `rspfile`, leads to them. No edge is refused for `rspfile`: the path of its response file is empty where
+/// that has no value, or one that is too large.
 ///
 /// # Errors
 /// [`ValueFault::NeedsItself`] where one of the variables has no value, since it needs itself. Where all have one,
@@ -329,6 +382,7 @@ pub fn edge_variables(alloc: Global, edge: &EdgeEnv<'_>) -> Result<EdgeVariables
         → HasValue (seen_edge edge.now) (name_of variable) (given_for variable values)) }
     ensures within { IfOk result (λ values. (variable : RuleVariable)
         → length (given_for variable values) ≤ MAX_VALUE_BYTES) }
+    ensures response { IfOk result (λ values. IsResponseFile (seen_edge edge.now) values.rspfile.items) }
     // That a variable has no value comes before that one is too large.
     ensures needs_itself { IsErrOf result ValueFault.NeedsItself → SomeNeedsItself (seen_edge edge.now) }
     ensures all { IsErrOf result ValueFault.TooLarge → AllHaveValues (seen_edge edge.now) }
@@ -342,12 +396,14 @@ pub fn edge_variables(alloc: Global, edge: &EdgeEnv<'_>) -> Result<EdgeVariables
     let restat = known_value(alloc, edge, &slots, RuleVariable::Restat)?;
     let rspfile_content = known_value(alloc, edge, &slots, RuleVariable::RspfileContent)?;
     let pool = known_value(alloc, edge, &slots, RuleVariable::Pool)?;
+    let rspfile = response_file(alloc, edge, slots)?;
     Ok(EdgeVariables {
         command,
         depfile,
         deps,
         generator,
         restat,
+        rspfile,
         rspfile_content,
         pool,
     })

@@ -5,6 +5,6 @@ use Rattle.rev_clashes.proofs.sharing.clashes.Given as goal
 
 abbrev pub invariant-loop-place : goal.invariant-loop-place
 invariant-loop-place l = record {
-  firsts : (path : List ℕ) → IsFirst l.builds l.place path (lookup (bytes_eq path) l.firsts.entries);
-  clashes : AreBelow l.builds l.place l.clashes.items;
+  firsts : (path : List ℕ) → IsFirst l.kind l.builds l.place path (lookup (bytes_eq path) l.firsts.entries);
+  clashes : AreBelow l.kind l.builds l.place l.clashes.items;
 }

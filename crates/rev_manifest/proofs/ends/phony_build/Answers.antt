@@ -22,6 +22,7 @@ returns c =
       validations = paths.validations.items;
       command = (c.in_ok-shared.ensures ∙ c.new.ensures.items) i;
       depfile = c.new-2.ensures.items i;
+      rspfile = c.new-3.ensures.items i;
       keeps_deps = false;
       restat = false;
       generator = false;

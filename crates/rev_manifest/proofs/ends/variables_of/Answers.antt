@@ -15,7 +15,8 @@ returns-in-Ok c =
     let same : given ≡ at_end c.args.scopes.now (seen_edge edge) c.args.rule.now =
     (λ i. record { ins = c.deref.ensures.value i; outs = c.deref-2.ensures.value i; block = edge.block; rule = c.args.rule.now; scopes = c.args.scopes.now; scope = edge.scope }) in
     subst (λ (e : EdgeEnvValue). unless edge.place (fault_at_end e) (values_at_end e) ≡ Ok (seen_values c.in-Ok.values)) same
-    (λ i. unless edge.place (fault_none given c.in-Ok.values c.in-Ok.ensures.values c.in-Ok.ensures.within i) (values_are given c.in-Ok.values c.in-Ok.ensures.values c.in-Ok.ensures.within i))
+    (λ i. unless edge.place (fault_none given c.in-Ok.values c.in-Ok.ensures.values c.in-Ok.ensures.within c.in-Ok.ensures.response i)
+    (values_are given c.in-Ok.values c.in-Ok.ensures.values c.in-Ok.ensures.within c.in-Ok.ensures.response i))
 
 pub returns-in-Err-NeedsItself : goal.returns-in-Err-NeedsItself
 returns-in-Err-NeedsItself c =
