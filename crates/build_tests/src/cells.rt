@@ -37,7 +37,7 @@ fn marks_are_copied(rt: HostRuntime) -> Result<(), Fail> {
         seen: 10,
     };
     assert!(rt; is_copied(&running)?);
-    let done = Mark::Done(Positions::new(vec![in rt.alloc(); 0, 2]?));
+    let done = Mark::Done(Positions::new(vec![in rt.alloc(); 0, 2]?)?);
     assert!(rt; is_copied(&done)?);
     assert!(rt; Mark::Clean != Mark::Idle.copy()?);
     Ok(())
@@ -45,35 +45,31 @@ fn marks_are_copied(rt: HostRuntime) -> Result<(), Fail> {
 
 #[test]
 fn positions_are_given_back(rt: HostRuntime) -> Result<(), Fail> {
-    let positions = Positions::new(vec![in rt.alloc(); 0, 2]?);
+    let positions = Positions::new(vec![in rt.alloc(); 0, 2]?)?;
     assert!(rt; positions.as_slice() == [0, 2].as_slice());
     assert!(rt; positions.copy()? == positions);
-    assert!(rt; positions.into_vec().as_slice() == [0, 2].as_slice());
     Ok(())
 }
 
 #[test]
 fn a_text_is_given_back(rt: HostRuntime) -> Result<(), Fail> {
-    let text = Text::new(vec![in rt.alloc(); b'c', b'c']?);
+    let text = Text::new(vec![in rt.alloc(); b'c', b'c']?)?;
     assert!(rt; text.as_slice() == b"cc".as_slice());
     assert!(rt; text.copy()? == text);
-    assert!(rt; text.into_vec().as_slice() == b"cc".as_slice());
     Ok(())
 }
 
 #[test]
 fn repeated_names_are_given_back(rt: HostRuntime) -> Result<(), Fail> {
-    let names = Names::new(names(rt.alloc(), b"a.h a.h")?);
+    let names = Names::new(names(rt.alloc(), b"a.h a.h")?)?;
     assert!(rt; names.as_slice().len() == 2);
     assert!(rt; names.copy()? == names);
-    let last = names.into_vec().pop();
-    assert!(rt; last.is_some_and(|name| name.as_bytes() == b"a.h".as_slice()));
     Ok(())
 }
 
 #[test]
 fn a_built_record_is_copied(rt: HostRuntime) -> Result<(), Fail> {
-    let command = Text::new(vec![in rt.alloc(); b'c', b'c']?);
+    let command = Text::new(vec![in rt.alloc(); b'c', b'c']?)?;
     let built = BuiltRecord { command, stamp: 10 };
     assert!(rt; built.copy()? == built);
     Ok(())
@@ -81,7 +77,7 @@ fn a_built_record_is_copied(rt: HostRuntime) -> Result<(), Fail> {
 
 #[test]
 fn a_record_of_deps_is_copied(rt: HostRuntime) -> Result<(), Fail> {
-    let paths = Names::new(names(rt.alloc(), b"a.h")?);
+    let paths = Names::new(names(rt.alloc(), b"a.h")?)?;
     let deps = DepsRecord { stamp: 10, paths };
     assert!(rt; deps.copy()? == deps);
     let value = Value::Deps(Some(deps));

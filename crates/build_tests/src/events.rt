@@ -79,15 +79,15 @@ fn stamps(alloc: Global, text: &[u8]) -> Result<Stamps, AllocError> {
     if !second.is_empty() {
         stamps.push(u64::from(number(second)))?;
     }
-    Ok(Stamps::new(stamps))
+    Stamps::new(stamps)
 }
 
 // Nothing, the paths behind `list`, or the text behind `depfile`.
 fn listing(alloc: Global, said: &[u8]) -> Result<Listing, Fail> {
     let (word, rest) = cut(said, b' ');
     match word {
-        b"list" => Ok(Listing::Paths(Names::new(names(alloc, rest)?))),
-        b"depfile" => Ok(Listing::Depfile(Text::new(Vec::from_slice(alloc, rest)?))),
+        b"list" => Ok(Listing::Paths(Names::new(names(alloc, rest)?)?)),
+        b"depfile" => Ok(Listing::Depfile(Text::new(Vec::from_slice(alloc, rest)?)?)),
         _ => Ok(Listing::Nothing),
     }
 }
@@ -142,7 +142,7 @@ fn event_of(alloc: Global, line: &[u8]) -> Result<Event, Fail> {
     let (word, said) = cut(line, b' ');
     match word {
         b"interrupt" => Ok(Event::Interrupt),
-        b"plan" => Ok(Event::Plan(Names::new(names(alloc, said)?))),
+        b"plan" => Ok(Event::Plan(Names::new(names(alloc, said)?)?)),
         b"resize" => Ok(resize_of(said)),
         _ => event_of_output(alloc, word, said),
     }

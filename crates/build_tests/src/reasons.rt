@@ -78,7 +78,7 @@ fn agree(rt: &impl Abort, alloc: Global, rows: &[Row<'_>]) -> Result<(), Fail> {
 fn finish(alloc: Global, cells: &mut Cells) -> Result<(), AllocError> {
     let cell = Cell::Mark(0);
     cells.reserve(&cell)?;
-    let changed = Positions::new(vec![in alloc; 0]?);
+    let changed = Positions::new(vec![in alloc; 0]?)?;
     cells.swap(&cell, Value::Mark(Mark::Done(changed)));
     Ok(())
 }

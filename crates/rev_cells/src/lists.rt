@@ -1,5 +1,6 @@
-//! Lists that values hold.
+//! Lists that values hold, whose copies share their bytes.
 ghost use Rattle.std.specs.Prelude.{◌≡◌, ◌∷◌, [], IfOk, bytes_eq};
+ghost use Rattle.std.specs.Arc.{arc_slice_items};
 ghost use Rattle.std.specs.Hash as fed;
 ghost use Rattle.std.specs.Hash.{items_Alike, same_Alike};
 ghost use Rattle.std.proofs.lemmas.Slice.Eq.{bytes_eq-Decides};
@@ -10,11 +11,21 @@ use rev_paths::Name;
 use std::alloc::AllocError;
 use std::hash::{Hash, Hasher};
 use std::marker::Model;
+use std::sync::ArcSlice;
+
+// A list that copies share, with room for its items and no more.
+fn shared<T: Drop>(items: Vec<T>) -> Result<ArcSlice<T>, AllocError>
+    ensures { IfOk result (λ list. arc_slice_items list ≡ items.items) }
+{
+    let mut items = items;
+    items.shrink_to_fit();
+    ArcSlice::from_vec(items)
+}
 
 /// Positions of an edge's outputs, which count from 0.
 #[derive(Debug)]
 pub struct Positions {
-    items: Vec<u64>,
+    items: ArcSlice<u64>,
 }
 
 // Written, since a derived drop is proved again at each exit of each caller.
@@ -29,15 +40,22 @@ impl Model for Positions {
 
     ghost Value = { List ℕ };
 
-    ghost view = { λ p. p.items.items };
+    ghost use Rattle.std.specs.Arc.{arc_slice_items};
+
+    ghost view = { λ p. arc_slice_items p.items };
 }
 
 impl Positions {
-    /// The positions of a vector, which is taken over with its memory.
-    pub fn new(items: Vec<u64>) -> Positions
-        ensures { result ≡ items.items }
+    /// The positions of a vector. Copies share them.
+    ///
+    /// # Errors
+    /// [`AllocError`] where an allocation was refused.
+    pub fn new(items: Vec<u64>) -> Result<Positions, AllocError>
+        ensures { IfOk result (λ positions. positions ≡ items.items) }
     {
-        Positions { items }
+        Ok(Positions {
+            items: shared(items)?,
+        })
     }
 
     /// The positions in their order.
@@ -47,15 +65,10 @@ impl Positions {
         self.items.as_slice()
     }
 
-    /// The vector that holds the positions, with its memory.
-    pub fn into_vec(self) -> Vec<u64>
-        ensures { result.items ≡ self }
-    {
-        let Positions { items } = self;
-        items
-    }
-
-    /// Equal positions.
+    /// Equal positions, which share what these hold.
+    ///
+    /// # Errors
+    /// [`AllocError`] where no more copies can be counted.
     pub fn copy(&self) -> Result<Positions, AllocError>
         ensures { IfOk result (λ copy. copy ≡ self.now) }
     {
@@ -90,7 +103,7 @@ impl Eq for Positions {
 /// The bytes of a text, as a command.
 #[derive(Debug)]
 pub struct Text {
-    bytes: Vec<u8>,
+    bytes: ArcSlice<u8>,
 }
 
 // Written, since a derived drop is proved again at each exit of each caller.
@@ -105,15 +118,22 @@ impl Model for Text {
 
     ghost Value = { List ℕ };
 
-    ghost view = { λ t. t.bytes.items };
+    ghost use Rattle.std.specs.Arc.{arc_slice_items};
+
+    ghost view = { λ t. arc_slice_items t.bytes };
 }
 
 impl Text {
-    /// The text of a vector's bytes, which is taken over with its memory.
-    pub fn new(bytes: Vec<u8>) -> Text
-        ensures { result ≡ bytes.items }
+    /// The text of a vector's bytes. Copies share them.
+    ///
+    /// # Errors
+    /// [`AllocError`] where an allocation was refused.
+    pub fn new(bytes: Vec<u8>) -> Result<Text, AllocError>
+        ensures { IfOk result (λ text. text ≡ bytes.items) }
     {
-        Text { bytes }
+        Ok(Text {
+            bytes: shared(bytes)?,
+        })
     }
 
     /// The bytes in their order.
@@ -123,15 +143,10 @@ impl Text {
         self.bytes.as_slice()
     }
 
-    /// The vector that holds the bytes, with its memory.
-    pub fn into_vec(self) -> Vec<u8>
-        ensures { result.items ≡ self }
-    {
-        let Text { bytes } = self;
-        bytes
-    }
-
-    /// An equal text.
+    /// An equal text, which shares the bytes of this one.
+    ///
+    /// # Errors
+    /// [`AllocError`] where no more copies can be counted.
     pub fn copy(&self) -> Result<Text, AllocError>
         ensures { IfOk result (λ copy. copy ≡ self.now) }
     {
@@ -177,7 +192,7 @@ impl Hash for Text {
 /// Paths in a given order, in which one may stand more than once.
 #[derive(Debug)]
 pub struct Names {
-    paths: Vec<Name>,
+    paths: ArcSlice<Name>,
 }
 
 // Written, since a derived drop is proved again at each exit of each caller.
@@ -192,15 +207,22 @@ impl Model for Names {
 
     ghost Value = { List (List ℕ) };
 
-    ghost view = { λ n. n.paths.items };
+    ghost use Rattle.std.specs.Arc.{arc_slice_items};
+
+    ghost view = { λ n. arc_slice_items n.paths };
 }
 
 impl Names {
-    /// The paths of a vector, which is taken over with its memory.
-    pub fn new(paths: Vec<Name>) -> Names
-        ensures { result ≡ paths.items }
+    /// The paths of a vector. Copies share them.
+    ///
+    /// # Errors
+    /// [`AllocError`] where an allocation was refused.
+    pub fn new(paths: Vec<Name>) -> Result<Names, AllocError>
+        ensures { IfOk result (λ names. names ≡ paths.items) }
     {
-        Names { paths }
+        Ok(Names {
+            paths: shared(paths)?,
+        })
     }
 
     /// The paths in their order.
@@ -210,15 +232,10 @@ impl Names {
         self.paths.as_slice()
     }
 
-    /// The vector that holds the paths, with its memory.
-    pub fn into_vec(self) -> Vec<Name>
-        ensures { result.items ≡ self }
-    {
-        let Names { paths } = self;
-        paths
-    }
-
-    /// Equal paths in the same order.
+    /// Equal paths in the same order, which share the list of these.
+    ///
+    /// # Errors
+    /// [`AllocError`] where no more copies can be counted.
     pub fn copy(&self) -> Result<Names, AllocError>
         ensures { IfOk result (λ copy. copy ≡ self.now) }
     {

@@ -110,11 +110,22 @@ impl Opening {
         ensures no_jobs { result ≢ Err OpeningFault.BadJobs }
         ensures err { OnErr result (self.new ≡ self.old) }
     {
-        let command = Text::new(command);
-        self.add(
-            Cell::Built(path),
-            Value::Built(Some(BuiltRecord { command, stamp })),
-        )
+        let record = Cell::Built(path);
+        if self.cells.has(&record) {
+            return Err(OpeningFault::DoubleRecord);
+        }
+        let command = Text::new(command)?;
+        self.add(record, Value::Built(Some(BuiltRecord { command, stamp })))
+    }
+
+    /// The same of a record whose text is there already: it takes no memory for that.
+    pub fn add_built_record(&mut self, path: Name, built: BuiltRecord) -> Result<(), OpeningFault>
+        ensures ok { OnOk result (self.new ≡ with_record self.old (cell.Built path) (value.Built (Some built))) }
+        ensures double { IsErrOf result OpeningFault.DoubleRecord ↔ Contains self.old.places (cell.Built path) }
+        ensures no_jobs { result ≢ Err OpeningFault.BadJobs }
+        ensures err { OnErr result (self.new ≡ self.old) }
+    {
+        self.add(Cell::Built(path), Value::Built(Some(built)))
     }
 
     /// Adds the deps log's record of a path: the stamp that it had and the prerequisites that were listed for it, in
@@ -132,11 +143,22 @@ impl Opening {
         ensures no_jobs { result ≢ Err OpeningFault.BadJobs }
         ensures err { OnErr result (self.new ≡ self.old) }
     {
-        let paths = Names::new(prerequisites);
-        self.add(
-            Cell::Deps(path),
-            Value::Deps(Some(DepsRecord { stamp, paths })),
-        )
+        let record = Cell::Deps(path);
+        if self.cells.has(&record) {
+            return Err(OpeningFault::DoubleRecord);
+        }
+        let paths = Names::new(prerequisites)?;
+        self.add(record, Value::Deps(Some(DepsRecord { stamp, paths })))
+    }
+
+    /// The same of a record whose list is there already: it takes no memory for that.
+    pub fn add_deps_record(&mut self, path: Name, deps: DepsRecord) -> Result<(), OpeningFault>
+        ensures ok { OnOk result (self.new ≡ with_record self.old (cell.Deps path) (value.Deps (Some deps))) }
+        ensures double { IsErrOf result OpeningFault.DoubleRecord ↔ Contains self.old.places (cell.Deps path) }
+        ensures no_jobs { result ≢ Err OpeningFault.BadJobs }
+        ensures err { OnErr result (self.new ≡ self.old) }
+    {
+        self.add(Cell::Deps(path), Value::Deps(Some(deps)))
     }
 
     /// An equal opening.

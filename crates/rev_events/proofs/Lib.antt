@@ -4,6 +4,7 @@ pub mod EffectLemmas
 pub mod HeldEvents
 pub mod HeldLemmas
 pub mod HeldSteps
+pub mod ListingLemmas
 pub mod PlannedState
 pub mod PoolLemmas
 pub mod SameLemmas

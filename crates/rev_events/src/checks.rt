@@ -19,7 +19,7 @@ use crate::listings::listed;
 use crate::pools::{present_pool, resize_refusal};
 use crate::refusal::Refusal;
 use crate::words::{is_halted, is_through, is_wanted, job_holder, running, slot_holder};
-use rev_cells::Cells;
+use rev_cells::{Cells, Names};
 use rev_dirty::{DependencyScan, reasons};
 use rev_graph::Graph;
 use rev_paths::Name;
@@ -211,9 +211,9 @@ pub(crate) fn finish_listing(
     edge: u32,
     stamps: &[u64],
     listing: &Listing,
-) -> Result<Vec<Name>, Fault>
+) -> Result<Names, Fault>
     requires { edge < length graph.now.manifest.builds }
-    ensures paths { IfOk result (λ paths. paths.items ≡ listed_by listing.now) }
+    ensures paths { IfOk result (λ paths. paths ≡ listed_by listing.now) }
     ensures accepted { OnOk result
         (finish_refusal_in graph.now.manifest edge stamps.now listing.now cells.now.state ≡ None) }
     ensures refused { (r : Refusal) → IsErrOf result (Fault.Refused r)

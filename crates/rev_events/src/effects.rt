@@ -25,7 +25,7 @@ use crate::writes::{
     Writes, all_positions, changed_flags, missing_flags, one_write, positions, push_built,
     push_deps, push_freed, push_marks, push_slot, push_stamps, push_write,
 };
-use rev_cells::{Cell, Cells, Mark, Positions, Value};
+use rev_cells::{Cell, Cells, Mark, Names, Positions, Value};
 use rev_graph::Graph;
 use rev_paths::Name;
 use rev_plan::{PlanFault, plan};
@@ -119,7 +119,7 @@ fn pass_effect(alloc: Global, graph: &Graph, cells: &Cells, edge: u32) -> Result
 {
     let changed = passed_on(alloc, graph, cells, edge)?;
     let mut writes = Vec::new(alloc);
-    let done = Mark::Done(Positions::new(changed));
+    let done = Mark::Done(Positions::new(changed)?);
     push_write(&mut writes, Cell::Mark(edge), Value::Mark(done))?;
     Ok(writes)
 }
@@ -132,10 +132,10 @@ pub(crate) fn finish_effect(
     cells: &Cells,
     edge: u32,
     stamps: &[u64],
-    paths: Vec<Name>,
+    paths: Names,
 ) -> Result<Writes, AllocError>
     requires { edge < length graph.now.manifest.builds }
-    ensures { IfOk result (λ writes. (listing : ListingValue) → paths.items ≡ listed_by listing
+    ensures { IfOk result (λ writes. (listing : ListingValue) → paths ≡ listed_by listing
         → Adds [] writes.items
         (finish_effect_in graph.now.manifest edge stamps.now listing cells.now.state)) }
 {
@@ -144,7 +144,7 @@ pub(crate) fn finish_effect(
     let changes = changed_flags(alloc, graph, cells, edge, outputs, stamps)?;
     let flags = changes.as_slice();
     let changed = positions(alloc, flags)?;
-    let done = Positions::new(changed);
+    let done = Positions::new(changed)?;
     let mut writes = Vec::new(alloc);
     push_write(&mut writes, Cell::Mark(edge), Value::Mark(Mark::Done(done)))?;
     push_freed(&mut writes, graph, cells, edge)?;
@@ -169,10 +169,10 @@ fn accepted_listing(
     graph: &Graph,
     edge: u32,
     listing: &Listing,
-) -> Result<Vec<Name>, AllocError>
+) -> Result<Names, AllocError>
     requires edge { edge < length graph.now.manifest.builds }
     requires listing { HasNoFault (outputs_of (build_at graph.now.manifest.builds edge)) listing.now }
-    ensures { IfOk result (λ paths. paths.items ≡ listed_by listing.now) }
+    ensures { IfOk result (λ paths. paths ≡ listed_by listing.now) }
 {
     match listed(alloc, graph, edge, listing) {
         Ok(paths) => Ok(paths),

@@ -12,6 +12,7 @@ use crate::event::Listing;
 use crate::fault::Fault;
 use crate::refusal::Refusal;
 use indexmap::IndexSet;
+use rev_cells::Names;
 use rev_depfile::{DepfileFault, read};
 use rev_graph::Graph;
 use rev_paths::Name;
@@ -34,13 +35,18 @@ fn names_in_order(alloc: Global, set: IndexSet<Name>) -> Result<Vec<Name>, Alloc
     set.into_iter().collect(alloc)
 }
 
-// The paths, each where it is mentioned first.
-fn mentioned(alloc: Global, paths: &[Name]) -> Result<Vec<Name>, AllocError>
-    ensures { IfOk result (λ names. names.items ≡ first_mentions paths.now) }
+// The paths, each where it is mentioned first. A list without a repeated path is shared.
+fn mentioned(alloc: Global, paths: &Names) -> Result<Names, AllocError>
+    ensures { IfOk result (λ names. names ≡ first_mentions paths.now) }
 {
+    let listed = paths.as_slice();
     let mut set = IndexSet::new(alloc);
-    add_names(&mut set, paths)?;
-    Ok(names_in_order(alloc, set)?)
+    add_names(&mut set, listed)?;
+    if set.len() == listed.len() {
+        return Ok(paths.copy()?);
+    }
+    let names = names_in_order(alloc, set)?;
+    Ok(Names::new(names)?)
 }
 
 /// The paths that an edge's command read, by what is said of them. A depfile is read once.
@@ -52,25 +58,25 @@ pub(crate) fn listed(
     graph: &Graph,
     edge: u32,
     listing: &Listing,
-) -> Result<Vec<Name>, Fault>
+) -> Result<Names, Fault>
     requires { edge < length graph.now.manifest.builds }
-    ensures paths { IfOk result (λ paths. paths.items ≡ listed_by listing.now) }
+    ensures paths { IfOk result (λ paths. paths ≡ listed_by listing.now) }
     ensures accepted { OnOk result (bad_depfile (build_at graph.now.manifest.builds edge) listing.now ≡ None) }
     ensures refused { (r : Refusal) → IsErrOf result (Fault.Refused r)
         → bad_depfile (build_at graph.now.manifest.builds edge) listing.now ≡ Some r }
 {
     match listing {
-        Listing::Nothing => Ok(Vec::new(alloc)),
+        Listing::Nothing => Ok(Names::new(Vec::new(alloc))?),
         Listing::Depfile(text) => {
             let outputs = all_outputs(alloc, graph, edge)?;
             match read(alloc, text.as_slice(), &outputs) {
-                Ok(paths) => Ok(paths),
+                Ok(paths) => Ok(Names::new(paths)?),
                 Err(DepfileFault::Memory) => Err(Fault::Memory),
                 Err(DepfileFault::NoColon(at)) => Err(Fault::Refused(Refusal::Depfile(30, at))),
                 Err(DepfileFault::OtherTarget(at)) => Err(Fault::Refused(Refusal::Depfile(31, at))),
                 Err(DepfileFault::LongPath(at)) => Err(Fault::Refused(Refusal::Depfile(32, at))),
             }
         }
-        Listing::Paths(paths) => Ok(mentioned(alloc, paths.as_slice())?),
+        Listing::Paths(paths) => Ok(mentioned(alloc, paths)?),
     }
 }

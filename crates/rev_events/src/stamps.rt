@@ -9,11 +9,12 @@ ghost use Rattle.std.specs.Cmp.Lexicographic.{nat_list_eq_equiv};
 use std::alloc::AllocError;
 use std::hash::{Hash, Hasher};
 use std::marker::Model;
+use std::sync::ArcSlice;
 
 /// Stamps of an edge's outputs, in the order of the outputs.
 #[derive(Debug)]
 pub struct Stamps {
-    items: Vec<u64>,
+    items: ArcSlice<u64>,
 }
 
 // Written, since a derived drop is proved again at each exit of each caller.
@@ -28,15 +29,24 @@ impl Model for Stamps {
 
     ghost Value = { List ℕ };
 
-    ghost view = { λ s. s.items.items };
+    ghost use Rattle.std.specs.Arc.{arc_slice_items};
+
+    ghost view = { λ s. arc_slice_items s.items };
 }
 
 impl Stamps {
-    /// The stamps of a vector, which is taken over with its memory.
-    pub fn new(items: Vec<u64>) -> Stamps
-        ensures { result ≡ items.items }
+    /// The stamps of a vector. Copies share them.
+    ///
+    /// # Errors
+    /// [`AllocError`] where an allocation was refused.
+    pub fn new(items: Vec<u64>) -> Result<Stamps, AllocError>
+        ensures { IfOk result (λ stamps. stamps ≡ items.items) }
     {
-        Stamps { items }
+        let mut items = items;
+        items.shrink_to_fit();
+        Ok(Stamps {
+            items: ArcSlice::from_vec(items)?,
+        })
     }
 
     /// The stamps in their order.
@@ -46,7 +56,10 @@ impl Stamps {
         self.items.as_slice()
     }
 
-    /// Equal stamps.
+    /// Equal stamps, which share what these hold.
+    ///
+    /// # Errors
+    /// [`AllocError`] where no more copies can be counted.
     pub fn copy(&self) -> Result<Stamps, AllocError>
         ensures { IfOk result (λ copy. copy ≡ self.now) }
     {

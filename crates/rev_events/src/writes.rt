@@ -208,7 +208,7 @@ fn built_at(
         ≡ built_with command.now seen (first_of true (drop place flags.now))
         (first_of 0 (drop place stamps.now))) }
 {
-    let command = Text::new(Vec::from_slice(alloc, command)?);
+    let command = Text::new(Vec::from_slice(alloc, command)?)?;
     if flag_at(flags, place) {
         return Ok(BuiltRecord {
             command,
@@ -254,11 +254,11 @@ pub(crate) fn push_deps(
     edge: u32,
     outputs: &[Name],
     stamps: &[u64],
-    paths: Vec<Name>,
+    paths: Names,
 ) -> Result<(), AllocError>
     requires edge { edge < length graph.now.manifest.builds }
     requires outputs { outputs.now ≡ outputs_of (build_at graph.now.manifest.builds edge) }
-    ensures { OnOk result ((listing : Listing) → paths.items ≡ listed_by listing
+    ensures { OnOk result ((listing : Listing) → paths ≡ listed_by listing
         → Adds writes.old.items writes.new.items
         (write_deps (build_at graph.now.manifest.builds edge) stamps.now listing)) }
 {
@@ -270,7 +270,7 @@ pub(crate) fn push_deps(
     };
     let deps = DepsRecord {
         stamp: stamp_at(stamps, 0),
-        paths: Names::new(paths),
+        paths,
     };
     push_write(writes, Cell::Deps(path.copy()?), Value::Deps(Some(deps)))
 }

@@ -285,7 +285,7 @@ fn other_question(
         b"help" | b"?" => Ok(Question::Help),
         b"quit" | b"exit" | b"q" => alone(Question::Quit, rest),
         _ => {
-            let targets = Names::new(Vec::new(alloc));
+            let targets = Names::new(Vec::new(alloc))?;
             Ok(Question::Command(command_of_texts(alloc, &targets, texts)?))
         }
     }

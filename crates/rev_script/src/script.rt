@@ -61,7 +61,7 @@ const BAD_LINE: LineFault = LineFault::Kind(FaultKind::Syntax);
 fn command_as_word(alloc: Global, texts: &[Vec<u8>]) -> Result<Word, LineFault>
     ensures { Answers result (λ w. w) (command_word (vectors_of texts.now)) }
 {
-    let targets = Names::new(Vec::new(alloc));
+    let targets = Names::new(Vec::new(alloc))?;
     let command = command_of_texts(alloc, &targets, texts)?;
     Ok(Word::Command(command))
 }

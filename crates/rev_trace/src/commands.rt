@@ -91,7 +91,7 @@ pub fn command_of_texts(
 pub fn read_line(alloc: Global, line: &[u8]) -> Result<Command, LineFault>
     ensures { Answers result (λ c. c) (command_line [] line.now) }
 {
-    let none = Names::new(Vec::new(alloc));
+    let none = Names::new(Vec::new(alloc))?;
     let texts = read_fields(alloc, line)?;
     command_of_texts(alloc, &none, &texts)
 }

@@ -24,7 +24,7 @@ pub(crate) fn plan(alloc: Global, targets: &Names, texts: &[Vec<u8>]) -> Result<
         return Ok(Command::Event(Event::Plan(targets.copy()?)));
     }
     let paths = paths(alloc, texts)?;
-    Ok(Command::Event(Event::Plan(Names::new(paths))))
+    Ok(Command::Event(Event::Plan(Names::new(paths)?)))
 }
 
 // `start OUT JOB [SLOT]`, by its parts
@@ -66,7 +66,7 @@ fn depfile(alloc: Global, texts: &[Vec<u8>]) -> Result<Listing, LineFault>
     ensures { Answers result (λ l. l) (depfile_of (vectors_of texts.now)) }
 {
     match texts {
-        [text] => Ok(Listing::Depfile(Text::new(Vec::from_slice(alloc, text)?))),
+        [text] => Ok(Listing::Depfile(Text::new(Vec::from_slice(alloc, text)?)?)),
         _ => Err(BAD_LINE),
     }
 }
@@ -76,7 +76,7 @@ fn list(alloc: Global, mentions: &mut Mentions, texts: &[Vec<u8>]) -> Result<Lis
     ensures { Answers result (λ l. l) (list_of (vectors_of texts.now)) }
 {
     let paths = mentions.paths(alloc, texts)?;
-    Ok(Listing::Paths(Names::new(paths)))
+    Ok(Listing::Paths(Names::new(paths)?))
 }
 
 // Nothing, `depfile TEXT` or `list PATH...`
@@ -107,7 +107,7 @@ fn finished(
 {
     let out = path(alloc, out)?;
     let listing = listing(alloc, mentions, rest)?;
-    let stamps = Stamps::new(wide_numbers(alloc, stamps)?);
+    let stamps = Stamps::new(wide_numbers(alloc, stamps)?)?;
     Ok(Command::Event(Event::Finish {
         out,
         stamps,
@@ -140,7 +140,7 @@ fn ended(alloc: Global, texts: &[Vec<u8>]) -> Result<(Name, Stamps), LineFault>
         [out, stamps] => {
             let out = path(alloc, out)?;
             let stamps = wide_numbers(alloc, stamps)?;
-            Ok((out, Stamps::new(stamps)))
+            Ok((out, Stamps::new(stamps)?))
         }
         _ => Err(BAD_LINE),
     }

@@ -9,7 +9,7 @@ use crate::events::BAD_LINE;
 use crate::mentions::Mentions;
 use crate::record::Record;
 use crate::records::{gives_jobs, record};
-use rev_cells::{Opening, OpeningFault};
+use rev_cells::{BuiltRecord, DepsRecord, Opening, OpeningFault};
 use rev_fields::{FaultKind, LineFault, read_fields};
 use rev_paths::Name;
 use std::alloc::Global;
@@ -71,13 +71,19 @@ fn add(head: &mut Head, said: Record) -> Result<(), LineFault>
             Err(fault) => Err(line_fault(fault)),
         },
         Record::Built(path, stamp, command) => {
-            match head.opening.add_built(path, stamp, command.into_vec()) {
+            match head
+                .opening
+                .add_built_record(path, BuiltRecord { command, stamp })
+            {
                 Ok(()) => Ok(()),
                 Err(fault) => Err(line_fault(fault)),
             }
         }
         Record::Deps(path, stamp, paths) => {
-            match head.opening.add_deps(path, stamp, paths.into_vec()) {
+            match head
+                .opening
+                .add_deps_record(path, DepsRecord { stamp, paths })
+            {
                 Ok(()) => Ok(()),
                 Err(fault) => Err(line_fault(fault)),
             }

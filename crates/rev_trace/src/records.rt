@@ -44,7 +44,7 @@ fn logged(alloc: Global, text: &[u8], stamp: &[u8], rest: &[Vec<u8>]) -> Result<
         [command] => {
             let path = path(alloc, text)?;
             let stamp = wide_number(stamp)?;
-            let command = Text::new(Vec::from_slice(alloc, command)?);
+            let command = Text::new(Vec::from_slice(alloc, command)?)?;
             Ok(Record::Built(path, stamp, command))
         }
         _ => Err(BAD_LINE),
@@ -75,7 +75,7 @@ fn listed(
     ensures { Answers result (λ r. r) (deps_of (text.now ∷ stamp.now ∷ vectors_of rest.now)) }
 {
     let path = path(alloc, text)?;
-    let paths = Names::new(mentions.paths(alloc, rest)?);
+    let paths = Names::new(mentions.paths(alloc, rest)?)?;
     let stamp = wide_number(stamp)?;
     Ok(Record::Deps(path, stamp, paths))
 }

@@ -145,7 +145,7 @@ fn read_lines(alloc: Global, version: Version, lines: &[&[u8]]) -> Result<Trace,
         targets,
         has_jobs: _,
     } = head;
-    let targets = Names::new(targets);
+    let targets = Names::new(targets)?;
     let mut lanes = Vec::new(alloc);
     if end < lines.len() {
         lanes = read_lanes(

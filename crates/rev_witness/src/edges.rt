@@ -53,7 +53,7 @@ pub(crate) fn plan_of(
     let mut targets = Vec::new(alloc);
     targets.push(first_output(graph, one).copy()?)?;
     targets.push(first_output(graph, other).copy()?)?;
-    Ok(Event::Plan(Names::new(targets)))
+    Ok(Event::Plan(Names::new(targets)?))
 }
 
 // The first slot of an edge's pool, where that has slots.
@@ -87,9 +87,10 @@ pub(crate) fn finish_of(alloc: Global, graph: &Graph, edge: u32) -> Result<Event
 {
     let outputs = graph.outputs(edge);
     let stamps = vec![in alloc; 1; outputs.explicit.len() + outputs.implicit.len()]?;
+    let given = Stamps::new(stamps)?;
     Ok(Event::Finish {
         out: first_output(graph, edge).copy()?,
-        stamps: Stamps::new(stamps),
+        stamps: given,
         listing: Listing::Nothing,
     })
 }

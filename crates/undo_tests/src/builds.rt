@@ -101,7 +101,7 @@ fn plan_of(alloc: Global, target: &[u8]) -> Result<Event, AllocError> {
     if !target.is_empty() {
         names.push(path_of(alloc, target)?)?;
     }
-    Ok(Event::Plan(Names::new(names)))
+    Ok(Event::Plan(Names::new(names)?))
 }
 
 // Stamps with a comma between them.
@@ -110,7 +110,7 @@ fn stamps_of(alloc: Global, text: &[u8]) -> Result<Stamps, AllocError> {
     for stamp in text.split(|byte| *byte == b',') {
         stamps.push(u64::from(number(stamp)))?;
     }
-    Ok(Stamps::new(stamps))
+    Stamps::new(stamps)
 }
 
 // A start of the command that makes an output, in a job and, where one is named, a slot.

@@ -81,7 +81,7 @@ fn which(text: &[u8]) -> Which {
 fn plan_of(alloc: Global, target: &[u8]) -> Result<Event, Fail> {
     let mut names = Vec::new(alloc);
     names.push(path_of(alloc, target)?)?;
-    Ok(Event::Plan(Names::new(names)))
+    Ok(Event::Plan(Names::new(names)?))
 }
 
 fn finish_of(alloc: Global, out: &[u8], stamp: u32) -> Result<Event, Fail> {
@@ -89,7 +89,7 @@ fn finish_of(alloc: Global, out: &[u8], stamp: u32) -> Result<Event, Fail> {
     stamps.push(u64::from(stamp))?;
     Ok(Event::Finish {
         out: path_of(alloc, out)?,
-        stamps: Stamps::new(stamps),
+        stamps: Stamps::new(stamps)?,
         listing: Listing::Nothing,
     })
 }

@@ -1,8 +1,20 @@
-use Rattle.std.proofs.Common.{ap, bytes_eq, ◌∙◌}
+use Rattle.std.proofs.Common.{◌≡◌, length, ap, bytes_eq, sym, ◌∙◌}
 use Rattle.indexmap.specs.IndexSet.{insert_all}
+use Rattle.rev_paths.specs.Mentions.{first_mentions}
 use Rattle.rev_paths.proofs.MentionLemmas.{mentions-all}
+use Rattle.rev_events.proofs.ListingLemmas.{mentions-same}
 use Rattle.rev_events.proofs.listings.mentioned.Goals as goal
+
+pub returns-then-len-listed : goal.returns-then-len-listed
+returns-then-len-listed c =
+    let all : c.add_names.new.set.keys ≡ first_mentions c.as_slice-listed.result.now =
+    c.in_ok-add_names.ensures ∙ ap (λ keys. insert_all bytes_eq keys c.as_slice-listed.result.now) c.new-set.ensures.empty ∙ mentions-all c.as_slice-listed.result.now in
+    let many : length (first_mentions c.as_slice-listed.result.now) ≡ length c.as_slice-listed.result.now =
+    sym (ap length all) ∙ sym c.len.ensures.len ∙ c.if-len-listed.true in
+    c.in_ok-copy.ensures ∙ sym c.as_slice-listed.ensures ∙ sym (mentions-same c.as_slice-listed.result.now many) ∙ ap first_mentions c.as_slice-listed.ensures
 
 pub returns : goal.returns
 returns c =
-    c.in_ok-names_in_order.ensures ∙ c.in_ok-add_names.ensures ∙ ap (λ keys. insert_all bytes_eq keys c.args.paths.now) c.new-set.ensures.empty ∙ mentions-all c.args.paths.now
+    c.in_ok-new.ensures ∙ c.in_ok-names.ensures ∙ c.in_ok-add_names.ensures
+    ∙ ap (λ keys. insert_all bytes_eq keys c.as_slice-listed.result.now) c.new-set.ensures.empty
+    ∙ mentions-all c.as_slice-listed.result.now ∙ ap first_mentions c.as_slice-listed.ensures

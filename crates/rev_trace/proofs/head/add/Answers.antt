@@ -20,28 +20,28 @@ returns-in-Err-add_stamp-clause-fault c = λ kind h.
     let there = c.in-Err-add_stamp.ensures.double.0 (ap Err double.0) in
     double_is (seen c.args.head.now) c.args.said (Stamp c.in-Stamp.path c.in-Stamp.stamp) (cell.Stamp c.in-Stamp.path) true c.in-Stamp.is refl (record_from_place c.args.head.now.opening (cell.Stamp c.in-Stamp.path) there) ∙ ap Some (sym double.1)
 
-pub returns-in-Ok-add_built-clause-sound : goal.returns-in-Ok-add_built-clause-sound
-returns-in-Ok-add_built-clause-sound c =
+pub returns-in-Ok-add_built_record-clause-sound : goal.returns-in-Ok-add_built_record-clause-sound
+returns-in-Ok-add_built_record-clause-sound c =
     double_is (seen c.args.head.now) c.args.said (Built c.in-Built.path c.in-Built.stamp c.in-Built.command) (cell.Built c.in-Built.path) false c.in-Built.is refl
-    (no_record c.args.head.now.opening (cell.Built c.in-Built.path) (λ there. let no : Ok c.in-Ok-add_built.field-0 ≡ Err refusal.DoubleRecord = c.in-Ok-add_built.ensures.double.1 there in cc))
+    (no_record c.args.head.now.opening (cell.Built c.in-Built.path) (λ there. let no : Ok c.in-Ok-add_built_record.field-0 ≡ Err refusal.DoubleRecord = c.in-Ok-add_built_record.ensures.double.1 there in cc))
 
-pub returns-in-Err-add_built-clause-fault : goal.returns-in-Err-add_built-clause-fault
-returns-in-Err-add_built-clause-fault c = λ kind h.
-    let is = c.line_fault-in-Err-add_built.ensures in
-    let same : record_fault c.in-Err-add_built.fault ≡ line.Kind kind = cc in
-    let double = double_from_fault c.in-Err-add_built.fault kind same (λ e. c.in-Err-add_built.ensures.no_jobs (ap Err e)) in
-    let there = c.in-Err-add_built.ensures.double.0 (ap Err double.0) in
+pub returns-in-Err-add_built_record-clause-fault : goal.returns-in-Err-add_built_record-clause-fault
+returns-in-Err-add_built_record-clause-fault c = λ kind h.
+    let is = c.line_fault-in-Err-add_built_record.ensures in
+    let same : record_fault c.in-Err-add_built_record.fault ≡ line.Kind kind = cc in
+    let double = double_from_fault c.in-Err-add_built_record.fault kind same (λ e. c.in-Err-add_built_record.ensures.no_jobs (ap Err e)) in
+    let there = c.in-Err-add_built_record.ensures.double.0 (ap Err double.0) in
     double_is (seen c.args.head.now) c.args.said (Built c.in-Built.path c.in-Built.stamp c.in-Built.command) (cell.Built c.in-Built.path) true c.in-Built.is refl (record_from_place c.args.head.now.opening (cell.Built c.in-Built.path) there) ∙ ap Some (sym double.1)
 
-pub returns-in-Ok-add_deps-clause-sound : goal.returns-in-Ok-add_deps-clause-sound
-returns-in-Ok-add_deps-clause-sound c =
+pub returns-in-Ok-add_deps_record-clause-sound : goal.returns-in-Ok-add_deps_record-clause-sound
+returns-in-Ok-add_deps_record-clause-sound c =
     double_is (seen c.args.head.now) c.args.said (Deps c.in-Deps.path c.in-Deps.stamp c.in-Deps.paths) (cell.Deps c.in-Deps.path) false c.in-Deps.is refl
-    (no_record c.args.head.now.opening (cell.Deps c.in-Deps.path) (λ there. let no : Ok c.in-Ok-add_deps.field-0 ≡ Err refusal.DoubleRecord = c.in-Ok-add_deps.ensures.double.1 there in cc))
+    (no_record c.args.head.now.opening (cell.Deps c.in-Deps.path) (λ there. let no : Ok c.in-Ok-add_deps_record.field-0 ≡ Err refusal.DoubleRecord = c.in-Ok-add_deps_record.ensures.double.1 there in cc))
 
-pub returns-in-Err-add_deps-clause-fault : goal.returns-in-Err-add_deps-clause-fault
-returns-in-Err-add_deps-clause-fault c = λ kind h.
-    let is = c.line_fault-in-Err-add_deps.ensures in
-    let same : record_fault c.in-Err-add_deps.fault ≡ line.Kind kind = cc in
-    let double = double_from_fault c.in-Err-add_deps.fault kind same (λ e. c.in-Err-add_deps.ensures.no_jobs (ap Err e)) in
-    let there = c.in-Err-add_deps.ensures.double.0 (ap Err double.0) in
+pub returns-in-Err-add_deps_record-clause-fault : goal.returns-in-Err-add_deps_record-clause-fault
+returns-in-Err-add_deps_record-clause-fault c = λ kind h.
+    let is = c.line_fault-in-Err-add_deps_record.ensures in
+    let same : record_fault c.in-Err-add_deps_record.fault ≡ line.Kind kind = cc in
+    let double = double_from_fault c.in-Err-add_deps_record.fault kind same (λ e. c.in-Err-add_deps_record.ensures.no_jobs (ap Err e)) in
+    let there = c.in-Err-add_deps_record.ensures.double.0 (ap Err double.0) in
     double_is (seen c.args.head.now) c.args.said (Deps c.in-Deps.path c.in-Deps.stamp c.in-Deps.paths) (cell.Deps c.in-Deps.path) true c.in-Deps.is refl (record_from_place c.args.head.now.opening (cell.Deps c.in-Deps.path) there) ∙ ap Some (sym double.1)

@@ -22,7 +22,7 @@ returns-in_err-lanes-clause-fault c = λ f h.
     let first = c.in_err-lanes.ensures.fault f (ap Err same) in
     let P : ℕ → Type 0 = λ n. IsFirstWrong (lane_wrong c.args.version (targets_in (slices_of items)) (slices_of after)) n (end + 2) f in
     let Q : List (List ℕ) → Type 0 = λ t. IsFirstWrong (lane_wrong c.args.version t (slices_of after)) (length after) (end + 2) f in
-    let meant = c.new-targets.ensures ∙ ap (λ h. h.targets) (value_head c.args.version (slices_of items) (seen c.in_ok-head.head) end c.in_ok-head.ensures.opened) in
+    let meant = c.in_ok-targets.ensures ∙ ap (λ h. h.targets) (value_head c.args.version (slices_of items) (seen c.in_ok-head.head) end c.in_ok-head.ensures.opened) in
     IsFirstWrong-length c.args.version (slices_of items) (length items) f (length-slices_of items)
     (fault_lane c.args.version (slices_of items) (slices_of after) (seen c.in_ok-head.head) end f c.in_ok-head.ensures.opened (within-slices_of items end c.if-end-lines.true) (slices_of-tail (end + 1) items) (subst P (sym (length-slices_of after)) (subst Q meant first)))
 
@@ -30,13 +30,13 @@ pub returns-clause-opening : goal.returns-clause-opening
 returns-clause-opening c = ap (λ h. h.opening) (value_head c.args.version (slices_of c.args.lines.now) (seen c.in_ok-head.head) c.in_ok-head.end c.in_ok-head.ensures.opened)
 
 pub returns-clause-targets : goal.returns-clause-targets
-returns-clause-targets c = c.new-targets.ensures ∙ ap (λ h. h.targets) (value_head c.args.version (slices_of c.args.lines.now) (seen c.in_ok-head.head) c.in_ok-head.end c.in_ok-head.ensures.opened)
+returns-clause-targets c = c.in_ok-targets.ensures ∙ ap (λ h. h.targets) (value_head c.args.version (slices_of c.args.lines.now) (seen c.in_ok-head.head) c.in_ok-head.end c.in_ok-head.ensures.opened)
 
 pub returns-clause-lanes : goal.returns-clause-lanes
 returns-clause-lanes c =
     let items = c.args.lines.now in
     let end = c.in_ok-head.end in
-    let meant = c.new-targets.ensures ∙ ap (λ h. h.targets) (value_head c.args.version (slices_of items) (seen c.in_ok-head.head) end c.in_ok-head.ensures.opened) in
+    let meant = c.in_ok-targets.ensures ∙ ap (λ h. h.targets) (value_head c.args.version (slices_of items) (seen c.in_ok-head.head) end c.in_ok-head.ensures.opened) in
     elim c.if-end-lines.branch [
       | then-end-lines+in_ok-lanes w ↦
           ap (λ v. lanes_of v.items) w.lanes-is
@@ -51,7 +51,7 @@ pub returns-clause-sound : goal.returns-clause-sound
 returns-clause-sound c =
     let items = c.args.lines.now in
     let end = c.in_ok-head.end in
-    let meant = c.new-targets.ensures ∙ ap (λ h. h.targets) (value_head c.args.version (slices_of items) (seen c.in_ok-head.head) end c.in_ok-head.ensures.opened) in
+    let meant = c.in_ok-targets.ensures ∙ ap (λ h. h.targets) (value_head c.args.version (slices_of items) (seen c.in_ok-head.head) end c.in_ok-head.ensures.opened) in
     elim c.if-end-lines.branch [
       | then-end-lines+in_ok-lanes w ↦ λ k lt.
           let after = take (length items - (end + 1)) (drop (end + 1) items) in

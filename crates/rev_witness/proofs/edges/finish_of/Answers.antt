@@ -10,7 +10,7 @@ pub returns : goal.returns
 returns c =
     let build = build_at c.args.graph.now.manifest.builds c.args.edge in
     let out : c.in_ok-copy.field-0 ≡ first_out c.args.graph.now.manifest c.args.edge = c.in_ok-copy.ensures.equal ∙ c.first_output.ensures in
-    let stamps : c.new.result ≡ map (λ path. 1) (outputs_of (build_at c.args.graph.now.manifest.builds c.args.edge)) =
-    c.new.ensures ∙ c.in_ok-stamps.ensures.items_if_clones_equal (λ y same. same)
+    let stamps : c.in_ok-given.given ≡ map (λ path. 1) (outputs_of (build_at c.args.graph.now.manifest.builds c.args.edge)) =
+    c.in_ok-given.ensures ∙ c.in_ok-stamps.ensures.items_if_clones_equal (λ y same. same)
     ∙ ones_are build.explicit_outs build.implicit_outs _ (λ i. length (c.outputs-outputs.ensures.explicit i) + length (c.outputs-outputs.ensures.implicit i)) in
     λ i. Finish (out i) (stamps i) Nothing
