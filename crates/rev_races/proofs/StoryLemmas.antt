@@ -1,20 +1,15 @@
 -- Plans among the kept events, and what happened.
 use Rattle.std.proofs.Common.{◌≡◌, ℕ, Bool, true, false, ◌||◌, ◌&&◌, List, [], ◌∷◌, ◌++◌, length, take, Option, Some, None, refl, sym, ap, subst, ◌∙◌}
-use Rattle.std.specs.Prelude.{IfSome, nat_lt}
 use Rattle.std.specs.List.{list_any}
-use Rattle.std.specs.Option.{option_map}
 use Rattle.std.proofs.Math.Seq.{take-length}
 use Rattle.std.proofs.lemmas.List.Folds.{list_any-append}
 use Rattle.rev_causal.specs.Chosen.{under, chosen}
 use Rattle.rev_causal.specs.History as causal
 use Rattle.rev_events.specs.declared.event.Event.{Event}
-use Rattle.rev_history.specs.Timeline.{Timeline, cone_refusal, kept_events}
-use Rattle.rev_races.specs.declared.runs.Run.{Run}
-use Rattle.rev_races.specs.Races.{is_plan, starts}
-use Rattle.rev_races.specs.Runs.{ends, last_number, last_run, run_from}
+use Rattle.rev_history.specs.Timeline.{Timeline}
+use Rattle.rev_races.specs.Races.{is_plan}
 use Rattle.rev_races.specs.Stories.{ArePlans, ArePlansBy, is_between}
 use Rattle.rev_races.proofs.AnswerLemmas.{chosen-one-more}
-use Rattle.rev_races.proofs.RunLemmas.{last-kept}
 
 module _ (t : Timeline) (ks : List ℕ) (n : ℕ) (plans : List ℕ) where
   abbrev test : ℕ → ℕ → ℕ × Event → Bool
@@ -56,17 +51,3 @@ pub plans-all : (t : Timeline) (i : ℕ) (plans : List ℕ) → i ≡ length t.k
 plans-all t i plans all by =
     let r = subst (λ ks. ArePlansBy t ks plans) (ap (λ n. take n t.kept) all ∙ take-length t.kept) by in
     record { parts = r.parts }
-
--- the end of a last run is kept
-pub end-kept : (t : Timeline) (edge : ℕ) (run : Option Run) → run ≡ last_run t.manifest edge (kept_events t)
-    → IfSome run (λ r. IfSome r.ended (λ number. cone_refusal t number ≡ None))
-end-kept t edge run is = subst (λ (o : Option Run). IfSome o (λ r. IfSome r.ended (λ number. cone_refusal t number ≡ None))) (sym is)
-    (of (last_number (λ (e : ℕ × Event). starts t.manifest edge e.1) (kept_events t)))
-  where
-    ended : (p : ℕ × Event → Bool) (o : Option ℕ) → last_number p (kept_events t) ≡ o → IfSome o (λ number. cone_refusal t number ≡ None)
-    ended p None h = tt
-    ended p (Some n) h = last-kept t p n h
-
-    of : (o : Option ℕ) → IfSome (option_map (run_from t.manifest edge (kept_events t)) o) (λ r. IfSome r.ended (λ number. cone_refusal t number ≡ None))
-    of None = tt
-    of (Some n) = ended (λ (e : ℕ × Event). nat_lt n e.0 && ends t.manifest edge e.1) (last_number (λ (e : ℕ × Event). nat_lt n e.0 && ends t.manifest edge e.1) (kept_events t)) refl

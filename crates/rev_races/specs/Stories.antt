@@ -1,9 +1,11 @@
 -- What happened in a history with the run of a maker and that of a user.
-use Rattle.std.specs.Prelude.{◌≡◌, ℕ, nat_lt, Bool, true, false, ◌&&◌, ◌||◌, List, Option, Some, None, IfSome, if◌then◌else◌}
+use Rattle.std.specs.Prelude.{◌≡◌, ◌≤◌, ℕ, nat_lt, Bool, true, false, ◌&&◌, ◌||◌, List, Option, Some, None, length, if◌then◌else◌}
 use Rattle.std.specs.List.{list_any}
 use Rattle.rev_events.specs.declared.event.Event.{Event}
 use Rattle.rev_history.specs.Timeline.{Timeline, IsHistory, chosen, cone_numbers, coned, is_among, kept_events}
 use Rattle.rev_held.specs.Beside.{held_beside}
+use Rattle.rev_marks.specs.Masks.{AreMarks}
+use Rattle.rev_races.specs.declared.cones.Cones.{Cones}
 use Rattle.rev_races.specs.declared.race.Race.{Race}
 use Rattle.rev_races.specs.declared.runs.Run.{Run}
 use Rattle.rev_races.specs.declared.story.Happened.{Happened}
@@ -75,7 +77,8 @@ pub record ArePlansBy (t : Timeline) (ks plans : List ℕ) : Type 0 where
   pub parts : (a b : ℕ) → list_any (is_between a b) plans
       ≡ list_any (λ (e : ℕ × Event). is_plan e.1 && is_between a b e.0) (chosen t.accepted ks)
 
--- the cone of an event, and what that event holds beside jobs and slots; of none, where there is none
-pub record IsConeOf (t : Timeline) (event : Option ℕ) (members beside : List ℕ) : Type 0 where
-  pub members_are : IfSome event (λ f. members ≡ cone_numbers f t)
-  pub beside_are : IfSome event (λ f. beside ≡ held_beside t f)
+-- the cones of some events, as marks
+pub record AreCones (t : Timeline) (cones : Cones) : Type 0 where
+  pub few : length cones.asked.items ≤ 64
+  pub all : AreMarks (λ n. cone_numbers n t) cones.asked.items cones.all.entries
+  pub beside : AreMarks (held_beside t) cones.asked.items cones.beside.entries

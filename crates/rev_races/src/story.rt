@@ -1,15 +1,14 @@
 //! What happened here with a maker and a user.
-ghost use Rattle.std.specs.Prelude.{◌≡◌, ◌++◌, ◌∷◌, [], ℕ, List, None, Some, map, IfOk, IfSome, OnOk};
+ghost use Rattle.std.specs.Prelude.{◌≡◌, ◌++◌, ◌∷◌, [], ℕ, List, map, IfOk, OnOk};
 ghost use Rattle.std.specs.List.{list_any};
-ghost use Rattle.rev_history.specs.Timeline.{cone_refusal};
 ghost use Rattle.rev_races.specs.Races.{is_plan as is_plan_of};
 ghost use Rattle.rev_races.specs.Runs.{AreRuns};
-ghost use Rattle.rev_races.specs.Stories.{ArePlans, ArePlansBy, IsConeOf, after_end as after_end_of, happened_of, held_in, in_order as in_order_of, is_between, story_of};
+ghost use Rattle.rev_races.specs.Stories.{AreCones, ArePlans, ArePlansBy, after_end as after_end_of, happened_of, in_order as in_order_of, is_between, story_of};
 
+use crate::cones::{Cones, cones_for, held, no_cones};
 use crate::race::Race;
 use crate::runs::{Run, Runs, all_runs, finished_run, last_run};
 use rev_events::Event;
-use rev_held::held_beside;
 use rev_history::History;
 use std::alloc::{AllocError, Global};
 
@@ -43,72 +42,16 @@ pub struct Story {
     pub user: Option<Run>,
 }
 
-// The cone of an event, and what that event holds by more than jobs and slots; of none at first.
-#[derive(Drop)]
-struct Cone {
-    event: Option<u32>,
-    members: Vec<u32>,
-    beside: Vec<u32>,
-}
-
-// That of no event.
-fn no_cone(alloc: Global) -> Cone
-    ensures { result.event ≡ None }
-{
-    Cone {
-        event: None,
-        members: Vec::new(alloc),
-        beside: Vec::new(alloc),
-    }
-}
-
-// Has the cone be that of a kept event, unless it is.
-fn cone_for(
-    alloc: Global,
-    history: &History,
-    number: u32,
-    cone: &mut Cone,
-) -> Result<(), AllocError>
-    requires kept { cone_refusal history.now.timeline number ≡ None }
-    requires cone { IsConeOf history.now.timeline cone.old.event cone.old.members.items cone.old.beside.items }
-    ensures cone { OnOk result (IsConeOf history.now.timeline cone.new.event
-        cone.new.members.items cone.new.beside.items) }
-    ensures event { OnOk result (cone.new.event ≡ Some number) }
-{
-    if cone.event == Some(number) {
-        return Ok(());
-    }
-    cone.members = history.members(number)?;
-    cone.beside = held_beside(alloc, history, number)?;
-    cone.event = Some(number);
-    Ok(())
-}
-
-// How an event of a cone is held.
-fn held(cone: &Cone, number: u32) -> Happened
-    ensures { result ≡ held_in cone.now.members.items cone.now.beside.items number }
-{
-    if !cone.members.contains(&number) {
-        return Happened::Free;
-    }
-    if cone.beside.contains(&number) {
-        return Happened::HeldRecord;
-    }
-    Happened::HeldPlace
-}
-
 // What happened where the user's run did not end before the maker's began.
 fn after_end(
     alloc: Global,
     history: &History,
     ended: Option<u32>,
     began: u32,
-    cone: &mut Cone,
+    cones: &mut Cones,
 ) -> Result<Happened, AllocError>
-    requires kept { IfSome ended (λ number. cone_refusal history.now.timeline number ≡ None) }
-    requires cone { IsConeOf history.now.timeline cone.old.event cone.old.members.items cone.old.beside.items }
-    ensures cone { OnOk result (IsConeOf history.now.timeline cone.new.event
-        cone.new.members.items cone.new.beside.items) }
+    requires cones { AreCones history.now.timeline cones.old }
+    ensures cones { OnOk result (AreCones history.now.timeline cones.new) }
     ensures happened { IfOk result (λ happened. happened ≡ after_end_of history.now.timeline ended began) }
 {
     let Some(number) = ended else {
@@ -117,8 +60,8 @@ fn after_end(
     if number >= began {
         return Ok(Happened::AtOnce);
     }
-    cone_for(alloc, history, number, cone)?;
-    Ok(held(cone, began))
+    let place = cones_for(alloc, history, number, cones)?;
+    Ok(held(cones, place, began))
 }
 
 // What happened with two runs that no plan parts.
@@ -127,12 +70,10 @@ fn in_order(
     history: &History,
     maker: &Run,
     user: &Run,
-    cone: &mut Cone,
+    cones: &mut Cones,
 ) -> Result<Happened, AllocError>
-    requires kept { IfSome maker.now.ended (λ number. cone_refusal history.now.timeline number ≡ None) }
-    requires cone { IsConeOf history.now.timeline cone.old.event cone.old.members.items cone.old.beside.items }
-    ensures cone { OnOk result (IsConeOf history.now.timeline cone.new.event
-        cone.new.members.items cone.new.beside.items) }
+    requires cones { AreCones history.now.timeline cones.old }
+    ensures cones { OnOk result (AreCones history.now.timeline cones.new) }
     ensures happened { IfOk result (λ happened. happened
         ≡ in_order_of history.now.timeline maker.now user.now user.now.ended) }
 {
@@ -141,7 +82,7 @@ fn in_order(
             return Ok(Happened::Before);
         }
     }
-    let happened = after_end(alloc, history, maker.ended, user.began, cone)?;
+    let happened = after_end(alloc, history, maker.ended, user.began, cones)?;
     Ok(happened)
 }
 
@@ -168,13 +109,11 @@ fn what_happened(
     plans: &[u32],
     maker: Option<Run>,
     user: Option<Run>,
-    cone: &mut Cone,
+    cones: &mut Cones,
 ) -> Result<Happened, AllocError>
-    requires kept { IfSome maker (λ run. IfSome run.ended (λ number. cone_refusal history.now.timeline number ≡ None)) }
     requires plans { ArePlans history.now.timeline plans.now }
-    requires cone { IsConeOf history.now.timeline cone.old.event cone.old.members.items cone.old.beside.items }
-    ensures cone { OnOk result (IsConeOf history.now.timeline cone.new.event
-        cone.new.members.items cone.new.beside.items) }
+    requires cones { AreCones history.now.timeline cones.old }
+    ensures cones { OnOk result (AreCones history.now.timeline cones.new) }
     ensures happened { IfOk result (λ happened. happened ≡ happened_of history.now.timeline maker user) }
 {
     let Some(maker) = maker else {
@@ -186,7 +125,7 @@ fn what_happened(
     if are_apart(plans, maker.began, user.began) {
         return Ok(Happened::Apart);
     }
-    let happened = in_order(alloc, history, &maker, &user, cone)?;
+    let happened = in_order(alloc, history, &maker, &user, cones)?;
     Ok(happened)
 }
 
@@ -197,18 +136,17 @@ fn one_story(
     runs: &Runs,
     plans: &[u32],
     race: &Race,
-    cone: &mut Cone,
+    cones: &mut Cones,
 ) -> Result<Story, AllocError>
     requires runs { AreRuns history.now.timeline runs.now }
     requires plans { ArePlans history.now.timeline plans.now }
-    requires cone { IsConeOf history.now.timeline cone.old.event cone.old.members.items cone.old.beside.items }
-    ensures cone { OnOk result (IsConeOf history.now.timeline cone.new.event
-        cone.new.members.items cone.new.beside.items) }
+    requires cones { AreCones history.now.timeline cones.old }
+    ensures cones { OnOk result (AreCones history.now.timeline cones.new) }
     ensures story { IfOk result (λ story. story ≡ story_of history.now.timeline race.now) }
 {
     let maker = last_run(history, runs, race.maker);
     let user = finished_run(history, runs, race.user);
-    let happened = what_happened(alloc, history, plans, maker, user, cone)?;
+    let happened = what_happened(alloc, history, plans, maker, user, cones)?;
     Ok(Story {
         happened,
         maker,
@@ -252,9 +190,46 @@ fn plan_numbers(alloc: Global, history: &History) -> Result<Vec<u32>, AllocError
     Ok(plans)
 }
 
+// Adds the end of a maker's last run, unless it was added last.
+fn add_end(
+    history: &History,
+    runs: &Runs,
+    maker: u32,
+    ends: &mut Vec<u32>,
+) -> Result<(), AllocError>
+    requires runs { AreRuns history.now.timeline runs.now }
+{
+    let Some(run) = last_run(history, runs, maker) else {
+        return Ok(());
+    };
+    let Some(end) = run.ended else {
+        return Ok(());
+    };
+    if ends.last().copied() != Some(end) {
+        ends.push(end)?;
+    }
+    Ok(())
+}
+
+// The ends of the makers' last runs, of which is asked at once. On these hangs what it takes, and not what is found.
+fn ends_of(
+    alloc: Global,
+    history: &History,
+    runs: &Runs,
+    races: &[Race],
+) -> Result<Vec<u32>, AllocError>
+    requires runs { AreRuns history.now.timeline runs.now }
+{
+    let mut ends = Vec::new(alloc);
+    for race in races {
+        add_end(history, runs, race.maker, &mut ends)?;
+    }
+    Ok(ends)
+}
+
 /// What happened here with the two edges of each race, in the same order.
 ///
-/// The kept events are gone through five times. A cone is asked for once for the races of a maker that stand together.
+/// The kept events are gone through five times, and twice for each 64 makers that race.
 ///
 /// # Errors
 /// [`AllocError`] only where an allocation was refused.
@@ -263,10 +238,11 @@ pub fn stories(alloc: Global, history: &History, races: &[Race]) -> Result<Vec<S
 {
     let runs = all_runs(alloc, history)?;
     let plans = plan_numbers(alloc, history)?;
-    let mut cone = no_cone(alloc);
+    let ends = ends_of(alloc, history, &runs, races)?;
+    let mut cones = no_cones(alloc, ends);
     let mut stories = Vec::new(alloc);
     for race in races {
-        stories.push(one_story(alloc, history, &runs, &plans, race, &mut cone)?)?;
+        stories.push(one_story(alloc, history, &runs, &plans, race, &mut cones)?)?;
     }
     Ok(stories)
 }

@@ -1,0 +1,131 @@
+//! The cones of makers' ends, many at a time.
+ghost use Rattle.std.specs.Prelude.{◌≡◌, ◌<◌, ◌≤◌, ℕ, [], length, slice_get, IfOk, IfSome, OnOk, Some};
+ghost use Rattle.rev_history.specs.Timeline.{Timeline};
+ghost use Rattle.rev_races.specs.Stories.{AreCones, held_by};
+
+use crate::story::Happened;
+use indexmap::IndexMap;
+use rev_history::History;
+use rev_marks::{MOST, beside_marks, cone_marks, is_marked};
+use std::alloc::{AllocError, Global};
+
+/// The cones of some events, as marks: with all cells, and beside those of jobs and slots. And the ends of which it
+/// may be asked.
+pub(crate) struct Cones {
+    pub(crate) ends: Vec<u32>,
+    pub(crate) asked: Vec<u32>,
+    pub(crate) all: IndexMap<u32, u64>,
+    pub(crate) beside: IndexMap<u32, u64>,
+}
+
+// Written, since a derived drop is proved again at each exit of each caller.
+impl Drop for Cones {
+    fn drop(self) {
+        let Cones {
+            ends: _ends,
+            asked: _asked,
+            all: _all,
+            beside: _beside,
+        } = self;
+    }
+}
+
+/// Those of no event.
+pub(crate) fn no_cones(alloc: Global, ends: Vec<u32>) -> Cones
+    ensures { (t : Timeline) → AreCones t result }
+{
+    Cones {
+        ends,
+        asked: Vec::new(alloc),
+        all: IndexMap::new(alloc),
+        beside: IndexMap::new(alloc),
+    }
+}
+
+// A place at which a number stands among some.
+fn place_in(numbers: &[u32], number: u32) -> Option<usize>
+    ensures at { IfSome result (λ place. slice_get numbers.now place ≡ Some number) }
+    ensures within { IfSome result (λ place. place < length numbers.now) }
+{
+    for place in 0..numbers.len() {
+        if numbers[place] == number {
+            return Some(place);
+        }
+    }
+    None
+}
+
+// Adds an end, unless it is there or there are as many as can be asked of at once.
+fn add_end(asked: &mut Vec<u32>, end: u32) -> Result<(), AllocError>
+    requires few { length asked.old.items ≤ 64 }
+    ensures few { OnOk result (length asked.new.items ≤ 64) }
+    ensures first { OnOk result ((n : ℕ) → slice_get asked.old.items 0 ≡ Some n
+        → slice_get asked.new.items 0 ≡ Some n) }
+{
+    if asked.len() >= MOST {
+        return Ok(());
+    }
+    if asked.contains(&end) {
+        return Ok(());
+    }
+    asked.push(end)?;
+    Ok(())
+}
+
+// Those of some ends that stand behind a number, with it.
+fn from_on(ends: &[u32], number: u32) -> &[u32] {
+    match place_in(ends, number) {
+        Some(place) => &ends[place..],
+        None => &[],
+    }
+}
+
+// The ends of which is asked at once: a number, and those of the ends that stand behind it.
+fn asked_with(alloc: Global, number: u32, ends: &[u32]) -> Result<Vec<u32>, AllocError>
+    ensures few { IfOk result (λ asked. length asked.items ≤ 64) }
+    ensures first { IfOk result (λ asked. slice_get asked.items 0 ≡ Some number) }
+{
+    let mut asked = Vec::new(alloc);
+    asked.push(number)?;
+    for end in from_on(ends, number) {
+        add_end(&mut asked, *end)?;
+    }
+    Ok(asked)
+}
+
+/// Has the cones be those of some events, among them one, and gives its place.
+pub(crate) fn cones_for(
+    alloc: Global,
+    history: &History,
+    number: u32,
+    cones: &mut Cones,
+) -> Result<usize, AllocError>
+    requires cones { AreCones history.now.timeline cones.old }
+    ensures cones { OnOk result (AreCones history.now.timeline cones.new) }
+    ensures place { IfOk result (λ place. slice_get cones.new.asked.items place ≡ Some number) }
+    ensures within { IfOk result (λ place. place < 64) }
+{
+    if let Some(place) = place_in(&cones.asked, number) {
+        return Ok(place);
+    }
+    let asked = asked_with(alloc, number, &cones.ends)?;
+    cones.all = cone_marks(alloc, history, &asked)?;
+    cones.beside = beside_marks(alloc, history, &asked)?;
+    cones.asked = asked;
+    Ok(0)
+}
+
+/// How an event is held by that at a place.
+pub(crate) fn held(cones: &Cones, place: usize, number: u32) -> Happened
+    requires { place < 64 }
+    ensures { (t : Timeline) (f : ℕ) → AreCones t cones.now → slice_get cones.now.asked.items place ≡ Some f
+        → result ≡ held_by t f number }
+{
+    if !is_marked(&cones.all, place, number) {
+        return Happened::Free;
+    }
+    if is_marked(&cones.beside, place, number) {
+        return Happened::HeldRecord;
+    }
+    Happened::HeldPlace
+}
