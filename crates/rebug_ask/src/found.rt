@@ -1,11 +1,13 @@
 //! What a recording shows of races, as it is told.
+use indexmap::IndexMap;
 use rev_clashes::{SideFile, clashes};
 use rev_graph::Graph;
+use rev_hints::{change_hints, listed_path};
 use rev_history::History;
 use rev_manifest::Build;
 use rev_paths::Name;
 use rev_races::{Race, path_of, races, stories, unlisted, without_deps};
-use rev_races_text::{Clash, Happened, Kind, Run, Story, Told};
+use rev_races_text::{Change, Clash, Happened, Kind, Run, Story, Told};
 use rev_waits::mend;
 use rev_witness::{find_witness, witness_text};
 use std::alloc::{AllocError, Global};
@@ -141,6 +143,26 @@ pub fn told_clashes(alloc: Global, builds: &[Build]) -> Result<Vec<Clash>, Alloc
     let mut told = Vec::new(alloc);
     push_clashes(&mut told, alloc, SideFile::Depfile, builds)?;
     push_clashes(&mut told, alloc, SideFile::ResponseFile, builds)?;
+    Ok(told)
+}
+
+/// The changed files that give hints. `names` has the other names of outputs.
+pub fn told_changes<'a>(
+    alloc: Global,
+    history: &'a History,
+    names: &IndexMap<Name, Name>,
+) -> Result<Vec<Change<'a>>, AllocError> {
+    let mut told = Vec::new(alloc);
+    for hint in &change_hints(alloc, history, names)? {
+        if let Some(path) = listed_path(history, hint.user, hint.place) {
+            told.push(Change {
+                user: hint.user,
+                path,
+                number: hint.number,
+                ran: hint.ran.clone()?,
+            })?;
+        }
+    }
     Ok(told)
 }
 

@@ -2,7 +2,6 @@
 #![tactic(auto)]
 
 mod asking;
-mod changed;
 mod fault;
 mod files;
 mod found;

@@ -1,13 +1,11 @@
 //! What is told of a recording.
 ghost use Rattle.std.specs.Prelude.{◌≡◌, ◌+◌, ◌≤◌, length, IfOk};
 
-use crate::changed::{Changed, changes_in, told_changes};
 use crate::fault::ProgramFault;
 use crate::files::{Recording, place_of, read_names, read_recording};
-use crate::found::{not_judged, told_clashes, told_races, witness_of};
+use crate::found::{not_judged, told_changes, told_clashes, told_races, witness_of};
 use crate::hinted::{hints_in, names_in};
 use crate::mended::mend_text;
-use indexmap::IndexMap;
 use rev_desk::Desk;
 use rev_history::History;
 use rev_manifest::Manifest;
@@ -203,16 +201,6 @@ fn names_answer(
     }
 }
 
-// The files of a history that changed while commands ran, beside a file of other names.
-fn changed_beside(
-    alloc: Global,
-    history: &History,
-    names: &[u8],
-) -> Result<IndexMap<Name, Changed>, AllocError> {
-    let names = names_in(alloc, names)?;
-    changes_in(alloc, history, &names)
-}
-
 // What changed files give as hints.
 fn changes_answer(
     alloc: Global,
@@ -221,8 +209,8 @@ fn changes_answer(
     names: &[u8],
     how: How,
 ) -> Result<Vec<u8>, AllocError> {
-    let changed = changed_beside(alloc, desk.history(), names)?;
-    let changes = told_changes(alloc, desk.history(), &changed)?;
+    let names = names_in(alloc, names)?;
+    let changes = told_changes(alloc, desk.history(), &names)?;
     if how == How::Json {
         changes_json(alloc, sources, &changes)
     } else {
