@@ -136,6 +136,13 @@ impl Text {
         })
     }
 
+    /// The text of bytes that are shared already.
+    pub fn of_shared(bytes: ArcSlice<u8>) -> Text
+        ensures { result ≡ arc_slice_items bytes }
+    {
+        Text { bytes }
+    }
+
     /// The bytes in their order.
     pub fn as_slice(&self) -> &[u8]
         ensures { result.now ≡ self.now }

@@ -2,7 +2,7 @@
 ghost use Rattle.std.specs.Prelude.{◌≡◌, ◌<◌, ◌==◌, length, IsTrue, Some, None, IfOk, OnOk, IsErrOf};
 ghost use Rattle.rev_cells.specs.State.{is_halted as is_halted_in};
 ghost use Rattle.rev_dirty.specs.Reasons.{reasons_of};
-ghost use Rattle.rev_graph.specs.Graph.{build_at, pool_of};
+ghost use Rattle.rev_graph.specs.Graph.{build_at, outputs_of, pool_of};
 ghost use Rattle.rev_events.specs.declared.refusal.Refusal.{Refusal};
 ghost use Rattle.rev_events.specs.Edge.{listed as listed_by, slot_holder as slot_holder_in};
 ghost use Rattle.rev_events.specs.Kinds.{abort_refusal as abort_refusal_in, clean_refusal as clean_refusal_in, fail_refusal as fail_refusal_in, finish_refusal as finish_refusal_in, pass_refusal as pass_refusal_in, start_refusal as start_refusal_in};
@@ -164,6 +164,19 @@ fn pass_refusal(
     }
 }
 
+// Whether there is one stamp for each output.
+fn are_one_each(graph: &Graph, edge: u32, stamps: &[u64]) -> bool
+    requires { edge < length graph.now.manifest.builds }
+    ensures { result ≡ (length stamps.now
+        == length (outputs_of (build_at graph.now.manifest.builds edge))) }
+{
+    let outputs = graph.outputs(edge);
+    match stamps.len().checked_sub(outputs.explicit.len()) {
+        Some(others) => others == outputs.implicit.len(),
+        None => false,
+    }
+}
+
 // Whether there is not one stamp for each output.
 fn wrong_outputs(
     alloc: Global,
@@ -175,10 +188,10 @@ fn wrong_outputs(
     ensures { IfOk result (λ refusal. refusal
         ≡ wrong_outputs_in (build_at graph.now.manifest.builds edge) stamps.now) }
 {
-    let count = all_outputs(alloc, graph, edge)?.len();
-    if stamps.len() == count {
+    if are_one_each(graph, edge, stamps) {
         return Ok(None);
     }
+    let count = all_outputs(alloc, graph, edge)?.len();
     Ok(Some(Refusal::WrongOutputs(count as u64)))
 }
 

@@ -82,6 +82,16 @@ fn first_waiting(cells: &Cells, producers: &[Option<u32>]) -> Option<usize>
         .position(|producer| waits(cells, *producer))
 }
 
+// A position as refusals tell it.
+fn as_told(position: Option<usize>) -> Option<u64>
+    ensures { result ≡ position }
+{
+    match position {
+        Some(position) => Some(position as u64),
+        None => None,
+    }
+}
+
 /// The position of the first input of an edge that waits for the edge that produces it.
 pub(crate) fn blocking_input(
     alloc: Global,
@@ -94,11 +104,11 @@ pub(crate) fn blocking_input(
         ≡ first_blocking graph.now.manifest.builds cells.now.state
         (inputs cells.now.state (build_at graph.now.manifest.builds edge))) }
 {
-    let all = all_producers(alloc, graph, cells, edge)?;
-    match first_waiting(cells, &all) {
-        Some(position) => Ok(Some(position as u64)),
-        None => Ok(None),
+    if listed_inputs(graph, cells, edge).is_empty() {
+        return Ok(as_told(first_waiting(cells, graph.producers(edge))));
     }
+    let all = all_producers(alloc, graph, cells, edge)?;
+    Ok(as_told(first_waiting(cells, &all)))
 }
 
 /// The greatest visible stamp of the inputs of an edge that are not order-only, 0 where there is none.

@@ -149,16 +149,7 @@ pub(crate) fn finish_effect(
     push_write(&mut writes, Cell::Mark(edge), Value::Mark(Mark::Done(done)))?;
     push_freed(&mut writes, graph, cells, edge)?;
     push_stamps(&mut writes, outputs, stamps)?;
-    push_built(
-        alloc,
-        &mut writes,
-        graph,
-        cells,
-        edge,
-        outputs,
-        flags,
-        stamps,
-    )?;
+    push_built(&mut writes, graph, cells, edge, outputs, flags, stamps)?;
     push_deps(&mut writes, graph, edge, outputs, stamps, paths)?;
     Ok(writes)
 }

@@ -197,8 +197,7 @@ fn seen(cells: &Cells, edge: u32) -> u64
 // The record that the output at a place gets: with its stamp where it changed, and else with the stamp that the command
 // has seen.
 fn built_at(
-    alloc: Global,
-    command: &[u8],
+    command: &Text,
     seen: u64,
     flags: &[bool],
     stamps: &[u64],
@@ -208,7 +207,7 @@ fn built_at(
         ≡ built_with command.now seen (first_of true (drop place flags.now))
         (first_of 0 (drop place stamps.now))) }
 {
-    let command = Text::new(Vec::from_slice(alloc, command)?)?;
+    let command = command.copy()?;
     if flag_at(flags, place) {
         return Ok(BuiltRecord {
             command,
@@ -224,7 +223,6 @@ fn built_at(
 /// Adds the built records of outputs, by whether each changed: with its stamp, or with the stamp that the command has
 /// seen.
 pub(crate) fn push_built(
-    alloc: Global,
     writes: &mut Writes,
     graph: &Graph,
     cells: &Cells,
@@ -239,9 +237,9 @@ pub(crate) fn push_built(
         (seen_by (mark_of cells.now.state edge)) outputs.now flags.now stamps.now)) }
 {
     let seen = seen(cells, edge);
-    let command = graph.command(edge);
+    let command = Text::of_shared(graph.shared_command(edge)?);
     for (place, path) in outputs.iter().enumerate() {
-        let built = built_at(alloc, command, seen, flags, stamps, place)?;
+        let built = built_at(&command, seen, flags, stamps, place)?;
         push_write(writes, Cell::Built(path.copy()?), Value::Built(Some(built)))?;
     }
     Ok(())

@@ -1,5 +1,6 @@
 //! Graphs of edges.
 ghost use Rattle.std.specs.Prelude.{◌≡◌, ℕ, ◌<◌, ◌++◌, ◌↔◌, length, map, Some, IfSome, IfOk, IfErr, IsErrOf, IsTrue, OnOk};
+ghost use Rattle.std.specs.Arc.{arc_slice_items};
 ghost use Rattle.rev_manifest.specs.Seen.{seen_pools};
 ghost use Rattle.rev_graph.specs.Alike.{LendAlike};
 ghost use Rattle.rev_graph.specs.Fault.{Explains, IsFaultless};
@@ -13,6 +14,7 @@ use rev_manifest::{Build, Manifest};
 use rev_paths::Name;
 use std::alloc::{AllocError, Global};
 use std::marker::Model;
+use std::sync::ArcSlice;
 
 /// The edges of a manifest, by number, with the producer of each path. No path is an output of two edges, and
 /// no edge reaches itself through explicit, implicit or order-only inputs.
@@ -201,6 +203,18 @@ impl Graph {
         ensures { result.now ≡ (build_at self.now.manifest.builds edge).command }
     {
         self.at(edge).command()
+    }
+
+    /// The same bytes, for another type whose values share them.
+    ///
+    /// # Errors
+    /// [`AllocError`] where there are more copies than can be counted.
+    pub fn shared_command(&self, edge: u32) -> Result<ArcSlice<u8>, AllocError>
+        requires { edge < length self.now.manifest.builds }
+        ensures { IfOk result (λ bytes. arc_slice_items bytes
+            ≡ (build_at self.now.manifest.builds edge).command) }
+    {
+        self.at(edge).shared_command()
     }
 
     /// Whether an edge's rule is `phony`.

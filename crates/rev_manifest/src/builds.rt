@@ -1,9 +1,12 @@
 //! The edges of a manifest.
-ghost use Rattle.std.specs.Prelude.{◌≡◌};
+ghost use Rattle.std.specs.Prelude.{◌≡◌, IfOk};
+ghost use Rattle.std.specs.Arc.{arc_slice_items};
 
 use rev_paths::Name;
 use rev_scopes::SharedText;
+use std::alloc::AllocError;
 use std::marker::Model;
+use std::sync::ArcSlice;
 
 /// An edge of a manifest: the paths of its build line, and the values of its rule's variables.
 pub struct Build {
@@ -129,6 +132,16 @@ impl Build {
         ensures { result.now ≡ self.now.command }
     {
         self.command.as_bytes()
+    }
+
+    /// The same bytes, for another type whose values share them.
+    ///
+    /// # Errors
+    /// [`AllocError`] where there are more copies than can be counted.
+    pub fn shared_command(&self) -> Result<ArcSlice<u8>, AllocError>
+        ensures { IfOk result (λ bytes. arc_slice_items bytes ≡ self.now.command) }
+    {
+        self.command.to_shared()
     }
 
     /// Where its command leaves its depfile, as its rule says; empty where it leaves none. A phony edge has none.

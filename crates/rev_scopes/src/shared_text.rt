@@ -1,5 +1,6 @@
 //! Texts whose copies share their bytes.
 ghost use Rattle.std.specs.Prelude.{◌≡◌, ◌∷◌, [], IfOk, bytes_eq};
+ghost use Rattle.std.specs.Arc.{arc_slice_items};
 ghost use Rattle.std.specs.Hash.{same_Alike};
 ghost use Rattle.std.proofs.lemmas.Slice.Eq.{bytes_eq-Decides};
 ghost use Rattle.std.specs.Cmp.{partial_equiv_from_equiv};
@@ -49,6 +50,16 @@ impl SharedText {
         ensures { result.now ≡ self.now }
     {
         self.bytes.as_slice()
+    }
+
+    /// Its bytes, for another type whose values share them.
+    ///
+    /// # Errors
+    /// [`AllocError`] where there are more copies than can be counted.
+    pub fn to_shared(&self) -> Result<ArcSlice<u8>, AllocError>
+        ensures { IfOk result (λ bytes. arc_slice_items bytes ≡ self.now) }
+    {
+        self.bytes.clone()
     }
 
     /// An equal text, which shares the bytes of this one.
