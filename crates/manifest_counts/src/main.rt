@@ -1,15 +1,17 @@
 //! Counts the edges and the outputs of manifests, to be put beside what `ninja -t targets all` lists.
 //!
 //! The words are files; `--` stands between one manifest's and the next's. The first file of each is the manifest itself.
-//! Where the first word is `--graph`, the graph of each manifest is built as well.
+//! Where the first word is `--graph`, the graph of each manifest is built as well; where it is `--threads`, the manifest
+//! is read on as many threads as there are processors.
 #![tactic(auto)]
 
 use rev_graph::{Graph, GraphFault};
-use rev_manifest::{Manifest, ReadFault, read};
+use rev_manifest::{Manifest, ReadFault, read, read_by_threads};
 use std::fs;
 use std::io::Read;
 use std::process::ExitCode;
 use std::rt::{Env, Files};
+use std::thread::Threads;
 
 // Why no count is printed.
 #[derive(Clone, Copy, Debug, PartialEq, Eq)]
@@ -52,6 +54,17 @@ impl From<GraphFault> for CountFault {
     }
 }
 
+// How manifests are read.
+#[derive(Clone, Copy, PartialEq, Eq)]
+enum How {
+    // Reading alone.
+    Alone,
+    // The graph as well.
+    WithGraph,
+    // Reading alone, on several threads.
+    ByThreads,
+}
+
 // How many outputs the edges have.
 fn outputs(manifest: &Manifest) -> usize {
     let mut count = 0usize;
@@ -70,14 +83,21 @@ fn content_of<R: Files + AllocGlobal>(rt: &R, name: &str) -> Result<Vec<u8>, Cou
     Ok(content)
 }
 
-fn manifest_of<R: Files + AllocGlobal>(rt: &R, names: &[String]) -> Result<Manifest, CountFault> {
+fn manifest_of<R: Files + Threads + AllocGlobal + Sync>(
+    rt: &R,
+    names: &[String],
+    how: How,
+) -> Result<Manifest, CountFault> {
     let alloc = rt.alloc();
     let mut files = Vec::new(alloc);
     for name in names {
         let content = content_of(rt, name)?;
         files.push((Vec::from_slice(alloc, name.as_bytes())?, content))?;
     }
-    Ok(read(alloc, &files)?)
+    match how {
+        How::ByThreads => Ok(read_by_threads(rt, alloc, &files)?),
+        How::Alone | How::WithGraph => Ok(read(alloc, &files)?),
+    }
 }
 
 fn print_graph<R: Print + AllocGlobal>(rt: &R, manifest: &Manifest) -> Result<(), CountFault> {
@@ -98,30 +118,33 @@ fn print_counts<R: Print>(rt: &R, manifest: &Manifest) -> Result<(), CountFault>
 }
 
 // Prints the counts of the manifest that these files are.
-fn count<R: Files + Print + AllocGlobal>(
+fn count<R: Files + Print + Threads + AllocGlobal + Sync>(
     rt: &R,
     names: &[String],
-    with_graph: bool,
+    how: How,
 ) -> Result<(), CountFault> {
-    let manifest = manifest_of(rt, names)?;
-    if with_graph {
+    let manifest = manifest_of(rt, names, how)?;
+    if how == How::WithGraph {
         print_graph(rt, &manifest)?;
     }
     print_counts(rt, &manifest)
 }
 
 // Counts the manifests one after another.
-fn count_all<R: Files + Env + Print + AllocGlobal>(rt: &R) -> Result<(), CountFault> {
+fn count_all<R: Files + Env + Print + Threads + AllocGlobal + Sync>(
+    rt: &R,
+) -> Result<(), CountFault> {
     let words: Vec<String> = std::env::args(rt)?.collect(rt.alloc())?;
     let Some((_program, files)) = words.split_first() else {
         return Ok(());
     };
-    let (files, with_graph) = match files.split_first() {
-        Some((first, others)) if first.as_str() == "--graph" => (others, true),
-        _ => (files, false),
+    let (files, how) = match files.split_first() {
+        Some((first, others)) if first.as_str() == "--graph" => (others, How::WithGraph),
+        Some((first, others)) if first.as_str() == "--threads" => (others, How::ByThreads),
+        _ => (files, How::Alone),
     };
     for names in files.split(|word| word.as_str() == "--") {
-        count(rt, names, with_graph)?;
+        count(rt, names, how)?;
     }
     Ok(())
 }

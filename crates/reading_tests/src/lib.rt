@@ -19,3 +19,5 @@ mod ranks;
 mod scopes;
 #[cfg(test)]
 mod statements;
+#[cfg(test)]
+mod threads;

@@ -6,5 +6,6 @@ pub mod EndLemmas
 pub mod FileLemmas
 pub mod KeptLemmas
 pub mod NameLemmas
+pub mod ParallelLemmas
 pub mod PoolLemmas
 pub mod ReadingLemmas

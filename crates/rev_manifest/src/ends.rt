@@ -1,11 +1,11 @@
 //! Expansion at the end: edge by edge, when all files are read.
-ghost use Rattle.std.specs.Prelude.{◌≡◌, ◌++◌, ◌||◌, not, filter, map, List, ℕ, Ok, IfOk, OnOk, MatchResult, option_map};
-ghost use Rattle.std.specs.List.{flat_map};
+ghost use Rattle.std.specs.Prelude.{◌≡◌, ◌++◌, ◌||◌, not, filter, map, List, ℕ, Ok, IfOk, OnOk, MatchResult, length, option_map};
+ghost use Rattle.std.specs.List.{flat_map, All};
 ghost use Rattle.rev_manifest.specs.Answers.{IsFault};
 ghost use Rattle.rev_manifest.specs.Names.{has_path};
 ghost use Rattle.rev_manifest.specs.Manifest.{phony_build, command_build, pool_number, variables_of, built, builds_of, inputs_of, outputs_of, defaults_of, ended};
 ghost use Rattle.rev_manifest.specs.Held.{seen_edge, seen_values, seen_declarations};
-ghost use Rattle.rev_manifest.specs.Builds.{IsManifest};
+ghost use Rattle.rev_manifest.specs.Builds.{IsBuild, IsManifest};
 
 use crate::builds::Build;
 use crate::bytes::is_empty;
@@ -13,6 +13,7 @@ use crate::declarations::{Declarations, DeclaredEdge};
 use crate::fault::{FaultKind, Place, ReadFault};
 use crate::manifest::{Manifest, Parts};
 use crate::names::{add_names, push_others};
+use crate::parallel::builds_by_threads;
 use crate::pools::Pools;
 use crate::shared_text::shared;
 use indexmap::IndexSet;
@@ -21,6 +22,7 @@ use rev_scopes::{
     EdgeVariables, Rule, Scopes, SharedText, ValueFault, compared_command, edge_variables,
 };
 use std::alloc::{AllocError, Global};
+use std::thread::Threads;
 
 // The names of two lists.
 fn set_of(alloc: Global, first: &[Name], second: &[Name]) -> Result<IndexSet<Name>, AllocError>
@@ -181,8 +183,8 @@ fn built(
     Ok(build)
 }
 
-// The edges in reading order.
-fn builds_of(
+/// The edges in reading order.
+pub(crate) fn builds_of(
     alloc: Global,
     scopes: &Scopes,
     pools: &Pools,
@@ -270,6 +272,31 @@ fn defaults_of(
     Ok(left)
 }
 
+// The manifest of these edges, pools and defaults, which are those of the outputs where none are named.
+fn manifest_of_builds(
+    alloc: Global,
+    builds: Vec<Build>,
+    pools: Pools,
+    defaults: Option<Vec<Name>>,
+) -> Result<Manifest, AllocError>
+    requires { All (IsBuild (length pools)) builds.items }
+    ensures value { IfOk result (λ manifest. manifest ≡ record {
+      builds = builds.items;
+      pools = pools;
+      defaults = defaults_of (option_map (λ names. names.items) defaults) builds.items;
+    }) }
+    ensures kept { IfOk result IsManifest }
+{
+    let defaults = defaults_of(alloc, defaults, &builds)?;
+    let pools = pools.into_pairs(alloc)?;
+    let parts = Parts {
+        builds,
+        pools,
+        defaults,
+    };
+    Manifest::new(alloc, parts)
+}
+
 /// The manifest when all files are read.
 pub(crate) fn ended(alloc: Global, above: Declarations) -> Result<Manifest, ReadFault>
     ensures meant { MatchResult result
@@ -286,12 +313,28 @@ pub(crate) fn ended(alloc: Global, above: Declarations) -> Result<Manifest, Read
         room: _,
     } = above;
     let builds = builds_of(alloc, &scopes, &pools, edges)?;
-    let defaults = defaults_of(alloc, defaults, &builds)?;
-    let pools = pools.into_pairs(alloc)?;
-    let parts = Parts {
-        builds,
+    Ok(manifest_of_builds(alloc, builds, pools, defaults)?)
+}
+
+/// The manifest when all files are read, whose edges are ended on several threads.
+pub(crate) fn ended_by_threads<R: Threads + Sync>(
+    rt: &R,
+    alloc: Global,
+    above: Declarations,
+) -> Result<Manifest, ReadFault>
+    ensures meant { MatchResult result
+        (λ manifest. ended (seen_declarations above) ≡ Ok manifest)
+        (λ fault. IsFault fault (ended (seen_declarations above))) }
+    ensures kept { IfOk result IsManifest }
+{
+    let Declarations {
+        scopes,
         pools,
+        edges,
         defaults,
-    };
-    Ok(Manifest::new(alloc, parts)?)
+        paths: _,
+        room: _,
+    } = above;
+    let builds = builds_by_threads(rt, alloc, &scopes, &pools, edges)?;
+    Ok(manifest_of_builds(alloc, builds, pools, defaults)?)
 }

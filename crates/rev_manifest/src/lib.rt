@@ -14,6 +14,7 @@ mod inclusion;
 pub mod laws;
 mod manifest;
 mod names;
+mod parallel;
 mod pools;
 mod reading;
 mod shared_text;
@@ -21,4 +22,4 @@ mod statements;
 
 pub use builds::Build;
 pub use fault::{FaultKind, ManifestFault, ReadFault};
-pub use manifest::{Manifest, read};
+pub use manifest::{Manifest, read, read_by_threads};

@@ -9,7 +9,7 @@ ghost use Rattle.rev_manifest.specs.Held.{seen_declarations};
 
 use crate::builds::Build;
 use crate::declarations::{Declarations, nothing};
-use crate::ends::ended;
+use crate::ends::{ended, ended_by_threads};
 use crate::fault::{FaultKind, ManifestFault, Place, ReadFault};
 use crate::files::{Files, bytes_left};
 use crate::inclusion::Inclusion;
@@ -18,6 +18,7 @@ use rev_paths::Name;
 use std::alloc::{AllocError, Global};
 use std::marker::Model;
 use std::sync::Arc;
+use std::thread::Threads;
 
 /// What a manifest has, and its copies share.
 pub(crate) struct Parts {
@@ -179,5 +180,55 @@ pub fn read(alloc: Global, files: &[(Vec<u8>, Vec<u8>)]) -> Result<Manifest, Rea
         return Err(NOWHERE.fault(FaultKind::NoFile));
     }
     let manifest = read_all(alloc, files, left)?;
+    Ok(manifest)
+}
+
+// Reads files of which there is one, and which are not too large. Their edges are ended on several threads.
+fn read_all_by_threads<R: Threads + Sync>(
+    rt: &R,
+    alloc: Global,
+    files: &[(Vec<u8>, Vec<u8>)],
+    left: usize,
+) -> Result<Manifest, ReadFault>
+    requires { left ≤ 268435456 }
+    ensures meant { MatchResult result
+        (λ manifest. and_then (declared_by (seen_files files.now) left) ended ≡ Ok manifest)
+        (λ fault. IsFault fault (and_then (declared_by (seen_files files.now) left) ended)) }
+    ensures kept { IfOk result IsManifest }
+{
+    let above = declared_by(alloc, files, left)?;
+    let manifest = ended_by_threads(rt, alloc, above)?;
+    Ok(manifest)
+}
+
+/// As [`read`], on as many threads as there are processors: what rules say of edges is expanded side by side.
+///
+/// # Errors
+/// As [`read`].
+#[tactic(auto, unfolding(crate::specs::Manifest::manifest_of))]
+pub fn read_by_threads<R: Threads + Sync>(
+    rt: &R,
+    alloc: Global,
+    files: &[(Vec<u8>, Vec<u8>)],
+) -> Result<Manifest, ReadFault>
+    // What is read is what the files say, and they have no fault.
+    ensures value { IfOk result (λ manifest. manifest_of (seen_files files.now) ≡ Ok manifest) }
+    ensures faultless { OnOk result (first_fault (seen_files files.now) ≡ None) }
+
+    // Whatever the files say, each edge has outputs, none twice, a pool of the manifest or none, and where it is phony
+    // nothing to run.
+    ensures kept { IfOk result IsManifest }
+
+    // A fault is their first.
+    ensures fault { (fault : ManifestFault) → IsErrOf result (ReadFault.Manifest fault)
+        → first_fault (seen_files files.now) ≡ Some fault }
+{
+    let Some(left) = bytes_left(files) else {
+        return Err(NOWHERE.fault(FaultKind::TooLarge));
+    };
+    if files.is_empty() {
+        return Err(NOWHERE.fault(FaultKind::NoFile));
+    }
+    let manifest = read_all_by_threads(rt, alloc, files, left)?;
     Ok(manifest)
 }

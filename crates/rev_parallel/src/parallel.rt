@@ -5,7 +5,7 @@ ghost use Rattle.rev_workers.specs.Closing.{left_by};
 use rev_desk::{Desk, Entry};
 use rev_fields::ReadFault;
 use rev_graph::Graph;
-use rev_manifest::{Manifest, read};
+use rev_manifest::{Manifest, read_by_threads};
 use rev_report::{RunMemory, answer_line, open_desk, run_words};
 use rev_script::{
     RunFault, Status, Word, close_line, read_script, report_fault, report_graph_fault,
@@ -226,7 +226,7 @@ pub fn run_parallel_in<R: Threads + Wait + Sync, W: Write>(
     writer: &mut W,
     memory: &mut RunMemory,
 ) -> Result<Status, RunFault> {
-    match read(alloc, files) {
+    match read_by_threads(rt, alloc, files) {
         Ok(manifest) => report_edges(rt, alloc, &manifest, trace, script, writer, memory),
         Err(rev_manifest::ReadFault::Manifest(fault)) => {
             report_manifest_fault(alloc, files, fault, writer)
@@ -235,10 +235,10 @@ pub fn run_parallel_in<R: Threads + Wait + Sync, W: Write>(
     }
 }
 
-/// As `run_serial`, but the first `run` lets each lane of the trace say all its commands from a thread of its own,
-/// whatever number stands behind `run`, and then writes the new entries in the journal's order. A later `run` finds
-/// nothing left and writes nothing. Where the lanes do not fit the journal, or one could not say all that it had to
-/// say, `fault close CODE LANE` is the report's last line.
+/// As `run_serial`, but the manifest is read on as many threads as there are processors, and the first `run` lets each
+/// lane of the trace say all its commands from a thread of its own, whatever number stands behind `run`, and then writes
+/// the new entries in the journal's order. A later `run` finds nothing left and writes nothing. Where the lanes do not
+/// fit the journal, or one could not say all that it had to say, `fault close CODE LANE` is the report's last line.
 ///
 /// What it read and made is freed when it ends.
 ///
