@@ -1,5 +1,5 @@
 // A few events over three files.
-use rev_accesses::{Accesses, first_above, place_of, put_in, take_out};
+use rev_accesses::{Accesses, Places, first_above, place_of, put_in, take_out};
 use rev_cells::Cell;
 use rev_paths::Name;
 use std::alloc::Global;
@@ -14,17 +14,17 @@ fn cells(alloc: Global, paths: &[&[u8]]) -> Result<Vec<Cell>, Fail> {
     Ok(cells)
 }
 
-// 1 writes a, 2 reads a and b, 3 is whole, 4 writes b.
-fn listed(alloc: Global) -> Result<Accesses, Fail> {
+// 1 writes a, 2 reads a and b, 3 is whole, 4 writes b. The places of the cells of 2 come back too.
+fn listed(alloc: Global) -> Result<(Accesses, Places), Fail> {
     let mut accesses = Accesses::new(alloc);
     let a = cells(alloc, &[b"a"])?;
     let b = cells(alloc, &[b"b"])?;
     let both = cells(alloc, &[b"a", b"b"])?;
-    accesses.put(4, &b, &b)?;
-    accesses.put(2, &both, &[])?;
-    accesses.put(1, &a, &a)?;
-    accesses.put_whole(3)?;
-    Ok(accesses)
+    let _of_4 = accesses.put(4, &b, 1)?;
+    let of_2 = accesses.put(2, &both, 0)?;
+    let _of_1 = accesses.put(1, &a, 1)?;
+    let _of_3 = accesses.put_whole(3, &[], 0)?;
+    Ok((accesses, of_2))
 }
 
 fn nearest(
@@ -49,16 +49,20 @@ fn nearest_of_three(alloc: Global, accesses: &Accesses) -> Result<[Option<u32>; 
 
 #[test]
 fn the_nearest_reads_or_writes(rt: HostRuntime) -> Result<(), Fail> {
-    let accesses = listed(rt.alloc())?;
+    let (accesses, of_2) = listed(rt.alloc())?;
+    assert_eq!(rt; accesses.nearest_by(2, &of_2), Some(3));
     let found = nearest_of_three(rt.alloc(), &accesses)?;
     assert_eq!(rt; found, [Some(2), Some(3), Some(4)]);
     Ok(())
 }
 
 // Takes out 2, which reads a and b, and 3, which is whole; then the nearest to what writes a, and to what writes b.
-fn nearest_without_two(alloc: Global, accesses: &mut Accesses) -> Result<[Option<u32>; 2], Fail> {
-    let both = cells(alloc, &[b"a", b"b"])?;
-    accesses.take(2, &both, &[]);
+fn nearest_without_two(
+    alloc: Global,
+    accesses: &mut Accesses,
+    of_2: &Places,
+) -> Result<[Option<u32>; 2], Fail> {
+    accesses.take(2, of_2);
     accesses.take_whole(3);
     let of_a = nearest(alloc, accesses, 1, &[b"a"], &[b"a"])?;
     let of_b = nearest(alloc, accesses, 0, &[b"c"], &[b"b"])?;
@@ -67,8 +71,8 @@ fn nearest_without_two(alloc: Global, accesses: &mut Accesses) -> Result<[Option
 
 #[test]
 fn what_was_taken_out_is_not_found(rt: HostRuntime) -> Result<(), Fail> {
-    let mut accesses = listed(rt.alloc())?;
-    let found = nearest_without_two(rt.alloc(), &mut accesses)?;
+    let (mut accesses, of_2) = listed(rt.alloc())?;
+    let found = nearest_without_two(rt.alloc(), &mut accesses, &of_2)?;
     assert_eq!(rt; found, [None, Some(4)]);
     Ok(())
 }

@@ -3,7 +3,7 @@
 use rev_commands::Command;
 use rev_desk::{Desk, Why};
 use rev_graph::Graph;
-use rev_history::History;
+use rev_history::{History, KeptCells};
 use rev_listing::{logs_text, marks_text, stamps_text};
 use rev_trace::{Trace, read_line};
 use std::alloc::{AllocError, AllocFailed, Global};
@@ -111,6 +111,15 @@ pub(crate) fn command(alloc: Global, line: &str) -> Result<Command, Stop> {
     }
 }
 
+// Adds cells, each behind a space.
+fn push_cells(alloc: Global, text: &mut Vec<u8>, cells: &KeptCells<'_>) -> Result<(), Stop> {
+    for index in 0..cells.len() {
+        let cell = format!(in alloc; " {:?}", cells.at(index))?;
+        text.extend_from_slice(cell.as_bytes())?;
+    }
+    Ok(())
+}
+
 fn history_text(alloc: Global, history: &History) -> Result<Vec<u8>, Stop> {
     let mut text = Vec::new(alloc);
     let first = format!(in alloc; "{} {:?}\n", history.last(), history.kept())?;
@@ -123,12 +132,11 @@ fn history_text(alloc: Global, history: &History) -> Result<Vec<u8>, Stop> {
     }
     for number in history.kept() {
         if let Some(footprint) = history.footprint_of(*number) {
-            let line = format!(in alloc;
-                "{number} {:?} {:?}\n",
-                footprint.reads(),
-                footprint.writes()
-            )?;
+            let line = format!(in alloc; "{number}")?;
             text.extend_from_slice(line.as_bytes())?;
+            push_cells(alloc, &mut text, &footprint.reads())?;
+            push_cells(alloc, &mut text, &footprint.writes())?;
+            text.push(b'\n')?;
         }
     }
     text.extend_from_slice(&marks_text(alloc, history.graph(), history.cells())?)?;

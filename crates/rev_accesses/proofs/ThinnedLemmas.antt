@@ -1,5 +1,5 @@
 -- Lists out of which members of a set of numbers are taken.
-use Rattle.std.proofs.Common.{◌≡◌, ℕ, ◌+◌, ◌<◌, Bool, true, false, not, ◌&&◌, ◌||◌, cond, List, [], ◌∷◌, filter, Option, None, Some, length, get_or, take, refl, sym, ap, ap₂, subst, subst₂, ◌∙◌, inl, inr, true≢false, eq-eqb, eqb-true, ne_eqb, slice_get, arith, add-one}
+use Rattle.std.proofs.Common.{◌≡◌, ℕ, ◌+◌, ◌<◌, Bool, true, false, not, ◌&&◌, ◌||◌, cond, List, [], ◌∷◌, filter, Option, None, Some, length, get_or, take, refl, sym, ap, ap₂, subst, subst₂, ◌∙◌, inl, inr, true≢false, eq-eqb, eqb-true, ne_eqb, slice_get, arith}
 use Rattle.std.specs.Prelude.{nat_eq}
 use Rattle.std.specs.List.{AllByRecursion}
 use Rattle.std.specs.List.Retain.{RetainsInTurn}
@@ -17,9 +17,11 @@ use Rattle.rev_causal.proofs.Runs.{either}
 use Rattle.rev_cells.specs.declared.cell.Cell.{Cell}
 use Rattle.rev_cells.specs.Keys.{cell_cmp}
 use Rattle.rev_cells.proofs.EntryLemmas.{cells_total, cells_exact, cell_eq}
+use Rattle.rev_accesses.specs.Places.{cells_at}
 use Rattle.rev_accesses.specs.Thinned.{without_all, prints_without, IsThinned, AreThinned, AreThinnedUnder, IsGone, IsGoneUnder}
 use Rattle.rev_accesses.specs.Value.{AccessesValue, Index, Prints, Names, Shows, numbers_at}
-use Rattle.rev_accesses.proofs.IndexLemmas.{at_some, at_write, among_next}
+use Rattle.rev_accesses.proofs.CellsLemmas.{among_more}
+use Rattle.rev_accesses.proofs.IndexLemmas.{at_some, at_write}
 use Rattle.rev_accesses.proofs.ShowsLemmas.{number_absent, number_fails}
 
 -- where no call changes the closure or the element, what is kept is what passes the test
@@ -214,18 +216,15 @@ thinned_before members a b d f same q = subst (IsThinned members (numbers_at a q
 pub gone_before : (n : ℕ) (cs : List Cell) (b d : Index) → IsGoneUnder n cs b → ((q : Cell) → numbers_at d q ≡ numbers_at b q) → IsGoneUnder n cs d
 gone_before n cs b d gone same q h = ap (λ ks. is_among ks n) (same q) ∙ gone q h
 
--- one cell more
-pub gone_next : (members : List ℕ) (n : ℕ) (cs : List Cell) (i : ℕ) (d : Cell) (old new : Index) → i < length cs → AreThinnedUnder members old new
-    → IsGoneUnder n (take i cs) old → is_among (numbers_at new (get_or cs i d)) n ≡ false → IsGoneUnder n (take (i + 1) cs) new
-gone_next members n cs i d old new lt thinned so_far here q among_all = by (among cell_cmp (take i cs) q) (eq_by_cmp cell_cmp q (get_or cs i d)) refl refl
+-- one place more
+pub gone_more : (members : List ℕ) (n : ℕ) (cells : List Cell) (ps : List ℕ) (i d : ℕ) → i < length ps → (old new : Index) → AreThinnedUnder members old new
+    → IsGoneUnder n (cells_at cells (take i ps)) old → IsGoneUnder n (cells_at cells (get_or ps i d ∷ [])) new → IsGoneUnder n (cells_at cells (take (i + 1) ps)) new
+gone_more members n cells ps i d lt old new thinned so_far here q among_all = by (among cell_cmp (cells_at cells (take i ps)) q) refl
   where
-    split : (among cell_cmp (take i cs) q || eq_by_cmp cell_cmp q (get_or cs i d)) ≡ true
-    split = sym (ap (λ j. among cell_cmp (take j cs) q) (add-one i) ∙ among_next cs i d q lt) ∙ among_all
-
-    by : (a b : Bool) → among cell_cmp (take i cs) q ≡ a → eq_by_cmp cell_cmp q (get_or cs i d) ≡ b → is_among (numbers_at new q) n ≡ false
-    by true b e f = gone_still members (numbers_at old q) (numbers_at new q) n (thinned q) (so_far q e)
-    by false true e f = ap (λ c. is_among (numbers_at new c) n) (cells_exact q (get_or cs i d) ((Equal-is (cell_cmp q (get_or cs i d))).0 f)) ∙ here
-    by false false e f = absurd (true≢false (sym split ∙ ap₂ (λ x y. x || y) e f))
+    by : (b : Bool) → among cell_cmp (cells_at cells (take i ps)) q ≡ b → is_among (numbers_at new q) n ≡ false
+    by true e = gone_still members (numbers_at old q) (numbers_at new q) n (thinned q) (so_far q e)
+    by false e =
+        here q (sym (ap (λ b. b || among cell_cmp (cells_at cells (get_or ps i d ∷ [])) q) e) ∙ sym (among_more cells ps i d lt q) ∙ among_all)
 
 -- all lists
 

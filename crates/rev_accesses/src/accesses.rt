@@ -1,5 +1,6 @@
 //! The access lists.
-ghost use Rattle.std.specs.Prelude.{◌≡◌, true, [], None, Some, OnOk, OnErr};
+ghost use Rattle.std.specs.Prelude.{◌≡◌, true, [], None, Some, slice_get, take, IfOk, OnOk, OnErr};
+ghost use Rattle.std.specs.Option.{option_copied};
 ghost use Rattle.rev_causal.specs.AccessLists.{numbers_by};
 ghost use Rattle.rev_causal.specs.Chosen.{IsRising as IsRisingNumbers, is_among};
 ghost use Rattle.rev_causal.specs.History.{IsRising, event_at, put, without};
@@ -10,14 +11,19 @@ ghost use Rattle.rev_order.specs.Pairs.{partner_of};
 ghost use Rattle.rev_cells.specs.declared.cell.Cell.{Cell};
 ghost use Rattle.rev_cells.specs.Keys.{cell_cmp};
 ghost use Rattle.rev_accesses.specs.Following.{IsFollowed};
+ghost use Rattle.rev_accesses.specs.Places.{ArePlacesOf, IsGrown, NamesAt, cells_at};
 ghost use Rattle.rev_accesses.specs.Thinned.{AreThinned, AreThinnedUnder, IsGone, IsGoneUnder};
+ghost use Rattle.rev_accesses.specs.Users.{IsSame};
 ghost use Rattle.rev_accesses.specs.Value.{Names, PartlyPut, Prints, PutUnder, Shows, TakenFrom};
 
+use crate::cells::places_of;
 use crate::index::{
-    add_firsts, add_users, first_turned, nearest, partner, put_all, take_all, thin_all,
+    add_firsts, add_users, first_turned, nearest, nearest_at_places, partner, put_all, take_all,
+    thin_all,
 };
 use crate::numbers::add_between;
 use crate::pending::Pending;
+use crate::places::Places;
 use crate::rising::Rising;
 use crate::users::{Access, Users};
 use indexmap::IndexMap;
@@ -56,11 +62,13 @@ impl Model for Accesses {
 
     ghost use Rattle.rev_accesses.specs.declared.users.Access.TheVariants.{Read, Write};
     ghost use Rattle.rev_accesses.specs.Users.{listed};
+    ghost use Rattle.std.specs.Map.{keys_of};
 
     ghost view = { λ a. record {
       writers = listed Write a.users.entries;
       readers = listed Read a.users.entries;
       whole = a.whole;
+      cells = keys_of a.users.entries;
     } };
 }
 
@@ -76,59 +84,78 @@ impl Accesses {
         }
     }
 
-    /// Puts the number of a whole event at its place.
-    pub fn put_whole(&mut self, number: u32) -> Result<(), AllocError>
+    /// Puts the number of a whole event at its place, and gives the places of the cells that it names, of which it
+    /// writes the first ones.
+    pub fn put_whole(
+        &mut self,
+        number: u32,
+        cells: &[Cell],
+        written: usize,
+    ) -> Result<Places, AllocError>
         ensures ok { OnOk result ((prints : Prints) → IsRising prints → event_at number prints ≡ None
             → Shows self.old prints → Shows self.new (put number Whole prints)) }
-        ensures err { OnErr result (self.new ≡ self.old) }
+        ensures places { IfOk result (ArePlacesOf self.new.cells cells.now written) }
+        ensures grown { IsGrown self.old.cells self.new.cells }
+        ensures err { OnErr result ((prints : Prints) → Shows self.old prints → Shows self.new prints) }
     {
+        let places = self.places(cells, written)?;
         self.whole.put(number)?;
-        Ok(())
+        Ok(places)
     }
 
     /// Takes the number of a whole event out. It takes no memory.
     pub fn take_whole(&mut self, number: u32)
-        ensures { (prints : Prints) → IsRising prints → event_at number prints ≡ Some Whole
+        ensures taken { (prints : Prints) → IsRising prints → event_at number prints ≡ Some Whole
             → Shows self.old prints → Shows self.new (without number prints) }
+        ensures cells { self.new.cells ≡ self.old.cells }
     {
         self.whole.take(number);
     }
 
-    /// Puts the number of an event that reads and writes these cells at its place under each.
-    pub fn put(&mut self, number: u32, reads: &[Cell], writes: &[Cell]) -> Result<(), AllocError>
-        ensures ok { OnOk result ((prints : Prints) (f : Footprint Cell) → Names f reads.now writes.now
+    /// Puts the number of an event that reads these cells, of which it writes the first ones, at its place under each,
+    /// and gives their places. Each cell is looked up once.
+    pub fn put(&mut self, number: u32, cells: &[Cell], written: usize) -> Result<Places, AllocError>
+        ensures ok { OnOk result ((prints : Prints) (f : Footprint Cell)
+            → Names f cells.now (take written cells.now)
             → IsRising prints → event_at number prints ≡ None → Shows self.old prints
             → Shows self.new (put number f prints)) }
+        ensures places { IfOk result (ArePlacesOf self.new.cells cells.now written) }
+        ensures grown { IsGrown self.old.cells self.new.cells }
         ensures err { OnErr result ((prints : Prints) → event_at number prints ≡ None → Shows self.old prints
             → Shows self.new prints) }
     {
-        match self.note(number, reads, writes) {
-            Ok(()) => Ok(()),
+        let places = self.places(cells, written)?;
+        match self.note(number, &places) {
+            Ok(()) => Ok(places),
             Err(AllocError) => {
-                self.take_from(number, reads, writes);
+                self.take_from(number, &places);
                 Err(AllocError)
             }
         }
     }
 
-    /// Takes the number of an event that reads and writes these cells out from under each. It takes no memory.
-    pub fn take(&mut self, number: u32, reads: &[Cell], writes: &[Cell])
-        ensures { (prints : Prints) (f : Footprint Cell) → Names f reads.now writes.now → IsRising prints
-            → event_at number prints ≡ Some f → Shows self.old prints
+    /// Takes the number of an event that reads and writes the cells at these places out from under each. It takes no
+    /// memory, and hashes no cell.
+    pub fn take(&mut self, number: u32, print: &Places)
+        ensures taken { (prints : Prints) (f : Footprint Cell) → NamesAt f self.old.cells print.now
+            → IsRising prints → event_at number prints ≡ Some f → Shows self.old prints
             → Shows self.new (without number prints) }
+        ensures cells { self.new.cells ≡ self.old.cells }
     {
-        self.take_from(number, reads, writes);
+        self.take_from(number, print);
     }
 
-    /// Takes the number of an event that reads and writes these cells out from under each; where it is one of many
-    /// members, all of these may go with it, so that each list is gone through once for all members. It takes no memory.
-    pub fn thin(&mut self, number: u32, members: &[u32], reads: &[Cell], writes: &[Cell])
+    /// Takes the number of an event that reads and writes the cells at these places out from under each; where it is one
+    /// of many members, all of these may go with it, so that each list is gone through once for all members. It takes no
+    /// memory, and hashes no cell.
+    pub fn thin(&mut self, number: u32, members: &[u32], print: &Places)
         requires rising { IsRisingNumbers members.now }
         requires member { is_among members.now number ≡ true }
         ensures thinned { AreThinned members.now self.old self.new }
-        ensures gone { (f : Footprint Cell) → Names f reads.now writes.now → IsGone number f self.new }
+        ensures gone { (f : Footprint Cell) → NamesAt f self.old.cells print.now → IsGone number f self.new }
+        ensures cells { self.new.cells ≡ self.old.cells }
     {
-        self.thin_from(number, members, reads, writes);
+        self.thin_from(number, members, print);
     }
 
     /// The same for a whole event.
@@ -137,6 +164,7 @@ impl Accesses {
         requires member { is_among members.now number ≡ true }
         ensures thinned { AreThinned members.now self.old self.new }
         ensures gone { IsGone number Whole self.new }
+        ensures cells { self.new.cells ≡ self.old.cells }
     {
         self.whole.thin(number, members);
     }
@@ -154,6 +182,20 @@ impl Accesses {
         lesser(whole, lesser(lesser(written, used), source))
     }
 
+    /// The same for an event that reads and writes the cells at these places. It hashes no cell.
+    pub fn nearest_by(&self, number: u32, print: &Places) -> Option<u32>
+        ensures { (prints : Prints) (f : Footprint Cell) → NamesAt f self.now.cells print.now
+            → IsRising prints → Shows self.now prints → result ≡ nearest_in cell_cmp number f prints }
+    {
+        let reads = print.read();
+        let writes = print.written();
+        let whole = self.whole.first_above(number);
+        let written = nearest_at_places(&self.users, Access::Write, writes, number);
+        let used = nearest_at_places(&self.users, Access::Read, writes, number);
+        let source = nearest_at_places(&self.users, Access::Write, reads, number);
+        lesser(whole, lesser(lesser(written, used), source))
+    }
+
     /// The least of the numbers that another overtakes whose event conflicts: it stands above, and before it in another
     /// list. All numbers are given, and under each its place in that list. It takes no memory, and time linear in the
     /// lists.
@@ -168,18 +210,15 @@ impl Accesses {
         lesser(before, lesser(after, first_turned(&self.users, places)))
     }
 
-    /// The least number which overtakes another whose event reads and writes these cells, and conflicts with that.
-    pub fn partner(
-        &self,
-        places: &[u32],
-        number: u32,
-        reads: &[Cell],
-        writes: &[Cell],
-    ) -> Option<u32>
-        ensures { (prints : Prints) (f : Footprint Cell) → Names f reads.now writes.now → IsRising prints
-            → Shows self.now prints
+    /// The least number which overtakes another whose event reads and writes the cells at these places, and conflicts
+    /// with that. The places of the numbers are those in another list.
+    pub fn partner(&self, places: &[u32], number: u32, print: &Places) -> Option<u32>
+        ensures { (prints : Prints) (f : Footprint Cell) → NamesAt f self.now.cells print.now
+            → IsRising prints → Shows self.now prints
             → result ≡ partner_of (conflict cell_cmp) places.now prints number f }
     {
+        let reads = print.read();
+        let writes = print.written();
         let whole = self.whole.first_overtaking(places, number);
         let written = partner(&self.users, Access::Write, places, writes, number);
         let used = partner(&self.users, Access::Read, places, writes, number);
@@ -187,20 +226,21 @@ impl Accesses {
         lesser(whole, lesser(lesser(written, used), source))
     }
 
-    /// Adds to the pending numbers as many of those above one whose events conflict with one that reads and writes
-    /// these cells as lead to all of them: under a written cell the next writer and the readers before it, under a read
-    /// one the next writer, and the next whole event. At an error some may have been added.
+    /// Adds to the pending numbers as many of those above one whose events conflict with one that reads and writes the
+    /// cells at these places as lead to all of them: under a written cell the next writer and the readers before it,
+    /// under a read one the next writer, and the next whole event. At an error some may have been added.
     pub fn follow(
         &self,
         pending: &mut Pending,
         number: u32,
-        reads: &[Cell],
-        writes: &[Cell],
+        print: &Places,
     ) -> Result<(), AllocError>
-        ensures { OnOk result ((prints : Prints) (f : Footprint Cell) → Names f reads.now writes.now
+        ensures { OnOk result ((prints : Prints) (f : Footprint Cell) → NamesAt f self.now.cells print.now
             → IsRising prints → Shows self.now prints
             → IsFollowed prints number f pending.old pending.new) }
     {
+        let reads = print.read();
+        let writes = print.written();
         pending.add_some(self.whole.first_above(number))?;
         add_users(pending, &self.users, writes, number)?;
         add_firsts(pending, &self.users, reads, number)?;
@@ -225,39 +265,76 @@ impl Accesses {
         Ok(())
     }
 
-    // Puts a number under cells. At an error it may stand under some of them.
-    fn note(&mut self, number: u32, reads: &[Cell], writes: &[Cell]) -> Result<(), AllocError>
-        ensures written { OnOk result (PutUnder number writes.now self.old.writers self.new.writers) }
-        ensures read { OnOk result (PutUnder number reads.now self.old.readers self.new.readers) }
-        ensures partly_written { PartlyPut number writes.now self.old.writers self.new.writers }
-        ensures partly_read { PartlyPut number reads.now self.old.readers self.new.readers }
+    /// The cell at a place.
+    pub fn cell(&self, place: u32) -> Option<&Cell>
+        ensures { option_copied result ≡ slice_get self.now.cells place }
+    {
+        match self.users.get_index(place as usize) {
+            Some((cell, _users)) => Some(cell),
+            None => None,
+        }
+    }
+
+    // The places of cells, of which the first ones are written. Each cell gets one that has none.
+    fn places(&mut self, cells: &[Cell], written: usize) -> Result<Places, AllocError>
+        ensures places { IfOk result (ArePlacesOf self.new.cells cells.now written) }
+        ensures grown { IsGrown self.old.cells self.new.cells }
+        ensures written { IsSame self.old.writers self.new.writers }
+        ensures read { IsSame self.old.readers self.new.readers }
         ensures whole { self.new.whole ≡ self.old.whole }
     {
-        put_all(self.alloc, &mut self.users, Access::Read, reads, number)?;
-        put_all(self.alloc, &mut self.users, Access::Write, writes, number)?;
+        let read = places_of(self.alloc, &mut self.users, cells)?;
+        Ok(Places::of(read, written))
+    }
+
+    // Puts a number under the cells at places. At an error it may stand under some of them.
+    fn note(&mut self, number: u32, print: &Places) -> Result<(), AllocError>
+        ensures written { OnOk result (PutUnder number (cells_at self.old.cells print.now.written)
+            self.old.writers self.new.writers) }
+        ensures read { OnOk result (PutUnder number (cells_at self.old.cells print.now.read)
+            self.old.readers self.new.readers) }
+        ensures partly_written { PartlyPut number (cells_at self.old.cells print.now.written)
+            self.old.writers self.new.writers }
+        ensures partly_read { PartlyPut number (cells_at self.old.cells print.now.read)
+            self.old.readers self.new.readers }
+        ensures whole { self.new.whole ≡ self.old.whole }
+        ensures cells { self.new.cells ≡ self.old.cells }
+    {
+        let reads = print.read();
+        let writes = print.written();
+        put_all(&mut self.users, Access::Read, reads, number)?;
+        put_all(&mut self.users, Access::Write, writes, number)?;
         Ok(())
     }
 
-    // Takes a number out from under cells, which is one of some members, or all of these with it.
-    fn thin_from(&mut self, number: u32, members: &[u32], reads: &[Cell], writes: &[Cell])
+    // Takes a number out from under the cells at places, which is one of some members, or all of these with it.
+    fn thin_from(&mut self, number: u32, members: &[u32], print: &Places)
         requires rising { IsRisingNumbers members.now }
         requires member { is_among members.now number ≡ true }
         ensures writers { AreThinnedUnder members.now self.old.writers self.new.writers }
         ensures readers { AreThinnedUnder members.now self.old.readers self.new.readers }
-        ensures written { IsGoneUnder number writes.now self.new.writers }
-        ensures read { IsGoneUnder number reads.now self.new.readers }
+        ensures written { IsGoneUnder number (cells_at self.old.cells print.now.written) self.new.writers }
+        ensures read { IsGoneUnder number (cells_at self.old.cells print.now.read) self.new.readers }
         ensures whole { self.new.whole ≡ self.old.whole }
+        ensures cells { self.new.cells ≡ self.old.cells }
     {
+        let reads = print.read();
+        let writes = print.written();
         thin_all(&mut self.users, Access::Read, reads, number, members);
         thin_all(&mut self.users, Access::Write, writes, number, members);
     }
 
-    // Takes a number out from under cells.
-    fn take_from(&mut self, number: u32, reads: &[Cell], writes: &[Cell])
-        ensures written { TakenFrom number writes.now self.old.writers self.new.writers }
-        ensures read { TakenFrom number reads.now self.old.readers self.new.readers }
+    // Takes a number out from under the cells at places.
+    fn take_from(&mut self, number: u32, print: &Places)
+        ensures written { TakenFrom number (cells_at self.old.cells print.now.written)
+            self.old.writers self.new.writers }
+        ensures read { TakenFrom number (cells_at self.old.cells print.now.read)
+            self.old.readers self.new.readers }
         ensures whole { self.new.whole ≡ self.old.whole }
+        ensures cells { self.new.cells ≡ self.old.cells }
     {
+        let reads = print.read();
+        let writes = print.written();
         take_all(&mut self.users, Access::Read, reads, number);
         take_all(&mut self.users, Access::Write, writes, number);
     }

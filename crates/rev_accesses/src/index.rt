@@ -1,74 +1,64 @@
 //! Numbers under cells.
-ghost use Rattle.std.specs.Prelude.{◌≡◌, ℕ, ◌||◌, false, true, cond, map, IsSome, OnOk};
+ghost use Rattle.std.specs.Prelude.{◌≡◌, ℕ, ◌||◌, ◌∷◌, [], true, map, OnOk};
 ghost use Rattle.std.specs.List.{IsDistinct};
 ghost use Rattle.std.specs.Ordering.{eq_by_cmp};
-ghost use Rattle.std.specs.Map.{lookup};
+ghost use Rattle.std.specs.Map.{keys_of};
 ghost use Rattle.rev_causal.specs.AccessLists.{first_above as first_above_in};
-ghost use Rattle.rev_causal.specs.Chosen.{IsRising, is_among, without};
-ghost use Rattle.rev_order.specs.Overtaken.{first_overtaking as first_overtaking_of};
-ghost use Rattle.rev_cells.specs.declared.cell.Cell.{Cell};
+ghost use Rattle.rev_causal.specs.Chosen.{IsRising, is_among};
 ghost use Rattle.rev_cells.specs.Keys.{cell_cmp};
 ghost use Rattle.rev_accesses.specs.Following.{is_first_under, is_user_under};
+ghost use Rattle.rev_accesses.specs.Places.{cells_at};
 ghost use Rattle.rev_accesses.specs.Thinned.{AreThinnedUnder, IsGoneUnder};
 ghost use Rattle.rev_accesses.specs.Turned.{first_turned_among, partner_at};
-ghost use Rattle.rev_accesses.specs.Users.{IsSame, is_user, listed, other};
+ghost use Rattle.rev_accesses.specs.Users.{IsSame, listed, other};
 ghost use Rattle.rev_accesses.specs.declared.users.Access.TheVariants.{Read, Write};
-ghost use Rattle.rev_accesses.specs.Value.{PartlyPut, PutUnder, TakenFrom, nearest_at, numbers_at, with_number};
+ghost use Rattle.rev_accesses.specs.Value.{PartlyPut, PutUnder, TakenFrom, nearest_at, numbers_at};
 
 use crate::pending::Pending;
 use crate::users::{Access, Users};
 use indexmap::IndexMap;
 use rev_cells::Cell;
 use rev_order::lesser;
-use std::alloc::{AllocError, Global};
+use std::alloc::AllocError;
 
-// Puts a number into one of the lists of a cell, unless it is there; a cell that has no lists gets them. It looks a
-// cell that has them up once.
+// Puts a number into one of the lists of the cell at a place, unless it is there.
 fn put_at(
-    alloc: Global,
     index: &mut IndexMap<Cell, Users>,
     access: Access,
-    cell: &Cell,
+    place: u32,
     number: u32,
 ) -> Result<(), AllocError>
-    ensures ok { OnOk result ((c : Cell)
-        → numbers_at (listed access index.new.entries) c
-        ≡ cond (eq_by_cmp cell_cmp c cell.now)
-        (with_number number (numbers_at (listed access index.old.entries) c))
-        (numbers_at (listed access index.old.entries) c)) }
-    ensures but_for { (c : Cell) → without number (numbers_at (listed access index.new.entries) c)
-        ≡ without number (numbers_at (listed access index.old.entries) c) }
-    ensures others { (c : Cell) → eq_by_cmp cell_cmp c cell.now ≡ false
-        → numbers_at (listed access index.new.entries) c ≡ numbers_at (listed access index.old.entries) c }
+    ensures ok { OnOk result (PutUnder number (cells_at (keys_of index.old.entries) (place ∷ []))
+        (listed access index.old.entries) (listed access index.new.entries)) }
+    ensures partly { PartlyPut number (cells_at (keys_of index.old.entries) (place ∷ []))
+        (listed access index.old.entries) (listed access index.new.entries) }
     ensures rest { IsSame (listed (other access) index.old.entries) (listed (other access) index.new.entries) }
+    ensures cells { keys_of index.new.entries ≡ keys_of index.old.entries }
 {
-    if let Some(users) = index.get_mut(cell) {
+    if let Some(users) = index.get_index_mut(place as usize) {
         users.put(access, number)?;
-        return Ok(());
     }
-    index.insert(cell.copy()?, Users::of(alloc, access, number)?)?;
     Ok(())
 }
 
-// Takes a number out of one of the lists of a cell, if it is there.
-fn take_at(index: &mut IndexMap<Cell, Users>, access: Access, cell: &Cell, number: u32)
-    ensures taken { (c : Cell) → numbers_at (listed access index.new.entries) c
-        ≡ cond (eq_by_cmp cell_cmp c cell.now)
-        (without number (numbers_at (listed access index.old.entries) c))
-        (numbers_at (listed access index.old.entries) c) }
+// Takes a number out of one of the lists of the cell at a place, if it is there.
+fn take_at(index: &mut IndexMap<Cell, Users>, access: Access, place: u32, number: u32)
+    ensures taken { TakenFrom number (cells_at (keys_of index.old.entries) (place ∷ []))
+        (listed access index.old.entries) (listed access index.new.entries) }
     ensures rest { IsSame (listed (other access) index.old.entries) (listed (other access) index.new.entries) }
+    ensures cells { keys_of index.new.entries ≡ keys_of index.old.entries }
 {
-    if let Some(users) = index.get_mut(cell) {
+    if let Some(users) = index.get_index_mut(place as usize) {
         users.take(access, number);
     }
 }
 
-// Takes a number out of one of the lists of a cell, if it is there, which is one of some members, or all of these with
-// it.
+// Takes a number out of one of the lists of the cell at a place, if it is there, which is one of some members, or all
+// of these with it.
 fn thin_at(
     index: &mut IndexMap<Cell, Users>,
     access: Access,
-    cell: &Cell,
+    place: u32,
     number: u32,
     members: &[u32],
 )
@@ -76,10 +66,12 @@ fn thin_at(
     requires member { is_among members.now number ≡ true }
     ensures thinned { AreThinnedUnder members.now
         (listed access index.old.entries) (listed access index.new.entries) }
-    ensures gone { is_among (numbers_at (listed access index.new.entries) cell.now) number ≡ false }
+    ensures gone { IsGoneUnder number (cells_at (keys_of index.old.entries) (place ∷ []))
+        (listed access index.new.entries) }
     ensures rest { IsSame (listed (other access) index.old.entries) (listed (other access) index.new.entries) }
+    ensures cells { keys_of index.new.entries ≡ keys_of index.old.entries }
 {
-    if let Some(users) = index.get_mut(cell) {
+    if let Some(users) = index.get_index_mut(place as usize) {
         users.thin(access, number, members);
     }
 }
@@ -94,48 +86,65 @@ fn first_at(index: &IndexMap<Cell, Users>, access: Access, cell: &Cell, number: 
     }
 }
 
-/// Puts a number into one of the lists of each of the cells. At an error it may stand in some of them.
+// The first number above another in one of the lists of the cell at a place.
+fn first_at_place(
+    index: &IndexMap<Cell, Users>,
+    access: Access,
+    place: u32,
+    number: u32,
+) -> Option<u32>
+    ensures { result ≡ nearest_at number (listed access index.now.entries)
+        (cells_at (keys_of index.now.entries) (place ∷ [])) }
+{
+    match index.get_index(place as usize) {
+        Some((_cell, users)) => users.numbers(access).first_above(number),
+        None => None,
+    }
+}
+
+/// Puts a number into one of the lists of each of the cells at some places. At an error it may stand in some of them.
 pub(crate) fn put_all(
-    alloc: Global,
     index: &mut IndexMap<Cell, Users>,
     access: Access,
-    cells: &[Cell],
+    places: &[u32],
     number: u32,
 ) -> Result<(), AllocError>
-    ensures ok { OnOk result (PutUnder number cells.now
+    ensures ok { OnOk result (PutUnder number (cells_at (keys_of index.old.entries) places.now)
         (listed access index.old.entries) (listed access index.new.entries)) }
-    ensures partly { PartlyPut number cells.now
+    ensures partly { PartlyPut number (cells_at (keys_of index.old.entries) places.now)
         (listed access index.old.entries) (listed access index.new.entries) }
     ensures rest { IsSame (listed (other access) index.old.entries) (listed (other access) index.new.entries) }
+    ensures cells { keys_of index.new.entries ≡ keys_of index.old.entries }
 {
-    for cell in cells {
-        put_at(alloc, index, access, cell, number)?;
+    for place in places {
+        put_at(index, access, *place, number)?;
     }
     Ok(())
 }
 
-/// Takes a number out of one of the lists of each of the cells. It takes no memory.
+/// Takes a number out of one of the lists of each of the cells at some places. It takes no memory.
 pub(crate) fn take_all(
     index: &mut IndexMap<Cell, Users>,
     access: Access,
-    cells: &[Cell],
+    places: &[u32],
     number: u32,
 )
-    ensures taken { TakenFrom number cells.now
+    ensures taken { TakenFrom number (cells_at (keys_of index.old.entries) places.now)
         (listed access index.old.entries) (listed access index.new.entries) }
     ensures rest { IsSame (listed (other access) index.old.entries) (listed (other access) index.new.entries) }
+    ensures cells { keys_of index.new.entries ≡ keys_of index.old.entries }
 {
-    for cell in cells {
-        take_at(index, access, cell, number);
+    for place in places {
+        take_at(index, access, *place, number);
     }
 }
 
-/// Takes a number out of one of the lists of each of the cells, which is one of some members, or all of these with it.
-/// It takes no memory.
+/// Takes a number out of one of the lists of each of the cells at some places, which is one of some members, or all of
+/// these with it. It takes no memory.
 pub(crate) fn thin_all(
     index: &mut IndexMap<Cell, Users>,
     access: Access,
-    cells: &[Cell],
+    places: &[u32],
     number: u32,
     members: &[u32],
 )
@@ -143,11 +152,13 @@ pub(crate) fn thin_all(
     requires member { is_among members.now number ≡ true }
     ensures thinned { AreThinnedUnder members.now
         (listed access index.old.entries) (listed access index.new.entries) }
-    ensures gone { IsGoneUnder number cells.now (listed access index.new.entries) }
+    ensures gone { IsGoneUnder number (cells_at (keys_of index.old.entries) places.now)
+        (listed access index.new.entries) }
     ensures rest { IsSame (listed (other access) index.old.entries) (listed (other access) index.new.entries) }
+    ensures cells { keys_of index.new.entries ≡ keys_of index.old.entries }
 {
-    for cell in cells {
-        thin_at(index, access, cell, number, members);
+    for place in places {
+        thin_at(index, access, *place, number, members);
     }
 }
 
@@ -167,56 +178,96 @@ pub(crate) fn nearest(
     least
 }
 
-// Adds to the pending numbers the first writer of a cell above one, and the readers before that writer.
-fn add_users_at(
+/// The same of the cells at some places.
+pub(crate) fn nearest_at_places(
+    index: &IndexMap<Cell, Users>,
+    access: Access,
+    places: &[u32],
+    number: u32,
+) -> Option<u32>
+    ensures { result ≡ nearest_at number (listed access index.now.entries)
+        (cells_at (keys_of index.now.entries) places.now) }
+{
+    let mut least = None;
+    for place in places {
+        least = lesser(least, first_at_place(index, access, *place, number));
+    }
+    least
+}
+
+// Adds to the pending numbers the first writer above one under the cell at a place.
+fn add_first_at(
     pending: &mut Pending,
     index: &IndexMap<Cell, Users>,
-    cell: &Cell,
+    place: u32,
     number: u32,
 ) -> Result<(), AllocError>
     ensures { OnOk result ((k : ℕ) → is_among pending.new k
-        ≡ (is_user number (numbers_at (listed Write index.now.entries) cell.now)
-        (numbers_at (listed Read index.now.entries) cell.now) k || is_among pending.old k)) }
+        ≡ (is_first_under number (listed Write index.now.entries)
+        (cells_at (keys_of index.now.entries) (place ∷ [])) k || is_among pending.old k)) }
 {
-    match index.get(cell) {
-        Some(users) => {
-            let next = users.writers.first_above(number);
-            pending.add_some(next)?;
-            users.readers.add_between(pending, number, next)
+    match index.get_index(place as usize) {
+        Some((_cell, users)) => {
+            pending.add_some(users.writers.first_above(number))?;
+            Ok(())
         }
         None => Ok(()),
     }
 }
 
-/// Adds to the pending numbers the first writer above one under each of the cells.
-pub(crate) fn add_firsts(
+// Adds to the pending numbers the first writer above one under the cell at a place, and the readers before that writer.
+fn add_users_at(
     pending: &mut Pending,
     index: &IndexMap<Cell, Users>,
-    cells: &[Cell],
+    place: u32,
     number: u32,
 ) -> Result<(), AllocError>
     ensures { OnOk result ((k : ℕ) → is_among pending.new k
-        ≡ (is_first_under number (listed Write index.now.entries) cells.now k || is_among pending.old k)) }
+        ≡ (is_user_under number (listed Write index.now.entries) (listed Read index.now.entries)
+        (cells_at (keys_of index.now.entries) (place ∷ [])) k || is_among pending.old k)) }
 {
-    for cell in cells {
-        pending.add_some(first_at(index, Access::Write, cell, number))?;
+    match index.get_index(place as usize) {
+        Some((_cell, users)) => {
+            let next = users.writers.first_above(number);
+            pending.add_some(next)?;
+            users.readers.add_between(pending, number, next)?;
+            Ok(())
+        }
+        None => Ok(()),
+    }
+}
+
+/// Adds to the pending numbers the first writer above one under each of the cells at some places.
+pub(crate) fn add_firsts(
+    pending: &mut Pending,
+    index: &IndexMap<Cell, Users>,
+    places: &[u32],
+    number: u32,
+) -> Result<(), AllocError>
+    ensures { OnOk result ((k : ℕ) → is_among pending.new k
+        ≡ (is_first_under number (listed Write index.now.entries)
+        (cells_at (keys_of index.now.entries) places.now) k || is_among pending.old k)) }
+{
+    for place in places {
+        add_first_at(pending, index, *place, number)?;
     }
     Ok(())
 }
 
-/// Adds to the pending numbers, under each of the cells, the first writer above one and the readers before that writer.
+/// Adds to the pending numbers, under each of the cells at some places, the first writer above one and the readers
+/// before that writer.
 pub(crate) fn add_users(
     pending: &mut Pending,
     index: &IndexMap<Cell, Users>,
-    cells: &[Cell],
+    places: &[u32],
     number: u32,
 ) -> Result<(), AllocError>
     ensures { OnOk result ((k : ℕ) → is_among pending.new k
-        ≡ (is_user_under number (listed Write index.now.entries) (listed Read index.now.entries) cells.now k
-        || is_among pending.old k)) }
+        ≡ (is_user_under number (listed Write index.now.entries) (listed Read index.now.entries)
+        (cells_at (keys_of index.now.entries) places.now) k || is_among pending.old k)) }
 {
-    for cell in cells {
-        add_users_at(pending, index, cell, number)?;
+    for place in places {
+        add_users_at(pending, index, *place, number)?;
     }
     Ok(())
 }
@@ -235,35 +286,38 @@ pub(crate) fn first_turned(index: &IndexMap<Cell, Users>, places: &[u32]) -> Opt
     least
 }
 
-// The first of those that access a cell in one way which overtakes a number.
+// The first of those that access the cell at a place in one way which overtakes a number.
 fn partner_in(
     index: &IndexMap<Cell, Users>,
     access: Access,
     places: &[u32],
-    cell: &Cell,
+    place: u32,
     number: u32,
 ) -> Option<u32>
-    ensures { result ≡ first_overtaking_of places.now number (numbers_at (listed access index.now.entries) cell.now) }
+    ensures { result ≡ partner_at places.now number (listed access index.now.entries)
+        (cells_at (keys_of index.now.entries) (place ∷ [])) }
 {
-    match index.get(cell) {
-        Some(users) => users.numbers(access).first_overtaking(places, number),
+    match index.get_index(place as usize) {
+        Some((_cell, users)) => users.numbers(access).first_overtaking(places, number),
         None => None,
     }
 }
 
-/// The least of those that access one of the cells in one way which overtakes a number.
+/// The least of those that access one of the cells at some places in one way which overtakes a number, by the places of
+/// the numbers in another list.
 pub(crate) fn partner(
     index: &IndexMap<Cell, Users>,
     access: Access,
     places: &[u32],
-    cells: &[Cell],
+    cells: &[u32],
     number: u32,
 ) -> Option<u32>
-    ensures { result ≡ partner_at places.now number (listed access index.now.entries) cells.now }
+    ensures { result ≡ partner_at places.now number (listed access index.now.entries)
+        (cells_at (keys_of index.now.entries) cells.now) }
 {
     let mut least = None;
     for cell in cells {
-        least = lesser(least, partner_in(index, access, places, cell, number));
+        least = lesser(least, partner_in(index, access, places, *cell, number));
     }
     least
 }

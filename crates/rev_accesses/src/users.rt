@@ -1,5 +1,5 @@
 //! Those that use one cell.
-ghost use Rattle.std.specs.Prelude.{◌≡◌, ◌∷◌, [], false, true, IfOk, OnOk};
+ghost use Rattle.std.specs.Prelude.{◌≡◌, [], false, true, OnOk};
 ghost use Rattle.rev_causal.specs.Chosen.{IsRising, is_among, without};
 ghost use Rattle.rev_accesses.specs.Thinned.{IsThinned};
 ghost use Rattle.rev_accesses.specs.Turned.{first_turned_in};
@@ -36,17 +36,15 @@ impl Drop for Users {
 }
 
 impl Users {
-    // One number.
-    pub(crate) fn of(alloc: Global, access: Access, number: u32) -> Result<Users, AllocError>
-        ensures one { IfOk result (λ users. numbers_of access users ≡ number ∷ []) }
-        ensures rest { IfOk result (λ users. numbers_of (other access) users ≡ []) }
+    // No numbers.
+    pub(crate) fn none(alloc: Global) -> Users
+        ensures read { result.readers ≡ [] }
+        ensures written { result.writers ≡ [] }
     {
-        let mut users = Users {
+        Users {
             readers: Rising::new(alloc),
             writers: Rising::new(alloc),
-        };
-        users.put(access, number)?;
-        Ok(users)
+        }
     }
 
     // Puts a number at its place, unless it is there.

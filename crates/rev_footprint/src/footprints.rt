@@ -69,6 +69,7 @@ impl Footprint {
     /// alone.
     pub fn reads(&self) -> &[Cell]
         ensures same { cells.from_list result.now ≡ self.now.reads }
+        ensures first { take (length self.now.writes) result.now ≡ self.now.writes }
         ensures distinct { IsDistinct (eq_by_cmp cell_cmp) result.now }
     {
         self.cells.as_slice()

@@ -8,7 +8,7 @@ use Rattle.std.specs.Cmp.{eq_by_cmp_equiv, Equal-is}
 use Rattle.rev_causal.specs.Store.{Footprint, Footprint.Whole, Footprint.Cells, among, conflict}
 use Rattle.rev_cells.specs.declared.cell.Cell.{Cell}
 use Rattle.rev_cells.specs.Keys.{cell_cmp}
-use Rattle.rev_cells.proofs.EntryLemmas.{cell_eq, cell_eq-is, cell_eq_equiv, cells_total, cells_exact}
+use Rattle.rev_cells.proofs.EntryLemmas.{cell_eq, cell_eq-is, cells_total, cells_exact}
 
 -- TESTS OF SOME OF A LIST
 or-four : (a b c d : Bool) → ((a || b) || (c || d)) ≡ ((a || c) || (b || d))
@@ -83,14 +83,6 @@ set-same xs s is c = sym (cells.contains-from_list cells_total xs c) ∙ ap (λ 
 pub filters-same : (p : Cell → Bool) (xs ys : List Cell) → ((c : Cell) → among cell_cmp xs c ≡ among cell_cmp ys c) → (c : Cell) → among cell_cmp (filter p xs) c ≡ among cell_cmp (filter p ys) c
 filters-same p xs ys same c = among-filter p xs c ∙ ap (λ b. p c && b) (same c) ∙ sym (among-filter p ys c)
 
-pub any-members : (w xs ys : List Cell) → ((c : Cell) → among cell_cmp xs c ≡ among cell_cmp ys c) → list_any (among cell_cmp w) xs ≡ list_any (among cell_cmp w) ys
-any-members w xs ys same = any-flip w xs ∙ any-same (among cell_cmp xs) (among cell_cmp ys) w same ∙ any-flip ys w
-
--- whether a set has some of those that pass a test
-pub some-in : (p : Cell → Bool) (w xs : List Cell) (s : cells.FinSet cell_cmp) → cells.from_list xs ≡ s
-    → list_any (λ c. p c && among cell_cmp w c) xs ≡ list_any (among cell_cmp w) (filter p (cells.items s))
-some-in p w xs s is = any-filter p (among cell_cmp w) xs ∙ any-members w (filter p xs) (filter p (cells.items s)) (filters-same p xs (cells.items s) (set-same xs s is))
-
 -- CONFLICTS, SEEN FROM THE OTHER SIDE
 abbrev pub seen : List Cell → List Cell → List Cell → List Cell → Bool
 seen r w reads writes = list_any (among cell_cmp w) reads || (list_any (among cell_cmp w) writes || list_any (among cell_cmp r) writes)
@@ -111,39 +103,6 @@ pub whole-second : (f : Footprint Cell) → conflict cell_cmp f Whole ≡ true
 whole-second Whole = refl
 whole-second (Cells r w) = refl
 
-or-six : (a a' b b' c c' : Bool) → ((a || a') || ((b || b') || (c || c'))) ≡ ((a || (b || c)) || (a' || (b' || c')))
-or-six true a' b b' c c' = refl
-or-six false true true b' c c' = refl
-or-six false true false b' true c' = refl
-or-six false true false b' false c' = refl
-or-six false false true b' c c' = refl
-or-six false false false true true c' = refl
-or-six false false false true false c' = refl
-or-six false false false false c c' = refl
-
--- sets that grew conflict with what they did, and with what the new cells do
-pub conflict-grown : (r r' new-r w w' new-w : List Cell) → ((c : Cell) → among cell_cmp r' c ≡ (among cell_cmp r c || among cell_cmp new-r c))
-    → ((c : Cell) → among cell_cmp w' c ≡ (among cell_cmp w c || among cell_cmp new-w c)) → (h : Footprint Cell)
-    → conflict cell_cmp (Cells r' w') h ≡ (conflict cell_cmp (Cells r w) h || conflict cell_cmp (Cells new-r new-w) h)
-conflict-grown r r' new-r w w' new-w reads-are writes-are Whole = refl
-conflict-grown r r' new-r w w' new-w reads-are writes-are (Cells reads writes) =
-    conflict-seen r' w' reads writes
-    ∙ (λ i. split w w' new-w writes-are reads i || (split w w' new-w writes-are writes i || split r r' new-r reads-are writes i))
-    ∙ or-six (list_any (among cell_cmp w) reads) (list_any (among cell_cmp new-w) reads) (list_any (among cell_cmp w) writes) (list_any (among cell_cmp new-w) writes)
-    (list_any (among cell_cmp r) writes) (list_any (among cell_cmp new-r) writes)
-    ∙ ap₂ (λ a b. a || b) (sym (conflict-seen r w reads writes)) (sym (conflict-seen new-r new-w reads writes))
-  where
-    split : (x x' new : List Cell) → ((c : Cell) → among cell_cmp x' c ≡ (among cell_cmp x c || among cell_cmp new c)) → (cs : List Cell)
-        → list_any (among cell_cmp x') cs ≡ (list_any (among cell_cmp x) cs || list_any (among cell_cmp new) cs)
-    split x x' new are cs = any-same (among cell_cmp x') (λ c. among cell_cmp x c || among cell_cmp new c) cs are ∙ any-either (among cell_cmp x) (among cell_cmp new) cs
-
--- no cells conflict with none
-pub none-seen : (reads writes : List Cell) → conflict cell_cmp (Cells [] []) (Cells reads writes) ≡ false
-none-seen reads writes = any-none writes
-
--- what a slice says that it has
-pub slice-has : (xs : List Cell) (c : Cell) → list_any (λ y. cell_eq y c) xs ≡ among cell_cmp xs c
-slice-has xs c = any-same (λ y. cell_eq y c) (cell_eq c) xs (λ y. cell_eq_equiv.symm y c) ∙ ap (λ (e : Cell → Cell → Bool). list_any (e c) xs) cell_eq-is
-
+-- what a set says that it has
 pub set-has : (xs : List Cell) (c : Cell) → list_any (cell_eq c) xs ≡ among cell_cmp xs c
 set-has xs c = ap (λ (e : Cell → Cell → Bool). list_any (e c) xs) cell_eq-is

@@ -1,5 +1,4 @@
 pub mod CellLemmas
-pub mod BesideLemmas
 pub mod NameLemmas
 pub mod ExactLemmas
 pub mod FindLemmas

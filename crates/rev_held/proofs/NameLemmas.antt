@@ -1,21 +1,20 @@
 -- Cells that are named, and dependence as a relation.
-use Rattle.std.proofs.Common.{◌≡◌, ℕ, suc, ◌+◌, ◌<◌, ◌≤◌, length, get_or, drop, arith, Bool, true, false, ◌||◌, ◌&&◌, List, [], ◌∷◌, Option, Some, None, is_some, refl, sym, ap, ◌∙◌, inl, inr, ◌⊎◌, true≢false, if◌then◌else◌}
+use Rattle.std.proofs.Common.{◌≡◌, ℕ, zero, suc, ◌+◌, ◌<◌, ◌≤◌, length, get_or, drop, arith, Bool, true, false, ◌||◌, ◌&&◌, List, [], ◌∷◌, Option, Some, None, is_some, refl, sym, ap, ◌∙◌, inl, inr, ◌⊎◌, true≢false, if◌then◌else◌}
 use Rattle.std.specs.Prelude.{find, nat_lt, cond}
 use Rattle.std.specs.FinSet as cells
 use Rattle.std.specs.List.{list_any}
 use Rattle.std.specs.Option.{option_or}
 use Rattle.std.proofs.Math.Seq.{drop-cons}
 use Rattle.std.proofs.lemmas.Bool.{lt-ltb, ltb-true}
-use Rattle.rev_causal.specs.Store.{Footprint.Whole, Footprint.Cells, among, conflict}
+use Rattle.rev_causal.specs.Store.{Footprint.Whole, Footprint.Cells, conflict}
 use Rattle.rev_causal.proofs.Runs.{either}
 use Rattle.rev_cells.specs.declared.cell.Cell.{Cell}
 use Rattle.rev_cells.specs.Keys.{cell_cmp}
-use Rattle.rev_cells.proofs.EntryLemmas.{cell_eq}
 use Rattle.rev_footprint.specs.Value.{FootprintValue, print_of}
 use Rattle.rev_history.specs.Timeline.{Timeline, kept_footprint}
 use Rattle.rev_held.specs.Dependence.{cell_between, dependence_of, depends_on, first_cell, holds_between, is_accessed_by}
 use Rattle.rev_held.specs.Laws.{CellsAreNamed, IsWhole}
-use Rattle.rev_held.proofs.CellLemmas.{set-same, slice-has, whole-second}
+use Rattle.rev_held.proofs.CellLemmas.{whole-second}
 
 -- what is found passes, and where none does none is found
 found-any : (p : Cell → Bool) (cs : List Cell) (c : Cell) → find p cs ≡ Some c → list_any p cs ≡ true
@@ -140,18 +139,6 @@ cells-are-named t one other = record {
     ]
 
 -- AS THE CODE LOOKS
--- a footprint accesses a cell that it writes, and one that it reads
-pub accessed-by-write : (f : FootprintValue) (writes : List Cell) (c : Cell) (b : Bool) → writes ≡ f.writes → b ≡ list_any (λ y. cell_eq y c) writes → b ≡ true → true ≡ is_accessed_by f c
-accessed-by-write f writes c b are is h =
-    let written : among cell_cmp f.writes c ≡ true = ap (λ ws. among cell_cmp ws c) (sym are) ∙ sym (slice-has writes c) ∙ sym is ∙ h in
-    sym (ap (λ x. x || among cell_cmp (cells.items f.reads) c) written)
-
-pub accessed-by-read : (f : FootprintValue) (writes reads : List Cell) (c : Cell) (b d : Bool) → writes ≡ f.writes → b ≡ list_any (λ y. cell_eq y c) writes → b ≡ false
-    → cells.from_list reads ≡ f.reads → d ≡ list_any (λ y. cell_eq y c) reads → d ≡ is_accessed_by f c
-accessed-by-read f writes reads c b d are is h reads-are is' =
-    let unwritten : among cell_cmp f.writes c ≡ false = ap (λ ws. among cell_cmp ws c) (sym are) ∙ sym (slice-has writes c) ∙ sym is ∙ h in
-    is' ∙ slice-has reads c ∙ set-same reads f.reads reads-are c ∙ sym (ap (λ x. x || among cell_cmp (cells.items f.reads) c) unwritten)
-
 -- the first that passes
 found-next : (p : Cell → Bool) (cs : List Cell) (i : ℕ) (x : Cell) → i < length cs → x ≡ get_or cs i x → find p (drop i cs) ≡ cond (p x) (Some x) (find p (drop (i + 1) cs))
 found-next p cs i x within is =
@@ -166,12 +153,14 @@ found-here p cs i x within is passes before = sym (before ∙ found-next p cs i 
 abbrev no-cell : Option Cell
 no-cell = None
 
-pub found-nowhere : (p : Cell → Bool) (cs : List Cell) (i : ℕ) → length cs ≡ i → find p cs ≡ find p (drop i cs) → no-cell ≡ find p cs
-found-nowhere p cs i all before = sym (before ∙ ap (λ j. find p (drop j cs)) (sym all) ∙ ap (find p) (drop-all cs))
+pub found-nowhere : (p : Cell → Bool) (cs : List Cell) (i : ℕ) → length cs ≤ i → find p cs ≡ find p (drop i cs) → no-cell ≡ find p cs
+found-nowhere p cs i past before = sym (before ∙ ap (find p) (drop-past cs i past))
   where
-    drop-all : (xs : List Cell) → drop (length xs) xs ≡ []
-    drop-all [] = refl
-    drop-all (x ∷ xs) = drop-all xs
+    drop-past : (xs : List Cell) (j : ℕ) → length xs ≤ j → drop j xs ≡ []
+    drop-past [] zero h = refl
+    drop-past [] (suc j) h = refl
+    drop-past (x ∷ xs) zero h = absurd (omega (arith, h))
+    drop-past (x ∷ xs) (suc j) h = drop-past xs j (omega (arith, h))
 
 -- two kept numbers, or fewer
 not-less : (one other : ℕ) → other ≤ one → nat_lt one other ≡ false

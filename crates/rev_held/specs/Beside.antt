@@ -1,13 +1,12 @@
 -- What a kept event holds by cells other than those of jobs and slots.
-use Rattle.std.specs.Prelude.{◌≡◌, ℕ, nat_lt, Bool, true, false, not, List, [], ◌∷◌, ◌++◌, filter, drop, Some, is_some, if◌then◌else◌}
-use Rattle.rev_causal.specs.Order.{any_conflict, cone}
+use Rattle.std.specs.Prelude.{ℕ, nat_lt, Bool, true, false, not, List, [], ◌∷◌, filter, is_some, if◌then◌else◌}
+use Rattle.rev_causal.specs.Order.{cone}
 use Rattle.rev_causal.specs.Store.{Footprint, Footprint.Whole, Footprint.Cells, conflict}
 use Rattle.rev_cells.specs.declared.cell.Cell.{Cell}
 use Rattle.rev_cells.specs.declared.cell.Cell.TheVariants as cell
 use Rattle.rev_cells.specs.Keys.{cell_cmp}
-use Rattle.rev_footprint.specs.Value.{FootprintValue, print_of}
+use Rattle.rev_footprint.specs.Value.{print_of}
 use Rattle.rev_history.specs.Timeline.{Timeline, kept_footprint}
-use Rattle.rev_held.specs.declared.joined.Joined.{Joined}
 use Rattle.rev_held.specs.Dependence.{holds_between}
 
 -- the cell is that of a job or of a slot
@@ -36,27 +35,3 @@ held_beside t n =
     if is_some (kept_footprint t n)
     then n ∷ cone (clash_beside t) (n ∷ []) (filter (λ k. nat_lt n k) t.kept)
     else []
-
--- AS THEY ARE FOUND
--- what the joined events read and write
-abbrev pub joined_print : Joined → Footprint Cell
-joined_print j = if j.whole then Whole else Cells j.read.keys j.written.keys
-
--- these conflict with what one of some kept numbers does
-pub record IsJoined (t : Timeline) (held : List ℕ) (joined : Joined) : Type 0 where
-  pub meets : (n : ℕ) (f : FootprintValue) → kept_footprint t n ≡ Some f
-      → conflict cell_cmp (joined_print joined) (beside_places (print_of f)) ≡ any_conflict (clash_beside t) held n
-
--- A kept number became a member where its event depends on one, and else nothing changed.
-pub data IsTaken (t : Timeline) (held : List ℕ) (n : ℕ) (before after : List ℕ) (joined : Joined) : Type 0 where
-  member : any_conflict (clash_beside t) held n ≡ true → IsJoined t (n ∷ held) joined → after ≡ before ++ n ∷ []
-      → IsTaken t held n before after joined
-  other : any_conflict (clash_beside t) held n ≡ false → IsJoined t held joined → after ≡ before
-      → IsTaken t held n before after joined
-
--- what was found before a place of the kept numbers, and the cone of what is left
-pub record IsPartial (t : Timeline) (n place : ℕ) (members : List ℕ) (joined : Joined) : Type 0 where
-  pub held : List ℕ
-  pub joined_is : IsJoined t held joined
-  pub rest : members ++ cone (clash_beside t) held (filter (λ k. nat_lt n k) (drop place t.kept))
-      ≡ n ∷ cone (clash_beside t) (n ∷ []) (filter (λ k. nat_lt n k) t.kept)

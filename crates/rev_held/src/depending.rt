@@ -4,25 +4,18 @@ ghost use Rattle.std.specs.Option.{option_copied};
 ghost use Rattle.rev_held.specs.Dependence.{dependence_of, depends_on, is_accessed_by};
 
 use rev_cells::Cell;
-use rev_footprint::{Footprint, conflict};
-use rev_history::History;
-
-// Whether a footprint names a cell, as read or written.
-fn accesses(footprint: &Footprint, cell: &Cell) -> bool
-    ensures { result ≡ is_accessed_by footprint.now cell.now }
-{
-    if footprint.writes().contains(cell) {
-        return true;
-    }
-    footprint.reads().contains(cell)
-}
+use rev_history::{History, KeptCells, KeptFootprint, conflict};
 
 /// The first of some cells that a footprint names.
-pub(crate) fn first_accessed<'a>(cells: &'a [Cell], footprint: &Footprint) -> Option<&'a Cell>
+pub(crate) fn first_accessed<'a>(
+    cells: &KeptCells<'a>,
+    footprint: &KeptFootprint<'_>,
+) -> Option<&'a Cell>
     ensures { option_copied result ≡ find (is_accessed_by footprint.now) cells.now }
 {
-    for cell in cells {
-        if accesses(footprint, cell) {
+    for index in 0..cells.len() {
+        let cell = cells.at(index);
+        if footprint.has(cell) {
             return Some(cell);
         }
     }
@@ -46,7 +39,7 @@ pub fn depends(history: &History, one: u32, other: u32) -> bool
     let Some(second) = history.footprint_of(other) else {
         return false;
     };
-    conflict(first, second)
+    conflict(&first, &second)
 }
 
 /// The first cell by which the event of a later kept number depends on that of an earlier one: of those that the
@@ -63,8 +56,8 @@ pub fn dependence<'a>(history: &'a History, one: u32, other: u32) -> Option<&'a 
     }
     let first = history.footprint_of(one)?;
     let second = history.footprint_of(other)?;
-    match first_accessed(first.writes(), second) {
+    match first_accessed(&first.writes(), &second) {
         Some(cell) => Some(cell),
-        None => first_accessed(second.writes(), first),
+        None => first_accessed(&second.writes(), &first),
     }
 }

@@ -11,8 +11,7 @@ use crate::depending::{dependence, first_accessed};
 use crate::several::{copied, first_named, named};
 use indexmap::{IndexMap, IndexSet};
 use rev_cells::Cell;
-use rev_footprint::Footprint;
-use rev_history::History;
+use rev_history::{History, KeptFootprint};
 use std::alloc::{AllocError, Global};
 
 /// A dependence of the event of a later kept number on that of an earlier one.
@@ -82,7 +81,7 @@ fn is_often(counts: &[u32], number: u32) -> bool {
 // The first cell by which the event of a later number, whose cells stand in a set, depends on that of an earlier one.
 fn one_of(
     history: &History,
-    second: &Footprint,
+    second: &KeptFootprint<'_>,
     named: &IndexSet<Cell>,
     one: u32,
     other: u32,
@@ -96,9 +95,9 @@ fn one_of(
     let Some(first) = history.footprint_of(one) else {
         return Ok(None);
     };
-    match first_named(first.writes(), named) {
+    match first_named(&first.writes(), named) {
         Some(cell) => copied(Some(cell)),
-        None => copied(first_accessed(second.writes(), first)),
+        None => copied(first_accessed(&second.writes(), &first)),
     }
 }
 
@@ -119,10 +118,10 @@ fn cell_of(
         return Ok(None);
     };
     if let Some(named) = noted.cells.get(&other) {
-        return one_of(history, second, named, one, other);
+        return one_of(history, &second, named, one, other);
     }
-    let named = named(alloc, second)?;
-    let cell = one_of(history, second, &named, one, other)?;
+    let named = named(alloc, &second)?;
+    let cell = one_of(history, &second, &named, one, other)?;
     noted.cells.insert(other, named)?;
     Ok(cell)
 }

@@ -14,37 +14,42 @@ ghost use Rattle.rev_held.specs.Several.{FindsAs, IsNamed, IsTold, IsToldOf, IsW
 use crate::linked::Link;
 use indexmap::IndexSet;
 use rev_cells::Cell;
-use rev_footprint::Footprint;
-use rev_history::History;
+use rev_history::{History, KeptCells, KeptFootprint};
 use std::alloc::{AllocError, Global};
 
 // Adds cells, each where it is mentioned first.
-fn add_all(set: &mut IndexSet<Cell>, cells: &[Cell]) -> Result<(), AllocError>
+fn add_all(set: &mut IndexSet<Cell>, cells: &KeptCells<'_>) -> Result<(), AllocError>
     ensures { OnOk result ((before : List Cell) → FindsAs set.old.keys before
         → FindsAs set.new.keys (before ++ cells.now)) }
 {
-    for cell in cells {
-        set.insert(cell.copy()?)?;
+    for index in 0..cells.len() {
+        set.insert(cells.at(index).copy()?)?;
     }
     Ok(())
 }
 
 /// The cells that an event writes, in the order of its effect.
-pub(crate) fn written(alloc: Global, footprint: &Footprint) -> Result<IndexSet<Cell>, AllocError>
+pub(crate) fn written(
+    alloc: Global,
+    footprint: &KeptFootprint<'_>,
+) -> Result<IndexSet<Cell>, AllocError>
     ensures { IfOk result (λ set. IsWritten footprint.now set.keys) }
 {
     let mut set = IndexSet::new(alloc);
-    add_all(&mut set, footprint.writes())?;
+    add_all(&mut set, &footprint.writes())?;
     Ok(set)
 }
 
 /// The cells that an event reads or writes.
-pub(crate) fn named(alloc: Global, footprint: &Footprint) -> Result<IndexSet<Cell>, AllocError>
+pub(crate) fn named(
+    alloc: Global,
+    footprint: &KeptFootprint<'_>,
+) -> Result<IndexSet<Cell>, AllocError>
     ensures { IfOk result (λ set. IsNamed footprint.now set.keys) }
 {
     let mut set = IndexSet::new(alloc);
-    add_all(&mut set, footprint.writes())?;
-    add_all(&mut set, footprint.reads())?;
+    add_all(&mut set, &footprint.writes())?;
+    add_all(&mut set, &footprint.reads())?;
     Ok(set)
 }
 
@@ -60,31 +65,32 @@ fn earlier(place: usize, found: Option<usize>) -> usize
 
 // The place of the first cell of a set that stands at a place or is one of some cells; with the number of cells as the
 // place, where none stands.
-fn first_place(set: &IndexSet<Cell>, cells: &[Cell], place: usize) -> usize
+fn first_place(set: &IndexSet<Cell>, cells: &KeptCells<'_>, place: usize) -> usize
     ensures { (p : Cell → Bool) → place ≡ position_or_len p set.now.keys
         → result ≡ position_or_len (λ w. p w || among cell_cmp cells.now w) set.now.keys }
 {
     let mut first = place;
-    for cell in cells {
-        first = earlier(first, set.get_index_of(cell));
+    for index in 0..cells.len() {
+        first = earlier(first, set.get_index_of(cells.at(index)));
     }
     first
 }
 
 // The first of the cells that an event writes which another one reads or writes.
-fn first_written<'a>(set: &'a IndexSet<Cell>, other: &Footprint) -> Option<&'a Cell>
+fn first_written<'a>(set: &'a IndexSet<Cell>, other: &KeptFootprint<'_>) -> Option<&'a Cell>
     ensures { option_copied result ≡ find (is_accessed_by other.now) set.entry.now.keys }
 {
-    let place = first_place(set, other.writes(), set.len());
-    let place = first_place(set, other.reads(), place);
+    let place = first_place(set, &other.writes(), set.len());
+    let place = first_place(set, &other.reads(), place);
     set.get_index(place)
 }
 
 /// The first of some cells that an event reads or writes.
-pub(crate) fn first_named<'a>(cells: &'a [Cell], set: &IndexSet<Cell>) -> Option<&'a Cell>
-    ensures { option_copied result ≡ find (among cell_cmp set.now.keys) cells.entry.now }
+pub(crate) fn first_named<'a>(cells: &KeptCells<'a>, set: &IndexSet<Cell>) -> Option<&'a Cell>
+    ensures { option_copied result ≡ find (among cell_cmp set.now.keys) cells.now }
 {
-    for cell in cells {
+    for index in 0..cells.len() {
+        let cell = cells.at(index);
         if set.contains(cell) {
             return Some(cell);
         }
@@ -96,14 +102,14 @@ pub(crate) fn first_named<'a>(cells: &'a [Cell], set: &IndexSet<Cell>) -> Option
 fn cell_on<'a>(
     written: &'a IndexSet<Cell>,
     named: &IndexSet<Cell>,
-    other: &'a Footprint,
+    other: &KeptFootprint<'a>,
 ) -> Option<&'a Cell>
     ensures { (f : FootprintValue) → IsWritten f written.entry.now.keys → IsNamed f named.now.keys
-        → option_copied result ≡ first_cell f other.entry.now }
+        → option_copied result ≡ first_cell f other.now }
 {
     match first_written(written, other) {
         Some(cell) => Some(cell),
-        None => first_named(other.writes(), named),
+        None => first_named(&other.writes(), named),
     }
 }
 
@@ -135,7 +141,7 @@ fn one_on(
     let Some(second) = history.footprint_of(other) else {
         return Ok(None);
     };
-    copied(cell_on(written, named, second))
+    copied(cell_on(written, named, &second))
 }
 
 // Links from an earlier number to each of some others, by no cell.
@@ -172,8 +178,8 @@ pub fn links_on(
     let Some(first) = history.footprint_of(one) else {
         return no_links(alloc, one, others);
     };
-    let written = written(alloc, first)?;
-    let named = named(alloc, first)?;
+    let written = written(alloc, &first)?;
+    let named = named(alloc, &first)?;
     let mut links = Vec::new(alloc);
     for other in others {
         let cell = one_on(history, &written, &named, one, *other)?;
@@ -201,7 +207,7 @@ fn do_conflict(
     whole: bool,
     written: &IndexSet<Cell>,
     named: &IndexSet<Cell>,
-    other: &Footprint,
+    other: &KeptFootprint<'_>,
 ) -> bool
     ensures { (f : FootprintValue) → IsTold f whole written.now.keys named.now.keys
         → result ≡ conflict cell_cmp (print_of f) (print_of other.now) }
@@ -231,7 +237,7 @@ pub(crate) fn is_on_noted(
         return false;
     }
     match history.footprint_of(other) {
-        Some(second) => do_conflict(whole, written, named, second),
+        Some(second) => do_conflict(whole, written, named, &second),
         None => false,
     }
 }
@@ -252,7 +258,7 @@ pub(crate) fn is_noted_on(
         return false;
     }
     match history.footprint_of(one) {
-        Some(first) => do_conflict(whole, written, named, first),
+        Some(first) => do_conflict(whole, written, named, &first),
         None => false,
     }
 }
@@ -310,8 +316,8 @@ pub fn dependents(alloc: Global, history: &History, one: u32) -> Result<Vec<u32>
     let Some(first) = history.footprint_of(one) else {
         return Ok(Vec::new(alloc));
     };
-    let written = written(alloc, first)?;
-    let named = named(alloc, first)?;
+    let written = written(alloc, &first)?;
+    let named = named(alloc, &first)?;
     all_on_noted(alloc, history, first.whole(), &written, &named, one)
 }
 
@@ -328,7 +334,7 @@ pub fn needed(alloc: Global, history: &History, other: u32) -> Result<Vec<u32>, 
     let Some(second) = history.footprint_of(other) else {
         return Ok(Vec::new(alloc));
     };
-    let written = written(alloc, second)?;
-    let named = named(alloc, second)?;
+    let written = written(alloc, &second)?;
+    let named = named(alloc, &second)?;
     all_noted_on(alloc, history, second.whole(), &written, &named, other)
 }

@@ -9,8 +9,7 @@ use crate::depending::depends;
 use crate::several::{is_noted_on, named, written};
 use indexmap::{IndexMap, IndexSet};
 use rev_cells::Cell;
-use rev_footprint::Footprint;
-use rev_history::History;
+use rev_history::{History, KeptFootprint};
 use std::alloc::{AllocError, Global};
 
 // Of an event that names more cells than these they are noted in sets.
@@ -56,7 +55,7 @@ fn nothing_found(alloc: Global) -> Found
 }
 
 // What a footprint has, in sets.
-fn told_of(alloc: Global, footprint: &Footprint) -> Result<Told, AllocError>
+fn told_of(alloc: Global, footprint: &KeptFootprint<'_>) -> Result<Told, AllocError>
     ensures { IfOk result (λ told. IsTold footprint.now told.whole told.written.keys told.named.keys) }
 {
     let written = written(alloc, footprint)?;
@@ -79,7 +78,7 @@ fn note(alloc: Global, history: &History, found: &mut Found, number: u32) -> Res
     if footprint.reads().len() <= MANY {
         return Ok(());
     }
-    let told = told_of(alloc, footprint)?;
+    let told = told_of(alloc, &footprint)?;
     found.told.insert(number, told)?;
     Ok(())
 }

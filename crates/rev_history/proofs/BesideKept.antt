@@ -10,9 +10,8 @@ use Rattle.rev_causal.proofs.Runs.{either}
 use Rattle.rev_events.specs.declared.event.Event.{Event}
 use Rattle.rev_footprint.specs.Value as footprints
 use Rattle.rev_footprint.specs.Value.{FootprintValue}
-use Rattle.rev_history.specs.declared.steps.Step.{Step}
 use Rattle.rev_history.specs.Sound.{StandBesideKept}
-use Rattle.rev_history.specs.Steps.{Beside, step_at, footprint_in, footprint_beside, HasFootprints, print_of, prints_of}
+use Rattle.rev_history.specs.Steps.{StepValue, Beside, step_at, footprint_in, footprint_beside, HasFootprints, print_of, prints_of}
 
 -- numbers among others
 
@@ -128,7 +127,7 @@ module _ (es : List (ℕ × Event)) (steps : List Beside) (ks : List ℕ) (h : S
     | inr f ↦ h k s (sym (beside_apart n k es steps i None place f) ∙ at) ∙ sym (among_without n k ks f)
   ]
 
-  pub stand_redone : (n i : ℕ) (step : Step) → IsPlace n es i → i < length steps → StandBesideKept es (set steps i (Some step)) (placed n ks)
+  pub stand_redone : (n i : ℕ) (step : StepValue) → IsPlace n es i → i < length steps → StandBesideKept es (set steps i (Some step)) (placed n ks)
   stand_redone n i step place lt k s at = elim (either (nat_eq n k)) [
     | inl t ↦
         let one : Some (Some step) ≡ Some s = sym (beside_set n es steps i (Some step) place lt) ∙ ap (λ j. step_at j es (set steps i (Some step))) (eqb-true n k t) ∙ at in
@@ -139,7 +138,7 @@ module _ (es : List (ℕ × Event)) (steps : List Beside) (ks : List ℕ) (h : S
         ∙ sym (among_placed n k ks ∙ ap (λ b. b || is_among ks k) (nat_eq_comm k n ∙ f))
   ]
 
-  pub stand_accepted : (n : ℕ) (e : Event) (step : Step) → length steps ≡ length es → last_of es < n → StandBesideKept (es ++ (n, e) ∷ []) (steps ++ Some step ∷ []) (ks ++ n ∷ [])
+  pub stand_accepted : (n : ℕ) (e : Event) (step : StepValue) → length steps ≡ length es → last_of es < n → StandBesideKept (es ++ (n, e) ∷ []) (steps ++ Some step ∷ []) (ks ++ n ∷ [])
   stand_accepted n e step same lt k s at =
       let pushed : event_at k (numbered_by es steps ++ (n, Some step) ∷ []) ≡ Some s = ap (event_at k) (sym (beside_push es steps (n, e) (Some step) same)) ∙ at in
       elim (either (nat_eq n k)) [
@@ -159,12 +158,12 @@ module _ (es : List (ℕ × Event)) (steps : List Beside) (ks : List ℕ) (h : S
       or_none false = refl
 
   -- beside a kept number stands one
-  pub step_there : (n : ℕ) → length steps ≡ length es → AllAccepted es ks → is_among ks n ≡ true → (s : Step) × (step_at n es steps ≡ Some (Some s))
+  pub step_there : (n : ℕ) → length steps ≡ length es → AllAccepted es ks → is_among ks n ≡ true → (s : StepValue) × (step_at n es steps ≡ Some (Some s))
   step_there n same all among =
       let found = accepted_among (numbered_by es steps) ks n (all_beside es steps ks same all) among in
       by found.0 found.1
     where
-      by : (o : Beside) → step_at n es steps ≡ Some o → (s : Step) × (step_at n es steps ≡ Some (Some s))
+      by : (o : Beside) → step_at n es steps ≡ Some o → (s : StepValue) × (step_at n es steps ≡ Some (Some s))
       by None at = absurd (true≢false (sym (h n None at ∙ among)))
       by (Some s) at = (s, at)
 

@@ -4,8 +4,10 @@ pub mod Cones
 pub mod Effects
 pub mod Fields
 pub mod Footprints
+pub mod KeptLemmas
 pub mod Listed
 pub mod Members
+pub mod NamedLemmas
 pub mod OrderLemmas
 pub mod Promises
 pub mod TakenLemmas

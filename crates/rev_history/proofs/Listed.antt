@@ -25,7 +25,7 @@ use Rattle.rev_footprint.specs.Value.{FootprintValue}
 use Rattle.rev_history.specs.declared.history.History.TheInside.{Inside}
 use Rattle.rev_footprint.specs.Footprint.{footprint}
 use Rattle.rev_history.specs.Checked.{HasNow}
-use Rattle.rev_history.specs.Sound.{IsSound, kept_prints, timeline_of}
+use Rattle.rev_history.specs.Sound.{beside_of, IsSound, kept_prints, timeline_of}
 use Rattle.rev_history.specs.Steps.{Beside, print_of, prints_of}
 use Rattle.rev_history.specs.Timeline.{Timeline, event_at, state_at, nearest_conflict}
 use Rattle.rev_history.proofs.Fields.{as_many, map_end, found_above, state_of}
@@ -89,60 +89,60 @@ shows_again a m b n f ps rising none put taken =
     subst (Shows b) (without-put n f ps none) (taken (causal.put n f ps) (put_rises n f ps rising none) (event_at-put n f ps none) put)
 
 -- numbers that are kept have footprints
-pub all_prints : (a : Inside) → IsSound a → AllAccepted (prints_of a.accepted.entries a.steps.items) a.kept.items
-all_prints a s = all_beside a.accepted.entries (map print_of a.steps.items) a.kept.items s.stepped.as_many_prints s.stepped.each
+pub all_prints : (a : Inside) → IsSound a → AllAccepted (prints_of a.accepted.entries (beside_of a)) a.kept.items
+all_prints a s = all_beside a.accepted.entries (map print_of (beside_of a)) a.kept.items s.stepped.as_many_prints s.stepped.each
 
 pub prints_rise : (a : Inside) → IsSound a → causal.IsRising (kept_prints a)
-prints_rise a s = chosen-rises (prints_of a.accepted.entries a.steps.items) a.kept.items s.stepped.rising
+prints_rise a s = chosen-rises (prints_of a.accepted.entries (beside_of a)) a.kept.items s.stepped.rising
 
 pub prints_numbers : (a : Inside) → IsSound a → numbers_by (λ f. true) (kept_prints a) ≡ a.kept.items
-prints_numbers a s = numbers_chosen (prints_of a.accepted.entries a.steps.items) a.kept.items (all_prints a s)
+prints_numbers a s = numbers_chosen (prints_of a.accepted.entries (beside_of a)) a.kept.items (all_prints a s)
 
 -- a number above all others has no footprint
 pub print_missing : (a : Inside) → IsSound a → (n : ℕ) → last_of a.accepted.entries < n → causal.event_at n (kept_prints a) ≡ None
 print_missing a s n lt =
-    event_at-not_chosen (prints_of a.accepted.entries a.steps.items) a.kept.items n (not_among_below a.kept.items n (all_below a.accepted.entries a.kept.items n lt s.stepped.each))
+    event_at-not_chosen (prints_of a.accepted.entries (beside_of a)) a.kept.items n (not_among_below a.kept.items n (all_below a.accepted.entries a.kept.items n lt s.stepped.each))
 
 -- nor has one that is not kept
 pub print_apart : (a : Inside) (n : ℕ) → is_among a.kept.items n ≡ false → causal.event_at n (kept_prints a) ≡ None
-print_apart a n apart = event_at-not_chosen (prints_of a.accepted.entries a.steps.items) a.kept.items n apart
+print_apart a n apart = event_at-not_chosen (prints_of a.accepted.entries (beside_of a)) a.kept.items n apart
 
 -- a kept one has that of its place
-pub print_there : (a : Inside) → IsSound a → (n i : ℕ) (d : Beside) → IsPlace n a.accepted.entries i → is_among a.kept.items n ≡ true → d ≡ get_or a.steps.items i d → causal.event_at n (kept_prints a) ≡ Some (print_of d)
+pub print_there : (a : Inside) → IsSound a → (n i : ℕ) (d : Beside) → IsPlace n a.accepted.entries i → is_among a.kept.items n ≡ true → d ≡ get_or (beside_of a) i d → causal.event_at n (kept_prints a) ≡ Some (print_of d)
 print_there a s n i d place among is =
     let within : i < length a.accepted.entries = place_within n a.accepted.entries i place in
-    let same : length a.steps.items ≡ length a.accepted.entries = as_many a s in
-    let lt : i < length a.steps.items = omega arith in
-    let here : slice_get (map print_of a.steps.items) i ≡ Some (print_of d) =
-    slice_get-map print_of a.steps.items i ∙ ap (option_map print_of) (slice_get-get_or a.steps.items i d lt) ∙ ap (λ x. Some (print_of x)) (sym is) in
-    event_at-chosen (prints_of a.accepted.entries a.steps.items) a.kept.items n (print_of d) among (beside_at n a.accepted.entries (map print_of a.steps.items) i place ∙ here)
+    let same : length (beside_of a) ≡ length a.accepted.entries = as_many a s in
+    let lt : i < length (beside_of a) = omega arith in
+    let here : slice_get (map print_of (beside_of a)) i ≡ Some (print_of d) =
+    slice_get-map print_of (beside_of a) i ∙ ap (option_map print_of) (slice_get-get_or (beside_of a) i d lt) ∙ ap (λ x. Some (print_of x)) (sym is) in
+    event_at-chosen (prints_of a.accepted.entries (beside_of a)) a.kept.items n (print_of d) among (beside_at n a.accepted.entries (map print_of (beside_of a)) i place ∙ here)
 
 -- the footprints after an event was accepted
-pub accepted_prints : (a b : Inside) (n : ℕ) (e : Event) (step : Beside) → IsSound a → last_of a.accepted.entries < n → b.accepted.entries ≡ a.accepted.entries ++ (n, e) ∷ [] → b.kept.items ≡ a.kept.items ++ n ∷ [] → b.steps.items ≡ a.steps.items ++ step ∷ []
+pub accepted_prints : (a b : Inside) (n : ℕ) (e : Event) (step : Beside) → IsSound a → last_of a.accepted.entries < n → b.accepted.entries ≡ a.accepted.entries ++ (n, e) ∷ [] → b.kept.items ≡ a.kept.items ++ n ∷ [] → (beside_of b) ≡ (beside_of a) ++ step ∷ []
     → causal.put n (print_of step) (kept_prints a) ≡ kept_prints b
 accepted_prints a b n e step s lt accepted kept steps =
-    let es : Prints = prints_of a.accepted.entries a.steps.items in
+    let es : Prints = prints_of a.accepted.entries (beside_of a) in
     let below : AllByRecursion (λ k. k < n) a.kept.items = all_below a.accepted.entries a.kept.items n lt s.stepped.each in
     put_last n (print_of step) (chosen es a.kept.items) (All-chosen (λ k. k < n) es a.kept.items below)
-    ∙ sym (chosen-push es a.kept.items n (print_of step) (last_of_beside a.accepted.entries (map print_of a.steps.items) n lt) below)
-    ∙ ap (λ xs. chosen xs (a.kept.items ++ n ∷ [])) (sym (beside_push a.accepted.entries (map print_of a.steps.items) (n, e) (print_of step) s.stepped.as_many_prints))
-    ∙ ap (λ xs. chosen (causal.numbered_by (a.accepted.entries ++ (n, e) ∷ []) xs) (a.kept.items ++ n ∷ [])) (sym (map_end print_of a.steps.items step))
+    ∙ sym (chosen-push es a.kept.items n (print_of step) (last_of_beside a.accepted.entries (map print_of (beside_of a)) n lt) below)
+    ∙ ap (λ xs. chosen xs (a.kept.items ++ n ∷ [])) (sym (beside_push a.accepted.entries (map print_of (beside_of a)) (n, e) (print_of step) s.stepped.as_many_prints))
+    ∙ ap (λ xs. chosen (causal.numbered_by (a.accepted.entries ++ (n, e) ∷ []) xs) (a.kept.items ++ n ∷ [])) (sym (map_end print_of (beside_of a) step))
     ∙ (λ j. chosen (prints_of (sym accepted j) (sym steps j)) (sym kept j))
 
 -- after one was taken out
-pub taken_prints : (a b : Inside) (n i : ℕ) (step : Beside) → IsSound a → IsPlace n a.accepted.entries i → b.accepted.entries ≡ a.accepted.entries → b.steps.items ≡ set a.steps.items i step → b.kept.items ≡ without n a.kept.items
+pub taken_prints : (a b : Inside) (n i : ℕ) (step : Beside) → IsSound a → IsPlace n a.accepted.entries i → b.accepted.entries ≡ a.accepted.entries → (beside_of b) ≡ set (beside_of a) i step → b.kept.items ≡ without n a.kept.items
     → causal.without n (kept_prints a) ≡ kept_prints b
 taken_prints a b n i step s place accepted steps kept =
-    sym (chosen-without (prints_of a.accepted.entries a.steps.items) a.kept.items n s.stepped.rising (all_prints a s))
-    ∙ sym (chosen_other n a.accepted.entries (map print_of a.steps.items) i (print_of step) (without n a.kept.items) place (without-not_among n a.kept.items))
-    ∙ ap (λ xs. chosen (causal.numbered_by a.accepted.entries xs) (without n a.kept.items)) (sym (map-set print_of a.steps.items i step))
+    sym (chosen-without (prints_of a.accepted.entries (beside_of a)) a.kept.items n s.stepped.rising (all_prints a s))
+    ∙ sym (chosen_other n a.accepted.entries (map print_of (beside_of a)) i (print_of step) (without n a.kept.items) place (without-not_among n a.kept.items))
+    ∙ ap (λ xs. chosen (causal.numbered_by a.accepted.entries xs) (without n a.kept.items)) (sym (map-set print_of (beside_of a) i step))
     ∙ (λ j. chosen (prints_of (sym accepted j) (sym steps j)) (sym kept j))
 
 -- after one was put in
-pub put_prints : (a b : Inside) (n i : ℕ) (e : Event) (step : Beside) → IsSound a → IsPlace n a.accepted.entries i → is_among a.kept.items n ≡ false → b.accepted.entries ≡ a.accepted.entries → b.steps.items ≡ set a.steps.items i step → b.kept.items ≡ placed n a.kept.items
+pub put_prints : (a b : Inside) (n i : ℕ) (e : Event) (step : Beside) → IsSound a → IsPlace n a.accepted.entries i → is_among a.kept.items n ≡ false → b.accepted.entries ≡ a.accepted.entries → (beside_of b) ≡ set (beside_of a) i step → b.kept.items ≡ placed n a.kept.items
     → causal.put n (print_of step) (kept_prints a) ≡ kept_prints b
 put_prints a b n i e step s place apart accepted steps kept =
-    let fs : List (Footprint Cell) = map print_of a.steps.items in
+    let fs : List (Footprint Cell) = map print_of (beside_of a) in
     let within : i < length a.accepted.entries = place_within n a.accepted.entries i place in
     let same : length fs ≡ length a.accepted.entries = s.stepped.as_many_prints in
     let lt : i < length fs = omega arith in
@@ -151,11 +151,11 @@ put_prints a b n i e step s place apart accepted steps kept =
     (chosen-placed (causal.numbered_by a.accepted.entries (set fs i (print_of step))) a.kept.items n (print_of step) s.stepped.rising
     (all_beside a.accepted.entries (set fs i (print_of step)) a.kept.items many s.stepped.each) apart (beside_set n a.accepted.entries fs i (print_of step) place lt)
     ∙ ap (causal.put n (print_of step)) (chosen_other n a.accepted.entries fs i (print_of step) a.kept.items place apart))
-    ∙ ap (λ xs. chosen (causal.numbered_by a.accepted.entries xs) (placed n a.kept.items)) (sym (map-set print_of a.steps.items i step))
+    ∙ ap (λ xs. chosen (causal.numbered_by a.accepted.entries xs) (placed n a.kept.items)) (sym (map-set print_of (beside_of a) i step))
     ∙ (λ j. chosen (prints_of (sym accepted j) (sym steps j)) (sym kept j))
 
 -- the same history in fields with more room
-pub same_prints : (a b : Inside) → b.accepted.entries ≡ a.accepted.entries → b.steps.items ≡ a.steps.items → b.kept.items ≡ a.kept.items → kept_prints a ≡ kept_prints b
+pub same_prints : (a b : Inside) → b.accepted.entries ≡ a.accepted.entries → (beside_of b) ≡ (beside_of a) → b.kept.items ≡ a.kept.items → kept_prints a ≡ kept_prints b
 same_prints a b accepted steps kept = λ j. chosen (prints_of (sym accepted j) (sym steps j)) (sym kept j)
 
 -- the nearest conflict of the footprints is that of the history

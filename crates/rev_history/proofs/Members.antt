@@ -14,7 +14,7 @@ use Rattle.rev_cells.specs.Keys.{cell_cmp}
 use Rattle.rev_manifest.specs.Manifest.{ManifestValue}
 use Rattle.rev_footprint.specs.Machine.{machine}
 use Rattle.rev_history.specs.declared.history.History.TheInside.{Inside}
-use Rattle.rev_history.specs.Sound.{timeline_of, IsSound}
+use Rattle.rev_history.specs.Sound.{beside_of, timeline_of, IsSound}
 use Rattle.rev_accesses.specs.Closing.{conflicts_before, conflicts_with_any, cone_behind}
 use Rattle.rev_history.specs.Steps.{Beside, prints_of}
 use Rattle.rev_history.specs.Timeline.{Timeline, kept_events, cone_refusal, cone_numbers}
@@ -43,13 +43,13 @@ module _ (m : ManifestValue) (jobs : ℕ) where
       ∙ sym (ap (λ o. kept_cones.cone_in (machine m jobs) n fs (under k o rest)) g.1)
 
 -- the members that are found are the cone
-pub cone_is_found : (a : Inside) → IsSound a → (t : Timeline) → timeline_of a ≡ t → (n : ℕ) (ks : List ℕ) (steps : List Beside) → ks ≡ a.kept.items → steps ≡ a.steps.items → cone_refusal t n ≡ None
+pub cone_is_found : (a : Inside) → IsSound a → (t : Timeline) → timeline_of a ≡ t → (n : ℕ) (ks : List ℕ) (steps : List Beside) → ks ≡ a.kept.items → steps ≡ (beside_of a) → cone_refusal t n ≡ None
     → n ∷ cone_behind n (prints_of a.accepted.entries steps) (n ∷ []) ks ≡ cone_numbers n t
 cone_is_found a s t view n ks steps kept same_steps free =
     let u : Timeline = timeline_of a in
     let w = machine a.graph.manifest a.opening.jobs in
     let k : IsKept u n = some_kept u n (ap (λ (v : Timeline). cone_refusal v n) view ∙ free) in
-    let prints : Prints = prints_of a.accepted.entries a.steps.items in
+    let prints : Prints = prints_of a.accepted.entries (beside_of a) in
     let all : AllAccepted prints a.kept.items = all_prints a s in
     let f = accepted_among prints a.kept.items n all k.among in
     let prints_are : chosen prints a.kept.items ≡ causal.footprints_by_number w a.opening.state (kept_events u) = s.stepped.history.footprints_are in

@@ -20,8 +20,8 @@ use Rattle.rev_footprint.specs.Value as footprints
 use Rattle.rev_footprint.specs.Value.{FootprintValue}
 use Rattle.rev_history.specs.declared.history.History.TheInside.{Inside}
 use Rattle.rev_history.specs.declared.steps.Step.{Step}
-use Rattle.rev_history.specs.Sound.{timeline_of, kept_prints, CanPutBack, IsListed, IsSound}
-use Rattle.rev_history.specs.Steps.{Beside, step_at, footprint_in, footprint_beside, print_of, prints_of}
+use Rattle.rev_history.specs.Sound.{ArePlacedIn, CanPutBack, IsListed, IsSound, beside_of, kept_prints, timeline_of}
+use Rattle.rev_history.specs.Steps.{Beside, Placed, StepValue, step_value, step_at, footprint_in, footprint_beside, print_of, prints_of}
 use Rattle.rev_history.specs.Taken.{HasFields, IsSameBesides, IsFreeHere, IsWithout, TakesOut, IsConeHere, TakesConeOut}
 use Rattle.rev_history.specs.Timeline.{Numbered, cone_numbers, coned}
 use Rattle.rev_history.proofs.BesideKept.{mapped_beside, print_beside}
@@ -29,10 +29,11 @@ use Rattle.rev_history.proofs.Commands.{IsFree, is_free}
 use Rattle.rev_history.proofs.Cones.{IsStepDown, down_step, down_last}
 use Rattle.rev_history.proofs.Fields.{history_of, same_sound, taken_out, ready_at, has_index, has_step}
 use Rattle.rev_history.proofs.Listed.{prints_rise, taken_prints, same_prints}
+use Rattle.rev_history.proofs.NamedLemmas.{get_named, placed_set, same_named, set_named}
 
 -- one event
 
-module _ {n : ℕ} {es : Numbered} {steps : List Beside} {cells : Table} where
+module _ {n : ℕ} {es : Numbered} {steps : List Placed} {cells : Table} where
   free_here : (u : IsFreeHere n es steps cells) → IsFree (timeline_of u.inside) n
   free_here u = is_free (timeline_of u.inside) n u.free
 
@@ -41,31 +42,37 @@ module _ {n : ℕ} {es : Numbered} {steps : List Beside} {cells : Table} where
       let f : IsFree (timeline_of u.inside) n = free_here u in
       has_index u.inside n f.event f.at (none ∙ ap (λ (xs : Numbered). is_some (lookup (nat_eq n) xs)) (sym u.has.accepted))
 
-  pub step_here : IsFreeHere n es steps cells → (i : ℕ) (o : Beside) → IsPlace n es i → o ≡ get_or steps i o → None ≡ o → ⊥
+  pub step_here : IsFreeHere n es steps cells → (i : ℕ) (o : Placed) → IsPlace n es i → o ≡ get_or steps i o → None ≡ o → ⊥
   step_here u i o place is none =
-      has_step u.inside u.sound n i o (free_here u).among (subst (λ (xs : Numbered). IsPlace n xs i) (sym u.has.accepted) place) (is ∙ ap (λ (xs : List Beside). get_or xs i o) (sym u.has.steps)) none
+      has_step u.inside u.sound n i (option_map (step_value u.inside.accesses.cells) o) (free_here u).among (subst (λ (xs : Numbered). IsPlace n xs i) (sym u.has.accepted) place)
+      (get_named u.inside.accesses.cells u.inside.steps.items i o (is ∙ ap (λ (xs : List Placed). get_or xs i o) (sym u.has.steps))) (ap (option_map (step_value u.inside.accesses.cells)) none)
 
-  pub ready_here : IsFreeHere n es steps cells → (i : ℕ) (d : Step) → IsPlace n es i → Some d ≡ get_or steps i (Some d) → CanPutBack cells.places d
+  pub ready_here : (u : IsFreeHere n es steps cells) (i : ℕ) (d : Step) → IsPlace n es i → Some d ≡ get_or steps i (Some d) → CanPutBack cells.places (step_value u.inside.accesses.cells d)
   ready_here u i d place is =
-      subst (λ (c : Table). CanPutBack c.places d) u.has.cells
-      (ready_at u.inside u.sound n i d (subst (λ (xs : Numbered). IsPlace n xs i) (sym u.has.accepted) place) (is ∙ ap (λ (xs : List Beside). get_or xs i (Some d)) (sym u.has.steps)))
+      subst (λ (c : Table). CanPutBack c.places (step_value u.inside.accesses.cells d)) u.has.cells
+      (ready_at u.inside u.sound n i (step_value u.inside.accesses.cells d) (subst (λ (xs : Numbered). IsPlace n xs i) (sym u.has.accepted) place)
+      (get_named u.inside.accesses.cells u.inside.steps.items i (Some d) (is ∙ ap (λ (xs : List Placed). get_or xs i (Some d)) (sym u.has.steps))))
 
 -- what was put back of a place is out
-pub out_of : (n i : ℕ) (d : Step) (es : Numbered) (steps : List Beside) (cells : Table) (new_steps : List Beside) (new_cells : Table) →
+pub out_of : (n i : ℕ) (d : Step) (es : Numbered) (steps : List Placed) (cells : Table) (new_steps : List Placed) (new_cells : Table) →
     IsPlace n es i → Some d ≡ get_or steps i (Some d) → new_steps ≡ set steps i None → new_cells ≡ written_all cells d.replaced.items
     → TakesOut n es steps cells new_steps new_cells
 out_of n i d es steps cells new_steps new_cells place_here here gone wrote a b ha sa free same hb kept =
     let place : IsPlace n a.accepted.entries i = subst (λ (xs : Numbered). IsPlace n xs i) (sym ha.accepted) place_here in
-    let there : Some d ≡ get_or a.steps.items i (Some d) = here ∙ ap (λ (xs : List Beside). get_or xs i (Some d)) (sym ha.steps) in
+    let raw : Some d ≡ get_or a.steps.items i (Some d) = here ∙ ap (λ (xs : List Placed). get_or xs i (Some d)) (sym ha.steps) in
+    let v : StepValue = step_value a.accesses.cells d in
+    let there : Some v ≡ get_or (beside_of a) i (Some v) = get_named a.accesses.cells a.steps.items i (Some d) raw in
     let accepted : b.accepted.entries ≡ a.accepted.entries = hb.accepted ∙ sym ha.accepted in
-    let now : b.steps.items ≡ set a.steps.items i None = hb.steps ∙ gone ∙ ap (λ (xs : List Beside). set xs i None) (sym ha.steps) in
+    let left : b.steps.items ≡ set a.steps.items i None = hb.steps ∙ gone ∙ ap (λ (xs : List Placed). set xs i None) (sym ha.steps) in
+    let now : beside_of b ≡ set (beside_of a) i None = set_named a b i None same.places left in
     let written : b.cells ≡ written_all a.cells d.replaced.items = hb.cells ∙ wrote ∙ ap (λ (c : Table). written_all c d.replaced.items) (sym ha.cells) in
-    let t = taken_out a b n i d sa place free there same.graph same.opening accepted same.last written now kept in
+    let t = taken_out a b n i v sa place free there same.graph same.opening accepted same.last written now kept in
     record {
       sound = t.sound;
       timeline = t.timeline;
       writes = t.writes;
       prints = sym (taken_prints a b n i None sa place accepted now kept);
+      placed = λ cs h. subst (ArePlacedIn cs) (sym left) (placed_set cs a.steps.items i None h tt);
     }
 
 -- the access lists
@@ -146,13 +153,14 @@ one_more_gone members prints done m a b d so_far thinned gone = record {
 }
 
 -- of a history without its members the lists show what it keeps
-pub listed_without : (a b : Inside) (members : List ℕ) → IsListed a → IsSound b → kept_prints b ≡ prints_without members (kept_prints a) → AreThinned members a.accesses b.accesses
-    → ((n : ℕ) (f : Footprint Cell) → is_among members n ≡ true → causal.event_at n (prints_of a.accepted.entries a.steps.items) ≡ Some f → IsGone n f b.accesses) → IsListed b
-listed_without a b members la sound prints thinned gone = record {
+pub listed_without : (a b : Inside) (members : List ℕ) → IsListed a → IsSound b → b.accesses.cells ≡ a.accesses.cells → ((cells : List Cell) → ArePlacedIn cells a.steps.items → ArePlacedIn cells b.steps.items) → kept_prints b ≡ prints_without members (kept_prints a) → AreThinned members a.accesses b.accesses
+    → ((n : ℕ) (f : Footprint Cell) → is_among members n ≡ true → causal.event_at n (prints_of a.accepted.entries (beside_of a)) ≡ Some f → IsGone n f b.accesses) → IsListed b
+listed_without a b members la sound same placed prints thinned gone = record {
   sound = sound;
+  placed = placed b.accesses.cells (subst (λ cs. ArePlacedIn cs a.steps.items) (sym same) la.placed);
   shown = subst (Shows b.accesses) (sym prints)
       (shows_thinned members a.accesses b.accesses (kept_prints a) (prints_rise a la.sound) la.shown thinned
-      (λ n f among at. gone n f among (chosen_is (prints_of a.accepted.entries a.steps.items) a.kept.items n f at)));
+      (λ n f among at. gone n f among (chosen_is (prints_of a.accepted.entries (beside_of a)) a.kept.items n f at)));
 }
 
 -- numbers without some
@@ -210,31 +218,34 @@ fewer v xs le = record { ptr = v.ptr; len = length xs; cap = v.cap; alloc = v.al
 pub record IsDown (a b : Inside) (n : ℕ) (members taken : List ℕ) : Type 0 where
   pub sound : IsSound b
   pub prints : kept_prints b ≡ prints_without taken (kept_prints a)
+  pub placed : (cells : List Cell) → ArePlacedIn cells a.steps.items → ArePlacedIn cells b.steps.items
   pub numbers : cone_numbers n (timeline_of b) ≡ members
   pub rest : coned n (timeline_of b) ≡ coned n (timeline_of a)
 
 -- when the members from a place on were taken out
-abbrev pub IsPartlyOut : List ℕ → ℕ → Numbered → List Beside → Table → List Beside → Table → Type 0
+abbrev pub IsPartlyOut : List ℕ → ℕ → Numbered → List Placed → Table → List Placed → Table → Type 0
 IsPartlyOut members left es steps cells new_steps new_cells =
     (a b : Inside) (n : ℕ) → HasFields a es steps cells → IsSound a → members ≡ cone_numbers n (timeline_of a) → IsSameBesides a b → HasFields b es new_steps new_cells
     → b.kept.items ≡ without_all (drop left members) a.kept.items → IsDown a b n (take left members) (drop left members)
 
-pub none_out : (members : List ℕ) (es : Numbered) (steps : List Beside) (cells : Table) → IsPartlyOut members (length members) es steps cells steps cells
+pub none_out : (members : List ℕ) (es : Numbered) (steps : List Placed) (cells : Table) → IsPartlyOut members (length members) es steps cells steps cells
 none_out members es steps cells a b n ha sa are same hb less =
     let accepted : b.accepted.entries ≡ a.accepted.entries = hb.accepted ∙ sym ha.accepted in
-    let steps_are : b.steps.items ≡ a.steps.items = hb.steps ∙ sym ha.steps in
+    let left : b.steps.items ≡ a.steps.items = hb.steps ∙ sym ha.steps in
+    let steps_are : beside_of b ≡ beside_of a = same_named a b same.places left in
     let cells_are : b.cells ≡ a.cells = hb.cells ∙ sym ha.cells in
     let kept : b.kept.items ≡ a.kept.items = less ∙ ap (λ ms. without_all ms a.kept.items) (dropped-all members) ∙ without_none a.kept.items in
     let one : timeline_of b ≡ timeline_of a = λ j. record { manifest = (same.graph j).manifest; jobs = (same.opening j).jobs; opening = (same.opening j).state; accepted = accepted j; kept = kept j } in
     record {
       sound = same_sound a b sa same.graph same.opening accepted steps_are kept (ap (λ (c : Table). c.state) cells_are) (ap (λ (c : Table). c.jobs) cells_are) same.last (λ c in_it. subst (λ (x : Table). Contains x.places c) (sym cells_are) in_it);
       prints = sym (same_prints a b accepted steps_are kept) ∙ ap (λ ms. prints_without ms (kept_prints a)) (sym (dropped-all members));
+      placed = λ cs h. subst (ArePlacedIn cs) (sym left) h;
       numbers = ap (cone_numbers n) one ∙ sym are ∙ sym (taken-all members);
       rest = ap (coned n) one;
     }
 
 -- the history of which the members up to a place are still to be taken out
-module _ (members : List ℕ) (left : ℕ) (es : Numbered) (steps : List Beside) (cells : Table) (now : Vec Beside) (now_cells : Table)
+module _ (members : List ℕ) (left : ℕ) (es : Numbered) (steps : List Placed) (cells : Table) (now : Vec Placed) (now_cells : Table)
     (partly : IsPartlyOut members left es steps cells now.items now_cells) (some : 0 < left) (within : left ≤ length members) where
   abbrev between : Inside → Inside
   between a = record a {
@@ -248,7 +259,7 @@ module _ (members : List ℕ) (left : ℕ) (es : Numbered) (steps : List Beside)
     has_between = record { accepted = ha.accepted; steps = refl; cells = refl }
 
     down_between : IsDown a (between a) n (take left members) (drop left members)
-    down_between = partly a (between a) n ha sa are (record { graph = refl; opening = refl; last = refl }) has_between refl
+    down_between = partly a (between a) n ha sa are (record { places = refl; graph = refl; opening = refl; last = refl }) has_between refl
 
     step_between : IsStepDown (timeline_of (between a)) n (get_or members (left - 1) 0) (take (left - 1) members)
     step_between = down_step (timeline_of (between a)) n left members (history_of (between a) down_between.sound) some within down_between.numbers
@@ -261,27 +272,29 @@ module _ (members : List ℕ) (left : ℕ) (es : Numbered) (steps : List Beside)
     free = (step_between k.inside k.number k.has k.sound k.members_are).free;
   }
 
-  pub next_out : (new_steps : List Beside) (new_cells : Table) → TakesOut (get_or members (left - 1) 0) es now.items now_cells new_steps new_cells
+  pub next_out : (new_steps : List Placed) (new_cells : Table) → TakesOut (get_or members (left - 1) 0) es now.items now_cells new_steps new_cells
       → IsPartlyOut members (left - 1) es steps cells new_steps new_cells
   next_out new_steps new_cells takes a b n ha sa are same hb less =
       let p : IsDown a (between a) n (take left members) (drop left members) = down_between a n ha sa are in
       let d : IsStepDown (timeline_of (between a)) n (get_or members (left - 1) 0) (take (left - 1) members) = step_between a n ha sa are in
       let kept : b.kept.items ≡ without (get_or members (left - 1) 0) (without_all (drop left members) a.kept.items) =
       less ∙ ap (λ ms. without_all ms a.kept.items) (dropped-before members left some within) ∙ sym (without_more (get_or members (left - 1) 0) (drop left members) a.kept.items) in
-      let w : IsWithout (between a) b (get_or members (left - 1) 0) = takes (between a) b (has_between a n ha sa are) p.sound d.free (record { graph = same.graph; opening = same.opening; last = same.last }) hb kept in
+      let w : IsWithout (between a) b (get_or members (left - 1) 0) = takes (between a) b (has_between a n ha sa are) p.sound d.free (record { places = same.places; graph = same.graph; opening = same.opening; last = same.last }) hb kept in
       record {
         sound = w.sound;
+        placed = λ cs h. w.placed cs (p.placed cs h);
         prints = w.prints ∙ ap (causal.without (get_or members (left - 1) 0)) p.prints ∙ ap (λ ms. prints_without ms (kept_prints a)) (sym (dropped-before members left some within));
         numbers = ap (cone_numbers n) w.timeline ∙ d.cone_without;
         rest = ap (coned n) w.timeline ∙ d.rest_without ∙ p.rest;
       }
 
-pub all_out : (members : List ℕ) (left : ℕ) (es : Numbered) (steps : List Beside) (cells : Table) (new_steps : List Beside) (new_cells : Table) → left ≡ 0
+pub all_out : (members : List ℕ) (left : ℕ) (es : Numbered) (steps : List Placed) (cells : Table) (new_steps : List Placed) (new_cells : Table) → left ≡ 0
     → IsPartlyOut members left es steps cells new_steps new_cells → TakesConeOut members es steps cells new_steps new_cells
 all_out members left es steps cells new_steps new_cells none partly a b n ha sa are same hb less =
     let p : IsDown a b n (take left members) (drop left members) = partly a b n ha sa are same hb (less ∙ ap (λ i. without_all (drop i members) a.kept.items) (sym none)) in
     record {
       sound = p.sound;
+      placed = p.placed;
       timeline = sym (down_last (timeline_of b) n left members (history_of b p.sound) none p.numbers) ∙ p.rest;
       prints = p.prints ∙ ap (λ i. prints_without (drop i members) (kept_prints a)) none;
     }

@@ -1,8 +1,7 @@
 -- Each cell is written once.
-use Rattle.std.proofs.Common.{◌≡◌, ℕ, false, List, [], ◌∷◌, length, All, bytes_eq, sym, ap, subst, refl, ◌∙◌, inl, inr, true≢false, arith, zero, suc}
+use Rattle.std.proofs.Common.{◌≡◌, List, [], ◌∷◌, sym, ap, subst, refl, ◌∙◌, arith, zero, suc}
 use Rattle.std.specs.List.{AllByRecursion, IsDistinct}
 use Rattle.std.specs.Ordering.{eq_by_cmp}
-use Rattle.rev_causal.specs.Order.{Has, Distinct}
 use Rattle.rev_causal.specs.Store.{keys_of}
 use Rattle.rev_cells.specs.declared.cell.Cell.{Cell}
 use Rattle.rev_cells.specs.declared.value.Value.{Value}
@@ -10,13 +9,9 @@ use Rattle.rev_cells.specs.Effects.{cells_of, stored_values}
 use Rattle.rev_cells.specs.Keys.{cell_cmp}
 use Rattle.rev_cells.specs.State.{State}
 use Rattle.rev_cells.specs.Values.{Fits, unless_default}
-use Rattle.rev_cells.proofs.EntryLemmas.{other_cell}
-use Rattle.rev_manifest.specs.Builds.{BuildValue, ManifestValue, IsManifest, IsBuild}
-use Rattle.rev_graph.proofs.EntryLemmas.{own_bytes}
-use Rattle.rev_graph.specs.Graph.{build_at, outputs_of}
+use Rattle.rev_manifest.specs.Builds.{ManifestValue, IsManifest}
 use Rattle.rev_events.specs.declared.event.Event.{Event}
 use Rattle.rev_events.specs.Edge.{stored, AllFit}
-use Rattle.rev_events.specs.Laws.{OutputsOnce}
 use Rattle.rev_events.specs.Machine.{effect}
 use Rattle.rev_events.specs.Written.{written}
 use Rattle.rev_events.proofs.WrittenLemmas.{written-same, written-once}

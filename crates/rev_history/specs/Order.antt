@@ -1,5 +1,5 @@
 -- Whether the kept events of two histories are equivalent.
-use Rattle.std.specs.Prelude.{◌≡◌, ◌↔◌, ℕ, Bool, true, false, List, Option}
+use Rattle.std.specs.Prelude.{◌≡◌, ◌↔◌, ℕ, Bool, true, false, List}
 use Rattle.rev_causal.specs.Entries.{SwapEquivalent}
 use Rattle.rev_causal.specs.OrderCheck.{IsEquality, IsMatched, IsLeastTurned, SameEvents, bare, OrderAnswer, EventsDiffer, SameOrder, Turned, order_check}
 use Rattle.rev_events.specs.declared.event.Event.{Event}

@@ -1,20 +1,63 @@
 -- What stands beside an accepted event.
-use Rattle.std.specs.Prelude.{ℕ, List, [], Option, Some, None, IsSome, map}
-use Rattle.std.specs.List.{AllByRecursion}
-use Rattle.rev_accesses.specs.Value.{Prints}
+use Rattle.std.specs.Prelude.{◌≡◌, ℕ, Bool, List, [], Option, Some, None, IsSome, length, map, take}
+use Rattle.std.specs.FinSet as set
+use Rattle.std.specs.List.{AllByRecursion, IsDistinct}
+use Rattle.std.specs.Option.{option_map}
+use Rattle.std.specs.Ordering.{eq_by_cmp}
+use Rattle.rev_accesses.specs.Places.{AreWithin, PlacesValue, cells_at}
+use Rattle.rev_accesses.specs.Value.{AccessesValue, Prints}
 use Rattle.rev_causal.specs.History.{event_at, numbered_by}
 use Rattle.rev_causal.specs.Store.{Footprint, Footprint.Cells}
 use Rattle.rev_cells.specs.declared.cell.Cell.{Cell}
 use Rattle.rev_cells.specs.declared.value.Value.{Value}
 use Rattle.rev_cells.specs.Effects.{stored_values}
+use Rattle.rev_cells.specs.Keys.{cell_cmp}
 use Rattle.rev_events.specs.declared.event.Event.{Event}
 use Rattle.rev_footprint.specs.Value as footprints
 use Rattle.rev_footprint.specs.Value.{FootprintValue}
 use Rattle.rev_history.specs.declared.steps.Step.{Step}
 
+-- BY PLACES
+-- a step beside an event, or none
+abbrev pub Placed : Type 0
+Placed = Option Step
+
+-- the step that stands beside the event of a number, where one does
+abbrev pub step_in : Option Placed → Option Step
+step_in None = None
+step_in (Some s) = s
+
+abbrev pub step_beside : ℕ → List (ℕ × Event) → List Placed → Option Step
+step_beside n es steps = step_in (event_at n (numbered_by es steps))
+
+-- the footprint of the cells at places
+abbrev pub footprint_by_places : List Cell → PlacesValue → Bool → FootprintValue
+footprint_by_places cells places whole =
+    record {
+      reads = set.from_list (cells_at cells places.read);
+      writes = cells_at cells places.written;
+      whole = whole;
+    }
+
+abbrev pub footprint_at : List Cell → Step → FootprintValue
+footprint_at cells s = footprint_by_places cells s.places s.whole
+
+-- BY CELLS
+-- a step by the cells at its places
+pub record StepValue : Type 0 where
+  pub footprint : FootprintValue
+  pub replaced : List (Cell × Value)
+
+abbrev pub step_value : List Cell → Step → StepValue
+step_value cells s = record { footprint = footprint_at cells s; replaced = s.replaced.items }
+
 -- a step beside an event, or none
 abbrev pub Beside : Type 0
-Beside = Option Step
+Beside = Option StepValue
+
+-- the steps by the cells of access lists
+abbrev pub named : AccessesValue → List Placed → List Beside
+named accesses steps = map (option_map (step_value accesses.cells)) steps
 
 -- the step that stands beside the event of a number: `None` where there is no such event, `Some None` where there is
 -- one, and nothing beside it
@@ -43,8 +86,16 @@ print_of (Some s) = footprints.print_of s.footprint
 -- and no values
 abbrev pub values_of : Beside → List (Cell × Option Value)
 values_of None = []
-values_of (Some s) = stored_values s.replaced.items
+values_of (Some s) = stored_values s.replaced
 
 -- so under each number a footprint for the theory of undo
 abbrev pub prints_of : List (ℕ × Event) → List Beside → Prints
 prints_of es steps = numbered_by es (map print_of steps)
+
+-- the places are those of a footprint's cells, each of which is read once, the written ones first
+pub record IsPrintAt (cells : List Cell) (f : FootprintValue) (places : PlacesValue) : Type 0 where
+  pub is : footprint_by_places cells places f.whole ≡ f
+  pub read : AreWithin cells places.read
+  pub written : AreWithin cells places.written
+  pub distinct : IsDistinct (eq_by_cmp cell_cmp) (cells_at cells places.read)
+  pub first : take (length (cells_at cells places.written)) (cells_at cells places.read) ≡ cells_at cells places.written

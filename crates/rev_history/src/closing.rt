@@ -8,10 +8,10 @@ ghost use Rattle.rev_causal.specs.Chosen.{IsRising, chosen, is_among};
 ghost use Rattle.rev_causal.specs.History.{event_at};
 ghost use Rattle.rev_causal.specs.Store.{Footprint as Print};
 ghost use Rattle.rev_cells.specs.declared.cell.Cell.{Cell};
-ghost use Rattle.rev_history.specs.Steps.{HasFootprints, prints_of};
+ghost use Rattle.rev_history.specs.Steps.{HasFootprints, named, prints_of};
 
 use crate::prints::follow;
-use crate::steps::{Step, footprint_at};
+use crate::steps::{Step, step_of};
 use indexmap::IndexMap;
 use rev_accesses::{Accesses, Pending};
 use rev_events::Event;
@@ -28,16 +28,17 @@ fn follow_member(
 ) -> Result<(), AllocError>
     requires many { length steps.now ≡ length accepted.now.entries }
     requires rising { IsRising kept.now }
-    requires beside { HasFootprints accepted.now.entries steps.now kept.now }
+    requires beside { HasFootprints accepted.now.entries (named accesses.now steps.now) kept.now }
     requires among { is_among kept.now member ≡ true }
-    requires shown { Shows accesses.now (chosen (prints_of accepted.now.entries steps.now) kept.now) }
+    requires shown { Shows accesses.now
+        (chosen (prints_of accepted.now.entries (named accesses.now steps.now)) kept.now) }
     ensures { OnOk result ((f : Print Cell)
-        → event_at member (prints_of accepted.now.entries steps.now) ≡ Some f
-        → IsFollowed (chosen (prints_of accepted.now.entries steps.now) kept.now) member f pending.old
-        pending.new) }
+        → event_at member (prints_of accepted.now.entries (named accesses.now steps.now)) ≡ Some f
+        → IsFollowed (chosen (prints_of accepted.now.entries (named accesses.now steps.now)) kept.now) member f
+        pending.old pending.new) }
 {
-    match footprint_at(accepted, steps, member) {
-        Some(footprint) => follow(pending, member, footprint, kept, accesses),
+    match step_of(accepted, steps, member) {
+        Some(step) => follow(pending, member, step, kept, accesses),
         None => Ok(()),
     }
 }
@@ -54,12 +55,13 @@ pub(crate) fn cone(
 ) -> Result<Vec<u32>, AllocError>
     requires many { length steps.now ≡ length accepted.now.entries }
     requires rising { IsRising kept.now }
-    requires beside { HasFootprints accepted.now.entries steps.now kept.now }
-    requires shown { Shows accesses.now (chosen (prints_of accepted.now.entries steps.now) kept.now) }
+    requires beside { HasFootprints accepted.now.entries (named accesses.now steps.now) kept.now }
+    requires shown { Shows accesses.now
+        (chosen (prints_of accepted.now.entries (named accesses.now steps.now)) kept.now) }
     requires among { is_among kept.now number ≡ true }
     ensures { IfOk result (λ members. members.items
         ≡ number
-        ∷ cone_behind number (prints_of accepted.now.entries steps.now) (number ∷ []) kept.now) }
+        ∷ cone_behind number (prints_of accepted.now.entries (named accesses.now steps.now)) (number ∷ []) kept.now) }
 {
     let mut members = Vec::new(alloc);
     let mut pending = Pending::new(alloc);

@@ -6,17 +6,18 @@ ghost use Rattle.rev_cells.specs.Table.{raised_by};
 ghost use Rattle.rev_cells.specs.Opened.{IsOpened};
 ghost use Rattle.rev_events.specs.declared.refusal.Refusal.{Refusal};
 ghost use Rattle.rev_events.specs.Same.{event_eq};
-ghost use Rattle.rev_footprint.specs.Value.{print_of};
+ghost use Rattle.rev_footprint.specs.Value.{FootprintValue, print_of};
 ghost use Rattle.rev_history.specs.Checked.{HasNow, IsChecked};
 ghost use Rattle.rev_history.specs.Order.{IsOrder, IsSameOpening, answer_of, order_of};
 ghost use Rattle.rev_history.specs.Timeline.{IsHistory, IsRising, Timeline, accept_refusal, accepted_as, back_refusal, cone_numbers, cone_refusal, coned, event_at, greatest_kept, kept_events, kept_footprint, last_of, machine_at, nearest_conflict, opened, redo_refusal, redone, state_at, undo_refusal, undone};
 ghost use Rattle.rev_history.specs.Value.{cells_written};
 
 use crate::closing::cone;
+use crate::kept::KeptFootprint;
 use crate::order::{Order, both, first_pair};
-use crate::prints::{nearest, write_noted};
+use crate::prints::{nearest, nearest_by, write_noted};
 use crate::step::{Checked, effect, effect_if_accepted, refusal};
-use crate::steps::{Step, footprint_at};
+use crate::steps::{Step, step_of};
 use crate::taken::{put_all_back, put_back, take_all_out, thin_lists};
 use indexmap::IndexMap;
 use rev_accesses::{Accesses, place_of, put_in, take_out};
@@ -30,8 +31,8 @@ use std::marker::Model;
 
 /// A graph, an opening, the events that were accepted since under rising numbers, and those of them that are kept. The
 /// state is that which the kept events lead to from the opening, in the order of their numbers. Beside each kept event
-/// stand its footprint and what it replaced, so that an undo puts that back, and beside an event that is not kept
-/// nothing; and under each cell stand the kept numbers that access it.
+/// stand its footprint, by the places of its cells, and what it replaced, so that an undo puts that back, and beside an
+/// event that is not kept nothing; and under each cell stand the kept numbers that access it.
 pub struct History {
     alloc: Global,
     graph: Graph,
@@ -144,11 +145,15 @@ impl History {
     }
 
     /// The footprint that a kept event has in the state at its place.
-    pub fn footprint_of(&self, number: u32) -> Option<&Footprint>
-        ensures { option_copied result ≡ kept_footprint self.now.timeline number }
+    pub fn footprint_of(&self, number: u32) -> Option<KeptFootprint<'_>>
+        ensures { result ≡ kept_footprint self.now.timeline number }
     {
         let _place = place_of(&self.kept, number)?;
-        footprint_at(&self.accepted, &self.steps, number)
+        let step = step_of(&self.accepted, &self.steps, number)?;
+        Some(KeptFootprint {
+            step,
+            accesses: &self.accesses,
+        })
     }
 
     /// The least kept number above another whose event conflicts with a footprint. It takes no memory, and looks at the
@@ -160,6 +165,18 @@ impl History {
             → IsLeastInTheWay (machine_at t) t.opening (kept_events t) number (print_of footprint.now) k }
     {
         nearest(number, footprint, &self.kept, &self.accesses)
+    }
+
+    /// The same where the footprint is that of a kept event, which is named by its number: none where it is not kept.
+    /// No cell is hashed.
+    pub fn nearest_to(&self, number: u32, other: u32) -> Option<u32>
+        ensures same { (f : FootprintValue) → kept_footprint self.now.timeline other ≡ Some f
+            → result ≡ nearest_conflict number f self.now.timeline }
+        ensures none { kept_footprint self.now.timeline other ≡ None → result ≡ None }
+    {
+        let _place = place_of(&self.kept, other)?;
+        let step = step_of(&self.accepted, &self.steps, other)?;
+        nearest_by(number, step, &self.kept, &self.accesses)
     }
 
     /// Accepts an event under a number above all others, and keeps it. Its refusal is that of the present state. Want
@@ -178,7 +195,7 @@ impl History {
         self.accepted.reserve(1)?;
         self.steps.reserve(1)?;
         self.kept.reserve(1)?;
-        let replaced = write_noted(
+        let step = write_noted(
             &mut self.accesses,
             &mut self.cells,
             number,
@@ -186,10 +203,7 @@ impl History {
             writes,
         )?;
         self.accepted.insert(number, event)?;
-        self.steps.push(Some(Step {
-            footprint,
-            replaced,
-        }))?;
+        self.steps.push(Some(step))?;
         self.kept.push(number)?;
         self.last = number;
         Ok(())
@@ -348,10 +362,10 @@ impl History {
         let Some(_place) = place_of(&self.kept, number) else {
             return Some(Refusal::NotKept);
         };
-        let Some(footprint) = footprint_at(&self.accepted, &self.steps, number) else {
+        let Some(step) = step_of(&self.accepted, &self.steps, number) else {
             unreachable!()
         };
-        let dependent = self.nearest(number, footprint)?;
+        let dependent = nearest_by(number, step, &self.kept, &self.accesses)?;
         Some(Refusal::DependedOn(dependent))
     }
 
@@ -486,7 +500,7 @@ impl History {
         };
         let writes = effect(self.alloc, &self.graph, &self.cells, event)?;
         self.kept.reserve(1)?;
-        let replaced = write_noted(
+        let step = write_noted(
             &mut self.accesses,
             &mut self.cells,
             number,
@@ -494,10 +508,7 @@ impl History {
             writes,
         )?;
         put_in(&mut self.kept, number)?;
-        self.steps[index] = Some(Step {
-            footprint,
-            replaced,
-        });
+        self.steps[index] = Some(step);
         Ok(())
     }
 }

@@ -4,6 +4,7 @@
 
 mod closing;
 mod history;
+mod kept;
 pub mod laws;
 mod order;
 mod prints;
@@ -12,5 +13,6 @@ mod steps;
 mod taken;
 
 pub use history::History;
+pub use kept::{KeptCells, KeptFootprint, conflict};
 pub use order::Order;
 pub use rev_events::{Event, Fault, Refusal};

@@ -9,10 +9,10 @@ ghost use Rattle.rev_causal.specs.Store.{conflict};
 ghost use Rattle.rev_cells.specs.Keys.{cell_cmp};
 ghost use Rattle.rev_order.specs.Pairs.{turned_pair};
 ghost use Rattle.rev_history.specs.Order.{answer_of};
-ghost use Rattle.rev_history.specs.Steps.{HasFootprints, prints_of};
+ghost use Rattle.rev_history.specs.Steps.{HasFootprints, named, prints_of};
 
 use crate::prints::partner;
-use crate::steps::{Step, footprint_at};
+use crate::steps::{Step, step_of};
 use indexmap::IndexMap;
 use rev_accesses::Accesses;
 use rev_events::Event;
@@ -40,18 +40,19 @@ pub(crate) fn first_pair(
 ) -> Order
     requires many { length steps.now ≡ length accepted.now.entries }
     requires rising { IsRising kept.now }
-    requires beside { HasFootprints accepted.now.entries steps.now kept.now }
-    requires shown { Shows accesses.now (chosen (prints_of accepted.now.entries steps.now) kept.now) }
+    requires beside { HasFootprints accepted.now.entries (named accesses.now steps.now) kept.now }
+    requires shown { Shows accesses.now
+        (chosen (prints_of accepted.now.entries (named accesses.now steps.now)) kept.now) }
     ensures { answer_of result ≡ pair_answer (turned_pair (conflict cell_cmp) places.now
-        (chosen (prints_of accepted.now.entries steps.now) kept.now)) }
+        (chosen (prints_of accepted.now.entries (named accesses.now steps.now)) kept.now)) }
 {
     let Some(first) = accesses.first_turned(places, kept) else {
         return Order::Same;
     };
-    let Some(footprint) = footprint_at(accepted, steps, first) else {
+    let Some(step) = step_of(accepted, steps, first) else {
         unreachable!()
     };
-    match partner(places, first, footprint, kept, accesses) {
+    match partner(places, first, step, kept, accesses) {
         Some(second) => Order::Pair(first, second),
         None => Order::Same,
     }

@@ -1,17 +1,19 @@
 //! What is kept beside each kept event.
 ghost use Rattle.std.specs.Prelude.{◌≡◌, length};
 ghost use Rattle.std.specs.Option.{option_copied};
-ghost use Rattle.rev_history.specs.Steps.{footprint_beside};
+ghost use Rattle.rev_history.specs.Steps.{step_beside};
 
 use indexmap::IndexMap;
+use rev_accesses::Places;
 use rev_cells::{Cell, Value};
 use rev_events::Event;
-use rev_footprint::Footprint;
 
-/// What stands beside a kept event: the cells that it reads and writes, and what those that it writes held before it.
-/// Beside an event that is not kept stands none: a redo makes both anew.
+/// What stands beside a kept event: the places of the cells that it reads and writes in the access lists, whether it
+/// reads every cell, as a plan does, and what those that it writes held before it. Beside an event that is not kept
+/// stands none: a redo makes all anew.
 pub(crate) struct Step {
-    pub(crate) footprint: Footprint,
+    pub(crate) places: Places,
+    pub(crate) whole: bool,
     pub(crate) replaced: Vec<(Cell, Value)>,
 }
 
@@ -19,26 +21,27 @@ pub(crate) struct Step {
 impl Drop for Step {
     fn drop(self) {
         let Step {
-            footprint: _footprint,
+            places: _places,
+            whole: _whole,
             replaced: _replaced,
         } = self;
     }
 }
 
-/// The footprint that stands beside the event of a number, where one does.
-pub(crate) fn footprint_at<'a>(
+/// The step that stands beside the event of a number, where one does.
+pub(crate) fn step_of<'a>(
     accepted: &IndexMap<u32, Event>,
     steps: &'a [Option<Step>],
     number: u32,
-) -> Option<&'a Footprint>
+) -> Option<&'a Step>
     requires { length steps.now ≡ length accepted.now.entries }
-    ensures { option_copied result ≡ footprint_beside number accepted.now.entries steps.now }
+    ensures { option_copied result ≡ step_beside number accepted.now.entries steps.now }
 {
     let Some(index) = accepted.get_index_of(&number) else {
         return None;
     };
     match &steps[index] {
-        Some(step) => Some(&step.footprint),
+        Some(step) => Some(step),
         None => None,
     }
 }

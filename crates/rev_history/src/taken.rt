@@ -5,11 +5,11 @@ ghost use Rattle.rev_causal.specs.Chosen.{IsRising, is_among, without};
 ghost use Rattle.rev_causal.specs.History.{event_at};
 ghost use Rattle.rev_causal.specs.Store.{Footprint as Print};
 ghost use Rattle.rev_cells.specs.declared.cell.Cell.{Cell};
-ghost use Rattle.rev_history.specs.Steps.{prints_of};
+ghost use Rattle.rev_history.specs.Steps.{named, prints_of};
 ghost use Rattle.rev_history.specs.Taken.{IsConeHere, IsFreeHere, TakesConeOut, TakesOut};
 
 use crate::prints::thin_print;
-use crate::steps::{Step, footprint_at};
+use crate::steps::{Step, step_of};
 use indexmap::IndexMap;
 use rev_accesses::{Accesses, is_one_of, place_of, take_out};
 use rev_cells::Cells;
@@ -30,11 +30,13 @@ fn thin_member(
     requires rising { IsRising members.now }
     requires member { is_among members.now number ≡ true }
     ensures thinned { AreThinned members.now accesses.old accesses.new }
-    ensures gone { (f : Print Cell) → event_at number (prints_of accepted.now.entries steps.now) ≡ Some f
+    ensures gone { (f : Print Cell)
+        → event_at number (prints_of accepted.now.entries (named accesses.old steps.now)) ≡ Some f
         → IsGone number f accesses.new }
+    ensures cells { accesses.new.cells ≡ accesses.old.cells }
 {
-    if let Some(footprint) = footprint_at(accepted, steps, number) {
-        thin_print(accesses, number, members, footprint);
+    if let Some(step) = step_of(accepted, steps, number) {
+        thin_print(accesses, number, members, step);
     }
 }
 
@@ -50,7 +52,9 @@ pub(crate) fn thin_lists(
     requires rising { IsRising members.now }
     ensures thinned { AreThinned members.now accesses.old accesses.new }
     ensures gone { (n : ℕ) (f : Print Cell) → is_among members.now n ≡ true
-        → event_at n (prints_of accepted.now.entries steps.now) ≡ Some f → IsGone n f accesses.new }
+        → event_at n (prints_of accepted.now.entries (named accesses.old steps.now)) ≡ Some f
+        → IsGone n f accesses.new }
+    ensures cells { accesses.new.cells ≡ accesses.old.cells }
 {
     for member in members {
         thin_member(*member, members, accepted, steps, accesses);

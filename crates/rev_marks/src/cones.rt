@@ -11,20 +11,19 @@ ghost use Rattle.rev_marks.specs.Table.{IsNoted, is_met, viewed};
 use crate::masks::asked_marks;
 use crate::table::{Table, met, no_events, note};
 use indexmap::IndexMap;
-use rev_footprint::Footprint;
-use rev_history::History;
+use rev_history::{History, KeptFootprint};
 use std::alloc::{AllocError, Global};
 
 // The marks of the noted events on which one depends.
-fn met_by(table: &Table, beside: bool, footprint: &Footprint) -> u64
+fn met_by(table: &Table, beside: bool, footprint: &KeptFootprint<'_>) -> u64
     ensures { (i : ℕ) → has_mark i result ≡ is_met table.now i (viewed beside (print_of footprint.now)) }
 {
     met(
         table,
         beside,
         footprint.whole(),
-        footprint.reads(),
-        footprint.writes(),
+        &footprint.reads(),
+        &footprint.writes(),
     )
 }
 
@@ -32,7 +31,7 @@ fn met_by(table: &Table, beside: bool, footprint: &Footprint) -> u64
 fn note_by(
     table: &mut Table,
     beside: bool,
-    footprint: &Footprint,
+    footprint: &KeptFootprint<'_>,
     mask: u64,
 ) -> Result<(), AllocError>
     ensures { OnOk result (IsNoted table.old table.new (viewed beside (print_of footprint.now)) mask) }
@@ -41,8 +40,8 @@ fn note_by(
         table,
         beside,
         footprint.whole(),
-        footprint.reads(),
-        footprint.writes(),
+        &footprint.reads(),
+        &footprint.writes(),
         mask,
     )
 }
@@ -64,11 +63,11 @@ fn take(
     let Some(footprint) = history.footprint_of(number) else {
         return Ok(());
     };
-    let mask = asked_marks(asked, number) | met_by(table, beside, footprint);
+    let mask = asked_marks(asked, number) | met_by(table, beside, &footprint);
     if mask == 0 {
         return Ok(());
     }
-    note_by(table, beside, footprint, mask)?;
+    note_by(table, beside, &footprint, mask)?;
     marks.insert(number, mask)?;
     Ok(())
 }
@@ -112,7 +111,7 @@ pub fn cone_marks(
     marks_seen(alloc, history, asked, false)
 }
 
-/// The same of what hangs on the events by more than jobs and slots ([`rev_held::held_beside`]).
+/// The same of what hangs on the events by more than jobs and slots: by a cell that is none of a job or a slot.
 ///
 /// # Errors
 /// [`AllocError`] only where an allocation was refused.

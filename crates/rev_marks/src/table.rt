@@ -10,6 +10,7 @@ ghost use Rattle.rev_marks.specs.Table.{IsNoted, Marks, counted, is_marked, is_m
 
 use indexmap::IndexMap;
 use rev_cells::Cell;
+use rev_history::KeptCells;
 use std::alloc::{AllocError, Global};
 
 /// The masks of events that were noted, those that read a cell and those that write it, joined under the cell; and
@@ -88,13 +89,13 @@ fn counted_at(masks: &IndexMap<Cell, u64>, beside: bool, cell: &Cell) -> u64
 }
 
 // The marks under those cells that count.
-fn marks_at(masks: &IndexMap<Cell, u64>, beside: bool, cells: &[Cell]) -> u64
+fn marks_at(masks: &IndexMap<Cell, u64>, beside: bool, cells: &KeptCells<'_>) -> u64
     ensures { (i : ℕ) → has_mark i result
         ≡ list_any (λ c. counted beside c && is_marked masks.now.entries i c) cells.now }
 {
     let mut marks = 0;
-    for cell in cells {
-        marks |= counted_at(masks, beside, cell);
+    for index in 0..cells.len() {
+        marks |= counted_at(masks, beside, cells.at(index));
     }
     marks
 }
@@ -131,19 +132,25 @@ fn mark_counted(
 fn mark_all(
     masks: &mut IndexMap<Cell, u64>,
     beside: bool,
-    cells: &[Cell],
+    cells: &KeptCells<'_>,
     mask: u64,
 ) -> Result<(), AllocError>
     ensures { OnOk result (Marks masks.old.entries masks.new.entries (filter (counted beside) cells.now) mask) }
 {
-    for cell in cells {
-        mark_counted(masks, beside, cell, mask)?;
+    for index in 0..cells.len() {
+        mark_counted(masks, beside, cells.at(index), mask)?;
     }
     Ok(())
 }
 
 /// The marks of the noted events on which one depends that reads and writes these cells.
-pub(crate) fn met(table: &Table, beside: bool, whole: bool, reads: &[Cell], writes: &[Cell]) -> u64
+pub(crate) fn met(
+    table: &Table,
+    beside: bool,
+    whole: bool,
+    reads: &KeptCells<'_>,
+    writes: &KeptCells<'_>,
+) -> u64
     ensures { (i : ℕ) → has_mark i result
         ≡ is_met table.now i (viewed beside (print_by whole reads.now writes.now)) }
 {
@@ -160,8 +167,8 @@ pub(crate) fn note(
     table: &mut Table,
     beside: bool,
     whole: bool,
-    reads: &[Cell],
-    writes: &[Cell],
+    reads: &KeptCells<'_>,
+    writes: &KeptCells<'_>,
     mask: u64,
 ) -> Result<(), AllocError>
     ensures { OnOk result (IsNoted table.old table.new (viewed beside (print_by whole reads.now writes.now)) mask) }

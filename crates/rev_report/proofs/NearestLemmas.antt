@@ -1,5 +1,5 @@
 -- The kept events that depend on one, found one after the other.
-use Rattle.std.proofs.Common.{◌≡◌, ℕ, ◌<◌, ◌≤◌, Bool, true, false, ◌&&◌, cond, List, [], ◌∷◌, filter, map, Option, None, Some, refl, sym, ap, ap₂, subst, ◌∙◌, inl, inr, eqb-true, eq-eqb, ltb-true, ltb-false, lt-ltb, le-ltb, arith}
+use Rattle.std.proofs.Common.{◌≡◌, ℕ, ◌<◌, Bool, true, false, ◌&&◌, cond, List, [], ◌∷◌, filter, map, Option, None, Some, refl, sym, ap, ap₂, subst, ◌∙◌, inl, inr, eqb-true, eq-eqb, ltb-true, lt-ltb, le-ltb, arith}
 use Rattle.std.specs.Prelude.{nat_eq, nat_lt}
 use Rattle.std.specs.List.{AllByRecursion}
 use Rattle.rev_causal.specs.Chosen.{IsRising}
@@ -8,7 +8,7 @@ use Rattle.rev_causal.specs.History as causal
 use Rattle.rev_causal.proofs.ByNumber as by_number
 use Rattle.rev_causal.proofs.Chosen.{AllAccepted, some_is, chosen-rises}
 use Rattle.rev_causal.proofs.Runs.{either}
-use Rattle.rev_report.specs.Dependents.{conflicts, dependents}
+use Rattle.rev_report.specs.Dependents.{conflicts}
 use Rattle.rev_cells.specs.State.{State}
 use Rattle.rev_events.specs.Machine.{after}
 use Rattle.rev_manifest.specs.Manifest.{ManifestValue}
@@ -116,25 +116,34 @@ nearest_passing t n f h =
     nearest_along t.manifest t.jobs n f (footprints_along t.manifest t.opening (kept_events t)) t.opening (kept_events t) (chosen-rises t.accepted t.kept h.rising) (λ k g at. at)
     ∙ ap (first_passing n (meets t f)) (numbers_kept t.accepted t.kept h.accepted)
 
+-- of the events that depend on a kept one those above a number
+abbrev pub dependents_from : Timeline → ℕ → ℕ → List ℕ
+dependents_from t n last = above last (λ k. conflicts (kept_footprint t n) (kept_footprint t k)) t.kept
+
 -- where there is no nearest, no more depends; else it is the first of those that do
-pub no_nearest : (t : Timeline) (n : ℕ) (f : FootprintValue) → IsHistory t → None ≡ nearest_conflict n f t → above n (meets t f) t.kept ≡ []
-no_nearest t n f h e = none_passes n (meets t f) t.kept (sym (nearest_passing t n f h) ∙ sym e)
-
-pub nearest_first : (t : Timeline) (n j : ℕ) (f : FootprintValue) → IsHistory t → Some j ≡ nearest_conflict n f t → above n (meets t f) t.kept ≡ j ∷ above j (meets t f) t.kept
-nearest_first t n j f h e = some_passes n (meets t f) t.kept j h.rising (sym (nearest_passing t n f h) ∙ sym e)
-
--- those that depend on a kept event are those above it that its footprint meets
-pub dependents_above : (t : Timeline) (n : ℕ) (f : FootprintValue) → Some f ≡ kept_footprint t n → dependents t n ≡ above n (meets t f) t.kept
-dependents_above t n f at = ap (λ o. filter (λ k. nat_lt n k && conflicts o (kept_footprint t k)) t.kept) (sym at)
-
--- on one that is not kept none depends
-pub none_depends : (t : Timeline) (n : ℕ) → None ≡ kept_footprint t n → dependents t n ≡ []
-none_depends t n at = ap (λ o. filter (λ k. nat_lt n k && conflicts o (kept_footprint t k)) t.kept) (sym at) ∙ none_of t.kept
+pub no_nearest : (t : Timeline) (n last : ℕ) → IsHistory t → ((f : FootprintValue) → kept_footprint t n ≡ Some f → None ≡ nearest_conflict last f t) → dependents_from t n last ≡ []
+no_nearest t n last h same = by (kept_footprint t n) refl
   where
-    none_of : (ks : List ℕ) → filter (λ k. nat_lt n k && conflicts None (kept_footprint t k)) ks ≡ []
+    none_of : (ks : List ℕ) → above last (λ k. conflicts None (kept_footprint t k)) ks ≡ []
     none_of [] = refl
-    none_of (k ∷ ks) = by (nat_lt n k) ∙ none_of ks
+    none_of (k ∷ ks) = none_here (nat_lt last k) (none_of ks)
       where
-        by : (b : Bool) → cond (b && false) (k ∷ filter (λ j. nat_lt n j && conflicts None (kept_footprint t j)) ks) (filter (λ j. nat_lt n j && conflicts None (kept_footprint t j)) ks) ≡ filter (λ j. nat_lt n j && conflicts None (kept_footprint t j)) ks
-        by true = refl
-        by false = refl
+        none_here : (b : Bool) → above last (λ j. conflicts None (kept_footprint t j)) ks ≡ []
+            → cond (b && false) (k ∷ above last (λ j. conflicts None (kept_footprint t j)) ks) (above last (λ j. conflicts None (kept_footprint t j)) ks) ≡ []
+        none_here true rest = rest
+        none_here false rest = rest
+
+    by : (o : Option FootprintValue) → kept_footprint t n ≡ o → above last (λ k. conflicts o (kept_footprint t k)) t.kept ≡ []
+    by None at = none_of t.kept
+    by (Some f) at = none_passes last (meets t f) t.kept (sym (nearest_passing t last f h) ∙ sym (same f at))
+
+pub nearest_first : (t : Timeline) (n last j : ℕ) → IsHistory t → ((f : FootprintValue) → kept_footprint t n ≡ Some f → Some j ≡ nearest_conflict last f t) → (kept_footprint t n ≡ None → Some j ≡ None)
+    → dependents_from t n last ≡ j ∷ dependents_from t n j
+nearest_first t n last j h same none = by (kept_footprint t n) refl
+  where
+    some_none : Some j ≡ None → ⊥
+    some_none e = cc
+
+    by : (o : Option FootprintValue) → kept_footprint t n ≡ o → above last (λ k. conflicts o (kept_footprint t k)) t.kept ≡ j ∷ above j (λ k. conflicts o (kept_footprint t k)) t.kept
+    by None at = absurd (some_none (none at))
+    by (Some f) at = some_passes last (meets t f) t.kept j h.rising (sym (nearest_passing t last f h) ∙ sym (same f at))

@@ -18,7 +18,3 @@ depends t n m = nat_lt n m && conflicts (kept_footprint t n) (kept_footprint t m
 -- the kept events that depend on n, in rising number
 abbrev pub dependents : Timeline → ℕ → List ℕ
 dependents t n = filter (depends t n) t.kept
-
--- the kept events above n that conflict with a footprint, in rising number
-abbrev pub conflicting_above : Timeline → FootprintValue → ℕ → List ℕ
-conflicting_above t f n = filter (λ m. nat_lt n m && conflicts (Some f) (kept_footprint t m)) t.kept

@@ -1,7 +1,7 @@
 //! What depends on a kept event.
 ghost use Rattle.std.specs.Prelude.{◌≡◌, ◌++◌, codes, decimal, is_some, IfOk, OnOk};
 ghost use Rattle.std.specs.List.{flat_map};
-ghost use Rattle.rev_report.specs.Dependents.{conflicting_above, dependents};
+ghost use Rattle.rev_report.specs.Dependents.{dependents};
 ghost use Rattle.rev_report.specs.Report.{dependents_line, dependents_text, named_text};
 ghost use Rattle.rev_desk.specs.Machine.{named};
 ghost use Rattle.rev_history.specs.Timeline.{event_at, is_among};
@@ -9,43 +9,25 @@ ghost use Rattle.rev_history.specs.Timeline.{event_at, is_among};
 use rev_desk::{Desk, Which};
 use rev_events::Refusal;
 use rev_fields::push_number;
-use rev_footprint::Footprint;
 use rev_history::History;
 use rev_script::refused_line;
 use std::alloc::{AllocError, Global};
 
-// Adds the numbers of the kept events above one that conflict with a footprint, each with a space before it. The search
-// for each goes on from the one before it.
-fn push_above(
-    text: &mut Vec<u8>,
-    history: &History,
-    number: u32,
-    footprint: &Footprint,
-) -> Result<(), AllocError>
-    ensures { OnOk result (text.new.items
-        ≡ text.old.items ++ flat_map (λ m. codes " " ++ decimal m)
-        (conflicting_above history.now.timeline footprint.now number)) }
-{
-    let _kept = history.kept();
-    let mut last = number;
-    while let Some(next) = history.nearest(last, footprint) {
-        text.extend_from_slice(b" ")?;
-        push_number(text, u64::from(next))?;
-        last = next;
-    }
-    Ok(())
-}
-
-// Adds the numbers of the kept events that depend on a kept one, each with a space before it.
+// Adds the numbers of the kept events that depend on a kept one, each with a space before it. The search for each goes
+// on from the one before it.
 fn push_dependents(text: &mut Vec<u8>, history: &History, number: u32) -> Result<(), AllocError>
     ensures { OnOk result (text.new.items
         ≡ text.old.items ++ flat_map (λ m. codes " " ++ decimal m)
         (dependents history.now.timeline number)) }
 {
-    match history.footprint_of(number) {
-        Some(footprint) => push_above(text, history, number, footprint),
-        None => Ok(()),
+    let _kept = history.kept();
+    let mut last = number;
+    while let Some(next) = history.nearest_to(last, number) {
+        text.extend_from_slice(b" ")?;
+        push_number(text, u64::from(next))?;
+        last = next;
     }
+    Ok(())
 }
 
 // Whether a number is that of a kept event.

@@ -1,7 +1,6 @@
 // How often cells are written, and that the lists find what a look at each kept event finds.
 use crate::builds::{LINKS, OBJECTS, opened, says};
-use rev_footprint::{Footprint, conflict};
-use rev_history::History;
+use rev_history::{History, KeptFootprint, conflict};
 use std::alloc::{AllocError, Global};
 use std::test::Fail;
 
@@ -134,15 +133,15 @@ struct Row {
 }
 
 // Whether the event of a kept number conflicts with a footprint.
-fn conflicts(history: &History, number: u32, footprint: &Footprint) -> bool {
+fn conflicts(history: &History, number: u32, footprint: &KeptFootprint<'_>) -> bool {
     match history.footprint_of(number) {
-        Some(other) => conflict(footprint, other),
+        Some(other) => conflict(footprint, &other),
         None => false,
     }
 }
 
 // The least kept number above another whose event conflicts with a footprint, by a look at each.
-fn scanned(history: &History, number: u32, footprint: &Footprint) -> Option<u32> {
+fn scanned(history: &History, number: u32, footprint: &KeptFootprint<'_>) -> Option<u32> {
     for kept in history.kept() {
         if number < *kept && conflicts(history, *kept, footprint) {
             return Some(*kept);
@@ -151,10 +150,10 @@ fn scanned(history: &History, number: u32, footprint: &Footprint) -> Option<u32>
     None
 }
 
-// Whether the lists find what the look at each finds, from each number on.
-fn agrees(history: &History, footprint: &Footprint) -> bool {
+// Whether the lists find what the look at each finds, from each number on, for the footprint of a kept event.
+fn agrees(history: &History, kept: u32, footprint: &KeptFootprint<'_>) -> bool {
     for number in 0..history.last() {
-        if history.nearest(number, footprint) != scanned(history, number, footprint) {
+        if history.nearest_to(number, kept) != scanned(history, number, footprint) {
             return false;
         }
     }
@@ -166,7 +165,7 @@ fn all_agree(history: &History) -> bool {
     for kept in history.kept() {
         match history.footprint_of(*kept) {
             Some(footprint) => {
-                if !agrees(history, footprint) {
+                if !agrees(history, *kept, &footprint) {
                     return false;
                 }
             }

@@ -9,5 +9,5 @@ returns-clause-noted c = λ n.
     noted-more t c.args.other n c.in_ok-named.named (nat_eq c.args.other n)
     (lookup (nat_eq n) c.args.noted.now.cells.entries) (lookup (nat_eq n) c.insert.new.self.entries) refl
     (c.in_ok-insert.ensures.updates.0 n)
-    (noted-one t c.args.other c.in-Some.second.now c.in_ok-named.named.keys c.in-Some.ensures c.in_ok-named.ensures)
+    (noted-one t c.args.other c.in-Some.second c.in_ok-named.named.keys c.in-Some.ensures c.in_ok-named.ensures)
     (c.requires n)

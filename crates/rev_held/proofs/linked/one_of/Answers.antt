@@ -15,7 +15,7 @@ returns-in-Some-first_named c =
     IfOk-weaker c.copied.result (λ (copy : Option Cell). copy ≡ Some c.in-Some-first_named.cell.now)
     (λ (cell : Option Cell). Some c.args.second.now ≡ kept_footprint t c.args.other → IsNamed c.args.second.now c.args.named.now.keys → cell ≡ dependence_of t c.args.one c.args.other)
     (λ copy is second names.
-    cell-of t c.args.one c.args.other c.in-Some.first.now c.args.second.now c.args.named.now.keys c.writes.result.now c.in-Some-first_named.cell.now copy less c.in-Some.ensures second names
+    cell-of t c.args.one c.args.other c.in-Some.first c.args.second.now c.args.named.now.keys c.writes.result c.in-Some-first_named.cell.now copy less c.in-Some.ensures second names
     c.writes.ensures.same c.in-Some-first_named.ensures is)
     c.copied.ensures
 
@@ -26,6 +26,6 @@ returns-in-None c =
     IfOk-weaker c.copied-in-None.result (λ (copy : Option Cell). copy ≡ option_copied c.first_accessed.result)
     (λ (cell : Option Cell). Some c.args.second.now ≡ kept_footprint t c.args.other → IsNamed c.args.second.now c.args.named.now.keys → cell ≡ dependence_of t c.args.one c.args.other)
     (λ copy is second names.
-    cell-back t c.args.one c.args.other c.in-Some.first.now c.args.second.now c.args.named.now.keys c.writes.result.now c.writes-in-None.result.now (option_copied c.first_accessed.result) copy less
+    cell-back t c.args.one c.args.other c.in-Some.first c.args.second.now c.args.named.now.keys c.writes.result c.writes-in-None.result (option_copied c.first_accessed.result) copy less
     c.in-Some.ensures second names c.writes.ensures.same c.in-None.ensures c.writes-in-None.ensures.same c.first_accessed.ensures is)
     c.copied-in-None.ensures

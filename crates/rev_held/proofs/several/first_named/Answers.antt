@@ -1,4 +1,4 @@
-use Rattle.std.proofs.Common.{sym, ◌∙◌}
+use Rattle.std.proofs.Common.{◌<◌, length, sym, ◌∙◌, arith}
 use Rattle.rev_causal.specs.Store.{among}
 use Rattle.rev_cells.specs.Keys.{cell_cmp}
 use Rattle.rev_held.proofs.CellLemmas.{set-has}
@@ -7,10 +7,12 @@ use Rattle.rev_held.proofs.several.first_named.Goals as goal
 
 pub returns-then-contains : goal.returns-then-contains
 returns-then-contains c =
-    found-here (among cell_cmp c.args.set.now.keys) c.args.cells.now c.loop-cell.cell-index c.cell-item.result c.loop-cell-test.true c.cell-item.is
-    (sym (set-has c.args.set.now.keys c.cell-item.result) ∙ sym c.contains.ensures ∙ c.if-contains.true) c.loop-cell.invariant
+    let within : c.loop-index.index < length c.args.cells.now = omega (arith, c.loop-index-test.true, c.len-index-end.ensures) in
+    found-here (among cell_cmp c.args.set.now.keys) c.args.cells.now c.loop-index.index c.at-cell.result.now within c.at-cell.ensures
+    (sym (set-has c.args.set.now.keys c.at-cell.result.now) ∙ sym c.contains.ensures ∙ c.if-contains.true) c.loop-index.invariant
 
-pub loop-cell-preserved : goal.loop-cell-preserved
-loop-cell-preserved c =
-    found-later (among cell_cmp c.args.set.now.keys) c.args.cells.now c.loop-cell.cell-index c.cell-item.result c.loop-cell-test.true c.cell-item.is
-    (sym (set-has c.args.set.now.keys c.cell-item.result) ∙ sym c.contains.ensures ∙ c.if-contains.false) c.loop-cell.invariant
+pub loop-index-preserved : goal.loop-index-preserved
+loop-index-preserved c =
+    let within : c.loop-index.index < length c.args.cells.now = omega (arith, c.loop-index-test.true, c.len-index-end.ensures) in
+    found-later (among cell_cmp c.args.set.now.keys) c.args.cells.now c.loop-index.index c.at-cell.result.now within c.at-cell.ensures
+    (sym (set-has c.args.set.now.keys c.at-cell.result.now) ∙ sym c.contains.ensures ∙ c.if-contains.false) c.loop-index.invariant

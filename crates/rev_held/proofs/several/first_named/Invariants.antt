@@ -4,5 +4,5 @@ use Rattle.rev_causal.specs.Store.{among}
 use Rattle.rev_cells.specs.Keys.{cell_cmp}
 use Rattle.rev_held.proofs.several.first_named.Given as goal
 
-abbrev pub invariant-loop-cell : goal.invariant-loop-cell
-invariant-loop-cell l = find (among cell_cmp l.set.keys) l.cells ≡ find (among cell_cmp l.set.keys) (drop l.cell-index l.cells)
+abbrev pub invariant-loop-index : goal.invariant-loop-index
+invariant-loop-index l = find (among cell_cmp l.set.keys) l.cells ≡ find (among cell_cmp l.set.keys) (drop l.index l.cells)

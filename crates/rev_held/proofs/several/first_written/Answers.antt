@@ -9,6 +9,6 @@ pub returns : goal.returns
 returns c =
     let keys = c.args.set.now.keys in
     let one = c.first_place-place.ensures (λ (w : Cell). false) (c.len.ensures.len ∙ length-place keys) in
-    let two = c.first_place-place-2.ensures (λ (w : Cell). false || among cell_cmp c.writes.result.now w) one in
+    let two = c.first_place-place-2.ensures (λ (w : Cell). false || among cell_cmp c.writes.result w) one in
     c.get_index.ensures.key
-    ∙ found-at-place c.args.other.now keys c.writes.result.now c.reads.result.now c.first_place-place-2.result c.writes.ensures.same c.reads.ensures.same two
+    ∙ found-at-place c.args.other.now keys c.writes.result c.reads.result c.first_place-place-2.result c.writes.ensures.same c.reads.ensures.same two

@@ -5,4 +5,4 @@ use Rattle.rev_marks.proofs.cones.met_by.Goals as goal
 pub returns : goal.returns
 returns c = λ i.
     c.met.ensures i
-    ∙ met-same c.args.footprint.now c.args.beside c.whole.result c.reads.result.now c.writes.result.now c.whole.ensures c.reads.ensures.same c.writes.ensures.same c.args.table.now i
+    ∙ met-same c.args.footprint.now c.args.beside c.whole.result c.reads.result c.writes.result c.whole.ensures c.reads.ensures.same c.writes.ensures.same c.args.table.now i

@@ -10,5 +10,5 @@ on-ok (Err e) f h = h
 pub returns : goal.returns
 returns c =
     on-ok c.note.result
-    (noted-same c.args.footprint.now c.args.beside c.whole.result c.reads.result.now c.writes.result.now c.whole.ensures c.reads.ensures.same c.writes.ensures.same c.args.table.now c.note.new.table c.args.mask)
+    (noted-same c.args.footprint.now c.args.beside c.whole.result c.reads.result c.writes.result c.whole.ensures c.reads.ensures.same c.writes.ensures.same c.args.table.now c.note.new.table c.args.mask)
     c.note.ensures

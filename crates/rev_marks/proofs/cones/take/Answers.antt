@@ -16,7 +16,7 @@ returns-in_default c =
 pub returns-then-mask-eq0 : goal.returns-then-mask-eq0
 returns-then-mask-eq0 c =
     let t = c.args.history.now.timeline in
-    let g = c.in-Some.footprint.now in
+    let g = c.in-Some.footprint in
     lanes-without (seen t c.args.beside) (slice_get c.args.asked.now) c.args.number (viewed c.args.beside (print_of g)) (seen-some t c.args.beside c.args.number g c.in-Some.ensures)
     c.args.table.now c.args.marks.now.entries (bit_or c.asked_marks.result c.met_by.result)
     (λ i. mark-or i c.asked_marks.result c.met_by.result ∙ ap₂ (λ a b. a || b) (c.asked_marks.ensures i) (c.met_by.ensures i)) c.if-mask-eq0.true
@@ -24,7 +24,7 @@ returns-then-mask-eq0 c =
 pub returns : goal.returns
 returns c =
     let t = c.args.history.now.timeline in
-    let g = c.in-Some.footprint.now in
+    let g = c.in-Some.footprint in
     lanes-noted (seen t c.args.beside) (slice_get c.args.asked.now) c.args.number (viewed c.args.beside (print_of g)) (seen-some t c.args.beside c.args.number g c.in-Some.ensures)
     c.args.table.now c.args.marks.now.entries (bit_or c.asked_marks.result c.met_by.result)
     (λ i. mark-or i c.asked_marks.result c.met_by.result ∙ ap₂ (λ a b. a || b) (c.asked_marks.ensures i) (c.met_by.ensures i))

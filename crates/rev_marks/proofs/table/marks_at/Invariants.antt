@@ -4,5 +4,5 @@ use Rattle.rev_marks.specs.Masks.{has_mark}
 use Rattle.rev_marks.specs.Table.{counted, is_marked}
 use Rattle.rev_marks.proofs.table.marks_at.Given as goal
 
-abbrev pub invariant-loop-cell : goal.invariant-loop-cell
-invariant-loop-cell l = (i : ℕ) → has_mark i l.marks ≡ list_any (λ c. counted l.beside c && is_marked l.masks.entries i c) (take l.cell-index l.cells)
+abbrev pub invariant-loop-index : goal.invariant-loop-index
+invariant-loop-index l = (i : ℕ) → has_mark i l.marks ≡ list_any (λ c. counted l.beside c && is_marked l.masks.entries i c) (take l.index l.cells)

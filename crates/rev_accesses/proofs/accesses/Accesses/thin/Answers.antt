@@ -1,4 +1,5 @@
 use Rattle.std.proofs.Common.{subst, sym}
+use Rattle.rev_accesses.specs.Places.{cells_at}
 use Rattle.rev_accesses.specs.Thinned.{IsThinned}
 use Rattle.rev_accesses.proofs.ThinnedLemmas.{gone_from, thinned_not}
 use Rattle.rev_accesses.proofs.accesses.Accesses.thin.Goals as goal
@@ -12,4 +13,4 @@ returns-clause-thinned c = record {
 
 pub returns-clause-gone : goal.returns-clause-gone
 returns-clause-gone c = λ f names.
-    gone_from c.args.number c.args.reads.now c.args.writes.now f c.thin_from.new.self names c.thin_from.ensures.written c.thin_from.ensures.read
+    gone_from c.args.number (cells_at c.args.self.now.cells c.args.print.now.read) (cells_at c.args.self.now.cells c.args.print.now.written) f c.thin_from.new.self names c.thin_from.ensures.written c.thin_from.ensures.read

@@ -1,6 +1,9 @@
-use Rattle.std.proofs.Common.{subst}
+use Rattle.std.proofs.Common.{List, ℕ, ap, subst, subst₂, ◌∙◌}
+use Rattle.std.specs.Map.{keys_of}
+use Rattle.rev_cells.specs.declared.cell.Cell.{Cell}
 use Rattle.rev_accesses.specs.declared.users.Access.TheVariants.{Read, Write}
-use Rattle.rev_accesses.specs.Thinned.{AreThinnedUnder}
+use Rattle.rev_accesses.specs.Places.{cells_at}
+use Rattle.rev_accesses.specs.Thinned.{AreThinnedUnder, IsGoneUnder}
 use Rattle.rev_accesses.specs.Users.{listed}
 use Rattle.rev_accesses.specs.Value.{AccessesValue}
 use Rattle.rev_accesses.proofs.ThinnedLemmas.{gone_before, thinned_before, thinned_behind}
@@ -19,8 +22,14 @@ returns-clause-readers c =
     c.thin_all.ensures.thinned c.thin_all-2.ensures.rest)
 
 pub returns-clause-written : goal.returns-clause-written
-returns-clause-written c = c.thin_all-2.ensures.gone
+returns-clause-written c =
+    subst₂ (λ (a : AccessesValue) (ps : List ℕ). IsGoneUnder c.args.number (cells_at a.cells ps) (listed Write c.thin_all-2.new.index.entries)) c.self.view_is c.written-writes.ensures
+    (subst (λ (cs : List Cell). IsGoneUnder c.args.number (cells_at cs c.written-writes.result.now) (listed Write c.thin_all-2.new.index.entries)) c.thin_all.ensures.cells c.thin_all-2.ensures.gone)
 
 pub returns-clause-read : goal.returns-clause-read
 returns-clause-read c =
-    gone_before c.args.number c.args.reads.now (listed Read c.thin_all.new.index.entries) (listed Read c.thin_all-2.new.index.entries) c.thin_all.ensures.gone c.thin_all-2.ensures.rest
+    subst₂ (λ (a : AccessesValue) (ps : List ℕ). IsGoneUnder c.args.number (cells_at a.cells ps) (listed Read c.thin_all-2.new.index.entries)) c.self.view_is c.read-reads.ensures
+    (gone_before c.args.number (cells_at (keys_of c.self.inside.users.entries) c.read-reads.result.now) (listed Read c.thin_all.new.index.entries) (listed Read c.thin_all-2.new.index.entries) c.thin_all.ensures.gone c.thin_all-2.ensures.rest)
+
+pub returns-clause-cells : goal.returns-clause-cells
+returns-clause-cells c = c.thin_all-2.ensures.cells ∙ c.thin_all.ensures.cells ∙ ap (λ (a : AccessesValue). a.cells) c.self.view_is

@@ -1,4 +1,5 @@
 use Rattle.std.proofs.Common.{subst}
+use Rattle.std.specs.Map.{keys_of}
 use Rattle.rev_accesses.specs.declared.users.Access.TheVariants.{Read, Write}
 use Rattle.rev_accesses.specs.Thinned.{AreThinned}
 use Rattle.rev_accesses.specs.Users.{listed}
@@ -8,7 +9,7 @@ use Rattle.rev_accesses.proofs.accesses.Accesses.thin_whole.Goals as goal
 
 pub returns-clause-thinned : goal.returns-clause-thinned
 returns-clause-thinned c =
-    let new : AccessesValue = record { writers = listed Write c.self.inside.users.entries; readers = listed Read c.self.inside.users.entries; whole = c.thin.new.self } in
+    let new : AccessesValue = record { writers = listed Write c.self.inside.users.entries; readers = listed Read c.self.inside.users.entries; whole = c.thin.new.self; cells = keys_of c.self.inside.users.entries } in
     subst (λ (a : AccessesValue). AreThinned c.args.members.now a new) c.self.view_is
     (record {
       writers = λ q. thinned_not c.args.members.now (numbers_at (listed Write c.self.inside.users.entries) q);
@@ -18,4 +19,4 @@ returns-clause-thinned c =
 
 pub returns-clause-gone : goal.returns-clause-gone
 returns-clause-gone c =
-    gone_whole c.args.number (record { writers = listed Write c.self.inside.users.entries; readers = listed Read c.self.inside.users.entries; whole = c.thin.new.self }) c.thin.ensures.gone
+    gone_whole c.args.number (record { writers = listed Write c.self.inside.users.entries; readers = listed Read c.self.inside.users.entries; whole = c.thin.new.self; cells = keys_of c.self.inside.users.entries }) c.thin.ensures.gone

@@ -10,7 +10,12 @@ use Rattle.rev_history.specs.Value.{HistoryValue}
 use Rattle.rev_history.proofs.Effects.{values_found, state_found, has_found}
 use Rattle.rev_accesses.specs.Value.{Shows}
 use Rattle.rev_history.specs.declared.history.History.TheInside.{Inside}
-use Rattle.rev_history.specs.Sound.{kept_prints}
+use Rattle.rev_history.specs.Sound.{ArePlacedIn, beside_of, kept_prints}
+use Rattle.rev_history.specs.Steps.{StepValue, named, step_value}
+use Rattle.rev_causal.specs.History as causal
+use Rattle.rev_footprint.specs.Value as footprints
+use Rattle.rev_footprint.specs.Value.{FootprintValue}
+use Rattle.rev_history.proofs.NamedLemmas.{end_grown, named_grown, placed_end, placed_grown}
 use Rattle.rev_history.proofs.Listed.{prints_rise, print_missing, accepted_prints, same_prints}
 use Rattle.rev_history.proofs.Fields.{same_sound, accepted_sound, accept_refusal_found}
 use Rattle.rev_history.proofs.history.History.accept.Goals as goal
@@ -21,39 +26,47 @@ inserted m es fs n e event is before same above =
     is ∙ insert_entry-new nat_eq m n e (ap (lookup (nat_eq n)) before ∙ lookup-above n es above)
     ∙ (λ i. before i ++ (n, same i) ∷ [])
 
-pub invariant_of-self-in_err-replaced : goal.invariant_of-self-in_err-replaced
-invariant_of-self-in_err-replaced c =
+pub invariant_of-self-in_err-step : goal.invariant_of-self-in_err-step
+invariant_of-self-in_err-step c =
     let above : last_of c.self.inside.accepted.entries < c.args.number = subst (λ (h : HistoryValue). last_of h.timeline.accepted < c.args.number) (sym c.self.view_is) c.requires in
     let after : Inside = record c.self.inside { accepted = c.reserve.new.self; steps = c.reserve-2.new.self; kept = c.reserve-3.new.self; accesses = c.write_noted.new.accesses; cells = c.write_noted.new.cells } in
+    let beside : beside_of after ≡ beside_of c.self.inside =
+    ap (named c.write_noted.new.accesses) c.reserve-2.ensures.items ∙ named_grown c.self.inside.accesses c.write_noted.new.accesses c.self.inside.steps.items c.in_err-step.ensures.grown c.self.invariant.placed in
     record {
-      sound = same_sound c.self.inside after c.self.invariant.sound refl refl c.reserve.ensures.entries c.reserve-2.ensures.items c.reserve-3.ensures.items c.in_err-replaced.ensures.unchanged c.in_err-replaced.ensures.jobs refl c.in_err-replaced.ensures.more;
-      shown = subst (Shows c.write_noted.new.accesses) (same_prints c.self.inside after c.reserve.ensures.entries c.reserve-2.ensures.items c.reserve-3.ensures.items)
-          (c.in_err-replaced.ensures.not_noted (kept_prints c.self.inside) (prints_rise c.self.inside c.self.invariant.sound) (print_missing c.self.inside c.self.invariant.sound c.args.number above) c.self.invariant.shown);
+      placed = subst (ArePlacedIn c.write_noted.new.accesses.cells) (sym c.reserve-2.ensures.items) (placed_grown c.self.inside.accesses.cells c.write_noted.new.accesses.cells c.self.inside.steps.items c.in_err-step.ensures.grown c.self.invariant.placed);
+      sound = same_sound c.self.inside after c.self.invariant.sound refl refl c.reserve.ensures.entries beside c.reserve-3.ensures.items c.in_err-step.ensures.unchanged c.in_err-step.ensures.jobs refl c.in_err-step.ensures.more;
+      shown = subst (Shows c.write_noted.new.accesses) (same_prints c.self.inside after c.reserve.ensures.entries beside c.reserve-3.ensures.items)
+          (c.in_err-step.ensures.not_noted (kept_prints c.self.inside) (prints_rise c.self.inside c.self.invariant.sound) (print_missing c.self.inside c.self.invariant.sound c.args.number above) c.self.invariant.shown);
     }
 
 pub invariant_of-self-2 : goal.invariant_of-self-2
 invariant_of-self-2 c =
     let above : last_of c.self.inside.accepted.entries < c.args.number = subst (λ (h : HistoryValue). last_of h.timeline.accepted < c.args.number) (sym c.self.view_is) c.requires in
-    let step : Step = record { footprint = c.in_ok-footprint.footprint; replaced = c.in_ok-replaced.replaced } in
+    let step : Step = c.in_ok-step.step in
+    let v : StepValue = step_value c.write_noted.new.accesses.cells step in
     let accepted : c.insert.new.self.entries ≡ c.self.inside.accepted.entries ++ (c.args.number, c.args.event.now) ∷ [] =
     inserted c.reserve.new.self c.self.inside.accepted.entries c.insert.new.self.entries c.args.number c.in_ok-event.event c.args.event.now c.in_ok-insert.ensures.entries c.reserve.ensures.entries c.in_ok-event.ensures above in
     let kept : c.push-2.new.self.items ≡ c.self.inside.kept.items ++ c.args.number ∷ [] = c.in_ok-push-2.ensures.items ∙ ap (λ ks. ks ++ c.args.number ∷ []) c.reserve-3.ensures.items in
-    let steps : c.push.new.self.items ≡ c.self.inside.steps.items ++ Some step ∷ [] = c.in_ok-push.ensures.items ∙ ap (λ ss. ss ++ Some step ∷ []) c.reserve-2.ensures.items in
+    let left : c.push.new.self.items ≡ c.self.inside.steps.items ++ Some step ∷ [] = c.in_ok-push.ensures.items ∙ ap (λ ss. ss ++ Some step ∷ []) c.reserve-2.ensures.items in
     let after : Inside = record c.self.inside { accepted = c.insert.new.self; steps = c.push.new.self; kept = c.push-2.new.self; accesses = c.write_noted.new.accesses; cells = c.write_noted.new.cells; last = c.args.number } in
+    let steps : beside_of after ≡ beside_of c.self.inside ++ Some v ∷ [] =
+    ap (named c.write_noted.new.accesses) left ∙ end_grown c.self.inside.accesses c.write_noted.new.accesses c.self.inside.steps.items step c.in_ok-step.ensures.grown c.self.invariant.placed in
     record {
-      shown = subst (Shows c.write_noted.new.accesses) (accepted_prints c.self.inside after c.args.number c.args.event.now (Some step) c.self.invariant.sound above accepted kept steps)
-          (c.in_ok-replaced.ensures.noted (kept_prints c.self.inside) (prints_rise c.self.inside c.self.invariant.sound) (print_missing c.self.inside c.self.invariant.sound c.args.number above) c.self.invariant.shown);
-      sound = accepted_sound c.self.inside after c.args.number c.args.event.now step c.self.invariant.sound above c.in_ok-writes.ensures.accepted refl refl
+      placed = subst (ArePlacedIn c.write_noted.new.accesses.cells) (sym left) (placed_end c.write_noted.new.accesses.cells c.self.inside.steps.items step (placed_grown c.self.inside.accesses.cells c.write_noted.new.accesses.cells c.self.inside.steps.items c.in_ok-step.ensures.grown c.self.invariant.placed) c.in_ok-step.ensures.placed);
+      shown = subst (Shows c.write_noted.new.accesses) (accepted_prints c.self.inside after c.args.number c.args.event.now (Some v) c.self.invariant.sound above accepted kept steps)
+          (subst (λ (f : FootprintValue). Shows c.write_noted.new.accesses (causal.put c.args.number (footprints.print_of f) (kept_prints c.self.inside))) (sym c.in_ok-step.ensures.print)
+          (c.in_ok-step.ensures.noted (kept_prints c.self.inside) (prints_rise c.self.inside c.self.invariant.sound) (print_missing c.self.inside c.self.invariant.sound c.args.number above) c.self.invariant.shown));
+      sound = accepted_sound c.self.inside after c.args.number c.args.event.now v c.self.invariant.sound above c.in_ok-writes.ensures.accepted refl refl
           accepted kept steps
-          c.in_ok-footprint.ensures
-          (values_found c.self.inside.graph.manifest c.self.inside.cells.state c.args.event.now c.in_ok-writes.writes.items c.in_ok-replaced.replaced.items c.in_ok-writes.ensures.once c.in_ok-replaced.ensures.stored c.in_ok-writes.ensures.writes)
+          (c.in_ok-step.ensures.print ∙ c.in_ok-footprint.ensures)
+          (values_found c.self.inside.graph.manifest c.self.inside.cells.state c.args.event.now c.in_ok-writes.writes.items c.in_ok-step.step.replaced.items c.in_ok-writes.ensures.once c.in_ok-step.ensures.stored c.in_ok-writes.ensures.writes)
           (record {
-            has = has_found c.write_noted.new.cells.places c.self.inside.cells.state c.in_ok-writes.writes.items c.in_ok-replaced.replaced.items c.in_ok-replaced.ensures.has c.in_ok-replaced.ensures.former;
-            fits = c.in_ok-replaced.ensures.former_fits;
+            has = has_found c.write_noted.new.cells.places c.self.inside.cells.state c.in_ok-writes.writes.items c.in_ok-step.step.replaced.items c.in_ok-step.ensures.has c.in_ok-step.ensures.former;
+            fits = c.in_ok-step.ensures.former_fits;
           })
-          c.in_ok-replaced.ensures.more
-          (state_found c.self.inside.graph.manifest c.self.inside.cells.state c.write_noted.new.cells.state c.args.event.now c.in_ok-writes.writes.items c.in_ok-replaced.ensures.state c.in_ok-writes.ensures.writes)
-          c.in_ok-replaced.ensures.jobs refl;
+          c.in_ok-step.ensures.more
+          (state_found c.self.inside.graph.manifest c.self.inside.cells.state c.write_noted.new.cells.state c.args.event.now c.in_ok-writes.writes.items c.in_ok-step.ensures.state c.in_ok-writes.ensures.writes)
+          c.in_ok-step.ensures.jobs refl;
     }
 
 pub returns-clause-ok : goal.returns-clause-ok

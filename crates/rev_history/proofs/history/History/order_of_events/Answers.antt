@@ -10,7 +10,7 @@ use Rattle.rev_events.proofs.SameLemmas.{equal_events_are_one}
 use Rattle.rev_order.specs.Matched.{ArePlacesOf, MatchedPlaces}
 use Rattle.rev_order.specs.Pairs.{turned_pair}
 use Rattle.rev_history.specs.Order.{answer_of}
-use Rattle.rev_history.specs.Steps.{HasFootprints, prints_of}
+use Rattle.rev_history.specs.Steps.{HasFootprints, Placed, named, prints_of}
 use Rattle.rev_history.specs.Value.{HistoryValue}
 use Rattle.rev_history.proofs.Fields.{all_footprints}
 use Rattle.rev_history.proofs.OrderLemmas.{kept_within, pair_found}
@@ -25,7 +25,7 @@ matched_places-requires-clause-within c =
 
 pub first_pair-requires-clause-beside : goal.first_pair-requires-clause-beside
 first_pair-requires-clause-beside c =
-    subst₂ (HasFootprints c.self.inside.accepted.entries) (sym c.deref-in-Some-3.ensures.value) (sym c.deref-in-Some-2.ensures.value) (all_footprints c.self.inside c.self.invariant.sound)
+    subst₂ (λ (xs : List Placed). HasFootprints c.self.inside.accepted.entries (named c.self.inside.accesses xs)) (sym c.deref-in-Some-3.ensures.value) (sym c.deref-in-Some-2.ensures.value) (all_footprints c.self.inside c.self.invariant.sound)
 
 pub returns-in-Some : goal.returns-in-Some
 returns-in-Some c =
@@ -38,4 +38,4 @@ returns-in-Some c =
     (subst₂ (λ (ks ls : List ℕ). ArePlacesOf event_eq (chosen a.accepted.entries ks) (bare (chosen b.accepted.entries ls)) c.in-Some.places.items) c.deref.ensures.value c.deref-2.ensures.value found)
     (answer_of c.first_pair.result)
     (c.first_pair.ensures
-    ∙ (λ i. pair_answer (turned_pair (conflict cell_cmp) (c.deref-in-Some.ensures.value i) (chosen (prints_of a.accepted.entries (c.deref-in-Some-3.ensures.value i)) (c.deref-in-Some-2.ensures.value i)))))
+    ∙ (λ i. pair_answer (turned_pair (conflict cell_cmp) (c.deref-in-Some.ensures.value i) (chosen (prints_of a.accepted.entries (named a.accesses (c.deref-in-Some-3.ensures.value i))) (c.deref-in-Some-2.ensures.value i)))))

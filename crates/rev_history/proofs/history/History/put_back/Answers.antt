@@ -1,17 +1,18 @@
-use Rattle.std.proofs.Common.{List, [], ◌∷◌, length, refl, ap, ◌∙◌}
+use Rattle.std.proofs.Common.{List, [], ◌∷◌, length, refl, sym, ap, ◌∙◌}
 use Rattle.rev_causal.specs.History.{event_at}
 use Rattle.rev_cells.specs.Table.{raised_by}
 use Rattle.rev_history.specs.declared.history.History.TheInside.{Inside}
-use Rattle.rev_history.specs.Steps.{Beside, prints_of}
+use Rattle.rev_history.specs.Steps.{Placed, named, prints_of}
 use Rattle.rev_history.specs.Taken.{IsWithout}
 use Rattle.rev_history.specs.Timeline.{undo_refusal, undone}
 use Rattle.rev_history.specs.Value.{HistoryValue, cells_written}
 use Rattle.rev_history.proofs.Fields.{as_many}
+use Rattle.rev_history.proofs.NamedLemmas.{length_named}
 use Rattle.rev_history.proofs.TakenLemmas.{listed_without}
 use Rattle.rev_history.proofs.history.History.put_back.Goals as goal
 
 pub thin_lists-requires-clause-many : goal.thin_lists-requires-clause-many
-thin_lists-requires-clause-many c = ap length c.deref.ensures.value ∙ as_many c.self.inside c.self.invariant.sound
+thin_lists-requires-clause-many c = ap length c.deref.ensures.value ∙ sym (length_named c.self.inside.accesses c.self.inside.steps.items) ∙ as_many c.self.inside c.self.invariant.sound
 
 pub put_back-requires : goal.put_back-requires
 put_back-requires c = record {
@@ -27,16 +28,16 @@ invariant_of-self c =
     let w : IsWithout c.self.inside after c.args.number =
     c.put_back.ensures c.self.inside after (record { accepted = refl; steps = refl; cells = refl }) c.self.invariant.sound
     (ap (λ (h : HistoryValue). undo_refusal h.timeline c.args.number) c.self.view_is ∙ c.requires)
-    (record { graph = refl; opening = refl; last = refl }) (record { accepted = refl; steps = refl; cells = refl }) c.take_out.ensures in
-    listed_without c.self.inside after (c.args.number ∷ []) c.self.invariant w.sound w.prints c.thin_lists.ensures.thinned
-    (λ n f among at. c.thin_lists.ensures.gone n f among (ap (λ (xs : List Beside). event_at n (prints_of c.self.inside.accepted.entries xs)) c.deref.ensures.value ∙ at))
+    (record { places = c.thin_lists.ensures.cells; graph = refl; opening = refl; last = refl }) (record { accepted = refl; steps = refl; cells = refl }) c.take_out.ensures in
+    listed_without c.self.inside after (c.args.number ∷ []) c.self.invariant w.sound c.thin_lists.ensures.cells w.placed w.prints c.thin_lists.ensures.thinned
+    (λ n f among at. c.thin_lists.ensures.gone n f among (ap (λ (xs : List Placed). event_at n (prints_of c.self.inside.accepted.entries (named c.self.inside.accesses xs))) c.deref.ensures.value ∙ at))
 
 pub returns-clause-timeline : goal.returns-clause-timeline
 returns-clause-timeline c =
     let after : Inside = record c.self.inside { steps = c.put_back.new.steps; kept = c.take_out.new.numbers; accesses = c.thin_lists.new.accesses; cells = c.put_back.new.cells } in
     (c.put_back.ensures c.self.inside after (record { accepted = refl; steps = refl; cells = refl }) c.self.invariant.sound
     (ap (λ (h : HistoryValue). undo_refusal h.timeline c.args.number) c.self.view_is ∙ c.requires)
-    (record { graph = refl; opening = refl; last = refl }) (record { accepted = refl; steps = refl; cells = refl }) c.take_out.ensures).timeline
+    (record { places = c.thin_lists.ensures.cells; graph = refl; opening = refl; last = refl }) (record { accepted = refl; steps = refl; cells = refl }) c.take_out.ensures).timeline
     ∙ ap (λ (h : HistoryValue). undone c.args.number h.timeline) c.self.view_is
 
 pub returns-clause-writes : goal.returns-clause-writes
@@ -44,5 +45,5 @@ returns-clause-writes c =
     let after : Inside = record c.self.inside { steps = c.put_back.new.steps; kept = c.take_out.new.numbers; accesses = c.thin_lists.new.accesses; cells = c.put_back.new.cells } in
     (c.put_back.ensures c.self.inside after (record { accepted = refl; steps = refl; cells = refl }) c.self.invariant.sound
     (ap (λ (h : HistoryValue). undo_refusal h.timeline c.args.number) c.self.view_is ∙ c.requires)
-    (record { graph = refl; opening = refl; last = refl }) (record { accepted = refl; steps = refl; cells = refl }) c.take_out.ensures).writes
+    (record { places = c.thin_lists.ensures.cells; graph = refl; opening = refl; last = refl }) (record { accepted = refl; steps = refl; cells = refl }) c.take_out.ensures).writes
     ∙ ap (λ (h : HistoryValue). raised_by (cells_written c.args.number h.timeline) h.writes) c.self.view_is

@@ -1,4 +1,4 @@
-use Rattle.std.proofs.Common.{ap, subst, ◌∙◌}
+use Rattle.std.proofs.Common.{ap, subst}
 use Rattle.rev_history.specs.Order.{IsSameOpening}
 use Rattle.rev_history.specs.Timeline.{IsHistory}
 use Rattle.rev_history.specs.Value.{HistoryValue}

@@ -1,24 +1,34 @@
-use Rattle.std.proofs.Common.{◌≡◌, true, List, ℕ, Some, None, IsSome, ap, subst, ◌∙◌, rules}
-use Rattle.rev_history.specs.Steps.{Beside, footprint_beside}
+use Rattle.std.proofs.Common.{◌≡◌, true, ℕ, List, Some, None, IsSome, ap, subst, sym, refl, ◌∙◌, rules}
+use Rattle.rev_history.specs.Sound.{beside_of, kept_prints}
+use Rattle.rev_history.specs.Steps.{Placed, footprint_at, step_beside}
 use Rattle.rev_history.specs.Timeline.{event_at, is_among}
 use Rattle.rev_history.specs.Value.{HistoryValue}
 use Rattle.rev_history.proofs.Fields.{has_print, undo_refusal_found}
+use Rattle.rev_history.proofs.Listed.{nearest_found, prints_numbers, prints_rise}
+use Rattle.rev_history.proofs.NamedLemmas.{none_named, some_named}
 use Rattle.rev_history.proofs.history.History.undo_refused.Goals as goal
 
 pub unreachable-requires : goal.unreachable-requires
 unreachable-requires c =
     has_print c.self.inside c.self.invariant.sound c.args.number (subst (λ (ks : List ℕ). is_among ks c.args.number ≡ true) c.deref.ensures.value c.in-Some.ensures.among)
-    (c.in_default-footprint_at.ensures ∙ ap (λ (xs : List Beside). footprint_beside c.args.number c.self.inside.accepted.entries xs) c.deref-2.ensures.value)
+    (none_named c.self.inside.accesses c.args.number c.self.inside.accepted.entries c.self.inside.steps.items
+    (c.in_default-step_of.ensures ∙ ap (λ (xs : List Placed). step_beside c.args.number c.self.inside.accepted.entries xs) c.deref-2.ensures.value))
 
 pub returns-in_err-dependent : goal.returns-in_err-dependent
 returns-in_err-dependent c =
     let some : IsSome (event_at c.args.self.now.timeline c.args.number) = search rules in
+    let f = footprint_at c.self.inside.accesses.cells c.in-Some-step_of.step.now in
     c.from_residual.ensures
-    ∙ undo_refusal_found c.self.inside c.self.invariant.sound c.args.self.now.timeline (ap (λ (h : HistoryValue). h.timeline) c.self.view_is) c.args.number c.in-Some-footprint_at.footprint.now c.deref.result.now c.deref-2.result.now
-    c.deref.ensures.value c.in-Some.ensures.among c.deref-2.ensures.value c.in-Some-footprint_at.ensures some None c.in_err-dependent.ensures.same
+    ∙ undo_refusal_found c.self.inside c.self.invariant.sound c.args.self.now.timeline (ap (λ (h : HistoryValue). h.timeline) c.self.view_is) c.args.number f c.deref.result.now (beside_of c.self.inside)
+    c.deref.ensures.value c.in-Some.ensures.among refl (some_named c.self.inside.accesses c.args.number c.self.inside.accepted.entries c.self.inside.steps.items c.in-Some-step_of.step.now (c.in-Some-step_of.ensures ∙ ap (λ (xs : List Placed). step_beside c.args.number c.self.inside.accepted.entries xs) c.deref-2.ensures.value)) some None
+    (nearest_found c.self.inside c.self.invariant.sound c.args.self.now.timeline (ap (λ (h : HistoryValue). h.timeline) c.self.view_is) c.args.number f None
+    (c.in_err-dependent.ensures (kept_prints c.self.inside) (prints_rise c.self.inside c.self.invariant.sound) (prints_numbers c.self.inside c.self.invariant.sound ∙ sym c.deref-3.ensures.value) c.self.invariant.shown))
 
 pub returns : goal.returns
 returns c =
     let some : IsSome (event_at c.args.self.now.timeline c.args.number) = search rules in
-    undo_refusal_found c.self.inside c.self.invariant.sound c.args.self.now.timeline (ap (λ (h : HistoryValue). h.timeline) c.self.view_is) c.args.number c.in-Some-footprint_at.footprint.now c.deref.result.now c.deref-2.result.now
-    c.deref.ensures.value c.in-Some.ensures.among c.deref-2.ensures.value c.in-Some-footprint_at.ensures some (Some c.in_ok-dependent.dependent) c.in_ok-dependent.ensures.same
+    let f = footprint_at c.self.inside.accesses.cells c.in-Some-step_of.step.now in
+    undo_refusal_found c.self.inside c.self.invariant.sound c.args.self.now.timeline (ap (λ (h : HistoryValue). h.timeline) c.self.view_is) c.args.number f c.deref.result.now (beside_of c.self.inside)
+    c.deref.ensures.value c.in-Some.ensures.among refl (some_named c.self.inside.accesses c.args.number c.self.inside.accepted.entries c.self.inside.steps.items c.in-Some-step_of.step.now (c.in-Some-step_of.ensures ∙ ap (λ (xs : List Placed). step_beside c.args.number c.self.inside.accepted.entries xs) c.deref-2.ensures.value)) some (Some c.in_ok-dependent.dependent)
+    (nearest_found c.self.inside c.self.invariant.sound c.args.self.now.timeline (ap (λ (h : HistoryValue). h.timeline) c.self.view_is) c.args.number f (Some c.in_ok-dependent.dependent)
+    (c.in_ok-dependent.ensures (kept_prints c.self.inside) (prints_rise c.self.inside c.self.invariant.sound) (prints_numbers c.self.inside c.self.invariant.sound ∙ sym c.deref-3.ensures.value) c.self.invariant.shown))

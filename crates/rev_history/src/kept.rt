@@ -1,0 +1,162 @@
+//! Footprints of kept events, as a history lends them.
+ghost use Rattle.std.specs.Prelude.{◌≡◌, ◌<◌, length, slice_index_or, take};
+ghost use Rattle.std.specs.FinSet as cells;
+ghost use Rattle.std.specs.List.{IsDistinct, list_any};
+ghost use Rattle.std.specs.Ordering.{eq_by_cmp};
+ghost use Rattle.rev_causal.specs.Store.{Footprint.Cells, among, conflict as conflict_of, is_accessed};
+ghost use Rattle.rev_cells.specs.Keys.{cell_cmp};
+ghost use Rattle.rev_footprint.specs.Value.{print_of};
+
+use crate::steps::Step;
+use rev_accesses::Accesses;
+use rev_cells::Cell;
+use std::marker::Model;
+
+/// Cells of a kept footprint, by their places in the history.
+#[derive(Drop)]
+pub struct KeptCells<'a> {
+    places: &'a [u32],
+    accesses: &'a Accesses,
+}
+
+impl<'a> Model for KeptCells<'a> {
+    ghost use Rattle.std.specs.Prelude.{List};
+    ghost use Rattle.rev_cells.specs.declared.cell.Cell.{Cell};
+    ghost use Rattle.rev_cells.specs.Keys.{coded_cell};
+    ghost use Rattle.std.specs.Coded.{coded_list};
+    ghost use Rattle.rev_accesses.specs.Places.{AreWithin, cells_at};
+
+    ghost Value = { List Cell };
+
+    ghost coded = { coded_list coded_cell };
+
+    ghost view = { λ a. cells_at a.accesses.now.cells a.places.now };
+
+    ghost invariant = { λ a. AreWithin a.accesses.now.cells a.places.now };
+}
+
+impl<'a> KeptCells<'a> {
+    /// How many they are.
+    pub fn len(&self) -> usize
+        ensures { result ≡ length self.now }
+    {
+        self.places.len()
+    }
+
+    /// The one at a place.
+    pub fn at(&self, index: usize) -> &'a Cell
+        requires { index < length self.now }
+        ensures { result.now ≡ slice_index_or self.now index result.now }
+    {
+        match self.accesses.cell(self.places[index]) {
+            Some(cell) => cell,
+            None => unreachable!(),
+        }
+    }
+
+    /// Whether a cell is one of them. They are looked at one by one.
+    pub fn has(&self, cell: &Cell) -> bool
+        ensures { result ≡ among cell_cmp self.now cell.now }
+    {
+        for index in 0..self.len() {
+            if cell == self.at(index) {
+                return true;
+            }
+        }
+        false
+    }
+}
+
+/// The footprint that a kept event has in the state at its place. It is held by the places of its cells, four bytes
+/// each, and lends the cells one by one.
+#[derive(Drop)]
+pub struct KeptFootprint<'a> {
+    pub(crate) step: &'a Step,
+    pub(crate) accesses: &'a Accesses,
+}
+
+impl<'a> Model for KeptFootprint<'a> {
+    ghost use Rattle.rev_footprint.specs.Value.{FootprintValue, footprint_code};
+    ghost use Rattle.rev_history.specs.Sound.{IsPlacedIn};
+    ghost use Rattle.rev_history.specs.Steps.{footprint_at};
+
+    ghost Value = { FootprintValue };
+
+    ghost coded = { footprint_code };
+
+    ghost view = { λ a. footprint_at a.accesses.now.cells a.step.now };
+
+    ghost invariant = { λ a. IsPlacedIn a.accesses.now.cells a.step.now };
+}
+
+impl<'a> KeptFootprint<'a> {
+    /// The cells that are read, each once, the written ones first; of a whole event, which reads every cell, those
+    /// alone.
+    pub fn reads(&self) -> KeptCells<'a>
+        ensures same { cells.from_list result ≡ self.now.reads }
+        ensures first { take (length self.now.writes) result ≡ self.now.writes }
+        ensures distinct { IsDistinct (eq_by_cmp cell_cmp) result }
+    {
+        KeptCells {
+            places: self.step.places.read(),
+            accesses: self.accesses,
+        }
+    }
+
+    /// The cells that are written, each once, in the order of the event's effect.
+    pub fn writes(&self) -> KeptCells<'a>
+        ensures same { result ≡ self.now.writes }
+        ensures distinct { IsDistinct (eq_by_cmp cell_cmp) result }
+    {
+        KeptCells {
+            places: self.step.places.written(),
+            accesses: self.accesses,
+        }
+    }
+
+    /// Whether the event reads every cell, as a plan does.
+    pub fn whole(&self) -> bool
+        ensures { result ≡ self.now.whole }
+    {
+        self.step.whole
+    }
+
+    /// Whether the event reads or writes a cell. Of a whole event, which reads every cell, that is so of the named ones
+    /// alone. They are looked at one by one.
+    pub fn has(&self, cell: &Cell) -> bool
+        ensures { result ≡ is_accessed cell_cmp (Cells (cells.items self.now.reads) self.now.writes) cell.now }
+    {
+        self.reads().has(cell)
+    }
+
+    // The same of one of some cells.
+    fn has_some(&self, asked: &KeptCells<'_>) -> bool
+        ensures { result
+            ≡ list_any (is_accessed cell_cmp (Cells (cells.items self.now.reads) self.now.writes)) asked.now }
+    {
+        for index in 0..asked.len() {
+            if self.has(asked.at(index)) {
+                return true;
+            }
+        }
+        false
+    }
+}
+
+/// Whether two kept footprints conflict: one is whole, or a cell that one writes is read or written by the other.
+///
+/// It takes no memory. Each cell that one writes is looked for among those that the other names, one by one.
+pub fn conflict(first: &KeptFootprint<'_>, second: &KeptFootprint<'_>) -> bool
+    ensures { result ≡ conflict_of cell_cmp (print_of first.now) (print_of second.now) }
+{
+    if first.whole() {
+        return true;
+    }
+    if second.whole() {
+        return true;
+    }
+    if second.has_some(&first.writes()) {
+        return true;
+    }
+    first.has_some(&second.writes())
+}
