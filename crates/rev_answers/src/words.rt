@@ -1,4 +1,7 @@
 //! Answers in words.
+ghost use Rattle.std.specs.Prelude.{◌≡◌, IfOk};
+ghost use Rattle.rev_answers.specs.Opening.{opening_line};
+
 use crate::causes::{push_dependents, push_needs};
 use crate::events::{push_count, push_events, push_list, push_numbered, push_visible};
 use crate::help::HELP;
@@ -25,7 +28,9 @@ pub fn opening_words(
     commands: usize,
     edges: u32,
     lanes: u32,
-) -> Result<Vec<u8>, AllocError> {
+) -> Result<Vec<u8>, AllocError>
+    ensures { IfOk result (λ text. text.items ≡ opening_line commands edges lanes) }
+{
     let mut text = Vec::new(alloc);
     push_number(&mut text, commands as u64)?;
     text.extend_from_slice(b" commands, ")?;
