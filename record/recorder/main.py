@@ -5,7 +5,7 @@ import os
 from .checking import check
 from .folders import BadFolder
 from .manifest import BadManifest
-from .options import USAGE, BadOptions, read_check, read_options
+from .options import BadOptions, Checking, HelpWanted, read_words
 from .session import NOT_RECORDED, NOT_RUN, Failure, Session
 from .signals import Ended, Signals, name_of, write_all
 from .words import BadWords
@@ -45,13 +45,14 @@ def main(words):
     _fill_missing_descriptors()
     signals = Signals(say)
     try:
-        if not words or words[0] in ("-h", "--help"):
-            show(USAGE)
-            return 0 if words else NOT_RUN
-        if "--check" in words[: words.index("--") if "--" in words else None]:
-            return check(*read_check(words), show, launcher())
+        asked = read_words(words)
+        if isinstance(asked, Checking):
+            return check(asked.out, asked.rebug, show, launcher())
         signals.install()
-        return Session(read_options(words), signals, say, launcher()).run()
+        return Session(asked, signals, say, launcher()).run()
+    except HelpWanted as why:
+        show(why)
+        return 0
     except Failure as why:
         say(why)
         return why.status

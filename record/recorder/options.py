@@ -1,39 +1,45 @@
-"""Reads the recorder's own words."""
+"""Reads the words of `rebug record`: those in front of `--` are the recorder's, those behind it Ninja's."""
 
+from __future__ import annotations
+
+import argparse
 from dataclasses import dataclass, field
+from typing import Any, NoReturn, Sequence
 
-USAGE = """usage: rebug-record BUILD_DIR OUT_DIR [OPTIONS] [-- NINJA_WORDS...]
-       rebug-record --check OUT_DIR [--rebug PROGRAM]
+_NAME = "rebug record"
+_USAGE = """%(prog)s BUILD_DIR OUT_DIR [OPTIONS] [-- NINJA_WORDS...]
+       %(prog)s --check OUT_DIR [--rebug PROGRAM]"""
+_ABOUT = """Runs Ninja in BUILD_DIR and writes to OUT_DIR what rebug needs to replay that build: the manifest and the
+files that it includes, trace, script, times, names, and replay, which runs rebug on them."""
+_MORE = """What stands behind -- goes to Ninja: targets, -k N, -v, -f FILE, ...
 
-Runs Ninja in BUILD_DIR and writes to OUT_DIR what rebug needs to replay that build: the manifest and the files that
-it includes, trace, script, times, and replay, which runs rebug on them. The exit status is Ninja's; it is 2 where
-Ninja was not run, and 3 where it ran well and nothing was recorded.
+exit status:
+  Ninja's where Ninja ran, and 128 and the signal's number where a signal ended Ninja or this program
+  2  Ninja was not run: one of the words or a folder is at fault, as a sentence on standard error says
+  3  nothing was recorded, though Ninja ended well
+  With --check: 0 where rebug accepts every command of the recording, 1 where it refuses one, 2 where the program
+  cannot be run, 3 where there is no recording
 
-  -j N           run N commands side by side, as Ninja's -j
-  --jobs-as-run  as few jobs as Ninja ran side by side, in place of one for each command
-  --lanes        one lane for each job that ran, for a run with rebug --workers
-  --anyway       record what rebug will refuse, too
-  --force        replace a recording also where Ninja refused to build
-  --verbose      say also what comes with every build and asks for nothing
-  --check        runs rebug on a recording, and says which commands it refused, and what that means
-  --rebug        the program to check with, in place of the launcher beside this script
-  --             what follows goes to Ninja: targets, -k N, -v, -f FILE, ...
-
-example: rebug-record build recorded -j 4 -- app
-         rebug-record --check recorded"""
+examples:
+  rebug record build recorded -j 4 -- app
+  rebug record --check recorded"""
 
 
 class BadOptions(Exception):
     """Words that the recorder does not understand, as a sentence."""
 
 
+class HelpWanted(Exception):
+    """The user asked for help, which is the text."""
+
+
 @dataclass
 class Options:
-    """What is to be recorded, and how."""
+    """What is to be recorded, and how. Each field but `for_ninja` is named as the word that sets it."""
 
-    build: str = ""
-    out: str = ""
-    for_ninja: list = field(default_factory=list)
+    build: str
+    out: str
+    for_ninja: list[str] = field(default_factory=list)
     lanes: bool = False
     jobs_as_run: bool = False
     anyway: bool = False
@@ -41,50 +47,100 @@ class Options:
     verbose: bool = False
 
 
-_SWITCHES = {"--lanes": "lanes", "--jobs-as-run": "jobs_as_run", "--anyway": "anyway", "--force": "force",
-             "--verbose": "verbose"}
+@dataclass
+class Checking:
+    """The recording that is to be checked, and the program to check it with where one was named."""
+
+    out: str
+    rebug: str | None = None
 
 
-def read_options(words):
-    """The words in front of `--` are the recorder's, those behind it Ninja's."""
+class _Parser(argparse.ArgumentParser):
+    """A parser that neither writes nor ends the process: help and faults are exceptions."""
+
+    def error(self, message: str) -> NoReturn:
+        raise BadOptions(f"{message} ({_NAME} --help tells the words)")
+
+
+class _Help(argparse.Action):
+    def __call__(self, parser: argparse.ArgumentParser, *_: Any) -> NoReturn:
+        raise HelpWanted(_recording_words().format_help().rstrip())
+
+
+def _words_of(name: str, *parents: argparse.ArgumentParser) -> _Parser:
+    """A parser with the word for help and those of its parents."""
+    parser = _Parser(prog=_NAME, usage=_USAGE, description=_ABOUT, epilog=_MORE, parents=list(parents), add_help=False,
+                     allow_abbrev=False, formatter_class=argparse.RawDescriptionHelpFormatter)
+    parser.add_argument("-h", "--help", action=_Help, nargs=0, default=argparse.SUPPRESS, help="tell these words")
+    return parser
+
+
+def _number_of_jobs(text: str) -> str:
+    """The number behind -j, in the digits that were given."""
+    if not (text.isascii() and text.isdigit()):
+        raise argparse.ArgumentTypeError("wants a number of jobs")
+    return text
+
+
+def _checking_words() -> argparse.ArgumentParser:
+    words = argparse.ArgumentParser(add_help=False, allow_abbrev=False)
+    group = words.add_argument_group("with --check")
+    group.add_argument("--check", action="store_true",
+                       help="run rebug on a recording, and say which commands it refused, and what that means")
+    group.add_argument("--rebug", metavar="PROGRAM",
+                       help="the program to check with, in place of the launcher beside this script")
+    return words
+
+
+def _recording_words() -> argparse.ArgumentParser:
+    """The words of a recording. An option whose value stands behind `=` alone, and may be left out, is added twice, as
+    `--word` and as `--word=value`, each with a constant: else it would take the folder behind it for its value."""
+    words = _words_of(_NAME, _checking_words())
+    words.add_argument("build", metavar="BUILD_DIR", help="the folder that Ninja runs in")
+    words.add_argument("out", metavar="OUT_DIR", help="the folder of the recording, which is made where it is missing")
+    words.add_argument("-j", dest="jobs", metavar="N", type=_number_of_jobs,
+                       help="run N commands side by side, as Ninja's -j")
+    words.add_argument("--jobs-as-run", action="store_true",
+                       help="as few jobs as Ninja ran side by side, in place of one for each command")
+    words.add_argument("--lanes", action="store_true",
+                       help="one lane for each job that ran, for a run with rebug --workers")
+    words.add_argument("--anyway", action="store_true", help="record what rebug will refuse, too")
+    words.add_argument("--force", action="store_true", help="replace a recording also where Ninja refused to build")
+    words.add_argument("--verbose", action="store_true",
+                       help="say also what comes with every build and asks for nothing")
+    return words
+
+
+def read_words(words: Sequence[str]) -> Options | Checking:
+    """What the words ask for. Raises BadOptions with a sentence, and HelpWanted with the text."""
     at = words.index("--") if "--" in words else len(words)
-    own, found, folders = list(words[:at]), Options(), []
-    while own:
-        word = own.pop(0)
-        if word in _SWITCHES:
-            setattr(found, _SWITCHES[word], True)
-        elif word.startswith("-j"):
-            value = word[2:] or (own.pop(0) if own else "")
-            if not (value.isascii() and value.isdigit()):
-                raise BadOptions("-j wants a number of jobs")
-            found.for_ninja = ["-j", value]
-        elif word.startswith("-"):
-            raise BadOptions(f"{word} is no word of the recorder (words for Ninja stand behind --)\n{USAGE}")
-        else:
-            folders.append(word)
-    if len(folders) > 2:
-        raise BadOptions(f"{' '.join(folders[2:])} stands behind the two folders: targets and other words for Ninja go "
-                         f"behind --, as in `-- {' '.join(folders[2:])}`")
-    if len(folders) < 2:
-        raise BadOptions(f"name the build folder and the folder to write\n{USAGE}")
-    found.build, found.out = folders
-    found.for_ninja += words[at + 1 :]
-    return found
+    own = words[:at]
+    return _read_check(own) if "--check" in own else _read_recording(own, words[at + 1 :])
 
 
-def read_check(words):
-    """The folder and the program (or None) of `--check OUT_DIR [--rebug PROGRAM]`."""
-    left, folder, program = list(words), [], None
-    while left:
-        word = left.pop(0)
-        if word == "--rebug" and left:
-            program = left.pop(0)
-        elif word == "--check":
-            continue
-        elif word.startswith("-"):
-            raise BadOptions(f"{word} does not go with --check\n{USAGE}")
-        else:
-            folder.append(word)
-    if len(folder) != 1:
-        raise BadOptions(f"--check wants one recording\n{USAGE}")
-    return folder[0], program
+def _read_recording(own: Sequence[str], for_ninja: Sequence[str]) -> Options:
+    found, left = _recording_words().parse_known_args(own)
+    unknown = [it for it in left if it.startswith("-")]
+    if unknown:
+        raise BadOptions(f"{unknown[0]} is not a word of {_NAME}, whose --help tells them; words for Ninja stand "
+                         f"behind --")
+    if left:
+        behind = " ".join(left)
+        raise BadOptions(f"{behind} stands behind the two folders: targets and other words for Ninja go behind --, as "
+                         f"in `-- {behind}`")
+    if found.rebug is not None:
+        raise BadOptions("--rebug goes with --check")
+    named = vars(found)
+    jobs = named.pop("jobs")
+    for word in ("check", "rebug"):
+        del named[word]
+    return Options(for_ninja=[*(["-j", jobs] if jobs else []), *for_ninja], **named)
+
+
+def _read_check(own: Sequence[str]) -> Checking:
+    words = _words_of(_NAME, _checking_words())
+    words.add_argument("out", metavar="OUT_DIR")
+    found, left = words.parse_known_args(own)
+    if left:
+        raise BadOptions(f"{left[0]} does not go with --check, which wants one recording")
+    return Checking(found.out, found.rebug)
