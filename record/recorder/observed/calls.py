@@ -20,6 +20,8 @@ changed, and what stands behind it works faster with calls that it has met befor
     NO_FILE      -                      -                    -               a descriptor of no file (memfd_create)
     OPEN         what                   -                    O_...           the descriptor
     STAT         what                   -                    O_NOFOLLOW or 0 0 (stat, access, statx and their kin)
+    LIST         the folder's           -                    -               0 or more (getdents, getdents64)
+                 descriptor (no path)
     LINK         the old name           the new name         O_NOFOLLOW or 0 0
     SYMLINK      -                      the link's own name  -               0
     RENAME       the old name           the new name         -               0
@@ -33,7 +35,7 @@ changed, and what stands behind it works faster with calls that it has met befor
     SERVER       -                      -                    -               0 or -EINPROGRESS (connect, to another
                                                                              process: AF_UNIX, AF_INET, AF_INET6)
     URING        -                      -                    -               a descriptor (io_uring_setup)
-    NAMESPACE    -                      -                    -               0 (chroot, mount, pivot_root, setns)
+    NAMESPACE    chroot: the new root   -                    -               0 (chroot, mount, pivot_root, setns)
     UNKNOWN      -                      -                    -               - (a call whose paths cannot be told:
                                                                              open_by_handle_at, 32-bit calls)
     TRACE        -                      -                    -               0 or -errno (ptrace with PTRACE_ATTACH,
@@ -66,6 +68,7 @@ class Kind(IntEnum):
     NO_FILE = auto()
     OPEN = auto()
     STAT = auto()
+    LIST = auto()
     LINK = auto()
     SYMLINK = auto()
     RENAME = auto()
