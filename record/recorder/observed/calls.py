@@ -18,7 +18,7 @@ changed, and what stands behind it works faster with calls that it has met befor
     DUP          the old descriptor     -                    -               the descriptor made (dup, dup2, dup3,
                  (no path)                                                   fcntl F_DUPFD and F_DUPFD_CLOEXEC)
     NO_FILE      -                      -                    -               a descriptor of no file (memfd_create)
-    OPEN         what                   -                    O_...           the descriptor
+    OPEN         what                   -                    O_...           the descriptor, or NOT_ASKED
     STAT         what                   -                    O_NOFOLLOW or 0 0 (stat, access, statx and their kin)
     LIST         the folder's           -                    -               0 or more (getdents, getdents64)
                  descriptor (no path)
@@ -50,6 +50,9 @@ from typing import BinaryIO, Protocol
 
 CURRENT = -100
 """The folder of a relative path: that of the process (AT_FDCWD)."""
+
+NOT_ASKED = 1 << 30
+"""The result of an OPEN that went well, where the observer names folders itself and looks at no descriptor."""
 
 CLONE_FS, CLONE_FILES, CLONE_THREAD = 0x200, 0x400, 0x10000
 CLONE_NAMESPACES = 0x00020000 | 0x10000000
