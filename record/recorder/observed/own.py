@@ -1,0 +1,120 @@
+"""rebug's own observer: the program of record/observer, built where it is not there yet, and what it tells."""
+
+import atexit
+import hashlib
+import os
+import pathlib
+import shutil
+import subprocess
+import tempfile
+from collections.abc import Iterator
+from typing import BinaryIO
+
+from .calls import Event
+from .own_records import Records
+
+SOURCE = pathlib.Path(__file__).resolve().parents[2] / "observer" / "observer.c"
+COMPILERS = ("cc", "gcc", "clang")
+FLAGS = ("-std=c11", "-O2")
+_LONGEST_BUILD, _LONGEST_TRY = 120, 20  # seconds
+
+
+class NotBuilt(Exception):
+    """Why there is no program, as the rest of a sentence."""
+
+
+class Own:
+    """The observer of record/observer."""
+
+    name = b"ptrace"
+
+    def __init__(self):
+        self.unread, self._program = 0, None
+
+    def program(self) -> pathlib.Path:
+        """The program, which is built at the first use. Raises NotBuilt where it cannot be."""
+        self._program = self._program or _built(SOURCE)
+        return self._program
+
+    def refusal(self) -> str | None:
+        """Why it cannot observe here, as the rest of a sentence behind "cannot observe: "; None where it can."""
+        try:
+            tried = subprocess.run([self.program(), "--try"], stdin=subprocess.DEVNULL, stdout=subprocess.PIPE,
+                                   stderr=subprocess.DEVNULL, timeout=_LONGEST_TRY)
+        except (NotBuilt, OSError) as why:
+            return str(why)
+        except subprocess.TimeoutExpired:
+            return f"a trial of ptrace did not end within {_LONGEST_TRY} seconds"
+        if tried.returncode == 0:
+            return None
+        return os.fsdecode(tried.stdout).strip() or f"a trial of ptrace ended with status {tried.returncode}"
+
+    def words(self, log: bytes, ninja: list[bytes]) -> list[bytes]:
+        """The words that run Ninja observed, writing to `log`."""
+        return [os.fsencode(self.program()), log, *ninja]
+
+    def events(self, log: BinaryIO) -> Iterator[Event]:
+        """The events of a log, as they come. What cannot be read is left out and counted in `unread`."""
+        records = Records(log)
+        yield from records.events()
+        self.unread += not records.is_whole
+
+
+def _built(source: pathlib.Path) -> pathlib.Path:
+    """The program of a source: that which `make` left beside it, else that of the cache, which may have to be made."""
+    beside = source.with_suffix("")
+    try:
+        if beside.stat().st_mtime_ns >= source.stat().st_mtime_ns and os.access(beside, os.X_OK):
+            return beside
+    except OSError:
+        pass
+    try:
+        text = source.read_bytes()
+    except OSError as why:
+        raise NotBuilt(f"the observer's source cannot be read ({why.strerror})") from why
+    name = f"observer-{hashlib.sha256(text).hexdigest()}"
+    for folder in (_cache, _folder_of_this_process):
+        try:
+            program = folder() / name
+            if not os.access(program, os.X_OK):
+                _compile(source, program)
+            return program
+        except OSError as why:
+            reason = why
+    raise NotBuilt(f"the observer cannot be written ({reason.strerror})") from reason
+
+
+def _cache() -> pathlib.Path:
+    """The folder for what rebug builds once for all builds."""
+    folder = pathlib.Path(os.environ.get("XDG_CACHE_HOME") or pathlib.Path("~/.cache").expanduser()) / "rebug"
+    folder.mkdir(mode=0o700, parents=True, exist_ok=True)
+    return folder
+
+
+def _folder_of_this_process() -> pathlib.Path:
+    """A folder that is removed when this process ends, where the cache cannot be written."""
+    folder = pathlib.Path(tempfile.mkdtemp(prefix="rebug-observer-"))
+    atexit.register(shutil.rmtree, folder, ignore_errors=True)
+    return folder
+
+
+def _compile(source: pathlib.Path, program: pathlib.Path) -> None:
+    """Builds beside the program's place and moves it there, so that two recorders do not meet half of it."""
+    compiler = next(filter(None, map(shutil.which, COMPILERS)), None)
+    if compiler is None:
+        raise NotBuilt("there is no C compiler (cc), which rebug's own observer is built by")
+    handle, staging = tempfile.mkstemp(prefix=".observer-", dir=program.parent)
+    os.close(handle)
+    try:
+        ran = subprocess.run([compiler, *FLAGS, "-o", staging, source], stdin=subprocess.DEVNULL,
+                             stdout=subprocess.PIPE, stderr=subprocess.STDOUT, timeout=_LONGEST_BUILD)
+        if ran.returncode:
+            said = os.fsdecode(ran.stdout).strip().splitlines()
+            first = next((it for it in said if "error" in it), said[0] if said else f"status {ran.returncode}")
+            raise NotBuilt(f"{compiler} does not build the observer ({first})")
+        os.chmod(staging, 0o755)
+        os.replace(staging, program)
+    except subprocess.TimeoutExpired as why:
+        raise NotBuilt(f"{compiler} did not build the observer within {_LONGEST_BUILD} seconds") from why
+    finally:
+        pathlib.Path(staging).unlink(missing_ok=True)
