@@ -4,6 +4,9 @@ import os
 import shutil
 import subprocess
 
+from .folders import whole
+from .replaying import words_of_replay
+
 # What a refusal of a recorded command says of the recording, by its number.
 MEANINGS = {
     50: "a second plan came while an edge was running",
@@ -45,29 +48,39 @@ def check(folder, program=None, say=print, launcher=None):
     """Replays the recording, says how it went, and gives the exit status: 0 where every command was accepted.
 
     The program is the one that is given, else the one that REBUG names, else the launcher: a recording may have been
-    moved away from the one that it was made beside.
+    moved away from the one that it was made beside. Nothing of the recording is run: of its `replay` only the words are
+    taken.
     """
-    replay = os.path.join(folder, "replay")
-    if not os.path.exists(replay):
-        say(f"{folder} has no recording: there is no file {replay}")
-        return 3
     given = program or os.environ.get("REBUG")
     found = _found(given) if given else launcher
     if given and not found:
         say(f"{given} cannot be run: {'--rebug' if program else 'REBUG'} wants the program rebug")
         return 2
-    environment = {**os.environ, **({"REBUG": found} if found else {})}
-    # what the launcher says while it builds the program, and what rebug says of a fault, goes through to the user
-    done = subprocess.run(["sh", os.path.abspath(replay)], stdin=subprocess.DEVNULL, stdout=subprocess.PIPE,
-                          env=environment)
-    report = done.stdout.split(b"\n")
-    if done.returncode or report[0].startswith(b"fault "):
-        say("rebug did not replay the recording:")
-        for text in done.stdout.decode("utf-8", "backslashreplace").splitlines()[-5:]:
-            say("  " + text)
-        say("docs/CODES.md says what each number means")
-        return 1
-    return _judge(folder, report, say)
+    with whole(folder) as room:
+        if room != folder:
+            say(f"the recorder was ended while it moved a recording into {folder}: that one is checked, from a copy")
+        words = _words(room)
+        if words is None:
+            say(f"{folder} has no recording: {os.path.join(folder, 'replay')} does not tell one")
+            return 3
+        # what the launcher says while it builds the program, and what rebug says of a fault, goes through to the user
+        done = subprocess.run([found, *words], cwd=room, stdin=subprocess.DEVNULL, stdout=subprocess.PIPE)
+        report = done.stdout.split(b"\n")
+        if done.returncode or report[0].startswith(b"fault "):
+            say("rebug did not replay the recording:")
+            for text in done.stdout.decode("utf-8", "backslashreplace").splitlines()[-5:]:
+                say("  " + text)
+            say("docs/CODES.md says what each number means")
+            return 1
+        return _judge(room, report, say)
+
+
+def _words(folder):
+    try:
+        with open(os.path.join(folder, "replay"), encoding="utf-8", errors="surrogateescape") as file:
+            return words_of_replay(file.read())
+    except OSError:
+        return None
 
 
 def _found(program):

@@ -6,43 +6,37 @@ import stat
 
 from .depslog import text_of
 from .fields import canonical, field, line, shown
+from .folders import is_name
 from .replaying import replay_text
 
 MOST_LANES = 63
-_BUFFER = 1 << 18
-_TAKEN = (b"..", b"trace", b"script", b"replay", b"times", b"names")
+# The files beside those of the manifest.
+WRITTEN = (b"trace", b"script", b"replay", b"times", b"names")
+# What no file of the manifest may have as the first part of its name; that of an absolute path is empty.
+_TAKEN = (b"", b".", b"..", b"outside", *WRITTEN)
 
 
-def write_recording(it, folder, with_lanes, program, at=None):
-    """Writes everything into the folder, and gives the names of the manifest's files there.
+def write_recording(it, folder, with_lanes, program, at):
+    """Writes everything into the held folder, and gives the names of the manifest's files there.
 
-    `at` is where the folder will stand, by which `replay` finds the program.
+    `at` is where the recording will stand, by which `replay` finds the program.
     """
-    os.makedirs(folder, exist_ok=True)
     names = write_manifest(it, folder)
     lanes, script = _lanes(it) if with_lanes else _one_lane(it)
-    with _open(folder, b"trace") as file:
+    with folder.create(b"trace") as file:
         file.write(b"rebug-trace %d\n" % (1 if len(lanes) == 1 else 2))
         file.writelines(text + b"\n" for text in opening(it))
         file.writelines(text + b"\n" for text in commands(it.found.events, lanes))
-    with _open(folder, b"times") as file:
+    with folder.create(b"times") as file:
         file.write(b"rebug-times 1\n")
         file.writelines(times(it.found.times, lanes))
-    with _open(folder, b"names") as file:
+    with folder.create(b"names") as file:
         file.write(b"rebug-names 1\n")
         file.writelines(line(path, it.names[path]) + b"\n" for path in sorted(it.names))
-    with _open(folder, b"script") as file:
+    with folder.create(b"script") as file:
         file.writelines(text + b"\n" for text in script)
-    words = ["--manifest", os.fsdecode(names[0]), "--trace", "trace"]
-    _write_replay(folder, replay_text(words, [os.fsdecode(name) for name in names[1:]], script, with_lanes,
-                                      _beside(program, at or folder)))
+    _write_replay(folder, replay_text([os.fsdecode(name) for name in names], script, with_lanes, _beside(program, at)))
     return names
-
-
-def _open(folder, name):
-    path = os.path.join(os.fsencode(folder), name)
-    os.makedirs(os.path.dirname(path), exist_ok=True)
-    return open(path, "wb", buffering=_BUFFER)
 
 
 def _beside(program, folder):
@@ -52,38 +46,37 @@ def _beside(program, folder):
 
 
 def _write_replay(folder, text):
-    with _open(folder, b"replay") as file:
+    with folder.create(b"replay") as file:
         file.write(os.fsencode(text))
         os.fchmod(file.fileno(), stat.S_IMODE(os.fstat(file.fileno()).st_mode) | 0o111)
 
 
-def write_manifest(it, folder):
-    """Copies the files. One from outside of the build folder gets a name inside, in the line that names it too."""
+def names_of_files(manifest):
+    """The names in a recording of the manifest's files, by their canonical paths. One from outside of the build folder,
+    or with a name that the recording needs, gets another."""
     names = {}
-    for name, _, _ in it.manifest.files:
+    for name, _, _ in manifest.files:
         path = canonical(name)
-        is_inside = not path.startswith((b"/", b"../", b".new/", b".old/")) and path not in _TAKEN and _is_text(path)
+        is_inside = is_name(path) and path.split(b"/", 1)[0] not in _TAKEN
         names[path] = path if is_inside else b"outside/%d.ninja" % len(names)
-        if not is_inside:
-            it.remarks.append(f"'{shown(name)}' is copied as {names[path].decode()}, and the line that names it is "
-                              f"changed")
+    return names
+
+
+def write_manifest(it, folder):
+    """Copies the files. Where one has another name in the recording, the line that names it is changed."""
+    names = names_of_files(it.manifest)
+    for path, name in names.items():
+        if name != path:
+            it.remarks.append(f"'{shown(path)}' is copied as {name.decode()}, and the line that names it is changed")
     for name, content, includes in it.manifest.files:
         for place in reversed(includes):
             if names[canonical(place.path)] != canonical(place.path):
                 text = place.keyword + b" " + names[canonical(place.path)]
                 text += b"$\n" * content.count(b"\n", place.begin, place.end)
                 content = content[: place.begin] + text + content[place.end :]
-        with _open(folder, names[canonical(name)]) as file:
+        with folder.create(names[canonical(name)]) as file:
             file.write(content)
     return list(names.values())
-
-
-def _is_text(path):
-    try:
-        path.decode()
-    except UnicodeDecodeError:
-        return False
-    return True
 
 
 def opening(it):

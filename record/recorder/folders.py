@@ -1,147 +1,286 @@
-"""The folder of a recording: made before Ninja runs, written beside what is there, and switched at the end.
+"""The folder of a recording: made before Ninja runs, written beside what is there, and switched by one rename.
 
-What is written stands in `.new` inside of the folder, so on the same file system, and is moved when all of it is
-there. What it replaces waits in `.old` until the last file is in its place: a switch that was cut off is taken back by
-the next recording. Files of the user's own in the folder stay as they are.
+What is written stands in `.new` inside of the folder, so on the same file system. When all of it is on the disk, one
+rename of `.new` to `.moving` decides: from then on the new recording is the one that counts. Its files are then moved
+into their places, `replay` last, and `.moving` goes. Whatever ends the recorder in between, the next one goes on: it
+takes `.new` away, and moves what is left in `.moving`. Readers that meet `.moving/replay` take each file from there, or
+from its place where it has been moved. Files of the user's own in the folder stay as they are.
+
+The folder may come from somebody else. So `.new` and `.moving` are taken for an earlier recorder's only where they have
+nothing but files and folders under names that a recording can have, and no name is looked up through a link (`held`).
 """
+
+from __future__ import annotations
 
 import contextlib
 import fcntl
 import os
 import shutil
+import stat
+import tempfile
+from typing import Iterable, Iterator
 
-NEW, OLD = b".new", b".old"
-_OWN = (NEW, OLD)
-_ADDED = b".added"  # in `.old`: the names of the files that had none to replace
+from .fields import shown
+from .held import HeldFolder, joined
+from .signals import held_back
+
+NEW, MOVING = b".new", b".moving"
+_OLD = b".old"  # where earlier versions of the recorder put aside what they replaced
+OWN_NAMES = (NEW, MOVING, _OLD)
+_REPLAY = b"replay"
 
 
 class BadFolder(Exception):
     """A sentence that says why nothing can be recorded into the folder."""
 
 
+class NotInPlace(Exception):
+    """The new recording counts, and a file of it could not be moved into its place: the system's reason."""
+
+
+@contextlib.contextmanager
+def whole(folder: str) -> Iterator[str]:
+    """The folder of a recording as it is to be read: a copy of the one that counts, for as long as it is used, where
+    the recorder was ended while it moved the files into their places; else the folder itself."""
+    if not os.path.isfile(os.path.join(folder, os.fsdecode(MOVING), os.fsdecode(_REPLAY))):
+        yield folder
+        return
+    with tempfile.TemporaryDirectory(prefix="rebug-whole-") as copy:
+        with HeldFolder.at(folder) as held, HeldFolder.at(copy) as target:
+            with held.below(MOVING) as moving:
+                _copy_files(moving, target)
+            _copy_files(held, target)
+        yield copy
+
+
+def _copy_files(source: HeldFolder, target: HeldFolder) -> None:
+    """Copies the files that a recording can have, and that the target does not have."""
+    for at, found in source.everything():
+        if stat.S_ISREG(found.st_mode) and is_name(at) and target.status(at) is None:
+            with source.read(at) as file, target.create(at) as copy:
+                shutil.copyfileobj(file, copy)
+
+
 class OutFolder:
-    """A folder that a recording can be written into. Used by `with`, which leaves nothing half written behind."""
+    """A folder that a recording can be written into. Used by `with`, which leaves nothing half written there."""
 
-    def __init__(self, path):
+    def __init__(self, path: str) -> None:
         self.path, self.folder = path, os.fsencode(path)
-        self.staging, self.old = os.path.join(self.folder, NEW), os.path.join(self.folder, OLD)
-        self.made, self.lock = [], None
+        self._made: list[bytes] = []
+        self._held: HeldFolder | None = None
+        self._staging: HeldFolder | None = None
 
-    def __enter__(self):
+    def __enter__(self) -> OutFolder:
         try:
             self._make()
+            self._held = HeldFolder.at(self.folder)
             self._lock()
             self._look()
-            self._take_back()
-            os.mkdir(self.staging)
-            self._try_to_write()
+            self._finish_or_remove()
+            self._stage()
         except OSError as why:
             self._leave()
-            raise BadFolder(f"{self.path} cannot be written: {why.strerror or why}. Ninja was not run") from why
+            raise self._bad(f" cannot be written: {why.strerror or why}") from why
         except BaseException:
             self._leave()
             raise
         return self
 
-    def __exit__(self, *_):
+    def __exit__(self, *_: object) -> None:
         self._leave()
 
-    def _make(self):
+    @property
+    def held(self) -> HeldFolder:
+        """The folder itself."""
+        assert self._held is not None
+        return self._held
+
+    @property
+    def staging(self) -> HeldFolder:
+        """The folder that the new recording is written to."""
+        assert self._staging is not None
+        return self._staging
+
+    def _bad(self, text: str, name: bytes = b"") -> BadFolder:
+        """A sentence about a name in the folder, or about the folder."""
+        return BadFolder(f"{shown(os.path.join(self.folder, name) if name else self.folder)}{text}")
+
+    def _make(self) -> None:
         """Makes the folder and those above it that are missing, and remembers which."""
         if os.path.exists(self.folder) and not os.path.isdir(self.folder):
-            raise BadFolder(f"{self.path} is a file, and the recording goes into a folder: name another. "
-                            f"Ninja was not run")
+            raise self._bad(" is a file, and the recording goes into a folder: name another")
         missing, at = [], os.path.abspath(self.folder)
         while not os.path.lexists(at):
             missing.append(at)
             at = os.path.dirname(at)
         for it in reversed(missing):
             os.mkdir(it)
-            self.made.append(it)
+            self._made.append(it)
 
-    def _lock(self):
-        self.lock = os.open(self.folder, os.O_RDONLY | os.O_DIRECTORY)
+    def _lock(self) -> None:
         try:
-            fcntl.flock(self.lock, fcntl.LOCK_EX | fcntl.LOCK_NB)
+            fcntl.flock(self.held.descriptor, fcntl.LOCK_EX | fcntl.LOCK_NB)
         except BlockingIOError:
-            os.close(self.lock)
-            self.lock = None
-            raise BadFolder(f"another recording is being written into {self.path}. Ninja was not run") from None
+            raise BadFolder(f"another recording is being written into {self.path}") from None
         except OSError:  # a file system without locks
             pass
 
-    def _look(self):
-        known = [it for it in os.listdir(self.folder) if it not in _OWN]
-        if known and not self.has_recording() and not os.path.exists(self.old):
-            raise BadFolder(f"{self.path} has files that are no recording: name another folder, or empty it. "
-                            f"Ninja was not run")
+    def _look(self) -> None:
+        """Whether the folder is one to record into, before anything in it is changed."""
+        if self.held.status(_OLD):
+            raise self._bad(" is not a part of a recording. An earlier version of the recorder put aside there what it "
+                            "was replacing as it was killed: take it away, or move its files back", _OLD)
+        for name in (NEW, MOVING):
+            self._look_at_left(name)
+        others = [it for it in self.held.names() if it not in OWN_NAMES]
+        if others and not self.has_recording() and not self._is_being_moved():
+            raise self._bad(" has files that are no recording: name another folder, or empty it")
 
-    def has_recording(self):
+    def _look_at_left(self, name: bytes) -> None:
+        """Whether what stands under one of the recorder's own names is what an ended recorder leaves."""
+        found = self.held.status(name)
+        if found is None:
+            return
+        if not stat.S_ISDIR(found.st_mode):
+            raise self._bad(f" is {_kind(found)}, and not what a recorder leaves: take it away", name)
+        self._is_folder_to_write(name)
+        with self.held.below(name) as left:
+            for at, it in left.everything():
+                if not (stat.S_ISDIR(it.st_mode) or stat.S_ISREG(it.st_mode)) or it.st_dev != found.st_dev:
+                    raise self._bad(f"/{shown(at)} is {_kind(it)}, and not what a recorder leaves: take it away", name)
+                if not is_name(at):
+                    raise self._bad(f"/{shown(at)} is not a name in a recording: take it away", name)
+                if stat.S_ISDIR(it.st_mode):
+                    self._is_folder_to_write(joined(name, at))
+        if name == MOVING:
+            self.look_at_places(self._files_of(name))
+
+    def _files_of(self, name: bytes) -> list[bytes]:
+        """The files below a folder in the folder, by their names from it."""
+        with self.held.below(name) as folder:
+            return [at for at, found in folder.everything() if not stat.S_ISDIR(found.st_mode)]
+
+    def look_at_places(self, names: Iterable[bytes]) -> None:
+        """Whether files of these names can be moved into the folder, and no folder on the way to one is a link."""
+        known: set[bytes] = set()
+        for name in names:
+            folders = name.split(b"/")[:-1]
+            for count in range(len(folders) + 1):
+                at = b"/".join(folders[:count])
+                if at not in known and not self._is_folder_to_write(at):
+                    break
+                known.add(at)
+            else:
+                found = self.held.status(name)
+                if found and stat.S_ISDIR(found.st_mode):
+                    raise self._bad(" is a folder, and the recording has a file of this name", name)
+
+    def _is_folder_to_write(self, at: bytes) -> bool:
+        """False where nothing stands there, so that the folder is made."""
+        found = self.held.status(at) if at else os.fstat(self.held.descriptor)
+        if found is None:
+            return False
+        if not stat.S_ISDIR(found.st_mode):
+            raise self._bad(f" is {_kind(found)}, and the recording has a folder of this name", at)
+        with self.held.below(at) as folder:
+            if not folder.may_write():
+                raise self._bad(" cannot be written: Permission denied", at)
+        return True
+
+    def has_recording(self) -> bool:
         """Whether a recording stands there."""
-        return os.path.exists(os.path.join(self.folder, b"replay"))
+        return self.held.status(_REPLAY) is not None
 
-    def _try_to_write(self):
-        path = os.path.join(self.staging, b"trace")
-        with open(path, "wb") as file:
+    def _is_being_moved(self) -> bool:
+        """Whether a recorder was ended before the last file was in its place."""
+        return self.held.status(MOVING) is not None and self.held.status(MOVING + b"/" + _REPLAY) is not None
+
+    def _finish_or_remove(self) -> None:
+        """Goes on where an earlier recorder was ended."""
+        if self.held.status(MOVING):
+            self._made = []
+            self._move_into_place()
+        if self.held.status(NEW):
+            self.held.take_away(NEW)
+
+    def _stage(self) -> None:
+        """Makes the folder that the new recording is written to, and tries to write there."""
+        self.held.make(NEW)
+        self._staging = self.held.below(NEW)
+        if self.staging.names():
+            raise self._bad(" is being written by somebody else", NEW)
+        with self.staging.create(b"trace") as file:
             file.write(b"rebug-trace 1\n")
-        os.unlink(path)
+        self.staging.unlink(b"trace")
 
-    def switch(self):
-        """Moves what was written into its place. Where that fails, what was there before is there again."""
-        names = _files_below(self.staging)
-        os.mkdir(self.old)
+    def switch(self) -> None:
+        """Has what was written replace what is there.
+
+        Up to the one rename an OSError or a BadFolder leaves the folder as it was. After it the new recording counts;
+        NotInPlace says that some of its files wait in `.moving` for the next recorder.
+        """
+        self.look_at_places([at for at, found in self.staging.everything() if stat.S_ISREG(found.st_mode)])
+        self.staging.settle_everything()
+        self._decide()
+        self._made = []
         try:
-            with open(os.path.join(self.old, _ADDED), "wb") as file:
-                file.write(b"\0".join(it for it in names if not os.path.lexists(os.path.join(self.folder, it))))
-            for name in names:
-                _move(os.path.join(self.folder, name), os.path.join(self.old, name))
-                _move(os.path.join(self.staging, name), os.path.join(self.folder, name))
-        except OSError:
-            self._take_back()
-            raise
-        shutil.rmtree(self.old)
-        self.made = []
+            self.held.settle()
+            self._move_into_place()
+        except OSError as why:
+            raise NotInPlace(why.strerror or str(why)) from why
 
-    def _take_back(self):
-        """Undoes a switch that was cut off: what it had put aside goes back to its place."""
-        if os.path.isdir(self.old):
-            for name in _added(self.old):
-                with contextlib.suppress(OSError):
-                    os.unlink(os.path.join(self.folder, name))
-            for name in _files_below(self.old):
-                _move(os.path.join(self.old, name), os.path.join(self.folder, name))
-            shutil.rmtree(self.old, ignore_errors=True)
-        if os.path.lexists(self.staging):
-            shutil.rmtree(self.staging, ignore_errors=True)
+    def _decide(self) -> None:
+        """The rename, of the folder that was written to and of no other that was put into its place."""
+        if not self._is_our_staging(NEW):
+            raise self._bad(" was put into the place of the folder that the recorder wrote to", NEW)
+        self.held.move(NEW, self.held, MOVING)
+        if not self._is_our_staging(MOVING):
+            self.held.move(MOVING, self.held, NEW)
+            raise self._bad(" was put into the place of the folder that the recorder wrote to", NEW)
 
-    def _leave(self):
+    def _is_our_staging(self, name: bytes) -> bool:
+        found = self.held.status(name)
+        return found is not None and os.path.samestat(found, os.fstat(self.staging.descriptor))
+
+    def _move_into_place(self) -> None:
+        """Moves what is left in `.moving`, a folder that is not there yet as a whole, and `replay` last."""
+        with self.held.below(MOVING) as moving:
+            for at, found in moving.everything():
+                is_there = stat.S_ISDIR(found.st_mode) and self.held.status(at) is not None
+                if at != _REPLAY and not is_there:
+                    moving.move(at, self.held, at)
+            if moving.status(_REPLAY):
+                moving.move(_REPLAY, self.held, _REPLAY)
+        self.held.take_away(MOVING)
+
+    def _leave(self) -> None:
         """Takes away what was not switched, and the folders that were made for nothing."""
-        if self.lock is not None:
-            shutil.rmtree(self.staging, ignore_errors=True)
-            os.close(self.lock)
-            self.lock = None
-        for it in reversed(self.made):
-            with contextlib.suppress(OSError):
-                os.rmdir(it)
+        with held_back():
+            if self._staging is not None:
+                with contextlib.suppress(OSError):
+                    if self._is_our_staging(NEW):
+                        self.held.take_away(NEW)
+                self._staging.close()
+                self._staging = None
+            if self._held is not None:
+                self._held.close()
+                self._held = None
+            for it in reversed(self._made):
+                with contextlib.suppress(OSError):
+                    os.rmdir(it)
 
 
-def _files_below(folder):
-    """The files below the folder, by their names from it; `replay`, by which a recording is known, last."""
-    found = []
-    for at, _, names in os.walk(folder):
-        found += [os.path.relpath(os.path.join(at, it), folder) for it in names if it != _ADDED]
-    return sorted(found, key=lambda it: (it == b"replay", it))
-
-
-def _added(old):
+def is_name(path: bytes) -> bool:
+    """Whether a relative, canonical path can be a file's or a folder's in a recording."""
     try:
-        with open(os.path.join(old, _ADDED), "rb") as file:
-            return [it for it in file.read().split(b"\0") if it]
-    except OSError:
-        return []
+        path.decode()
+    except UnicodeDecodeError:
+        return False
+    return path.split(b"/", 1)[0] not in OWN_NAMES
 
 
-def _move(source, target):
-    if os.path.lexists(source):
-        os.makedirs(os.path.dirname(target), exist_ok=True)
-        os.replace(source, target)
+def _kind(found: os.stat_result) -> str:
+    mode = found.st_mode
+    kinds = ((stat.S_ISLNK, "a link"), (stat.S_ISDIR, "a folder of another file system"), (stat.S_ISREG, "a file"),
+             (stat.S_ISFIFO, "a pipe"), (stat.S_ISSOCK, "a socket"))
+    return next((text for test, text in kinds if test(mode)), "a device")

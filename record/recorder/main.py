@@ -56,7 +56,10 @@ def main(words):
     except Failure as why:
         say(why)
         return why.status
-    except (BadOptions, BadWords, BadManifest, BadFolder) as why:
+    except BadFolder as why:
+        say(f"{why}. Ninja was not run")
+        return NOT_RUN
+    except (BadOptions, BadWords, BadManifest) as why:
         say(why)
         return NOT_RUN
     except Ended as why:

@@ -7,8 +7,8 @@ import sys
 
 from .disk import read_file, take_snapshot
 from .fields import canonical, shown
-from .files import write_recording
-from .folders import OutFolder
+from .files import WRITTEN, names_of_files, write_recording
+from .folders import BadFolder, NotInPlace, OutFolder
 from .limits import what_is_refused
 from .manifest import Manifest
 from .recording import record
@@ -42,6 +42,7 @@ class Session:
         with OutFolder(self.options.out) as out:
             manifest = self.up_to_date_manifest()
             self.look_at_limits(manifest)
+            out.look_at_places([*names_of_files(manifest).values(), *WRITTEN])
             as_run = self.options.jobs_as_run or self.options.lanes
             jobs = number_of_jobs(self.ninja, self.words.jobs) if as_run else None
             before = take_snapshot(self.build, manifest)
@@ -49,9 +50,13 @@ class Session:
             status = ran.status if ran.status >= 0 else 128 - ran.status
             try:
                 return self.write(out, manifest, jobs, before, ran, status)
-            except OSError as why:
-                raise Failure(f"the recording could not be written ({why.strerror or why}): {self.options.out} is as "
-                              f"it was", status or NOT_RECORDED) from why
+            except (OSError, BadFolder) as why:
+                reason = why.strerror or why if isinstance(why, OSError) else why
+                raise Failure(f"the recording could not be written ({reason}): {self.options.out} is as it was",
+                              status or NOT_RECORDED) from why
+            except NotInPlace as why:
+                raise Failure(f"the recording is whole, and not all of its files could be moved into their places "
+                              f"({why}): the next recorder goes on with that", status or NOT_RECORDED) from why
 
     def write(self, out, manifest, jobs, before, ran, status):
         """Writes what a run of Ninja left; gives the exit status."""

@@ -4,8 +4,10 @@ Before Ninja runs one ends the recorder. While Ninja runs they are Ninja's. Afte
 is written; a second one within two seconds ends the recorder, and the recording that was there stays.
 """
 
+import contextlib
 import os
 import signal
+import threading
 import time
 
 NUMBERS = (signal.SIGINT, signal.SIGTERM, signal.SIGHUP)
@@ -61,6 +63,24 @@ class Signals:
         if last is not None and now - last <= _SECOND_WITHIN:
             raise Ended(number)
         self.say(f"{name_of(number)} is held until the recording is written; a second one within two seconds ends it")
+
+
+@contextlib.contextmanager
+def held_back():
+    """Signals that come in between come once it is over."""
+    if threading.current_thread() is not threading.main_thread():
+        yield
+        return
+    came = []
+    before = {number: signal.signal(number, lambda it, _: came.append(it)) for number in NUMBERS
+              if signal.getsignal(number) not in (signal.SIG_IGN, None)}
+    try:
+        yield
+    finally:
+        for number, handler in before.items():
+            signal.signal(number, handler)
+        for number in came:
+            signal.raise_signal(number)
 
 
 def write_all(descriptor, data):

@@ -255,32 +255,6 @@ class Folders(Kept):
         with OutFolder(str(self.out)):
             self.assertIn("another recording is being written", self.refused(self.out))
 
-    def test_a_switch_that_was_cut_off_is_taken_back(self):
-        self.record_first()
-        real, cut = os.replace, []
-
-        def replace(source, target):
-            cut.append(target)
-            if len(cut) == 6:
-                raise SystemExit  # as a kill would end it: nothing is put in order
-            real(source, target)
-
-        (self.build / "build.ninja").write_text(ONE + "# another\n")
-        out = OutFolder(str(self.out)).__enter__()
-        for name in ("build.ninja", "another", "replay", "trace", "times"):
-            (self.out / ".new" / name).write_text("new")
-        os.replace = replace
-        try:
-            with self.assertRaises(SystemExit):
-                out.switch()
-        finally:
-            os.replace = real
-        os.close(out.lock)
-        self.assertNotEqual(self.content(), self.before)
-        with OutFolder(str(self.out)):
-            pass
-        self.assert_kept()
-
 
 class Full(Kept):
     """No room for the recording. The manifest is copied into it, and is too large."""

@@ -1,7 +1,9 @@
 """The recorder's readers and its order, on stored logs and manifests. Nothing here runs Ninja."""
 
+import os
 import pathlib
 import re
+import subprocess
 import tempfile
 import unittest
 
@@ -10,10 +12,12 @@ from recorder.checking import check
 from recorder.depfiles import read_depfile
 from recorder.disk import Snapshot, built_records
 from recorder.fields import canonical, field, line, quoted
-from recorder.files import command, commands, opening, write_recording
+from recorder.files import command, commands, names_of_files, opening, write_recording
+from recorder.held import HeldFolder
 from recorder.logs import BuildLog, LogEntry, hash_of, new_entries, read_build_log
 from recorder.manifest import BadManifest, Manifest
 from recorder.recording import record
+from recorder.replaying import replay_text, words_of_replay
 from recorder.rules import Build
 from recorder.running import Child, Ran, _Output
 from recorder.sequence import EdgeRun, sequence
@@ -367,9 +371,13 @@ class Whole(unittest.TestCase):
             f"finish a.o {at(59)} list a.c x.h", "start app 0", "fail app 0"])
         self.assertEqual(self.found.found.refused, [])
 
+    def written(self, folder, with_lanes):
+        with HeldFolder.at(folder) as room:
+            return write_recording(self.found, room, with_lanes, "/nowhere/rebug", folder)
+
     def test_lanes_have_a_job_each_and_the_plan_stands_in_the_script(self):
         with tempfile.TemporaryDirectory() as folder:
-            write_recording(self.found, folder, True, "/nowhere/rebug")
+            self.written(folder, True)
             room = pathlib.Path(folder)
             version, *lines = (room / "trace").read_text().split("\n")
             said = [" ".join(it.split(" ")[:2]) for it in lines[lines.index("lane 0"):-1]]
@@ -387,7 +395,7 @@ class Whole(unittest.TestCase):
 
     def test_files_from_outside_get_a_name_inside(self):
         with tempfile.TemporaryDirectory() as folder:
-            names = write_recording(self.found, folder, False, "/nowhere/rebug")
+            names = self.written(folder, False)
             self.assertEqual(names, [b"build.ninja", b"outside/1.ninja"])
             self.assertTrue((pathlib.Path(folder) / "build.ninja").read_bytes().endswith(b"\ninclude "
                                                                                          b"outside/1.ninja\n"))
@@ -413,15 +421,80 @@ class Whole(unittest.TestCase):
         status, said = self.checked("echo fault trace 2 101; exit 1\n")
         self.assertEqual((status, said[1]), (1, "  fault trace 2 101"))
 
+    def test_nothing_of_the_recording_is_run(self):
+        with tempfile.TemporaryDirectory() as folder:
+            room = pathlib.Path(folder)
+            self.written(folder, False)
+            text = (room / "replay").read_text()
+            for text in (f"touch {folder}/run\n", text.replace("program=", "touch run\nprogram=", 1)):
+                (room / "replay").write_text(text)
+                check(folder, "/bin/true", [].append)
+                self.assertFalse((room / "run").exists())
+
     def checked(self, stand_in):
         """What `check` gives and says where rebug is a script."""
         with tempfile.TemporaryDirectory() as folder:
-            write_recording(self.found, folder, False, "/nowhere/rebug")
+            self.written(folder, False)
             program = pathlib.Path(folder) / "program"
             program.write_text("#!/bin/sh\n" + stand_in)
             program.chmod(0o755)
             said = []
             return check(folder, str(program), said.append), said
+
+
+class Replays(unittest.TestCase):
+    """The words that a recording's `replay` runs rebug with, and those that are taken from the `replay` of others."""
+
+    def text(self, *names, with_lanes=False):
+        return replay_text(list(names), [b"plan", b"run", b"kept", b"marks"], with_lanes, "/nowhere/rebug")
+
+    def test_no_file_of_a_manifest_is_an_option(self):
+        for names in (["build.ninja", "-rf.ninja", "--workers"], ["-x.ninja", "--migrate"],
+                      ["a b", "it's\nso \n@FILES@"]):
+            with self.subTest(names=names), tempfile.TemporaryDirectory() as folder:
+                room = pathlib.Path(folder)
+                (room / "rebug").write_text('#!/bin/sh\nprintf "%s\\0" "$@"\n')
+                (room / "rebug").chmod(0o755)
+                (room / "replay").write_text(self.text(*names))
+                said = subprocess.run(["sh", room / "replay"], env={**os.environ, "REBUG": str(room / "rebug")},
+                                      capture_output=True, text=True, check=True).stdout.split("\0")[:-1]
+                manifest, _, others = " ".join(said).partition(" --trace trace --script script -- ")
+                self.assertIn(manifest, (f"--manifest={names[0]}", f"--manifest {names[0]}"))
+                self.assertEqual(others, " ".join(names[1:]))
+                self.assertEqual(words_of_replay(self.text(*names)), [
+                    f"--manifest={names[0]}", "--trace", "trace", "--script", "script", "--", *names[1:]])
+
+    def test_a_run_of_lanes_is_one_with_workers(self):
+        self.assertEqual(words_of_replay(self.text("b", "r", with_lanes=True))[-3:], ["--workers", "--", "r"])
+
+    def test_words_of_earlier_versions_are_taken(self):
+        words = "--manifest b --trace trace --script script --workers r 's t'"
+        self.assertEqual(words_of_replay(f"#!/bin/sh\n# What runs without words:\n# rebug {words}\n"), [
+            "--manifest=b", "--trace", "trace", "--script", "script", "--workers", "--", "r", "s t"])
+
+    def test_words_that_no_recorder_writes_are_not(self):
+        for words in ("record build out", "--manifest b --trace trace --script /etc/passwd",
+                      "--manifest b --trace trace --script script --migrate",
+                      "--manifest b --trace trace --script script -- ../../x",
+                      "--manifest /dev/zero --trace trace --script script",
+                      "--manifest ../b --trace trace --script script", "--manifest", "", "'"):
+            with self.subTest(words=words):
+                self.assertIsNone(words_of_replay(f"#!/bin/sh\n# What runs without words:\n# rebug {words}\n"))
+        self.assertIsNone(words_of_replay("#!/bin/sh\ntouch here\n"))
+
+
+class Names(unittest.TestCase):
+    """The names that the manifest's files have in a recording."""
+
+    def test_what_is_outside_or_in_the_way_gets_another(self):
+        paths = [b"/abs.ninja", b"../up.ninja", b"trace", b"replay/x", b".new/a", b".moving", b".old",
+                 b"outside/1.ninja", b"\xff.ninja", b"sub/trace", b".newer"]
+        text = b"".join(b"include %b\n" % it for it in paths)
+        contents = {b"build.ninja": text, **dict.fromkeys(paths, b"")}
+        names = names_of_files(Manifest(b"build.ninja", contents.__getitem__))
+        self.assertEqual(names, {b"build.ninja": b"build.ninja", **{it: b"outside/%d.ninja" % at for at, it in
+                                                                    enumerate(paths[:9], 1)},
+                                 b"sub/trace": b"sub/trace", b".newer": b".newer"})
 
 
 if __name__ == "__main__":
