@@ -6,14 +6,14 @@ import stat
 
 from .depslog import text_of
 from .fields import canonical, field, line, shown
-from .folders import is_name
+from .folders import OPTIONAL, is_name
 from .replaying import replay_text
 
 MOST_LANES = 63
 # The files beside those of the manifest.
 WRITTEN = (b"trace", b"script", b"replay", b"times", b"names")
 # What no file of the manifest may have as the first part of its name; that of an absolute path is empty.
-_TAKEN = (b"", b".", b"..", b"outside", *WRITTEN)
+_TAKEN = (b"", b".", b"..", b"outside", *WRITTEN, *OPTIONAL)
 
 
 def write_recording(it, folder, with_lanes, program, at):

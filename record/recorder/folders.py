@@ -28,6 +28,9 @@ NEW, MOVING = b".new", b".moving"
 _OLD = b".old"  # where earlier versions of the recorder put aside what they replaced
 OWN_NAMES = (NEW, MOVING, _OLD)
 _REPLAY = b"replay"
+OPTIONAL = (b"observed", b"observed-log")
+"""Files that not every recording has: those of an earlier one go with it."""
+_WITHOUT = b".without"  # in `.moving`: the names of such files that the new recording does not have
 
 
 class BadFolder(Exception):
@@ -49,14 +52,24 @@ def whole(folder: str) -> Iterator[str]:
         with HeldFolder.at(folder) as held, HeldFolder.at(copy) as target:
             with held.below(MOVING) as moving:
                 _copy_files(moving, target)
-            _copy_files(held, target)
+                left_out = _left_out(moving)
+            _copy_files(held, target, left_out)
         yield copy
 
 
-def _copy_files(source: HeldFolder, target: HeldFolder) -> None:
+def _left_out(moving: HeldFolder) -> list[bytes]:
+    """The files of an earlier recording that the one in `.moving` does not have."""
+    if moving.status(_WITHOUT) is None:
+        return []
+    with moving.read(_WITHOUT) as file:
+        noted = file.read(sum(map(len, OPTIONAL)) + len(OPTIONAL)).split(b"\n")
+    return [it for it in OPTIONAL if it in noted]
+
+
+def _copy_files(source: HeldFolder, target: HeldFolder, left_out: Iterable[bytes] = ()) -> None:
     """Copies the files that a recording can have, and that the target does not have."""
     for at, found in source.everything():
-        if stat.S_ISREG(found.st_mode) and is_name(at) and target.status(at) is None:
+        if stat.S_ISREG(found.st_mode) and is_name(at) and at not in left_out and target.status(at) is None:
             with source.read(at) as file, target.create(at) as copy:
                 shutil.copyfileobj(file, copy)
 
@@ -220,6 +233,7 @@ class OutFolder:
         NotInPlace says that some of its files wait in `.moving` for the next recorder.
         """
         self.look_at_places([at for at, found in self.staging.everything() if stat.S_ISREG(found.st_mode)])
+        self._note_left_out()
         self.staging.settle_everything()
         self._decide()
         self._made = []
@@ -228,6 +242,14 @@ class OutFolder:
             self._move_into_place()
         except OSError as why:
             raise NotInPlace(why.strerror or str(why)) from why
+
+    def _note_left_out(self) -> None:
+        """Notes which files of the earlier recording go with it, since the new one has none of their name."""
+        is_file = lambda name: (found := self.held.status(name)) is not None and not stat.S_ISDIR(found.st_mode)
+        left_out = [it for it in OPTIONAL if self.staging.status(it) is None and is_file(it)]
+        if left_out:
+            with self.staging.create(_WITHOUT) as file:
+                file.write(b"\n".join(left_out))
 
     def _decide(self) -> None:
         """The rename, of the folder that was written to and of no other that was put into its place."""
@@ -245,9 +267,12 @@ class OutFolder:
     def _move_into_place(self) -> None:
         """Moves what is left in `.moving`, a folder that is not there yet as a whole, and `replay` last."""
         with self.held.below(MOVING) as moving:
+            for name in _left_out(moving):
+                with contextlib.suppress(FileNotFoundError):
+                    self.held.unlink(name)
             for at, found in moving.everything():
                 is_there = stat.S_ISDIR(found.st_mode) and self.held.status(at) is not None
-                if at != _REPLAY and not is_there:
+                if at not in (_REPLAY, _WITHOUT) and not is_there:
                     moving.move(at, self.held, at)
             if moving.status(_REPLAY):
                 moving.move(_REPLAY, self.held, _REPLAY)

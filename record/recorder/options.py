@@ -6,11 +6,16 @@ import argparse
 from dataclasses import dataclass, field
 from typing import Any, NoReturn, Sequence
 
+from .observed.observers import OBSERVERS
+
 _NAME = "rebug record"
 _USAGE = """%(prog)s BUILD_DIR OUT_DIR [OPTIONS] [-- NINJA_WORDS...]
        %(prog)s --check OUT_DIR [--rebug PROGRAM]"""
 _ABOUT = """Runs Ninja in BUILD_DIR and writes to OUT_DIR what rebug needs to replay that build: the manifest and the
 files that it includes, trace, script, times, names, and replay, which runs rebug on them."""
+ALWAYS, IF_POSSIBLE = "always", "if-possible"
+"""The values of `observe`."""
+
 _MORE = """What stands behind -- goes to Ninja: targets, -k N, -v, -f FILE, ...
 
 exit status:
@@ -45,6 +50,9 @@ class Options:
     anyway: bool = False
     force: bool = False
     verbose: bool = False
+    observe: str | None = None
+    observer: str | None = None
+    keep_log: bool = False
 
 
 @dataclass
@@ -108,7 +116,21 @@ def _recording_words() -> argparse.ArgumentParser:
     words.add_argument("--force", action="store_true", help="replace a recording also where Ninja refused to build")
     words.add_argument("--verbose", action="store_true",
                        help="say also what comes with every build and asks for nothing")
+    _add_observing_words(words)
     return words
+
+
+def _add_observing_words(words: argparse.ArgumentParser) -> None:
+    group = words.add_argument_group("what commands read and write")
+    group.add_argument("--observe", action="store_const", const=ALWAYS,
+                       help="observe which files each command reads and writes, declared or not, and write them to "
+                            "`observed`; where that cannot be done Ninja is not run")
+    group.add_argument("--observe=if-possible", dest="observe", action="store_const", const=IF_POSSIBLE,
+                       help="the same, but where that cannot be done record without")
+    group.add_argument("--observer", metavar="NAME", choices=list(OBSERVERS),
+                       help=f"the program that observes: {' or '.join(OBSERVERS)}; else the first that can be used")
+    group.add_argument("--keep-log", action="store_true",
+                       help="keep what the observer wrote, too, in `observed-log`: it is large")
 
 
 def read_words(words: Sequence[str]) -> Options | Checking:
@@ -130,6 +152,8 @@ def _read_recording(own: Sequence[str], for_ninja: Sequence[str]) -> Options:
                          f"in `-- {behind}`")
     if found.rebug is not None:
         raise BadOptions("--rebug goes with --check")
+    if not found.observe and (found.observer or found.keep_log):
+        raise BadOptions(f"{'--observer' if found.observer else '--keep-log'} goes with --observe")
     named = vars(found)
     jobs = named.pop("jobs")
     for word in ("check", "rebug"):

@@ -22,8 +22,8 @@ _LONGEST_BEGINNING = 500 * _NANOSECONDS
 
 @dataclass
 class Recording:
-    """Everything that is written of one build. `names` has other names of outputs, `remarks` are notes that ask for
-    nothing."""
+    """Everything that is written of one build. `runs` are the commands that ran, `names` has other names of outputs,
+    `remarks` are notes that ask for nothing."""
 
     manifest: object
     jobs: int
@@ -32,6 +32,7 @@ class Recording:
     built: dict
     deps: dict
     found: Sequence = None
+    runs: list = field(default_factory=list)
     names: dict = field(default_factory=dict)
     notes: list = field(default_factory=list)
     remarks: list = field(default_factory=list)
@@ -53,6 +54,7 @@ def record(folder, manifest, words, jobs, before, after, ran):
     _note_what_is_outside(it)
     it.stamps.update(stamps_of_what_was_built(it, before))
     runs, begin = _runs(it, before, after, ran)
+    it.runs = runs
     touches = _touches(it, before, after, runs, begin, ran.begin, folder)
     build = Build(manifest, it.jobs, it.stamps, it.built, it.deps)
     it.found = sequence(build, it.targets, runs, touches, words.failures, ran.interrupted, as_run=jobs is not None)

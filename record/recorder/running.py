@@ -101,10 +101,14 @@ class _Output:
 
 
 class _Watcher(threading.Thread):
-    """Notes each child of a process, about every five milliseconds. Where there is no /proc it notes none."""
+    """Notes each child of a process, about every five milliseconds. Where there is no /proc it notes none.
 
-    def __init__(self, process, ran):
+    `program` is what the process was started by: a child that has that first word has not become its command yet.
+    """
+
+    def __init__(self, process, ran, program):
         super().__init__(daemon=True)
+        self.program = os.fsencode(program)
         self.children = f"/proc/{process}/task/{process}/children"
         self.ran, self.is_over = ran, threading.Event()
         self.known, self.lock = {}, threading.RLock()
@@ -136,7 +140,7 @@ class _Watcher(threading.Thread):
                 words = file.read().split(b"\0")[:-1]
         except OSError:
             return
-        if words and not os.path.basename(words[0]).startswith(b"ninja"):
+        if words and words[0] != self.program and not os.path.basename(words[0]).startswith(b"ninja"):
             self.known[child] = Child(words, since)
             self.ran.children.append(self.known[child])
 
@@ -200,7 +204,7 @@ def run_ninja(words, folder, signals):
     try:
         process = subprocess.Popen(words, cwd=folder, stdout=inner, env=environment, close_fds=True)
         os.close(inner)
-        watcher = _Watcher(process.pid, ran)
+        watcher = _Watcher(process.pid, ran, words[0])
         watcher.start()
         started.append((process, watcher))
         for number in early:

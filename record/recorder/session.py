@@ -8,9 +8,12 @@ import sys
 from .disk import read_file, take_snapshot
 from .fields import canonical, shown
 from .files import WRITTEN, names_of_files, write_recording
-from .folders import BadFolder, NotInPlace, OutFolder
+from .folders import OPTIONAL, BadFolder, NotInPlace, OutFolder
 from .limits import what_is_refused
 from .manifest import Manifest
+from .observed.observers import chosen
+from .observed.observing import LOG, Observation, Unobserved
+from .options import IF_POSSIBLE
 from .recording import record
 from .running import run_ninja, run_quietly
 from .signals import name_of, write_all
@@ -39,17 +42,20 @@ class Session:
 
     def run(self):
         """The whole of it; gives the exit status."""
+        observer = self.observer()
         with OutFolder(self.options.out) as out:
             manifest = self.up_to_date_manifest()
             self.look_at_limits(manifest)
-            out.look_at_places([*names_of_files(manifest).values(), *WRITTEN])
+            out.look_at_places([*names_of_files(manifest).values(), *WRITTEN, *(OPTIONAL if observer else ())])
             as_run = self.options.jobs_as_run or self.options.lanes
             jobs = number_of_jobs(self.ninja, self.words.jobs) if as_run else None
             before = take_snapshot(self.build, manifest)
-            ran = run_ninja([self.ninja, *self.words.all], self.build, self.signals)
+            with self.observation(observer, manifest, out) as observation:
+                ran = run_ninja(observation.words([self.ninja, *self.words.all]), self.build, self.signals)
+                observation.end()
             status = ran.status if ran.status >= 0 else 128 - ran.status
             try:
-                return self.write(out, manifest, jobs, before, ran, status)
+                return self.write(out, manifest, jobs, before, ran, status, observation)
             except (OSError, BadFolder) as why:
                 reason = why.strerror or why if isinstance(why, OSError) else why
                 raise Failure(f"the recording could not be written ({reason}): {self.options.out} is as it was",
@@ -58,18 +64,38 @@ class Session:
                 raise Failure(f"the recording is whole, and not all of its files could be moved into their places "
                               f"({why}): the next recorder goes on with that", status or NOT_RECORDED) from why
 
-    def write(self, out, manifest, jobs, before, ran, status):
+    def observer(self):
+        """What observes the build, or None; fails where that is to be and cannot."""
+        if not self.options.observe:
+            return None
+        found, why_not = chosen(self.options.observer)
+        if found is None and self.options.observe != IF_POSSIBLE:
+            raise Failure(f"the build cannot be observed: {why_not}. Ninja was not run (--observe=if-possible records "
+                          f"without)")
+        if found is None:
+            self.say(f"the build cannot be observed: {why_not}. It is recorded without")
+        return found
+
+    def observation(self, observer, manifest, out):
+        if observer is None:
+            return Unobserved()
+        log = out.staging.create(LOG) if self.options.keep_log else None
+        return Observation(observer, self.build, manifest, log)
+
+    def write(self, out, manifest, jobs, before, ran, status, observation):
         """Writes what a run of Ninja left; gives the exit status."""
         for name, content, _ in manifest.files:
             if read_file(os.path.join(self.build, name)) != content:
                 raise Failure(f"{shown(name)} was written anew during the build, and a trace is of one manifest: "
                               f"nothing was recorded. Record again, now that it is there", status or NOT_RECORDED)
-        found = record(self.build, manifest, self.words, jobs, before, take_snapshot(self.build, manifest), ran)
+        after = take_snapshot(self.build, manifest)
+        found = record(self.build, manifest, self.words, jobs, before, after, ran)
         if status and not ran.interrupted and not _has_started(found, ran) and not self.options.force:
             if out.has_recording():
                 self.say(f"Ninja built nothing, so the recording in {self.options.out} stays (--force replaces it)")
                 return status
         write_recording(found, out.staging, self.options.lanes, self.launcher, at=out.folder)
+        observation.write(found, after, out.staging)
         self.signals.is_switching = True
         out.switch()
         self.tell(found, ran)

@@ -89,7 +89,7 @@ class Kind(IntEnum):
     TRACE = auto()
 
 
-@dataclass(frozen=True, eq=False, slots=True)
+@dataclass(eq=False, slots=True)
 class Call:
     """A call that came to its end. Two calls are the same only where they are one object.
 
@@ -99,7 +99,8 @@ class Call:
     `result` is what the call gave; -errno where it failed.
 
     `command` is given for EXEC alone: TEXT, where the words are `/bin/sh`, `-c` and TEXT and no others, as Ninja starts
-    a command. It is None for all others.
+    a command. It is None for all others. No field is changed but `memo`, where what stands behind the observers keeps
+    where the path led last; observers leave it alone.
     """
 
     kind: Kind
@@ -110,6 +111,7 @@ class Call:
     flags: int = 0
     result: int = 0
     command: bytes | None = None
+    memo: tuple | None = None
 
 
 Event = tuple[int, Call]

@@ -1,0 +1,216 @@
+"""A recording's observation from before Ninja starts until its file is written.
+
+The observer writes its log into a FIFO, and a thread reads it as it comes, so it is kept nowhere. Where processes live
+on after Ninja, their observer does too: what it still writes is read by a process that is left behind, since an
+observer whose log cannot be written would end, and break the commands that it observes.
+"""
+
+from __future__ import annotations
+
+import contextlib
+import fcntl
+import io
+import os
+import select
+import shutil
+import subprocess
+import tempfile
+import threading
+import time
+from collections.abc import Iterator
+from typing import Any, BinaryIO
+
+from ..fields import shown
+from ..folders import OPTIONAL
+from ..held import HeldFolder
+from .calls import Observer
+from .effects import Build
+from .matching import match, text_of
+from .naming import Names, source_folders
+from .places import Places
+from .processes import Command
+from .writing import Observed
+
+OBSERVED, LOG = OPTIONAL
+"""The names of the files in a recording: what was observed, and the observer's log where that is kept."""
+
+_BUFFER = 1 << 20
+_SET_PIPE_SIZE, _GET_PIPE_SIZE = 1031, 1032  # F_SETPIPE_SZ and F_GETPIPE_SZ
+_PAUSE_SECONDS = 0.02  # for a pipe of _BUFFER bytes
+_NAMED = 5
+_LOG_ENDS_WITHIN = 0.5
+_POLL_MILLISECONDS = 50
+
+
+class _Log(io.RawIOBase):
+    """A log that is read while it is written, and copied into a file where that is wanted.
+
+    Observers write line by line. So a read waits for some more of them first, as long as the pipe takes them. Where the
+    copy cannot be written, it ends there.
+    """
+
+    def __init__(self, descriptor: int, size: int, copy: BinaryIO | None) -> None:
+        super().__init__()
+        self.descriptor, self.copy, self.fault = descriptor, copy, ""
+        self.enough, self.pause, self.last = size // 4, size / _BUFFER * _PAUSE_SECONDS, size
+
+    def readable(self) -> bool:
+        return True
+
+    def readinto(self, room: Any) -> int:
+        if self.last < self.enough:
+            time.sleep(self.pause)
+        self.last = os.readv(self.descriptor, [room])
+        if self.copy is not None:
+            try:
+                self.copy.write(memoryview(room)[: self.last])
+            except OSError as why:
+                self.fault, self.copy = why.strerror or str(why), None
+        return self.last
+
+
+class Unobserved:
+    """Stands in for an observation where a build is not observed."""
+
+    def __enter__(self) -> Unobserved:
+        return self
+
+    def __exit__(self, *_: Any) -> None:
+        pass
+
+    def words(self, ninja: list[Any]) -> list[Any]:
+        """The words that run Ninja."""
+        return ninja
+
+    def end(self) -> None:
+        """There is nothing to wait for."""
+
+    def write(self, recording: Any, after: Any, folder: HeldFolder) -> None:
+        """There is nothing to write."""
+
+
+class Observation:
+    """Observes one run of Ninja. Used by `with`, which leaves no file behind."""
+
+    def __init__(self, observer: Observer, build: bytes, manifest: Any, keep_log: BinaryIO | None = None) -> None:
+        self.observer, self.manifest, self.folder = observer, manifest, os.path.realpath(build)
+        self.places = Places()
+        self.texts = {text_of(it) for it in manifest.edges if not it.phony}
+        self.build = Build(self.texts, self.folder, self.places, self._present())
+        self.notes: list[str] = []
+        self.seconds = 0.0
+        self._room = tempfile.mkdtemp(prefix="rebug-observe-")
+        self._log = os.path.join(os.fsencode(self._room), b"log")
+        os.mkfifo(self._log, 0o600)
+        self._reader = os.open(self._log, os.O_RDONLY | os.O_NONBLOCK)
+        self._writer: int | None = os.open(self._log, os.O_WRONLY)  # the log does not end before Ninja runs
+        os.set_blocking(self._reader, True)
+        with contextlib.suppress(OSError):
+            fcntl.fcntl(self._reader, _SET_PIPE_SIZE, _BUFFER)
+        self._size = fcntl.fcntl(self._reader, _GET_PIPE_SIZE)
+        self._copy = keep_log
+        self._thread = threading.Thread(target=self._read, daemon=True)
+
+    def __enter__(self) -> Observation:
+        self._thread.start()
+        return self
+
+    def __exit__(self, *_: Any) -> None:
+        self._close_writer()
+        shutil.rmtree(self._room, ignore_errors=True)
+        if self._copy is not None:
+            with contextlib.suppress(OSError):
+                self._copy.close()
+
+    def _present(self) -> dict[int, bool]:
+        """Of the places that edges make, whether they are there."""
+        found = {}
+        for edge in self.manifest.edges:
+            for path in edge.outputs if not edge.phony else ():
+                real = os.path.join(self.folder, path)
+                found[self.places.of(real)] = os.path.lexists(real)
+        return found
+
+    def words(self, ninja: list[Any]) -> list[bytes]:
+        """The words that run Ninja observed."""
+        return self.observer.words(self._log, [os.fsencode(it) for it in ninja])
+
+    def end(self) -> None:
+        """Waits until all that was written of Ninja's run is read."""
+        self._close_writer()
+        self._thread.join()
+
+    def _close_writer(self) -> None:
+        if self._writer is not None:
+            os.close(self._writer)
+            self._writer = None
+
+    def _read(self) -> None:
+        log = _Log(self._reader, self._size, self._copy)
+        try:
+            for event in self.observer.events(io.BufferedReader(log, _BUFFER)):
+                if not self.build.take(event):
+                    break
+            else:
+                self.notes.append("the observer ended before Ninja did: what came after that was not observed")
+        except Exception as why:  # the build goes on; what was seen until then is told
+            self.notes.append(f"a fault of the recorder while it read what was observed, {type(why).__name__}: {why}")
+        self.build.processes.finish()
+        self.seconds = time.thread_time()
+        if log.fault:
+            self.notes.append(f"the observer's log could not be kept whole: {log.fault}")
+        self._leave_log()
+
+    def _leave_log(self) -> None:
+        """Lets the observer of what lives on after Ninja write on. Mostly nothing does, and the log ends at once."""
+        poll, until = select.poll(), time.monotonic() + _LOG_ENDS_WITHIN
+        poll.register(self._reader, select.POLLIN)
+        while time.monotonic() < until:
+            events = poll.poll(_POLL_MILLISECONDS)
+            if events and not os.read(self._reader, _BUFFER):
+                os.close(self._reader)
+                return
+        with contextlib.suppress(OSError):
+            subprocess.Popen(["/bin/sh", "-c", "exec cat >/dev/null"], stdin=self._reader, stdout=subprocess.DEVNULL,
+                             stderr=subprocess.DEVNULL, start_new_session=True, cwd="/")
+        os.close(self._reader)
+
+    def write(self, recording: Any, after: Any, folder: HeldFolder) -> None:
+        """Writes the file into the folder of the recording, whose notes and remarks say what is not whole."""
+        edges = self.manifest.edges
+        pairs, left = match(self.build.commands, edges, recording.runs)
+        outputs = [path for edge in edges for path in edge.outputs]
+        names = Names(self.places, self.folder, source_folders(self.folder, self.manifest), after.stamps, outputs)
+        with folder.create(OBSERVED) as file:
+            Observed(pairs, self.places, names).write(file, self.observer.name)
+        recording.notes += [*self.notes, *self._notes(pairs, recording.runs)]
+        recording.remarks.append(f"{len(pairs)} commands were observed, with {self.build.processes.count:,} processes; "
+                                 f"reading that took {self.seconds:.2f} s of processor time")
+        if left:
+            recording.remarks.append(f"{len(left)} commands were observed of which no edge could be told")
+
+    def _notes(self, pairs: list[tuple[Any, Command]], runs: list[Any]) -> Iterator[str]:
+        """What the user is told: what was not observed whole, and what the commands could not do."""
+        seen = {edge.number for edge, _ in pairs}
+        unseen = [it.edge.name for it in runs if it.edge.number not in seen]
+        if unseen:
+            yield f"{len(unseen)} commands ran and were not observed: {_some(unseen)}"
+        flagged = [edge.name + b" (" + " ".join(sorted(it.flags)).encode() + b")" for edge, it in pairs if it.flags]
+        if flagged:
+            yield f"{len(flagged)} of {len(pairs)} commands were not observed whole: {_some(flagged)}"
+        traced = [edge.name for edge, it in pairs if it.wanted_trace]
+        if traced:
+            yield (f"{len(traced)} commands asked to trace a process, which none can while it is observed: "
+                   f"{_some(traced)}. A leak sanitizer fails so; LSAN_OPTIONS=detect_leaks=0 in the environment turns "
+                   f"it off")
+        weak = [edge.name for edge, it in pairs if it.lost_rights]
+        if weak:
+            yield (f"{len(weak)} commands ran a program with the rights of another user, which it does not get while "
+                   f"it is observed: {_some(weak)}")
+        if self.observer.unread:
+            yield f"{self.observer.unread} records of the observer were not understood"
+
+
+def _some(names: list[bytes]) -> str:
+    more = f" and {len(names) - _NAMED} more" if len(names) > _NAMED else ""
+    return ", ".join(shown(it) for it in names[:_NAMED]) + more

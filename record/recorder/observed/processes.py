@@ -1,0 +1,220 @@
+"""Follows the processes of a build: which command each is a part of, its folder and its descriptors, and by these the
+paths of its calls.
+
+A process is part of the command whose shell it, or one of those that it comes from, became: the first program of a
+process outside of every command, where that is `/bin/sh -c TEXT` and TEXT is a command of the manifest.
+"""
+
+from __future__ import annotations
+
+from collections.abc import Container
+from dataclasses import dataclass, field
+
+from .calls import CLONE_FILES, CLONE_FS, CLONE_NAMESPACES, CLONE_THREAD, CURRENT, NOT_ASKED, Call, Kind
+from .footprints import Footprint, Packed
+from .imports import Imports
+from .places import Places
+
+CUT, SERVER, NAMESPACE, URING, UNRESOLVED, TWIN = "cut", "server", "namespace", "uring", "unresolved", "twin"
+FLAGS = (CUT, SERVER, NAMESPACE, URING, UNRESOLVED, TWIN)
+"""What makes a command's footprint one that is not whole, in the order of the file."""
+
+_OF_PROCESS = (b"/proc/self/", b"/proc/thread-self/", b"/dev/fd/", b"/dev/std")
+_STANDARD = {b"/dev/stdin": 0, b"/dev/stdout": 1, b"/dev/stderr": 2}
+
+
+def path_is_own(path: bytes) -> bool:
+    """Whether a path leads through the process's own descriptors or folder."""
+    return path.startswith(_OF_PROCESS)
+
+
+@dataclass(slots=True)
+class Folders:
+    """The folder that relative paths begin at, and the root of absolute ones (empty: the system's). Threads share it."""
+
+    current: bytes | None
+    root: bytes = b""
+
+
+@dataclass(eq=False, slots=True)
+class Command:
+    """A command that Ninja started. `start` and `end` are its places among all starts and ends.
+
+    `footprint` is there while a process of it runs, `packed` afterwards. `status` is that of its shell, None where that
+    was not seen to end.
+    """
+
+    text: bytes
+    start: int
+    footprint: Footprint | None
+    packed: Packed | None = None
+    status: int | None = None
+    end: int = 0
+    alive: int = 1
+    processes: int = 1
+    flags: set[str] = field(default_factory=set)
+    wanted_trace: bool = False
+    lost_rights: bool = False
+
+    def pack(self) -> None:
+        """Its last process has ended, or nothing more of it is seen."""
+        if self.footprint is not None:
+            self.packed, self.footprint = self.footprint.pack(), None
+
+
+@dataclass(eq=False, slots=True)
+class Process:
+    """A process or a thread. Descriptors that were closed stay noted until their number is given again.
+
+    `imports` is there while the process runs Python.
+    """
+
+    number: int
+    folders: Folders
+    descriptors: dict[int, bytes]
+    command: Command | None
+    start: int
+    programs: int = 0
+    is_shell: bool = False
+    imports: Imports | None = None
+
+    def note(self, descriptor: int, path: bytes | None) -> None:
+        """The descriptor was given for this path, or for no file."""
+        if path is not None and descriptor != NOT_ASKED:
+            self.descriptors[descriptor] = path
+        else:
+            self.descriptors.pop(descriptor, None)
+
+    def flag(self, flag: str) -> None:
+        """The process's command is not observed whole."""
+        if self.command is not None:
+            self.command.flags.add(flag)
+
+    def path(self, path: bytes, folder: int | bytes) -> bytes | None:
+        """The absolute path, as it was used; None where it begins at a descriptor of which nothing is known."""
+        if path[:1] == b"/":
+            if path_is_own(path):
+                return self._own_path(path)
+            return self.folders.root + path if self.folders.root else path
+        if folder == CURRENT:
+            base = self.folders.current
+        else:
+            base = folder if isinstance(folder, bytes) else self.descriptors.get(folder)
+        if base is None:
+            if path:
+                self.flag(UNRESOLVED)
+            return None
+        return base + b"/" + path if path else base
+
+    def _own_path(self, path: bytes) -> bytes | None:
+        """A path through the process's own descriptors or folder, as the system shows them."""
+        if path in _STANDARD:
+            return self.descriptors.get(_STANDARD[path])
+        words = path.split(b"/")
+        at = 3 if words[1] == b"dev" else 4
+        if words[at - 1] == b"fd" or at == 3:
+            base = self.descriptors.get(int(words[at])) if len(words) > at and words[at].isdigit() else None
+            return base and b"/".join([base, *words[at + 1 :]])
+        if words[3] == b"cwd":
+            return self.folders.current and b"/".join([self.folders.current, *words[4:]])
+        return path
+
+
+class Processes:
+    """The processes of a build. `commands` are its commands in the order in which their first programs ran."""
+
+    def __init__(self, texts: Container[bytes], folder: bytes, places: Places, present: dict[int, bool]) -> None:
+        self.commands: list[Command] = []
+        self.is_over = False
+        self.count = 0
+        self._texts, self._folder, self._places, self._present = texts, folder, places, present
+        self._root, self._ends = 0, 0
+        self.running: dict[int, Process] = {}
+        self._early: dict[int, tuple[list[Call], list[Command]]] = {}
+
+    def of(self, number: int, call: Call) -> Process | None:
+        """The process of an event. The events of one of which no SPAWN has told wait until one does: then it is None."""
+        process = self.running.get(number)
+        if process is not None:
+            return process
+        if not self.count:
+            self._root, self.count = number, 1
+            process = self.running[number] = Process(number, Folders(self._folder), {}, None, 0)
+            return process
+        held = self._early.get(number)
+        if held is None:
+            held = self._early[number] = [], [it for it in self.commands if it.alive]
+        held[0].append(call)
+        return None
+
+    def spawned(self, parent: Process, call: Call) -> tuple[Process, list[Call]]:
+        """A process began; with the calls of it that came too early."""
+        self.count += 1
+        folders = parent.folders if call.flags & CLONE_FS else Folders(parent.folders.current, parent.folders.root)
+        descriptors = parent.descriptors if call.flags & CLONE_FILES else dict(parent.descriptors)
+        child = Process(call.result, folders, descriptors, parent.command, self.count)
+        if parent.imports is not None:
+            child.imports = parent.imports if call.flags & CLONE_THREAD else Imports()
+        self.running[child.number] = child
+        if child.command is not None:
+            child.command.alive += 1
+            child.command.processes += 1
+        if call.flags & CLONE_NAMESPACES:
+            child.flag(NAMESPACE)
+        return child, self._early.pop(child.number, ([], []))[0]
+
+    def runs(self, process: Process, call: Call) -> None:
+        """A program was put in the place of a process: a command begins where it is the first one of it."""
+        if call.result > 0:
+            self.gone(call.result, None)
+        process.programs += 1
+        is_first = process.programs == 1 and process.number != self._root and process.command is None
+        if is_first and call.result >= 0 and call.command is not None and call.command in self._texts:
+            process.command = Command(call.command, process.start, Footprint(self._places, self._present))
+            process.is_shell = True
+            self.commands.append(process.command)
+
+    def gone(self, number: int, status: int | None) -> None:
+        """A process ended."""
+        process = self.running.pop(number, None)
+        if number == self._root:
+            self.is_over = True
+        if process is None or process.command is None:
+            return
+        command = process.command
+        command.alive -= 1
+        if process.is_shell:
+            self._ends += 1
+            command.status, command.end = status, self._ends
+        if not command.alive:
+            command.pack()
+
+    def finish(self) -> None:
+        """The log is over, or Ninja has ended: what still runs is cut off, and so is what may have begun unseen."""
+        unknown = {it for _, commands in self._early.values() for it in commands}
+        for command in self.commands:
+            if command.alive or command in unknown:
+                command.flags.add(CUT)
+            command.pack()
+
+    def unshared(self, process: Process, call: Call) -> None:
+        """A process has its folder or its descriptors for itself from now on."""
+        if call.flags & (CLONE_FS | CLONE_NAMESPACES):
+            process.folders = Folders(process.folders.current, process.folders.root)
+        if call.flags & CLONE_FILES:
+            process.descriptors = dict(process.descriptors)
+        if call.flags & CLONE_NAMESPACES:
+            process.flag(NAMESPACE)
+
+    def renamed(self, old: bytes, new: bytes) -> None:
+        """A folder has another real path: processes that stand in it, or have it open, go with it."""
+
+        def moved(path: bytes) -> bytes:
+            real = self._places.folder(path)
+            return new + real[len(old) :] if real == old or real.startswith(old + b"/") else path
+
+        for process in self.running.values():
+            if process.folders.current is not None:
+                process.folders.current = moved(process.folders.current)
+            for number, path in process.descriptors.items():
+                process.descriptors[number] = moved(path)
