@@ -22,9 +22,12 @@ from recorder.disk import Snapshot, take_snapshot  # noqa: E402
 from recorder.files import write_recording  # noqa: E402
 from recorder.logs import BuildLog  # noqa: E402
 from recorder.manifest import Manifest  # noqa: E402
+from recorder.ninja import found_ninja  # noqa: E402
 from recorder.recording import record  # noqa: E402
 from recorder.running import Ran  # noqa: E402
 from recorder.words import read_words  # noqa: E402
+
+NINJA = found_ninja()
 
 
 def no_work(folder, runs=5):
@@ -32,7 +35,7 @@ def no_work(folder, runs=5):
     found = []
     for _ in range(runs):
         begin = time.monotonic()
-        subprocess.run(["ninja"], cwd=folder, check=True, stdout=subprocess.DEVNULL)
+        subprocess.run([NINJA.program], cwd=folder, check=True, stdout=subprocess.DEVNULL)
         found.append(time.monotonic() - begin)
     return min(found)
 
@@ -64,11 +67,11 @@ def steps(folder, out, is_whole):
     it, folder = Steps(), os.fsencode(folder)
     manifest = Manifest(b"build.ninja", lambda name: pathlib.Path(os.fsdecode(os.path.join(folder, name))).read_bytes())
     it.done("the manifest is read")
-    after = take_snapshot(folder, manifest)
+    after = take_snapshot(folder, manifest, NINJA)
     it.done("stamps and logs are read")
     sources = {path: 0 if path in manifest.producer else stamp for path, stamp in after.stamps.items()}
     before = Snapshot(sources, BuildLog(after.log.version, []), {}, {}) if is_whole else after
-    found = record(folder, manifest, read_words([]), None, before, after, Ran(0, 0))
+    found = record(NINJA, folder, manifest, read_words([]), None, before, after, Ran(0, 0))
     it.done("the events are worked out")
     it.least(lambda run: write_recording(found, f"{out}{run}", False, "/nowhere/rebug"))
     it.done(f"{len(found.found.events):,} events, {os.path.getsize(f'{out}0/trace'):,} bytes are written")
@@ -79,7 +82,7 @@ def main(edges=20_000, headers=300):
         folder = pathlib.Path(room) / "build"
         generate.main(folder, edges, headers)
         begin = time.monotonic()
-        subprocess.run(["ninja", "--quiet"], cwd=folder, check=True)
+        subprocess.run([NINJA.program, "--quiet"], cwd=folder, check=True)
         print(f"{edges:,} edges of {headers} headers, built in {time.monotonic() - begin:.1f} s", flush=True)
         print(f"Ninja's build of no work: {no_work(folder):.2f} s", flush=True)
         for is_whole in (False, True):

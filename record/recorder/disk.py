@@ -1,12 +1,12 @@
 """What Ninja and the disk show at one moment: stamps, the build log, the deps records."""
 
 import os
-from dataclasses import dataclass
+from dataclasses import dataclass, field
 
 from .depfiles import read_depfile
 from .depslog import DepsLog
 from .fields import canonical
-from .logs import HASHED_VERSIONS, BuildLog, hash_of, read_build_log
+from .logs import BuildLog, read_build_log
 
 
 def stamp_of(folder, path):
@@ -19,17 +19,22 @@ def stamp_of(folder, path):
 
 @dataclass
 class Snapshot:
-    """The state of a build folder; paths are canonical. `deps` has output -> (stamp, Listing)."""
+    """The state of a build folder; paths are canonical. `deps` has output -> (stamp, Listing).
+
+    `changed` has the outputs whose command is another than the log's; it counts where the log's hash is not known.
+    """
 
     stamps: dict
     log: BuildLog
     deps: dict
     without_deps_log: dict
+    changed: set = field(default_factory=set)
 
 
-def take_snapshot(folder, manifest):
-    """Reads the logs as far as they go, the depfiles that Ninja keeps no record of, and the stamp of every path."""
-    log = read_build_log(read_file(os.path.join(folder, manifest.log_folder(), b".ninja_log")))
+def take_snapshot(folder, manifest, ninja):
+    """Reads the logs as far as they go and as the Ninja takes them, the depfiles that Ninja keeps no record of, and the
+    stamp of every path."""
+    log = ninja.as_read(read_build_log(read_file(os.path.join(folder, manifest.log_folder(), b".ninja_log"))))
     deps = _deps_records(folder, manifest)
     texts = {}
     for edge in manifest.edges:
@@ -65,22 +70,22 @@ def _listed_paths(deps):
     return [log.paths[it] for log, found in numbers.items() for it in sorted(found)]
 
 
-def built_records(manifest, log):
-    """The built records of the log, output -> (stamp, command), and the outputs whose hash could not be looked at."""
-    records, unhashed = {}, []
-    hashes = {}
+def built_records(manifest, log, hash_of, changed=()):
+    """The built records of the log: output -> (stamp, command).
+
+    `hash_of` is the hash in the log. Where it is None, the commands are the manifest's but for the outputs in `changed`.
+    """
+    records, hashes = {}, {}
     for entry in log.last().values():
         path = canonical(entry.output)
         edge = manifest.producer.get(path)
         if edge is None or edge.phony:
             continue
-        if edge.number not in hashes:
+        if hash_of and edge.number not in hashes:
             hashes[edge.number] = hash_of(edge.ninja_command)
-        if log.version not in HASHED_VERSIONS:
-            unhashed.append(path)
-        is_same = log.version not in HASHED_VERSIONS or hashes[edge.number] == entry.hash
+        is_same = hashes[edge.number] == entry.hash if hash_of else path not in changed
         records[path] = entry.stamp, edge.command if is_same else stand_in(entry.hash)
-    return records, unhashed
+    return records
 
 
 def stand_in(value):

@@ -3,31 +3,15 @@
 import re
 from dataclasses import dataclass
 
-_WORD = (1 << 64) - 1
-_SEED, _TIMES, _SHIFT = 0xDECAFBADDECAFBAD, 0xC6A4A7935BD1E995, 47
+from .hashes import murmur_hash
 
-# The versions of the build log whose hash of a command is the one below.
-HASHED_VERSIONS = (5, 6)
-
-
-def hash_of(command):
-    """Ninja's hash of a command: MurmurHash2 in its 64-bit form A, little-endian words."""
-    value = (_SEED ^ (len(command) * _TIMES)) & _WORD
-    whole = len(command) & ~7
-    for at in range(0, whole, 8):
-        word = (int.from_bytes(command[at : at + 8], "little") * _TIMES) & _WORD
-        word ^= word >> _SHIFT
-        value = ((value ^ (word * _TIMES & _WORD)) * _TIMES) & _WORD
-    if whole < len(command):
-        value = ((value ^ int.from_bytes(command[whole:], "little")) * _TIMES) & _WORD
-    value ^= value >> _SHIFT
-    value = (value * _TIMES) & _WORD
-    return value ^ (value >> _SHIFT)
-
+# The first version that has hashes. One of the version before has the commands themselves, and Ninja up to 1.11 takes it.
+_FIRST_WITH_HASHES = 5
 
 @dataclass(frozen=True)
 class LogEntry:
-    """A line of the build log. Times are milliseconds since that Ninja began; the stamp is what Ninja recorded."""
+    """A line of the build log. Times are milliseconds since that Ninja began; the stamp is what that Ninja recorded: of
+    the outputs, or from 1.12 on of the moment at which the command began."""
 
     start: int
     end: int
@@ -50,9 +34,12 @@ class BuildLog:
 def read_build_log(content):
     """Reads a build log. A last line without its line end was being written, and is left out, as by Ninja."""
     lines = content.split(b"\n")[:-1]
-    version = re.fullmatch(rb"# ninja log v(\d+)", lines[0]) if lines else None
-    entries = [it for it in map(_entry, lines[1:]) if it] if version else []
-    return BuildLog(int(version[1]) if version else 0, entries)
+    head = re.fullmatch(rb"# ninja log v(\d+)", lines[0]) if lines else None
+    version = int(head[1]) if head else 0
+    if version < _FIRST_WITH_HASHES - 1:
+        return BuildLog(version, [])
+    entry = _entry if version >= _FIRST_WITH_HASHES else _entry_with_command
+    return BuildLog(version, [it for it in map(entry, lines[1:]) if it])
 
 
 def _entry(text):
@@ -62,6 +49,11 @@ def _entry(text):
         return LogEntry(int(start), int(end), max(0, int(stamp)), output, int(value, 16))
     except (IndexError, ValueError):
         return None
+
+
+def _entry_with_command(text):
+    parts = text.split(b"\t", 4)
+    return _entry(b"\t".join([*parts[:4], b"%x" % murmur_hash(parts[4])])) if len(parts) == 5 else None
 
 
 def new_entries(before, after):

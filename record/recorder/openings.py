@@ -1,8 +1,9 @@
 """The stamps of an opening that are not those of the disk.
 
 A command that fails after it wrote its output leaves a file that is newer than its inputs, beside an older entry of the
-log. Ninja goes by the entry and builds it again; rebug has one stamp of a path, so there the opening has the entry's,
-that of the output that was really built last.
+log. Ninja goes by the entry and builds it again; rebug has one stamp of a path, so there the opening has the entry's:
+that of the output that was really built last, or from Ninja 1.12 on the time at which the command began that built it,
+which is older also than an input that was written while that command ran.
 """
 
 from .fields import shown
@@ -11,7 +12,7 @@ from .rules import Build
 _NAMED = 5
 
 
-def stamps_of_what_was_built(it, before):
+def stamps_of_what_was_built(it, before, ninja):
     """The outputs whose log entry is older than the newest input that counts and whose file is not: path -> stamp.
 
     Edges whose list is older than their output are left alone: Ninja and rebug both run them, for that reason.
@@ -26,9 +27,10 @@ def stamps_of_what_was_built(it, before):
                     found[path] = max(1, it.built[path][0])
     if found:
         names = ", ".join(shown(path) for path in list(found)[:_NAMED])
-        it.notes.append(f"{names}{' and more' if found.keys() - set(list(found)[:_NAMED]) else ''}: changed since "
-                        f"Ninja's log has it as built, and the log's entry is older than an input, so Ninja builds it "
-                        f"again. The opening has the stamp of the log")
+        more = " and more" if len(found) > _NAMED else ""
+        since = "changed since Ninja's log has it as built, and the log's entry is older than an input" if \
+            ninja.stamps_are_of_outputs else "Ninja's log has its command begin before an input changed"
+        it.notes.append(f"{names}{more}: {since}, so Ninja builds it again. The opening has the stamp of the log")
     return found
 
 

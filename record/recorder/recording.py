@@ -1,11 +1,13 @@
 """From what was there before and after a run of Ninja to the events of a trace."""
 
-from dataclasses import dataclass, field
+import statistics
+from dataclasses import dataclass, field, replace
 
 from .disk import built_records, deps_records, stamp_of
 from .fields import canonical, shown
 from .limits import place_of
-from .logs import new_entries
+from .logs import BuildLog, new_entries
+from .ninja import differing
 from .openings import stamps_of_what_was_built
 from .other_names import other_names
 from .rules import Build
@@ -13,8 +15,6 @@ from .sequence import EdgeRun, Sequence, sequence
 from .words import MOST_JOBS
 
 _NANOSECONDS = 1_000_000
-# The last version of the build log whose stamps are those of outputs.
-_LOG_OF_OUTPUTS = 5
 _NAMED_EDGES = 10
 # Ninja's clock starts with its process; a stamp that asks for a later beginning was not set by the clock.
 _LONGEST_BEGINNING = 500 * _NANOSECONDS
@@ -38,26 +38,28 @@ class Recording:
     remarks: list = field(default_factory=list)
 
 
-def record(folder, manifest, words, jobs, before, after, ran):
+def record(ninja, folder, manifest, words, jobs, before, after, ran):
     """Works out the opening and the events. Notes say what could not be known, and what rebug will refuse.
 
     `jobs` is how many commands Ninja may run side by side where the jobs are to be those that ran, else None.
     """
-    built, unhashed = built_records(manifest, before.log)
+    if before.log.version != after.log.version:  # a later Ninja than is known here has thrown its log away
+        before = replace(before, log=BuildLog(after.log.version, []))
+    built = _built(ninja, manifest, before, after)
     it = Recording(manifest, jobs or 1, _targets(manifest, words.targets), dict(before.stamps), built,
                    deps_records(manifest, before))
-    if unhashed:
-        it.notes.append(f"this Ninja's log (version {before.log.version}) has hashes that the recorder does not "
-                        f"know: its "
-                        "commands are taken to be the manifest's")
+    if ninja.hash_in(after.log) is None:
+        it.notes.append(f"this Ninja's log (version {after.log.version}) has hashes that the recorder does not know: "
+                        f"which commands are not those of the log was asked of Ninja, and seen of those that ran")
     it.names = other_names(folder, manifest, after.stamps)
     _note_what_is_outside(it)
-    it.stamps.update(stamps_of_what_was_built(it, before))
-    runs, begin = _runs(it, before, after, ran)
+    it.stamps.update(stamps_of_what_was_built(it, before, ninja))
+    runs, begin = _runs(it, ninja, before, after, ran)
     it.runs = runs
     touches = _touches(it, before, after, runs, begin, ran.begin, folder)
     build = Build(manifest, it.jobs, it.stamps, it.built, it.deps)
-    it.found = sequence(build, it.targets, runs, touches, words.failures, ran.interrupted, as_run=jobs is not None)
+    it.found = sequence(build, it.targets, runs, touches, words.failures, ran.interrupted, as_run=jobs is not None,
+                        longest_way_first=ninja.starts_longest_way_first)
     it.jobs = min(MOST_JOBS, max(it.jobs if jobs else len(runs), it.found.jobs, 1))
     _note_order(it, runs)
     if ran.interrupted and not any(run.word == "abort" for run in runs):
@@ -66,6 +68,13 @@ def record(folder, manifest, words, jobs, before, after, ran):
     if runs or not ran.status:
         _note_refusals(it, build)
     return it
+
+
+def _built(ninja, manifest, before, after):
+    """The built records before the run. A command that ended well is in both logs, and so known to be another one."""
+    hash_of, last = ninja.hash_in(before.log), after.log.last()
+    changed = before.changed if hash_of else before.changed | differing(before.log.last(), last)
+    return built_records(manifest, before.log, hash_of, changed)
 
 
 def _targets(manifest, targets):
@@ -98,11 +107,11 @@ def _note_edges(it, edges, what):
         it.remarks.append(f"and {len(edges) - _NAMED_EDGES} more edges have that")
 
 
-def _runs(it, before, after, ran):
+def _runs(it, ninja, before, after, ran):
     """The commands that ran, and when Ninja began (nanoseconds of the disk's clock)."""
     manifest, entries = it.manifest, new_entries(before.log, after.log)
     entries = _without_manifest_edges(it, entries)
-    begin = ran.begin
+    begin = _beginning(ninja, manifest, entries, ran)
     runs = {}
     for entry in entries:
         edge = manifest.producer.get(canonical(entry.output))
@@ -113,10 +122,7 @@ def _runs(it, before, after, ran):
             it.notes.append(f"{shown(edge.name)} ended twice in Ninja's log: its last end counts")
             del runs[edge.number]
         if edge.number not in runs:
-            runs[edge.number] = _finished(it, edge, entry, after)
-        latest = entry.stamp - (entry.end + 1) * _NANOSECONDS
-        if not edge.restat and begin < latest < ran.begin + _LONGEST_BEGINNING:
-            begin = latest
+            runs[edge.number] = _left_alone(it, _finished(it, ninja, edge, entry, after), before, after)
     seen = _seen_commands(ran, begin)
     _add_failed(it, runs, after, ran, begin, seen)
     if ran.interrupted:
@@ -135,14 +141,34 @@ def _without_manifest_edges(it, entries):
     return entries[places[-1] + 1 :]
 
 
-def _finished(it, edge, entry, after):
+def _beginning(ninja, manifest, entries, ran):
+    """When Ninja began, in nanoseconds of the disk's clock: its log has times that count from there, and stamps.
+
+    Where the stamp is of the outputs, it is not later than the end. Where it is of the moment at which the command
+    began, it is as early as the clock is coarse, and sometimes late, so the middle one of all counts.
+    """
+    times = []
+    for entry in entries:
+        edge = manifest.producer.get(canonical(entry.output))
+        if edge is None or edge.restat:
+            continue
+        if ninja.stamps_are_of_outputs:
+            times.append(entry.stamp - (entry.end + 1) * _NANOSECONDS)
+        elif not edge.generator:
+            times.append(entry.stamp - entry.start * _NANOSECONDS)
+    near = [it for it in times if abs(it - ran.begin) < _LONGEST_BEGINNING]
+    found = max if ninja.stamps_are_of_outputs else statistics.median_low
+    return max(ran.begin, found(near)) if near else ran.begin
+
+
+def _finished(it, ninja, edge, entry, after):
     """A command that ended well.
 
-    Logs of version 5 have the greatest stamp of its outputs as it ended; a later one came later. Newer ones have the
-    time of its start, which says nothing of the outputs.
+    A log whose stamps are of the outputs has the greatest of them as the command ended; a later one came later. Others
+    have the time of its start, which says nothing of the outputs.
     """
     stamps = [after.stamps.get(path, 0) for path in edge.outputs]
-    if after.log.version <= _LOG_OF_OUTPUTS and not edge.restat:
+    if ninja.stamps_are_of_outputs and not edge.restat:
         stamps = [min(stamp, entry.stamp) if entry.stamp else stamp for stamp in stamps]
         if len(stamps) == 1:
             stamps = [entry.stamp]
@@ -157,14 +183,26 @@ def _finished(it, edge, entry, after):
     return EdgeRun(edge, "finish", entry.start, entry.end, stamps, listing)
 
 
+def _left_alone(it, run, before, after):
+    """The run, where restat left outputs alone whose opening has the log's stamp: such an output keeps that stamp, so
+    that it has not changed, and gets the file's right after, since that is what its users are compared with."""
+    for place, path in enumerate(run.edge.outputs if run.edge.restat else ()):
+        stamp = before.stamps.get(path, 0)
+        if it.stamps.get(path, 0) != stamp and after.stamps.get(path, 0) == stamp:
+            run.stamps[place] = it.stamps[path]
+            run.touched.append((path, stamp))
+    return run
+
+
 def _add_failed(it, runs, after, ran, begin, seen):
     by_outputs = {b" ".join(edge.outputs): edge for edge in it.manifest.edges if not edge.phony}
-    for text, time, came in ran.failed:
-        edge = by_outputs.get(text)
+    for failed in ran.failed:
+        edge = by_outputs.get(failed.outputs)
         if edge is None or edge.number in runs:
             continue
-        end = time if time is not None else max(0, (came - begin) // _NANOSECONDS)
+        end = failed.time if failed.time is not None else max(0, (failed.came - begin) // _NANOSECONDS)
         _add_unlogged(it, runs, edge, "fail", end, after, seen)
+        runs[edge.number].code = failed.code
 
 
 def _add_interrupted(it, runs, before, after, seen):
@@ -228,6 +266,7 @@ def _touches(it, before, after, runs, begin, ran_begin, folder):
                 it.stamps[path] = stamp
     for run in runs:
         last.update(zip(run.edge.outputs, run.stamps))
+        last.update(run.touched)
     touches = []
     for path in last:
         stamp = after.stamps[path] if path in after.stamps else stamp_of(folder, path)
@@ -245,7 +284,8 @@ def _note_order(it, runs):
     guessed = [run for run in runs if run.word != "finish"]
     if guessed:
         seen = sum(run.is_start_known for run in guessed)
-        names = ", ".join(f"{shown(run.edge.name)} ({run.word})" for run in guessed[:5])
+        names = ", ".join(f"{shown(run.edge.name)} ({run.word}{'' if run.code is None else f', status {run.code}'})"
+                          for run in guessed[:5])
         it.remarks.append(f"Ninja's log has no commands that did not end well: {names}. {seen} of {len(guessed)} "
                           f"start where they were first seen running, the others right before their end")
 

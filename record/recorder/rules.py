@@ -166,6 +166,16 @@ class Build:
         done = {it.number for it in ordered}
         return ordered, [it for it in reached if it.number not in done]
 
+    def longest_ways(self, targets):
+        """Edge number -> how many commands it and those behind it have in a row, as far as the targets reach: Ninja
+        from 1.12 on starts first what has most."""
+        ordered, _ = self.in_order(self.reached(targets or self.manifest.defaults()))
+        ways = {edge.number: int(not edge.phony) for edge in ordered}
+        for edge in reversed(ordered):
+            for maker in self.producers(edge):
+                ways[maker.number] = max(ways.get(maker.number, 0), ways[edge.number] + (not maker.phony))
+        return ways
+
     def plan(self, targets):
         """Marks what the targets want; the plan must not be refused."""
         ordered, _ = self.in_order(self.reached(targets))

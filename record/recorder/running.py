@@ -5,6 +5,8 @@ this module puts before each status line by NINJA_STATUS and takes out again. Wh
 interrupted stands nowhere: on Linux a thread looks at Ninja's children, in /proc.
 """
 
+from __future__ import annotations
+
 import fcntl
 import os
 import pty
@@ -22,12 +24,11 @@ from .signals import write_all
 _BEGIN, _END = b"\x1e", b"\x1f"
 _MARK = re.compile(_BEGIN + rb"(\d+)\.(\d{3})" + _END)
 _COLOUR = re.compile(rb"\x1b\[[0-9;]*[A-Za-z]")
-_FAILED = re.compile(rb"FAILED: (?:\[code=-?\d+\] )?(.*?) ?")
+_FAILED = re.compile(rb"FAILED: (?:\[code=(-?\d+)\] )?(.*?) ?")
 _LONGEST_MARK = 32
 _MARK_COLUMNS = 7  # those of a mark of the first ten seconds
 _NARROWEST = 40  # Ninja cuts the middle out of lines that are too wide, and a mark must stand in the first half
 _POLL_SECONDS = 0.005
-_INTERRUPTED = (2, 130)  # Ninja's status after an interrupt; 130 from version 1.12 on
 
 
 @dataclass
@@ -38,12 +39,20 @@ class Child:
     seen: int
 
 
+@dataclass(frozen=True)
+class Failed:
+    """A line of Ninja's that says which command failed: the outputs as one text, the command's exit status where this
+    Ninja tells it (from 1.13 on), Ninja's time of it in milliseconds or None, and when the line came (nanoseconds)."""
+
+    outputs: bytes
+    code: int | None
+    time: int | None
+    came: int
+
+
 @dataclass
 class Ran:
-    """What a run of Ninja left behind.
-
-    `failed` has triples: the outputs as one text, Ninja's time of it in milliseconds or None, and when the line came.
-    """
+    """What a run of Ninja left behind."""
 
     status: int
     begin: int
@@ -92,7 +101,8 @@ class _Output:
         text = _COLOUR.sub(b"", _MARK.sub(b"", line)).rstrip(b"\r\n")
         failed = _FAILED.fullmatch(text)
         if failed:
-            self.ran.failed.append((failed[1], self.time, time.time_ns()))
+            code = int(failed[1]) if failed[1] else None
+            self.ran.failed.append(Failed(failed[2], code, self.time, time.time_ns()))
         elif not marks:
             self.time = None
         if text.startswith(b"ninja: build stopped: "):
@@ -178,8 +188,8 @@ def _has_the_terminal():
         os.close(terminal)
 
 
-def run_ninja(words, folder, signals):
-    """Runs the words in the folder to their end, whatever signal comes in between.
+def run_ninja(ninja, words, folder, signals):
+    """Runs the words, which run this Ninja, in the folder to their end, whatever signal comes in between.
 
     Signals go on to Ninja, but for an interrupt from the terminal: Ninja has got that, and a second one would kill it.
     It may even have ended by it before this process, on a busy machine, looks at its own.
@@ -194,7 +204,8 @@ def run_ninja(words, folder, signals):
             early.append(number)
         for process, watcher in started:
             if process.poll() is not None:
-                return number == signal.SIGINT and process.returncode in _INTERRUPTED and _has_the_terminal()
+                return number == signal.SIGINT and process.returncode == ninja.status_of_interrupt and \
+                    _has_the_terminal()
             watcher.look()
             if number != signal.SIGINT or not _has_the_terminal():
                 process.send_signal(number)
@@ -218,10 +229,11 @@ def run_ninja(words, folder, signals):
     return ran
 
 
-def run_quietly(words, folder, signals):
-    """Runs the words with their output kept: the status and what was written. Signals go on to them."""
-    process = subprocess.Popen(words, cwd=folder, stdin=subprocess.DEVNULL, stdout=subprocess.PIPE,
-                               stderr=subprocess.STDOUT)
+def run_quietly(words, folder, signals, errors_alone=False):
+    """Runs the words with their output kept: the status and what was written, or what was written to standard error
+    alone. Signals go on to them."""
+    outputs = (subprocess.DEVNULL, subprocess.PIPE) if errors_alone else (subprocess.PIPE, subprocess.STDOUT)
+    process = subprocess.Popen(words, cwd=folder, stdin=subprocess.DEVNULL, stdout=outputs[0], stderr=outputs[1])
 
     def hand_on(number):
         if process.poll() is not None:
@@ -232,7 +244,7 @@ def run_quietly(words, folder, signals):
 
     signals.hand_on = hand_on
     try:
-        said = process.communicate()[0]
+        said = process.communicate()[errors_alone]
     finally:
         signals.hand_on = None
     return process.returncode, said

@@ -5,6 +5,8 @@ end fall into one millisecond, the end is taken first: every producer has then e
 free, so there is no order that the manifest allows and this one breaks.
 """
 
+from __future__ import annotations
+
 import heapq
 from dataclasses import dataclass, field
 
@@ -17,7 +19,11 @@ _PHONY_EDGES = 100
 
 @dataclass(eq=False)
 class EdgeRun:
-    """A command that ran. Times are milliseconds since Ninja began; `word` is finish, fail or abort."""
+    """A command that ran. Times are milliseconds since Ninja began; `word` is finish, fail or abort.
+
+    `code` is the exit status of one that failed, where Ninja tells it. `touched` has (path, stamp) of the outputs that
+    get another stamp right after the end.
+    """
 
     edge: Edge
     word: str
@@ -26,6 +32,8 @@ class EdgeRun:
     stamps: list
     listing: object = None
     is_start_known: bool = True
+    code: int | None = None
+    touched: list = field(default_factory=list)
 
 
 @dataclass
@@ -73,7 +81,8 @@ class _Places:
 class Sequencer:
     """Hands events to the rules one by one, with the passes and cleans that become possible after each."""
 
-    def __init__(self, build, failures, most_jobs, as_run):
+    def __init__(self, build, failures, most_jobs, as_run, longest_way_first=False):
+        self.longest_way_first, self.ways = longest_way_first, None
         self.build, self.edges, self.producer = build, build.edges, build.producer
         self.failures_left, self.found, self.now, self.as_run = failures, Sequence(), 0, as_run
         self.jobs, self.pools, self.held = _Places(most_jobs), {}, {}
@@ -90,6 +99,7 @@ class Sequencer:
         return not refusal
 
     def plan(self, targets):
+        self.targets = targets
         if not self.put("plan", targets):
             return
         marks = self.build.marks
@@ -140,7 +150,10 @@ class Sequencer:
             self.pools[edge.pool].give_back(it)
         self.failures_left -= run.word == "fail"
         listing = () if run.listing is None else (run.listing,)
-        if self.put(run.word, edge.name, run.stamps, *listing) and run.word == "finish":
+        is_put = self.put(run.word, edge.name, run.stamps, *listing)
+        for path, stamp in run.touched:
+            self.put("touch", path, stamp)
+        if is_put and run.word == "finish":
             self.settled(edge)
         self.go_on()
 
@@ -154,17 +167,25 @@ class Sequencer:
             found.update(maker.number for maker in makers)
         return found
 
+    def place_among_starts(self, run):
+        """By what Ninja orders edges that can start: the longest way first where it looks at that, then the number."""
+        if self.longest_way_first and self.ways is None:
+            self.ways = self.build.longest_ways(self.targets)
+        return -(self.ways or {}).get(run.edge.number, 0), run.edge.number
+
     def can_start(self, run):
         """Whether all that the edge stands on has settled."""
         return not self.waits.get(run.edge.number)
 
 
-def sequence(build, targets, runs, touches, failures, interrupted=False, as_run=False):
+def sequence(build, targets, runs, touches, failures, interrupted=False, as_run=False, longest_way_first=False):
     """The order of a whole run. `touches` has (milliseconds or None, path, stamp); those without a time come last.
 
-    Each start takes a job of its own, as far as MOST_JOBS go; `as_run` takes as few as ran side by side.
+    Each start takes a job of its own, as far as MOST_JOBS go; `as_run` takes as few as ran side by side. Of starts in
+    one millisecond Ninja's first one is first: `longest_way_first` says how it orders them.
     """
-    it = Sequencer(build, failures, build.job_count if as_run else min(len(runs), MOST_JOBS), as_run)
+    most_jobs = build.job_count if as_run else min(len(runs), MOST_JOBS)
+    it = Sequencer(build, failures, most_jobs, as_run, longest_way_first)
     it.will_run = {run.edge.number for run in runs}
     build.job_count = max(build.job_count, len(runs))  # whatever the order asks for is given, and written as `jobs`
     it.plan(targets)
@@ -206,5 +227,5 @@ def _moment(it, touched, ends, starts):
             it.start(run)
             starts.remove(run)
         it.end(run)
-    for run in sorted(starts, key=lambda run: run.edge.number):
+    for run in sorted(starts, key=it.place_among_starts) if len(starts) > 1 else starts:
         it.start(run)

@@ -1,8 +1,8 @@
 """One recording from its first look at the folders to its last sentence."""
 
 import os
+import re
 import shlex
-import shutil
 import sys
 
 from .disk import read_file, take_snapshot
@@ -11,6 +11,7 @@ from .files import WRITTEN, names_of_files, write_recording
 from .folders import OPTIONAL, BadFolder, NotInPlace, OutFolder
 from .limits import what_is_refused
 from .manifest import Manifest
+from .ninja import NoNinja, changed_commands, found_ninja
 from .observed.observers import chosen
 from .observed.observing import LOG, Observation, Unobserved
 from .options import IF_POSSIBLE
@@ -20,6 +21,10 @@ from .signals import name_of, write_all
 from .words import number_of_jobs, read_words
 
 NOT_RUN, NOT_RECORDED = 2, 3
+# Ninja's own lines, beside the commands and what these write: of these it says some again when it runs once more.
+_OF_NINJA = b"ninja: "
+_SAID_AGAIN = (b"ninja: no work to do.\n",)
+_JOBSERVER = re.compile(rb"ninja: .*jobserver", re.IGNORECASE)
 
 
 class Failure(Exception):
@@ -37,6 +42,7 @@ class Session:
         self.options, self.signals, self.say, self.launcher = options, signals, say, launcher
         self.words = read_words(options.for_ninja)
         self.ninja, self.build = _ninja(), os.fsencode(options.build)
+        self.program = self.ninja.program
         if not os.path.isdir(self.build):
             raise Failure(f"{options.build} is no folder")
 
@@ -48,10 +54,11 @@ class Session:
             self.look_at_limits(manifest)
             out.look_at_places([*names_of_files(manifest).values(), *WRITTEN, *(OPTIONAL if observer else ())])
             as_run = self.options.jobs_as_run or self.options.lanes
-            jobs = number_of_jobs(self.ninja, self.words.jobs) if as_run else None
-            before = take_snapshot(self.build, manifest)
+            jobs = number_of_jobs(self.program, self.words.jobs) if as_run else None
+            before = self.snapshot_before(manifest)
             with self.observation(observer, manifest, out) as observation:
-                ran = run_ninja(observation.words([self.ninja, *self.words.all]), self.build, self.signals)
+                words = observation.words([self.program, *self.words.all])
+                ran = run_ninja(self.ninja, words, self.build, self.signals)
                 observation.end()
             status = ran.status if ran.status >= 0 else 128 - ran.status
             try:
@@ -82,14 +89,22 @@ class Session:
         log = out.staging.create(LOG) if self.options.keep_log else None
         return Observation(observer, self.build, manifest, log)
 
+    def snapshot_before(self, manifest):
+        """What is there before the run. Of a log whose hash is not known Ninja says which commands are not the log's."""
+        before = take_snapshot(self.build, manifest, self.ninja)
+        if before.log.entries and self.ninja.hash_in(before.log) is None:
+            words = [self.program, "-n", "-d", "explain", *self.words.all]
+            before.changed = changed_commands(run_quietly(words, self.build, self.signals, errors_alone=True)[1])
+        return before
+
     def write(self, out, manifest, jobs, before, ran, status, observation):
         """Writes what a run of Ninja left; gives the exit status."""
         for name, content, _ in manifest.files:
             if read_file(os.path.join(self.build, name)) != content:
                 raise Failure(f"{shown(name)} was written anew during the build, and a trace is of one manifest: "
                               f"nothing was recorded. Record again, now that it is there", status or NOT_RECORDED)
-        after = take_snapshot(self.build, manifest)
-        found = record(self.build, manifest, self.words, jobs, before, after, ran)
+        after = take_snapshot(self.build, manifest, self.ninja)
+        found = record(self.ninja, self.build, manifest, self.words, jobs, before, after, ran)
         if status and not ran.interrupted and not _has_started(found, ran) and not self.options.force:
             if out.has_recording():
                 self.say(f"Ninja built nothing, so the recording in {self.options.out} stays (--force replaces it)")
@@ -130,13 +145,13 @@ class Session:
         maker = manifest.producer.get(canonical(self.words.manifest))
         if maker is None:
             return manifest
-        status, said = run_quietly([self.ninja, "-f", self.words.manifest, maker.name], self.build, self.signals)
-        lines = [it for it in said.splitlines(keepends=True) if it != b"ninja: no work to do.\n"]
+        status, said = run_quietly([self.program, "-f", self.words.manifest, maker.name], self.build, self.signals)
+        lines = [it for it in said.splitlines(keepends=True) if it not in _SAID_AGAIN and not _JOBSERVER.match(it)]
         write_all(1, b"".join(lines))
         if status:
             raise Failure("the manifest could not be brought up to date: nothing was recorded",
                           status if status > 0 else 128 - status)
-        if not lines:
+        if all(it.startswith(_OF_NINJA) for it in lines):
             return manifest
         self.say("that was the manifest, brought up to date before the recording begins")
         return self.manifest()
@@ -151,12 +166,10 @@ def _has_started(found, ran):
 
 
 def _ninja():
-    given = os.environ.get("NINJA")
-    found = shutil.which(given or "ninja")
-    if found:
-        return os.path.abspath(found)
-    raise Failure(f"NINJA names {given}, which cannot be run" if given else
-                  "there is no ninja on the PATH (NINJA may name one)")
+    try:
+        return found_ninja()
+    except NoNinja as why:
+        raise Failure(str(why)) from why
 
 
 def _content(path):

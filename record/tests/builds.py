@@ -18,8 +18,9 @@ import tempfile
 import time
 
 from recorder.disk import stamp_of
-from recorder.logs import hash_of, read_build_log
+from recorder.logs import read_build_log
 from recorder.manifest import Manifest
+from versions import NINJA
 
 RECORDER = pathlib.Path(__file__).resolve().parent.parent / "rebug-record"
 
@@ -28,6 +29,13 @@ def missing_tools(*names):
     """A sentence that says which of the tools are not on this machine, or None."""
     found = [it for it in names if not shutil.which(it)]
     return f"not on this machine: {', '.join(found)}" if found else None
+
+
+def other_ninjas():
+    """The Ninjas that NINJAS names and that are not the one on the PATH."""
+    named = [it for it in os.environ.get("NINJAS", "").split(os.pathsep) if it]
+    here = shutil.which("ninja")
+    return [it for it in named if here and not os.path.samefile(it, here)]
 
 
 def recordings():
@@ -93,7 +101,7 @@ class Chain:
         hashes = {}
         for it in json.loads(commands.decode("latin-1")):
             if ".rsp" not in it["command"]:
-                hashes[it["output"]] = hash_of(it["command"].encode("latin-1"))
+                hashes[it["output"]] = NINJA.hash_of(it["command"].encode("latin-1"))
         text = lambda it: it.decode("latin-1")
         (self.folder / f"{name}.expected").write_text(json.dumps({
             "stamps": {text(it): stamp_of(build, it) for it in self.paths(name, deps)},
@@ -200,7 +208,7 @@ def cmake_chain():
     it.write("src/CMakeLists.txt", CMAKE_LISTS + slow)
     subprocess.run(["cmake", out], check=True, capture_output=True)
     it.write("src/w1.c", "int w1(void) { return 7; }\n")
-    it.record("interrupted", status=2, interrupt_when="begun")
+    it.record("interrupted", status=NINJA.status_of_interrupt, interrupt_when="begun")
     it.write("src/CMakeLists.txt", CMAKE_LISTS)
     it.record("after_the_interrupt_with_another_manifest")
 
@@ -285,7 +293,7 @@ def shell_chain():
     it.record("nothing_to_do", "o/listed")
     (it.build / "begun").unlink()
     it.write("sub/less.ninja", "build o/slow: slow s2\n  seconds = 20\nbuild o/behind: copy o/slow\n")
-    it.record("interrupted_while_slow", "o/behind", "o/p1", "o/p3", status=2, interrupt_when="begun")
+    it.record("interrupted_while_slow", "o/behind", "o/p1", "o/p3", status=NINJA.status_of_interrupt, interrupt_when="begun")
     it.write("sub/less.ninja", "build o/slow: slow s2\n  seconds = 0.2\nbuild o/behind: copy o/slow\n")
     it.record("resumed", "o/behind", "o/p3")
 
@@ -316,10 +324,10 @@ def failing_chain():
     it.write("s", "s\n")
     it.record("first_failure_ends", "w", status=1)
     it.record("keep_going", "-k0", "w", "t", status=1)
-    it.record("console_failure", "t", "y", status=1, jobs=1)
+    it.record("console_failure", "t", "y", status=NINJA.status_of_failure(3), jobs=1)
     it.write("build.ninja", FAILING_MANIFEST.replace("break s", "make s"))
     it.record("repaired", "w")
-    it.record("recorded_with_lanes", "-k0", "t", "w", status=1, own=["--lanes"])
+    it.record("recorded_with_lanes", "-k0", "t", "w", status=NINJA.status_of_failure(3), own=["--lanes"])
     it.write("s", "again\n")
     it.record("jobs_as_run", "w", own=["--jobs-as-run"])
 

@@ -1,11 +1,15 @@
 """What docs/NINJA.md tells of differences, as builds and manifests that can be run."""
 
+from __future__ import annotations
+
 import pathlib
 import shutil
 import subprocess
+from dataclasses import dataclass
 
 import builds
 from builds import Chain
+from versions import since
 
 COPY = "rule cp\n  command = cp $in $out\n"
 LIST = "rule dep\n  command = touch $out && echo '$out: $list' > $out.d\n  depfile = $out.d\n  deps = gcc\n"
@@ -168,32 +172,67 @@ def depfile_without_deps():
     return it.recorded()
 
 
+def missing_header_that_another_edge_has_as_a_source():
+    it = Difference("missing_header_that_another_edge_has_as_a_source")
+    it.write("build.ninja", COPY + LIST + "build o: dep s\n  list = h\nbuild p: cp h\n")
+    it.write("s", "s")
+    it.write("h", "h")
+    it.ninja("o", "p")
+    (it.build / "h").unlink()
+    return it.recorded("o", status=1 if since((1, 12)) else 0)
+
+
+def input_written_while_its_user_ran():
+    it = Difference("input_written_while_its_user_ran")
+    it.write("build.ninja", "rule copy\n  command = sleep .05; cat $in > $out; touch s; sleep .05; touch $out\n"
+             "build o: copy s\n")
+    it.write("s", "s")
+    it.ninja()
+    return it.recorded()
+
+
 # what records it -> the reason that rebug gives, where the opening has the stamp of the log
 OLDER = {
     "failed_command_that_left_its_output": "why o older o s",
     "failed_restat_command_that_left_its_output": "why o older o s",
     "failed_post_build_step": "why o older o CMakeFiles/o.dir/o.c.o",
     "input_and_output_touched": "why o older o s",
+    **({"input_written_while_its_user_ran": "why o older o s"} if since((1, 12)) else {}),
 }
 NEEDS = {"failed_post_build_step": ("ninja", "cmake", "cc")}
 
-# name -> (what records it, the numbers of the first refusal, the first event that Ninja ran)
-BUILDS = {it.__name__: (it, refusal, event) for it, refusal, event in (
-    (failed_command_that_left_its_output, None, "start o 0"),
-    (failed_restat_command_that_left_its_output, None, "start o 0"),
-    (failed_post_build_step, None, "start o 0"),
-    (input_and_output_touched, None, "start o 0"),
-    (restat_behind_a_phony_edge, None, "start o 0"),
-    (two_outputs_of_one_record, None, None),
-    (old_list_with_a_missing_header, (68, 1), "start o 0"),
-    (old_list_that_leads_back, (53, 0), "start o 0"),
-    (phony_edge_with_one_of_two_outputs, (69,), "start o 0"),
-    (order_only_source_gone, (52, 1, 0), None),
-    (missing_source_as_target, None, None),
-    (missing_header_that_one_target_forgives, (52, 0, 1), "start o 0"),
-    (depfile_without_deps, None, "start o 0"),
-    (variable_of_the_file, None, "start o 0"),
-)}
+
+@dataclass(frozen=True)
+class Row:
+    """What is seen of a build: the numbers of rebug's first refusal, the first event that Ninja ran, and whether the
+    recorder says that the rules differ (it does not where both refuse)."""
+
+    refusal: tuple | None = None
+    event: str | None = "start o 0"
+    is_told: bool = True
+
+
+# what records it, what is seen of it, and what is seen of it from Ninja 1.12 on where that is something else
+ROWS = (
+    (failed_command_that_left_its_output, Row()),
+    (failed_restat_command_that_left_its_output, Row()),
+    (failed_post_build_step, Row()),
+    (input_and_output_touched, Row()),
+    (restat_behind_a_phony_edge, Row(), Row(event=None)),
+    (two_outputs_of_one_record, Row(event=None)),
+    (old_list_with_a_missing_header, Row((68, 1))),
+    (old_list_that_leads_back, Row((53, 0))),
+    (phony_edge_with_one_of_two_outputs, Row((69,))),
+    (order_only_source_gone, Row((52, 1, 0), event=None)),
+    (missing_source_as_target, Row(event=None)),
+    (missing_header_that_one_target_forgives, Row((52, 0, 1)), Row((52, 0, 1), event=None, is_told=False)),
+    (missing_header_that_another_edge_has_as_a_source, Row(), Row(event=None)),
+    (depfile_without_deps, Row()),
+    (variable_of_the_file, Row()),
+    (input_written_while_its_user_ran, Row(event=None), Row()),
+)
+# name -> (what records it, what is seen of it with the Ninja on the PATH)
+BUILDS = {make.__name__: (make, rows[-1] if since((1, 12)) else rows[0]) for make, *rows in ROWS}
 
 
 def lacking(name):
@@ -231,7 +270,8 @@ LINES = {
     "dollar in a keyword": (RULE + "bu$\nild o: r\n", "expected '='", TAKEN),
     "dollar alone": (RULE + "$\nbuild o: r\n", "lexing error", TAKEN),
     "dyndep": (RULE + "build o: r || d\n  dyndep = d\nbuild d: r\n", "[1/2] ", "fault manifest build.ninja 3 22"),
-    "output twice": (RULE + "build o o: r\n", "multiple rules generate o", TAKEN),
+    "output twice": (RULE + "build o o: r\n",
+                     "o is defined as an output multiple times" if since((1, 12)) else "multiple rules generate o", TAKEN),
     "phony edge of itself": (RULE + "build a b: phony a\nbuild o: r a\n", "dependency cycle: a -> a", TAKEN),
     "dots above the root": ("rule r\n  command = : $out\nbuild /../x: r\n", "[1/1] : /../x", TAKEN),
     "phony edge alone": ("build a: phony a\n", "could not determine root nodes", TAKEN),
@@ -243,7 +283,7 @@ LINES = {
     "required version": ("ninja_required_version = 99\n" + RULE + "build o: r\n", "incompatible with build file",
                          TAKEN),
     "rule variable twice": ("rule r\n  command = echo $description $description\n  description = d\nbuild o: r\n",
-                            "cycle in rule variables", TAKEN),
+                            RAN if since((1, 12)) else "cycle in rule variables", TAKEN),
 }
 
 

@@ -12,6 +12,7 @@ import subprocess
 
 import builds
 from builds import Chain
+from versions import NINJA
 
 STEPS = ("clean", "header_touched", "broken", "mended", "interrupted", "resumed")
 QUICK = "printf '#define STEP 1\\n' >\"$1\"\n"
@@ -56,7 +57,7 @@ class Project(Chain):
         self.step("mended")
         self.write(slow, SLOW)
         self.write(source, good + b"\n")
-        self.step("interrupted", status=2, interrupt_when="begun")
+        self.step("interrupted", status=NINJA.status_of_interrupt, interrupt_when="begun")
         self.write(slow, QUICK)
         self.step("resumed")
 

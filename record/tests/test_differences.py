@@ -16,7 +16,7 @@ class Differences(unittest.TestCase):
 
 
 def _build_test(name):
-    _, refusal, event = differences.BUILDS[name]
+    _, row = differences.BUILDS[name]
 
     def test(self):
         if differences.lacking(name):
@@ -24,12 +24,13 @@ def _build_test(name):
         folder = differences.made(name)
         lines = (folder / "recorded/trace").read_text().split("\n")
         said = (folder / "recorded.said").read_text()
-        self.assertEqual(event in lines if event else not any(it.startswith("start ") for it in lines), True)
-        if refusal is None:
+        starts = [it for it in lines if it.startswith("start ")]
+        self.assertEqual(starts[:1], [row.event] if row.event else [])
+        if row.refusal is None or not row.is_told:
             self.assertNotIn("rules differ", said)
             self.assertEqual("The opening has the stamp of the log" in said, name in differences.OLDER)
         else:
-            self.assertIn(f"({' '.join(map(str, refusal))})", said)
+            self.assertIn(f"({' '.join(map(str, row.refusal))})", said)
 
     return test
 

@@ -12,6 +12,7 @@ import unittest
 import builds
 import projects  # noqa: F401, adds its chains
 from builds import CHAINS, missing_tools, unescaped
+from versions import NINJA
 
 
 class Recordings(unittest.TestCase):
@@ -173,7 +174,7 @@ class Terminals(unittest.TestCase):
             (folder / "build/build.ninja").write_text(AT_A_TERMINAL)
             status, shown = self.run_at_a_terminal(folder, b"\x03")
             trace = (folder / "recorded/trace").read_text()
-        self.assertEqual(status, 2)
+        self.assertEqual(status, NINJA.status_of_interrupt)
         self.assertIn(b"[0/2] touch begun1; sleep 20; touch a\x1b[K", shown)
         self.assertNotIn(b"\x1e", shown)
         self.assertTrue(trace.endswith("interrupt\nabort a 0\nabort b 0\n"), trace)

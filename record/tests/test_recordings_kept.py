@@ -16,6 +16,7 @@ import unittest
 import builds
 from recorder.folders import OutFolder
 from recorder.main import main
+from versions import NINJA
 
 TOUCH = "rule touch\n  command = touch $out\n"
 ONE = TOUCH + "build o: touch s\n"
@@ -241,7 +242,11 @@ class Folders(Kept):
         (self.room / "ninja").write_text("no program\n")
         (self.room / "ninja").chmod(0o755)
         status, said = self.run_recorder(env={**os.environ, "NINJA": str(self.room / "ninja")})
-        self.assertEqual((status, said.count("\n")), (3, 1), said)
+        self.assertEqual((status, said.count("\n")), (2, 1), said)
+        self.assertIn("ninja cannot be run: ", said)
+        (self.room / "ninja").write_text("#!/bin/sh\necho no version\n")
+        said = self.refused(self.out, env={**os.environ, "NINJA": str(self.room / "ninja")})
+        self.assertIn("does not tell Ninja's version", said)
 
     def test_targets_stand_behind_two_dashes(self):
         status, said = self.run_recorder(own=["app"])
@@ -408,7 +413,7 @@ class Ended(Kept):
                 time.sleep(0.3)
                 process.send_signal(number)
                 said = process.stdout.read()
-                self.assertEqual(process.wait(60), 2, said)
+                self.assertEqual(process.wait(60), NINJA.status_of_interrupt, said)
                 self.assertIn(b"interrupt\nabort o 0\n", (self.out / "trace").read_bytes())
                 (self.build / "begun").unlink()
 

@@ -29,7 +29,7 @@ class ReplaysOfDifferences(unittest.TestCase):
 
 
 def _build_test(name):
-    _, refusal, _ = differences.BUILDS[name]
+    _, row = differences.BUILDS[name]
 
     def test(self):
         lacking = differences.lacking(name)
@@ -37,10 +37,10 @@ def _build_test(name):
             self.skipTest(lacking)
         said = []
         status = check(str(differences.made(name) / "recorded"), program(), said.append)
-        if refusal is None:
+        if row.refusal is None:
             self.assertEqual(status, 0, said)
         else:
-            self.assertIn(f"refused {' '.join(map(str, refusal))}:", said[0])
+            self.assertIn(f"refused {' '.join(map(str, row.refusal))}:", said[0])
 
     return test
 

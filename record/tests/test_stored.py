@@ -13,13 +13,15 @@ from recorder.depfiles import read_depfile
 from recorder.disk import Snapshot, built_records
 from recorder.fields import canonical, field, line, quoted
 from recorder.files import command, commands, names_of_files, opening, write_recording
+from recorder.hashes import murmur_hash
 from recorder.held import HeldFolder
-from recorder.logs import BuildLog, LogEntry, hash_of, new_entries, read_build_log
+from recorder.logs import BuildLog, LogEntry, new_entries, read_build_log
 from recorder.manifest import BadManifest, Manifest
+from recorder.ninja import Ninja
 from recorder.recording import record
 from recorder.replaying import replay_text, words_of_replay
 from recorder.rules import Build
-from recorder.running import Child, Ran, _Output
+from recorder.running import Child, Failed, Ran, _Output
 from recorder.sequence import EdgeRun, sequence
 from recorder.words import MOST_JOBS, BadWords, read_words
 
@@ -34,6 +36,8 @@ ARCHIVE = (b": && /usr/bin/cmake -E rm -f libgreet.a && /usr/bin/ar qc libgreet.
            b"&& /usr/bin/ranlib libgreet.a && :")
 DEPS = (b"a b.o: #deps 2, deps mtime 17 (VALID)\n    a b.c\n    /usr/include/x.h\n\n"
         b"none.o: #deps 0, deps mtime 3 (STALE)\n\n")
+
+NINJA_1_11 = Ninja("ninja", (1, 11))
 
 
 def manifest(text, **files):
@@ -61,9 +65,9 @@ class Fields(unittest.TestCase):
 class Logs(unittest.TestCase):
     def test_hashes_are_those_that_ninja_wrote(self):
         entries = read_build_log(LOG).last()
-        self.assertEqual(hash_of(COMPILE), entries[b"CMakeFiles/hello.dir/hello.c.o"].hash)
-        self.assertEqual(hash_of(ARCHIVE), entries[b"libgreet.a"].hash)
-        self.assertNotEqual(hash_of(ARCHIVE + b" "), entries[b"libgreet.a"].hash)
+        self.assertEqual(murmur_hash(COMPILE), entries[b"CMakeFiles/hello.dir/hello.c.o"].hash)
+        self.assertEqual(murmur_hash(ARCHIVE), entries[b"libgreet.a"].hash)
+        self.assertNotEqual(murmur_hash(ARCHIVE + b" "), entries[b"libgreet.a"].hash)
 
     def test_a_line_that_was_being_written_is_left_out(self):
         for cut in range(len(LOG) - 40, len(LOG)):
@@ -94,14 +98,13 @@ class Logs(unittest.TestCase):
 
     def test_another_command_has_a_stand_in(self):
         found = manifest(b"rule r\n  command = new $in\nbuild o: r i\nbuild p: r i\n")
-        entries = [LogEntry(0, 1, 8, b"o", hash_of(b"old i")), LogEntry(0, 1, 9, b"p", hash_of(b"new i")),
+        entries = [LogEntry(0, 1, 8, b"o", murmur_hash(b"old i")), LogEntry(0, 1, 9, b"p", murmur_hash(b"new i")),
                    LogEntry(0, 1, 9, b"gone", 1)]
-        records, unhashed = built_records(found, BuildLog(5, entries))
+        records = built_records(found, BuildLog(5, entries), murmur_hash)
         self.assertEqual(records[b"p"], (9, b"new i"))
         self.assertEqual(records[b"o"][0], 8)
         self.assertNotEqual(records[b"o"][1], b"new i")
         self.assertNotIn(b"gone", records)
-        self.assertEqual(unhashed, [])
 
 
 class Manifests(unittest.TestCase):
@@ -149,7 +152,7 @@ class Outside(unittest.TestCase):
     def notes(self, text):
         found = manifest(text)
         empty = Snapshot({}, BuildLog(5, []), {}, {})
-        return record("nowhere", found, read_words([]), 1, empty, empty, Ran(0, 0)).remarks
+        return record(NINJA_1_11, "nowhere", found, read_words([]), 1, empty, empty, Ran(0, 0)).remarks
 
     def test_list_of_another_compiler(self):
         notes = self.notes(b"rule r\n  command = r\n  deps = msvc\nbuild o.obj: r\n")
@@ -161,9 +164,9 @@ class Outside(unittest.TestCase):
 
     def test_log_of_an_unknown_version(self):
         found = manifest(b"rule r\n  command = r\nbuild o: r\n")
-        before = Snapshot({b"o": 9}, BuildLog(7, [LogEntry(0, 1, 8, b"o", 1)]), {}, {})
-        it = record("nowhere", found, read_words([]), 1, before, before, Ran(0, 0))
-        self.assertIn("(version 7)", it.notes[0])
+        before = Snapshot({b"o": 9}, BuildLog(99, [LogEntry(0, 1, 8, b"o", 1)]), {}, {})
+        it = record(Ninja("ninja", (1, 99)), "nowhere", found, read_words([]), 1, before, before, Ran(0, 0))
+        self.assertIn("(version 99)", it.notes[0])
         self.assertEqual(it.built, {b"o": (8, b"r")})
 
 
@@ -296,8 +299,8 @@ class Orders(unittest.TestCase):
 class Outputs(unittest.TestCase):
     """What Ninja writes, read in pieces of every length."""
 
-    SAID = (b"\x1e0.004\x1f[1/3] MAKE x\n\x1e1.250\x1f[2/3] MAKE y\nFAILED: y o/z \ncc y\nFAILED: not me\n"
-            b"\x1e2.000\x1f[3/3] w\n\x1b[31mFAILED: \x1b[0mw \nninja: build stopped: interrupted by user.\n")
+    SAID = (b"\x1e0.004\x1f[1/3] MAKE x\n\x1e1.250\x1f[2/3] MAKE y\nFAILED: y o/z \ncc y\nFAILED: [code=3] not me\n"
+            b"\x1e2.000\x1f[3/3] w\n\x1b[31mFAILED: [code=-9] \x1b[0mw \nninja: build stopped: interrupted by user.\n")
 
     def test_marks_go_and_failures_stay(self):
         for size in (1, 2, 3, 7, 1000):
@@ -309,7 +312,8 @@ class Outputs(unittest.TestCase):
             text = b"".join(shown)
             self.assertNotIn(b"\x1e", text)
             self.assertEqual(text, re.sub(b"\x1e.....\x1f", b"", self.SAID))
-            self.assertEqual([it[:2] for it in ran.failed], [(b"y o/z", 1250), (b"not me", None), (b"w", 2000)])
+            self.assertEqual([(it.outputs, it.code, it.time) for it in ran.failed],
+                             [(b"y o/z", None, 1250), (b"not me", 3, None), (b"w", -9, 2000)])
             self.assertTrue(ran.interrupted)
 
     def test_other_control_bytes_stay(self):
@@ -346,15 +350,15 @@ class Whole(unittest.TestCase):
         self.manifest = Manifest(b"build.ninja", contents.__getitem__)
         self.begin = 1_000_000 * MILLISECOND
         at = lambda time: self.begin + time * MILLISECOND
-        old = [LogEntry(0, 9, 7, b"a.o", hash_of(b"cc a.c"))]
-        hashes = {it.name: hash_of(it.ninja_command) for it in self.manifest.edges}
+        old = [LogEntry(0, 9, 7, b"a.o", murmur_hash(b"cc a.c"))]
+        hashes = {it.name: murmur_hash(it.ninja_command) for it in self.manifest.edges}
         new = [LogEntry(2, 40, at(39), b"b.o", hashes[b"b.o"]), LogEntry(1, 60, at(59), b"a.o", hashes[b"a.o"])]
         before = {b"a.c": at(-5), b"b.c": 5, b"a.o": 7, b"b.o": 0, b"app": 0}
         after = {**before, b"a.o": at(59), b"b.o": at(39), b"x.h": 4, b"made.h": at(20), b"app": 0}
         deps = {b"a.o": (at(59), [b"a.c", b"x.h"]), b"b.o": (at(39), [b"b.c", b"made.h"])}
-        ran = Ran(1, self.begin, failed=[(b"app", 90, 0)], children=[Child([b"/bin/sh", b"-c", b"ld a.o b.o"], at(65))],
+        ran = Ran(1, self.begin, failed=[Failed(b"app", None, 90, 0)], children=[Child([b"/bin/sh", b"-c", b"ld a.o b.o"], at(65))],
                   said_stopped=True)
-        self.found = record("nowhere", self.manifest, read_words([]), 2,
+        self.found = record(NINJA_1_11, "nowhere", self.manifest, read_words([]), 2,
                             Snapshot(before, BuildLog(5, old), {b"a.o": (7, [b"a.c"])}, {}),
                             Snapshot(after, BuildLog(5, old + new), deps, {}), ran)
 
