@@ -11,14 +11,16 @@ KIND is one of
 STATE is todo (sources alone) or done (all outputs of commands and their records are there).
 
 DIR gets build.ninja, the files, .ninja_log and .ninja_deps; open.trace opens this state, plan.trace plans it as well, and `run` is the script of both.
+The logs are those of the Ninja on the PATH, or of the one that NINJA names; `ninja -n` is asked whether it has read them.
 """
 import os
 import struct
+import subprocess
 import sys
 from pathlib import Path
 
 sys.path.insert(0, str(Path(__file__).resolve().parents[2] / "record"))
-from recorder.logs import hash_of  # noqa: E402
+from recorder.ninja import HASHES, found_ninja  # noqa: E402
 
 SOURCE, OUTPUT = 1_000_000_000, 1_000_000_100  # seconds; a trace says 5 and 10
 LISTED, SHARED, RUNGS, FAN = 300, 3_000, 1_000, 20
@@ -100,9 +102,10 @@ def write_file(folder, path, second):
     os.utime(full, (second, second))
 
 
-def write_logs(build, made, folder):
+def write_logs(build, made, folder, version):
+    hash_of = HASHES[version]
     with open(folder / ".ninja_log", "w") as log:
-        log.write("# ninja log v5\n")
+        log.write(f"# ninja log v{version}\n")
         for edge in made:
             log.write(f"0\t1\t{OUTPUT}000000000\t{edge[1]}\t{hash_of(command_of(build, edge).encode()):x}\n")
     ids = {}
@@ -138,7 +141,15 @@ def write_traces(build, made, folder):
     (folder / "run").write_text("run\n")
 
 
+def check_logs(ninja, state, folder):
+    """Asks Ninja whether there is nothing to do where all is done: a log of another version is thrown away without a word."""
+    said = subprocess.run([ninja, "-n"], cwd=folder, stdin=subprocess.DEVNULL, capture_output=True, text=True).stdout
+    if (said == "ninja: no work to do.\n") != (state == "done"):
+        sys.exit(f"generate.py: {ninja} has not read the state that was written ({state}): {said[:200]}")
+
+
 def main(kind, edges, state, folder):
+    ninja = found_ninja()
     build = {"layered": layered, "headers": headers, "ladder": ladder, "group": group}[kind](edges)
     folder.mkdir(parents=True)
     made = [it for it in build.edges if it[0] != "phony"] if state == "done" else []
@@ -147,8 +158,9 @@ def main(kind, edges, state, folder):
         write_file(folder, path, SOURCE)
     for edge in made:
         write_file(folder, edge[1], OUTPUT)
-    write_logs(build, made, folder)
+    write_logs(build, made, folder, ninja.log_version)
     write_traces(build, made, folder)
+    check_logs(ninja.program, state, folder)
 
 
 main(sys.argv[1], int(sys.argv[2]), sys.argv[3], Path(sys.argv[4]))
