@@ -20,6 +20,7 @@ sys.path[:0] = [str(HERE), str(HERE.parents[1] / "record")]
 import generate  # noqa: E402
 from recorder.disk import Snapshot, take_snapshot  # noqa: E402
 from recorder.files import write_recording  # noqa: E402
+from recorder.held import HeldFolder  # noqa: E402
 from recorder.logs import BuildLog  # noqa: E402
 from recorder.manifest import Manifest  # noqa: E402
 from recorder.ninja import found_ninja  # noqa: E402
@@ -73,7 +74,13 @@ def steps(folder, out, is_whole):
     before = Snapshot(sources, BuildLog(after.log.version, []), {}, {}) if is_whole else after
     found = record(NINJA, folder, manifest, read_words([]), None, before, after, Ran(0, 0))
     it.done("the events are worked out")
-    it.least(lambda run: write_recording(found, f"{out}{run}", False, "/nowhere/rebug"))
+
+    def write(run):
+        os.mkdir(f"{out}{run}")
+        with HeldFolder.at(f"{out}{run}") as held:
+            write_recording(found, held, False, "/nowhere/rebug", f"{out}{run}")
+
+    it.least(write)
     it.done(f"{len(found.found.events):,} events, {os.path.getsize(f'{out}0/trace'):,} bytes are written")
 
 

@@ -1,15 +1,21 @@
 """Reads Ninja's deps log from its file. Lists stay there and are read one by one, since together they are large."""
 
+import array
 import os
 import struct
+import sys
 from operator import itemgetter
 
-from .fields import LONGEST_PATH, canonical, field
+from .fields import LONGEST_PATH, canonical, field, shown
 
 _HEADER = b"# ninjadeps\n"
 _KNOWN = (3, 4)
 _RECORD = 1 << 31
 _LARGEST = 1 << 19  # Ninja takes no larger record
+
+
+class BrokenLog(Exception):
+    """A sentence about a log that Ninja itself cannot go on from."""
 
 
 class Listing:
@@ -46,14 +52,19 @@ class DepsLog:
     The file is kept open, so lists can be read also when Ninja has written the log anew.
     """
 
-    def __init__(self, path=None):
+    def __init__(self, path=None, ends_at_unknown_paths=False):
         self.paths, self.fields, self.places, self.file, self.version = [], [], {}, None, 0
+        self.ends_at_unknown_paths = ends_at_unknown_paths
         try:
             self.file = open(path, "rb") if path else None
         except OSError:
             return
         if self.file:
             self._read()
+
+    def __del__(self):
+        if self.file:
+            self.file.close()
 
     def _read(self):
         head = self.file.read(len(_HEADER) + 4)
@@ -70,18 +81,32 @@ class DepsLog:
             body = self.file.read(length) if len(head) == 4 and 0 < length <= _LARGEST else b""
             if not body or len(body) != length or length % 4:
                 break
-            if size & _RECORD:
-                self._note(body, at + 4)
-            elif not self._name(body):
+            if not (self._note(body, at + 4) if size & _RECORD else self._name(body)):
                 break
             at += 4 + length
 
     def _note(self, body, at):
-        long = self.version >= 4
-        number, skip = int.from_bytes(body[:4], "little"), 12 if long else 8
+        """The record of an output; false where the log ends there. That of a number without a path is left out."""
+        number, skip = int.from_bytes(body[:4], "little"), 12 if self.version >= 4 else 8
+        if len(body) < skip:
+            raise self._broken(f"a record of {len(body)} bytes")
+        listed = array.array("I", body[skip:])
+        if sys.byteorder != "little":
+            listed.byteswap()
+        greatest = max(listed, default=0)
+        if listed and greatest >= len(self.paths):
+            if self.ends_at_unknown_paths:
+                return False
+            raise self._broken(f"a list with path {greatest}, and {len(self.paths)} paths before it")
         stamp = int.from_bytes(body[4:skip], "little", signed=True)
-        if number < len(self.paths) and len(body) >= skip:
-            self.places[self.paths[number]] = max(0, stamp), Listing(self, at + skip, (len(body) - skip) // 4)
+        if number < len(self.paths):
+            self.places[self.paths[number]] = max(0, stamp), Listing(self, at + skip, len(listed))
+        return True
+
+    def _broken(self, what):
+        name = shown(os.fsencode(self.file.name))
+        return BrokenLog(f"{name} is broken: it has {what}. Ninja ends by a fault of its own on it, and makes another "
+                         f"where it is taken away; edges with lists are then built again")
 
     def _name(self, body):
         """A path's record: its bytes, filled up by NULs to four, and its number turned over."""

@@ -6,7 +6,7 @@ from dataclasses import dataclass, field
 from .depfiles import read_depfile
 from .depslog import DepsLog
 from .fields import canonical
-from .logs import BuildLog, read_build_log
+from .logs import BuildLog, open_build_log
 
 
 def stamp_of(folder, path):
@@ -34,8 +34,8 @@ class Snapshot:
 def take_snapshot(folder, manifest, ninja):
     """Reads the logs as far as they go and as the Ninja takes them, the depfiles that Ninja keeps no record of, and the
     stamp of every path."""
-    log = ninja.as_read(read_build_log(read_file(os.path.join(folder, manifest.log_folder(), b".ninja_log"))))
-    deps = _deps_records(folder, manifest)
+    log = ninja.as_read(open_build_log(os.path.join(folder, manifest.log_folder(), b".ninja_log")))
+    deps = _deps_records(folder, manifest, ninja)
     texts = {}
     for edge in manifest.edges:
         if edge.depfile and not edge.deps:
@@ -56,9 +56,10 @@ def read_file(path):
         return b""
 
 
-def _deps_records(folder, manifest):
+def _deps_records(folder, manifest, ninja):
     """The records of the deps log for first outputs. Of other outputs neither Ninja nor rebug reads one."""
-    places = DepsLog(os.path.join(folder, manifest.log_folder(), b".ninja_deps")).places
+    path = os.path.join(folder, manifest.log_folder(), b".ninja_deps")
+    places = DepsLog(path, ninja.ends_deps_logs_at_unknown_paths).places
     return {edge.name: places[edge.name] for edge in manifest.edges if edge.deps and edge.name in places}
 
 
@@ -76,7 +77,7 @@ def built_records(manifest, log, hash_of, changed=()):
     `hash_of` is the hash in the log. Where it is None, the commands are the manifest's but for the outputs in `changed`.
     """
     records, hashes = {}, {}
-    for entry in log.last().values():
+    for entry in log.last(manifest.producer).values():
         path = canonical(entry.output)
         edge = manifest.producer.get(path)
         if edge is None or edge.phony:

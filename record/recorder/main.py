@@ -3,6 +3,7 @@
 import os
 
 from .checking import check
+from .depslog import BrokenLog
 from .folders import BadFolder
 from .manifest import BadManifest
 from .options import BadOptions, Checking, HelpWanted, read_words
@@ -59,7 +60,7 @@ def main(words):
     except BadFolder as why:
         say(f"{why}. Ninja was not run")
         return NOT_RUN
-    except (BadOptions, BadWords, BadManifest) as why:
+    except (BadOptions, BadWords, BadManifest, BrokenLog) as why:
         say(why)
         return NOT_RUN
     except Ended as why:

@@ -66,6 +66,12 @@ class Ninja:
         """Whether it asks the jobserver in MAKEFLAGS for leave to start a command, where it has no -j."""
         return self.version >= (1, 13)
 
+    @property
+    def ends_deps_logs_at_unknown_paths(self) -> bool:
+        """Whether a list of the deps log with a path that the log does not have ends the log; an earlier Ninja ends by
+        a fault of its own there."""
+        return self.version >= (1, 13)
+
     def as_read(self, log: BuildLog) -> BuildLog:
         """A log as this Ninja takes it. From 1.12 on one of another version is thrown away ("starting over")."""
         if self.log_version == 5:

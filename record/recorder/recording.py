@@ -72,8 +72,9 @@ def record(ninja, folder, manifest, words, jobs, before, after, ran):
 
 def _built(ninja, manifest, before, after):
     """The built records before the run. A command that ended well is in both logs, and so known to be another one."""
-    hash_of, last = ninja.hash_in(before.log), after.log.last()
-    changed = before.changed if hash_of else before.changed | differing(before.log.last(), last)
+    hash_of, changed = ninja.hash_in(before.log), before.changed
+    if not hash_of:
+        changed = changed | differing(*(it.log.last(manifest.producer) for it in (before, after)))
     return built_records(manifest, before.log, hash_of, changed)
 
 

@@ -5,6 +5,7 @@ import re
 import shlex
 import sys
 
+from .depslog import BrokenLog
 from .disk import read_file, take_snapshot
 from .fields import canonical, shown
 from .files import WRITTEN, names_of_files, write_recording
@@ -92,7 +93,7 @@ class Session:
     def snapshot_before(self, manifest):
         """What is there before the run. Of a log whose hash is not known Ninja says which commands are not the log's."""
         before = take_snapshot(self.build, manifest, self.ninja)
-        if before.log.entries and self.ninja.hash_in(before.log) is None:
+        if not before.log.is_empty() and self.ninja.hash_in(before.log) is None:
             words = [self.program, "-n", "-d", "explain", *self.words.all]
             before.changed = changed_commands(run_quietly(words, self.build, self.signals, errors_alone=True)[1])
         return before
@@ -103,7 +104,10 @@ class Session:
             if read_file(os.path.join(self.build, name)) != content:
                 raise Failure(f"{shown(name)} was written anew during the build, and a trace is of one manifest: "
                               f"nothing was recorded. Record again, now that it is there", status or NOT_RECORDED)
-        after = take_snapshot(self.build, manifest, self.ninja)
+        try:
+            after = take_snapshot(self.build, manifest, self.ninja)
+        except BrokenLog as why:
+            raise Failure(f"{why}. Nothing was recorded", status or NOT_RECORDED) from why
         found = record(self.ninja, self.build, manifest, self.words, jobs, before, after, ran)
         if status and not ran.interrupted and not _has_started(found, ran) and not self.options.force:
             if out.has_recording():
