@@ -156,6 +156,19 @@ impl History {
         })
     }
 
+    /// The same as [`History::footprint_of`] in a footprint with a list of its own, as [`History::nearest`] takes one.
+    ///
+    /// # Errors
+    /// [`AllocError`] only where an allocation was refused.
+    pub fn footprint_copy(&self, number: u32) -> Result<Option<Footprint>, AllocError>
+        ensures { IfOk result (λ footprint. footprint ≡ kept_footprint self.now.timeline number) }
+    {
+        match self.footprint_of(number) {
+            Some(lent) => Ok(Some(lent.to_footprint(self.alloc)?)),
+            None => Ok(None),
+        }
+    }
+
     /// The least kept number above another whose event conflicts with a footprint. It takes no memory, and looks at the
     /// footprint's cells alone.
     pub fn nearest(&self, number: u32, footprint: &Footprint) -> Option<u32>
