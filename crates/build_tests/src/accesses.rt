@@ -1,6 +1,7 @@
 // A few events over three files.
-use rev_accesses::{Accesses, Places, first_above, place_of, put_in, take_out};
+use rev_accesses::{Accesses, Places};
 use rev_cells::Cell;
+use rev_numbers::{SortedNumbers, place_of};
 use rev_paths::Name;
 use std::alloc::Global;
 use std::test::Fail;
@@ -79,11 +80,17 @@ fn what_was_taken_out_is_not_found(rt: HostRuntime) -> Result<(), Fail> {
 
 #[test]
 fn numbers_keep_their_places(rt: HostRuntime) -> Result<(), Fail> {
-    let mut numbers = [2, 5, 9].to_vec(rt.alloc())?;
-    take_out(&mut numbers, 5);
-    put_in(&mut numbers, 7)?;
-    assert_eq!(rt; place_of(&numbers, 7), Some(1));
-    assert_eq!(rt; first_above(&numbers, 7), Some(9));
-    assert_eq!(rt; numbers.as_slice(), [2, 7, 9].as_slice());
+    let mut numbers = SortedNumbers::new(rt.alloc());
+    for number in [9, 5, 3] {
+        numbers.put(number)?;
+    }
+    numbers.take(5);
+    numbers.put(7)?;
+    numbers.put(7)?;
+    assert!(rt; numbers.as_slice() == [3, 7, 9].as_slice());
+    assert!(rt; place_of(numbers.as_slice(), 7) == Some(1));
+    assert!(rt; numbers.first_above(7) == Some(9));
+    numbers.take_all(&[1, 3, 9]);
+    assert!(rt; numbers.as_slice() == [7].as_slice());
     Ok(())
 }

@@ -1,6 +1,6 @@
 // Readers that do not give all at once.
 
-use rev_input::{READ_BYTES, TakeFault, take, take_up_to};
+use rev_input::{READ_BYTES, Reader, TakeFault, take, take_up_to};
 use std::io;
 use std::io::Read;
 use std::test::Fail;
@@ -56,10 +56,10 @@ impl Read for Slow {
 
 #[test]
 fn a_byte_at_a_time(rt: HostRuntime) -> Result<(), Fail> {
-    let mut reader = Slow::new(Trouble::None);
+    let mut reader = Reader(Slow::new(Trouble::None));
     let bytes = take(rt.alloc(), &mut reader)?;
     assert_eq!(rt; bytes.as_slice(), BYTES);
-    let mut reader = Slow::new(Trouble::Interrupted);
+    let mut reader = Reader(Slow::new(Trouble::Interrupted));
     let bytes = take(rt.alloc(), &mut reader)?;
     assert_eq!(rt; bytes.as_slice(), BYTES);
     Ok(())
@@ -70,9 +70,9 @@ fn a_byte_at_a_time(rt: HostRuntime) -> Result<(), Fail> {
 fn a_read_fails(rt: HostRuntime) {
     for at in 0..BYTES.len() + 1 {
         for kind in [io::ErrorKind::Other, io::ErrorKind::UnexpectedEof] {
-            let mut reader = Slow::new(Trouble::At(at, kind));
+            let mut reader = Reader(Slow::new(Trouble::At(at, kind)));
             assert!(rt; take(rt.alloc(), &mut reader) == Err(TakeFault::Read));
-            assert_eq!(rt; reader.reads, at + 1);
+            assert_eq!(rt; reader.0.reads, at + 1);
         }
     }
 }
@@ -80,7 +80,7 @@ fn a_read_fails(rt: HostRuntime) {
 #[test]
 fn as_many_as_are_wanted(rt: HostRuntime) -> Result<(), Fail> {
     for most in 0..BYTES.len() + 2 {
-        let mut reader = Slow::new(Trouble::None);
+        let mut reader = Reader(Slow::new(Trouble::None));
         let bytes = take_up_to(rt.alloc(), &mut reader, most)?;
         let given = (most + 1).min(BYTES.len());
         assert_eq!(rt; bytes.as_slice(), &BYTES[..given]);
@@ -91,7 +91,7 @@ fn as_many_as_are_wanted(rt: HostRuntime) -> Result<(), Fail> {
 // A reader that never ends is read no further than one read beyond what is wanted.
 #[test]
 fn no_end(rt: HostRuntime) -> Result<(), Fail> {
-    let mut zeros = io::repeat(0);
+    let mut zeros = Reader(io::repeat(0));
     let bytes = take_up_to(rt.alloc(), &mut zeros, 100_000)?;
     assert_eq!(rt; bytes.len(), 2 * READ_BYTES);
     Ok(())

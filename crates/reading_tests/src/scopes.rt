@@ -322,14 +322,13 @@ const EDGES: &[Edge] = &[
 
 fn values_text(alloc: Global, values: &EdgeVariables) -> Result<Vec<u8>, AllocError> {
     let mut text = Vec::from_slice(alloc, &values.command)?;
-    for value in [
-        &values.depfile,
-        &values.restat,
-        &values.generator,
-        &values.rspfile,
-    ] {
+    for value in [&values.depfile, &values.restat, &values.generator] {
         text.push(b'|')?;
         text.extend_from_slice(value)?;
+    }
+    text.push(b'|')?;
+    if let Some(path) = &values.rspfile {
+        text.extend_from_slice(path)?;
     }
     Ok(text)
 }

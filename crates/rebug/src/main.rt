@@ -5,7 +5,7 @@ mod fault;
 
 use clap::error::ErrorKind;
 use fault::{ProgramFault, Unread};
-use rev_input::{TakeFault, take_up_to};
+use rev_input::{Reader, TakeFault, take_up_to};
 use rev_options::{Options, options};
 use rev_parallel::run_parallel_in;
 use rev_report::{RunFault, RunMemory, Status, run_serial_in, write_migrated};
@@ -35,7 +35,7 @@ fn read_file<'a, R: Files + AllocGlobal>(
     most: usize,
 ) -> Result<Vec<u8>, ProgramFault<'a>> {
     let mut file = match fs::open(rt, name) {
-        Ok(file) => file,
+        Ok(file) => Reader(file),
         Err(error) => return Err(ProgramFault::Read(name, Unread::from(error.kind()))),
     };
     match take_up_to(rt.alloc(), &mut file, most) {
@@ -87,20 +87,33 @@ fn read_manifest<'a, R: Files + AllocGlobal>(
     Ok(files)
 }
 
-// Writes what is left of a report, and says a sentence beside its fault line. Such a line is short and the last, so it
-// is still in the buffer.
+// The sentence beside a report's fault line. Such a line is short and the last, so it is still in the buffer. The
+// sentence is a courtesy: where memory for it is refused there is none, and the report and the status stay.
+fn sentence_beside(
+    alloc: Global,
+    buffered: &[u8],
+    inputs: Inputs<'_>,
+    status: Status,
+) -> Option<Vec<u8>> {
+    match status {
+        Status::Fault => sentence(alloc, buffered, inputs).unwrap_or(None),
+        Status::Success => None,
+    }
+}
+
+// Writes what is left of a report, and says a sentence beside its fault line.
 fn end<'a, R: Eprint + AllocGlobal, W: Write + Drop>(
     rt: &R,
     writer: &mut BufWriter<W>,
     inputs: Inputs<'_>,
     status: Status,
 ) -> Result<Status, ProgramFault<'a>> {
-    let said = sentence(rt.alloc(), writer.buffer(), inputs)?;
+    let said = sentence_beside(rt.alloc(), writer.buffer(), inputs, status);
     match writer.flush() {
         Ok(()) => {}
         Err(_) => return Err(ProgramFault::Run(RunFault::Write)),
     }
-    if let (Status::Fault, Some(said)) = (status, said) {
+    if let Some(said) = said {
         tell(rt, &said);
     }
     Ok(status)

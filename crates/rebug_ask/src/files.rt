@@ -1,6 +1,6 @@
 //! The files of a recording.
 use crate::fault::{ProgramFault, Unread};
-use rev_input::{TakeFault, take_up_to};
+use rev_input::{Reader, TakeFault, take_up_to};
 use rev_recording::named_files;
 use std::alloc::{AllocError, Global};
 use std::fs;
@@ -100,7 +100,7 @@ fn read_file<R: Files + AllocGlobal>(
         return Err(ReadFault::Memory);
     };
     let mut file = match fs::open(rt, path.as_str()) {
-        Ok(file) => file,
+        Ok(file) => Reader(file),
         Err(error) => return Err(ReadFault::Unread(Unread::from(error.kind()))),
     };
     match take_up_to(rt.alloc(), &mut file, most) {

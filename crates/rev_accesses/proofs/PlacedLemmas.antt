@@ -19,7 +19,8 @@ use Rattle.rev_accesses.specs.declared.users.Access.TheVariants.{Read, Write}
 use Rattle.rev_accesses.specs.declared.users.Users.{Users}
 use Rattle.rev_accesses.specs.Following.{is_first, is_between, is_first_under, is_user_under}
 use Rattle.rev_accesses.specs.Places.{cells_at}
-use Rattle.rev_accesses.specs.Thinned.{IsThinned, AreThinnedUnder, IsGoneUnder}
+use Rattle.rev_numbers.specs.Taken.{IsThinned}
+use Rattle.rev_accesses.specs.Thinned.{AreThinnedUnder, IsGoneUnder}
 use Rattle.rev_accesses.specs.Turned.{partner_at}
 use Rattle.rev_accesses.specs.Users.{Entries, listed, numbers_of}
 use Rattle.rev_accesses.specs.Value.{numbers_at, nearest_at}

@@ -1,30 +1,20 @@
 -- Lists out of which members of a set of numbers are taken.
-use Rattle.std.specs.Prelude.{◌≡◌, ℕ, Bool, true, false, not, List, [], ◌∷◌}
-use Rattle.std.specs.List.{filter}
+use Rattle.std.specs.Prelude.{◌≡◌, ℕ, true, false, List, [], ◌∷◌}
 use Rattle.rev_causal.specs.AccessLists.{lists_read, lists_write}
 use Rattle.rev_causal.specs.Chosen.{is_among}
 use Rattle.rev_causal.specs.History as causal
 use Rattle.rev_causal.specs.Store.{Footprint, among, is_whole}
 use Rattle.rev_cells.specs.declared.cell.Cell.{Cell}
 use Rattle.rev_cells.specs.Keys.{cell_cmp}
+use Rattle.rev_numbers.specs.Taken.{IsThinned}
 use Rattle.rev_accesses.specs.Value.{AccessesValue, Index, Prints, numbers_at}
-
--- the numbers but for some
-abbrev pub without_all : List ℕ → List ℕ → List ℕ
-without_all members numbers = filter (λ k. not (is_among members k)) numbers
 
 -- the footprints but for those of some numbers
 abbrev pub prints_without : List ℕ → Prints → Prints
 prints_without [] prints = prints
 prints_without (m ∷ members) prints = causal.without m (prints_without members prints)
 
--- each number that is no member stays, in its order, and none comes
-pub record IsThinned (members old new : List ℕ) : Type 0 where
-  pub keeps : ℕ → Bool
-  pub is : new ≡ filter keeps old
-  pub others : (k : ℕ) → is_among members k ≡ false → keeps k ≡ true
-
--- so it is under each cell
+-- under each cell members alone were taken out
 abbrev pub AreThinnedUnder : List ℕ → Index → Index → Type 0
 AreThinnedUnder members old new = (c : Cell) → IsThinned members (numbers_at old c) (numbers_at new c)
 

@@ -16,19 +16,19 @@ ghost use Rattle.rev_accesses.specs.Thinned.{AreThinned, AreThinnedUnder, IsGone
 ghost use Rattle.rev_accesses.specs.Users.{IsSame};
 ghost use Rattle.rev_accesses.specs.Value.{Names, PartlyPut, Prints, PutUnder, Shows, TakenFrom};
 
+use crate::between::add_between;
 use crate::cells::places_of;
 use crate::index::{
     add_firsts, add_users, first_turned, nearest, nearest_at_places, partner, put_all, take_all,
     thin_all,
 };
-use crate::numbers::add_between;
 use crate::pending::Pending;
 use crate::places::Places;
-use crate::rising::Rising;
 use crate::users::{Access, Users};
 use indexmap::IndexMap;
 use rev_cells::Cell;
-use rev_order::lesser;
+use rev_numbers::{SortedNumbers, lesser};
+use rev_order::{first_overtaken, first_overtaking};
 use std::alloc::{AllocError, Global};
 use std::marker::Model;
 
@@ -39,7 +39,7 @@ use std::marker::Model;
 pub struct Accesses {
     alloc: Global,
     users: IndexMap<Cell, Users>,
-    whole: Rising,
+    whole: SortedNumbers,
 }
 
 // Written, since a derived drop is proved again at each exit of each caller.
@@ -67,7 +67,7 @@ impl Model for Accesses {
     ghost view = { λ a. record {
       writers = listed Write a.users.entries;
       readers = listed Read a.users.entries;
-      whole = a.whole;
+      whole = a.whole.items;
       cells = keys_of a.users.entries;
     } };
 }
@@ -80,7 +80,7 @@ impl Accesses {
         Accesses {
             alloc,
             users: IndexMap::new(alloc),
-            whole: Rising::new(alloc),
+            whole: SortedNumbers::new(alloc),
         }
     }
 
@@ -166,7 +166,7 @@ impl Accesses {
         ensures gone { IsGone number Whole self.new }
         ensures cells { self.new.cells ≡ self.old.cells }
     {
-        self.whole.thin(number, members);
+        self.whole.take_member(number, members);
     }
 
     /// The least number above another whose event conflicts with one that reads and writes these cells. It takes no
@@ -205,8 +205,8 @@ impl Accesses {
             → Shows self.now prints
             → result ≡ first_turned_of (conflict cell_cmp) places.now prints }
     {
-        let before = self.whole.first_turned_before(places, numbers);
-        let after = self.whole.first_turned_after(places, numbers);
+        let before = first_overtaken(places, self.whole.as_slice(), numbers);
+        let after = first_overtaken(places, numbers, self.whole.as_slice());
         lesser(before, lesser(after, first_turned(&self.users, places)))
     }
 
@@ -219,7 +219,7 @@ impl Accesses {
     {
         let reads = print.read();
         let writes = print.written();
-        let whole = self.whole.first_overtaking(places, number);
+        let whole = first_overtaking(places, number, self.whole.as_slice());
         let written = partner(&self.users, Access::Write, places, writes, number);
         let used = partner(&self.users, Access::Read, places, writes, number);
         let source = partner(&self.users, Access::Write, places, reads, number);

@@ -14,11 +14,13 @@ ghost use Rattle.rev_accesses.specs.Users.{IsSame, listed, other};
 ghost use Rattle.rev_accesses.specs.declared.users.Access.TheVariants.{Read, Write};
 ghost use Rattle.rev_accesses.specs.Value.{PartlyPut, PutUnder, TakenFrom, nearest_at, numbers_at};
 
+use crate::between::add_between;
 use crate::pending::Pending;
 use crate::users::{Access, Users};
 use indexmap::IndexMap;
 use rev_cells::Cell;
-use rev_order::lesser;
+use rev_numbers::lesser;
+use rev_order::first_overtaking;
 use std::alloc::AllocError;
 
 // Puts a number into one of the lists of the cell at a place, unless it is there.
@@ -230,7 +232,7 @@ fn add_users_at(
         Some((_cell, users)) => {
             let next = users.writers.first_above(number);
             pending.add_some(next)?;
-            users.readers.add_between(pending, number, next)?;
+            add_between(pending, users.readers.as_slice(), number, next)?;
             Ok(())
         }
         None => Ok(()),
@@ -298,7 +300,7 @@ fn partner_in(
         (cells_at (keys_of index.now.entries) (place ∷ [])) }
 {
     match index.get_index(place as usize) {
-        Some((_cell, users)) => users.numbers(access).first_overtaking(places, number),
+        Some((_cell, users)) => first_overtaking(places, number, users.numbers(access).as_slice()),
         None => None,
     }
 }

@@ -1,13 +1,13 @@
 //! Those that use one cell.
 ghost use Rattle.std.specs.Prelude.{◌≡◌, [], false, true, OnOk};
 ghost use Rattle.rev_causal.specs.Chosen.{IsRising, is_among, without};
-ghost use Rattle.rev_accesses.specs.Thinned.{IsThinned};
 ghost use Rattle.rev_accesses.specs.Turned.{first_turned_in};
 ghost use Rattle.rev_accesses.specs.Users.{numbers_of, other};
-ghost use Rattle.rev_accesses.specs.Value.{with_number};
+ghost use Rattle.rev_numbers.specs.Taken.{IsThinned};
+ghost use Rattle.rev_numbers.specs.Value.{with_number};
 
-use crate::rising::Rising;
-use rev_order::lesser;
+use rev_numbers::{SortedNumbers, lesser};
+use rev_order::first_overtaken;
 use std::alloc::{AllocError, Global};
 
 /// How a cell is accessed.
@@ -21,8 +21,8 @@ pub(crate) enum Access {
 
 /// The numbers of the events that read one cell, and of those that write it. A number may be in both.
 pub(crate) struct Users {
-    pub(crate) readers: Rising,
-    pub(crate) writers: Rising,
+    pub(crate) readers: SortedNumbers,
+    pub(crate) writers: SortedNumbers,
 }
 
 // Written, since a derived drop is proved again at each exit of each caller.
@@ -38,12 +38,12 @@ impl Drop for Users {
 impl Users {
     // No numbers.
     pub(crate) fn none(alloc: Global) -> Users
-        ensures read { result.readers ≡ [] }
-        ensures written { result.writers ≡ [] }
+        ensures read { result.readers.items ≡ [] }
+        ensures written { result.writers.items ≡ [] }
     {
         Users {
-            readers: Rising::new(alloc),
-            writers: Rising::new(alloc),
+            readers: SortedNumbers::new(alloc),
+            writers: SortedNumbers::new(alloc),
         }
     }
 
@@ -79,14 +79,14 @@ impl Users {
         ensures rest { numbers_of (other access) self.new ≡ numbers_of (other access) self.old }
     {
         match access {
-            Access::Read => self.readers.thin(number, members),
-            Access::Write => self.writers.thin(number, members),
+            Access::Read => self.readers.take_member(number, members),
+            Access::Write => self.writers.take_member(number, members),
         }
     }
 
     // The numbers of those that access the cell in one way.
-    pub(crate) fn numbers(&self, access: Access) -> &Rising
-        ensures { result.now ≡ numbers_of access self.now }
+    pub(crate) fn numbers(&self, access: Access) -> &SortedNumbers
+        ensures { result.now.items ≡ numbers_of access self.now }
     {
         match access {
             Access::Read => &self.readers,
@@ -98,9 +98,11 @@ impl Users {
     pub(crate) fn first_turned(&self, places: &[u32]) -> Option<u32>
         ensures { result ≡ first_turned_in places.now self.now }
     {
-        let twice = self.writers.first_overtaken(places, &self.writers);
-        let read = self.writers.first_overtaken(places, &self.readers);
-        let written = self.readers.first_overtaken(places, &self.writers);
+        let readers = self.readers.as_slice();
+        let writers = self.writers.as_slice();
+        let twice = first_overtaken(places, writers, writers);
+        let read = first_overtaken(places, writers, readers);
+        let written = first_overtaken(places, readers, writers);
         lesser(twice, lesser(read, written))
     }
 }

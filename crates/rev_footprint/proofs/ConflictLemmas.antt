@@ -1,67 +1,70 @@
--- When footprints conflict.
-use Rattle.std.proofs.Common.{◌≡◌, Bool, true, false, ◌||◌, List, [], ◌∷◌, refl, sym, ap, subst, ◌∙◌, if◌then◌else◌}
+-- When footprints conflict, and cells that are looked for one by one.
+use Rattle.std.proofs.Common.{◌≡◌, ℕ, ◌+◌, ◌<◌, Bool, true, false, ◌||◌, List, [], ◌∷◌, length, take, get_or, zero, suc, refl, sym, ap, ap₂, ◌∙◌, if◌then◌else◌}
 use Rattle.std.specs.FinSet as cells
 use Rattle.std.specs.List.{list_any}
+use Rattle.std.specs.Ordering.{eq_by_cmp}
+use Rattle.std.proofs.lemmas.List.Folds.{list_any_at, list_any_more}
+use Rattle.rev_causal.specs.Store.{Footprint, Footprint.Whole, Footprint.Cells, among, conflict}
 use Rattle.rev_cells.specs.declared.cell.Cell.{Cell}
 use Rattle.rev_cells.specs.Keys.{cell_cmp}
 use Rattle.rev_cells.proofs.EntryLemmas.{cells_total}
-use Rattle.rev_causal.specs.Store.{Footprint, Footprint.Whole, Footprint.Cells, among, is_accessed, conflict}
-use Rattle.rev_footprint.specs.declared.footprints.Footprint.TheInside.{Inside}
-use Rattle.rev_footprint.specs.Sound.{value_of, IsSound}
-use Rattle.rev_footprint.specs.Value.{FootprintValue, print_of}
-use Rattle.rev_footprint.proofs.ListedLemmas.{among-take}
+use Rattle.rev_footprint.specs.Value.{FootprintValue, names, print_of}
 
-covered : (w k : Bool) → (w ≡ true → k ≡ true) → (w || k) ≡ k
-covered true k h = sym (h refl)
-covered false k h = refl
+-- ONE BY ONE
+module _ (p : Cell → Bool) (xs : List Cell) (i : ℕ) where
+  pub some_here : (c : Cell) → i < length xs → c ≡ get_or xs i c → p c ≡ true → true ≡ list_any p xs
+  some_here c lt is passes = sym (list_any_at p xs i c lt (ap p (sym is) ∙ passes))
 
--- what is written is read
-abbrev Covers : FootprintValue → Type 0
-Covers f = (c : Cell) → among cell_cmp f.writes c ≡ true → cells.contains f.reads c ≡ true
+  pub none_here : (c : Cell) → i < length xs → c ≡ get_or xs i c → p c ≡ false → list_any p (take i xs) ≡ false → list_any p (take (i + 1) xs) ≡ false
+  none_here c lt is fails before = list_any_more p xs i c lt ∙ (λ j. before j || (ap p (sym is) ∙ fails) j)
 
-pub covers-of : (a : Inside) → IsSound a → (f : FootprintValue) → value_of a ≡ f → Covers f
-covers-of a sound f is =
-    subst Covers is (λ c h. cells.contains-from_list cells_total a.cells.items c ∙ among-take a.written a.cells.items c h)
+-- CELLS THAT ARE READ OR WRITTEN
+-- the cells of a list and of the set of them
+read_there : (xs : List Cell) (s : cells.FinSet cell_cmp) → cells.from_list xs ≡ s → (c : Cell) → among cell_cmp xs c ≡ among cell_cmp (cells.items s) c
+read_there xs s is c = sym (cells.contains-from_list cells_total xs c) ∙ ap (λ t. cells.contains t c) is ∙ cells.contains-items s c
 
--- what is accessed is in the set
-accessed-in : (f : FootprintValue) → Covers f → (c : Cell) → is_accessed cell_cmp (Cells (cells.items f.reads) f.writes) c ≡ cells.contains f.reads c
-accessed-in f sound c =
-    ap (λ b. among cell_cmp f.writes c || b) (sym (cells.contains-items f.reads c))
-    ∙ covered (among cell_cmp f.writes c) (cells.contains f.reads c) (sound c)
+-- what is among the first cells is among all
+first_among : (n : ℕ) (xs : List Cell) (c : Cell) → (among cell_cmp (take n xs) c || among cell_cmp xs c) ≡ among cell_cmp xs c
+first_among zero xs c = refl
+first_among (suc n) [] c = refl
+first_among (suc n) (x ∷ xs) c = by (eq_by_cmp cell_cmp c x) (first_among n xs c)
+  where
+    by : (b : Bool) → (among cell_cmp (take n xs) c || among cell_cmp xs c) ≡ among cell_cmp xs c
+        → ((b || among cell_cmp (take n xs) c) || (b || among cell_cmp xs c)) ≡ (b || among cell_cmp xs c)
+    by true rest = refl
+    by false rest = rest
 
-any-agree : (f g : Cell → Bool) → ((c : Cell) → f c ≡ g c) → (cs : List Cell) → list_any f cs ≡ list_any g cs
-any-agree f g same [] = refl
-any-agree f g same (c ∷ cs) = (λ i. same c i || any-agree f g same cs i)
+-- the written cells stand first among those that are read
+pub accessed_read : (f : FootprintValue) (reads : List Cell) (c : Cell) → cells.from_list reads ≡ f.reads → take (length f.writes) reads ≡ f.writes
+    → among cell_cmp reads c ≡ names f c
+accessed_read f reads c same first =
+    sym (first_among (length f.writes) reads c)
+    ∙ ap₂ (λ a b. a || b) (ap (λ ws. among cell_cmp ws c) first) (read_there reads f.reads same c)
 
-conflict-by : (f g : FootprintValue) → Covers f → Covers g
-    → conflict cell_cmp (Cells (cells.items f.reads) f.writes) (Cells (cells.items g.reads) g.writes)
-    ≡ (list_any (cells.contains g.reads) f.writes || list_any (cells.contains f.reads) g.writes)
-conflict-by f g first second = λ i.
-    any-agree (is_accessed cell_cmp (Cells (cells.items g.reads) g.writes)) (cells.contains g.reads) (accessed-in g second) f.writes i
-    || any-agree (is_accessed cell_cmp (Cells (cells.items f.reads) f.writes)) (cells.contains f.reads) (accessed-in f first) g.writes i
+-- CONFLICTS
+print_whole : (f : FootprintValue) → f.whole ≡ true → print_of f ≡ Whole
+print_whole f h = ap (λ b. if b then Whole else Cells (cells.items f.reads) f.writes) h
 
-whole-right : (f : Footprint Cell) → conflict cell_cmp f Whole ≡ true
-whole-right Whole = refl
-whole-right (Cells reads writes) = refl
+print_cells : (f : FootprintValue) → f.whole ≡ false → print_of f ≡ Cells (cells.items f.reads) f.writes
+print_cells f h = ap (λ b. if b then Whole else Cells (cells.items f.reads) f.writes) h
 
-print-whole : (f : FootprintValue) → f.whole ≡ true → print_of f ≡ Whole
-print-whole f h = ap (λ b. if b then Whole else Cells (cells.items f.reads) f.writes) h
+whole_right : (f : Footprint Cell) → true ≡ conflict cell_cmp f Whole
+whole_right Whole = refl
+whole_right (Cells reads writes) = refl
 
-print-cells : (f : FootprintValue) → f.whole ≡ false → print_of f ≡ Cells (cells.items f.reads) f.writes
-print-cells f h = ap (λ b. if b then Whole else Cells (cells.items f.reads) f.writes) h
+module _ (f g : FootprintValue) where
+  pub first_whole : f.whole ≡ true → true ≡ conflict cell_cmp (print_of f) (print_of g)
+  first_whole h = sym (ap (λ p. conflict cell_cmp p (print_of g)) (print_whole f h))
 
-pub first-whole : (f g : FootprintValue) → f.whole ≡ true → conflict cell_cmp (print_of f) (print_of g) ≡ true
-first-whole f g h = ap (λ p. conflict cell_cmp p (print_of g)) (print-whole f h)
+  pub second_whole : g.whole ≡ true → true ≡ conflict cell_cmp (print_of f) (print_of g)
+  second_whole h = whole_right (print_of f) ∙ sym (ap (conflict cell_cmp (print_of f)) (print_whole g h))
 
-pub second-whole : (f g : FootprintValue) → g.whole ≡ true → conflict cell_cmp (print_of f) (print_of g) ≡ true
-second-whole f g h = ap (conflict cell_cmp (print_of f)) (print-whole g h) ∙ whole-right (print_of f)
+  module _ (a : Bool) (part : f.whole ≡ false) (part' : g.whole ≡ false) (is : a ≡ list_any (names g) f.writes) where
+    by_cells : (list_any (names g) f.writes || list_any (names f) g.writes) ≡ conflict cell_cmp (print_of f) (print_of g)
+    by_cells = λ i. conflict cell_cmp (sym (print_cells f part) i) (sym (print_cells g part') i)
 
-pub by-cells : (f g : FootprintValue) → Covers f → Covers g → f.whole ≡ false → g.whole ≡ false
-    → conflict cell_cmp (print_of f) (print_of g) ≡ (list_any (cells.contains g.reads) f.writes || list_any (cells.contains f.reads) g.writes)
-by-cells f g first second a b = (λ i. conflict cell_cmp (print-cells f a i) (print-cells g b i)) ∙ conflict-by f g first second
+    pub first_writes : a ≡ true → true ≡ conflict cell_cmp (print_of f) (print_of g)
+    first_writes h = sym (ap (λ x. x || list_any (names f) g.writes) (sym is ∙ h)) ∙ by_cells
 
-pub or-first : (x y : Bool) → x ≡ true → (x || y) ≡ true
-or-first x y h = ap (λ b. b || y) h
-
-pub or-second : (x y : Bool) → x ≡ false → (x || y) ≡ y
-or-second x y h = ap (λ b. b || y) h
+    pub second_writes : (b : Bool) → a ≡ false → b ≡ list_any (names f) g.writes → b ≡ conflict cell_cmp (print_of f) (print_of g)
+    second_writes b h found = found ∙ sym (ap (λ x. x || list_any (names f) g.writes) (sym is ∙ h)) ∙ by_cells

@@ -4,7 +4,7 @@ use Rattle.std.specs.Coded.{Coded, code_by, coded×, coded_list, coded_bool}
 use Rattle.std.specs.FinSet as cells
 use Rattle.rev_cells.specs.declared.cell.Cell.{Cell}
 use Rattle.rev_cells.specs.Keys.{cell_cmp, coded_cell}
-use Rattle.rev_causal.specs.Store.{Footprint, Footprint.Whole, Footprint.Cells}
+use Rattle.rev_causal.specs.Store.{Footprint, Footprint.Whole, Footprint.Cells, is_accessed}
 
 -- The cells that are read, those that are written among them; the written ones, in the order of the effect; and whether
 -- the event is whole: it reads every cell, and `reads` names those alone that it writes.
@@ -22,6 +22,10 @@ footprint_code =
 -- the same for the theory of undo
 abbrev pub print_of : FootprintValue → Footprint Cell
 print_of f = if f.whole then Whole else Cells (cells.items f.reads) f.writes
+
+-- the cell is read or written; of a whole event, it is written
+abbrev pub names : FootprintValue → Cell → Bool
+names f c = is_accessed cell_cmp (Cells (cells.items f.reads) f.writes) c
 
 abbrev pub footprint_by : Bool → List Cell → List Cell → FootprintValue
 footprint_by whole besides writes =

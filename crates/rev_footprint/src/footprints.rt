@@ -1,12 +1,11 @@
-//! Footprints, and when two of them conflict.
-ghost use Rattle.std.specs.Prelude.{◌≡◌, ◌≤◌, length, take, true};
+//! Footprints.
+ghost use Rattle.std.specs.Prelude.{◌≡◌, ◌≤◌, length, take};
 ghost use Rattle.std.specs.FinSet as cells;
-ghost use Rattle.std.specs.List.{IsDistinct, list_any};
+ghost use Rattle.std.specs.List.{IsDistinct};
 ghost use Rattle.std.specs.Ordering.{eq_by_cmp};
-ghost use Rattle.rev_causal.specs.Store.{conflict as conflict_of};
 ghost use Rattle.rev_cells.specs.Keys.{cell_cmp};
-ghost use Rattle.rev_footprint.specs.Value.{print_of};
 
+use crate::conflicts::HasCells;
 use crate::listed::is_among;
 use rev_cells::Cell;
 use std::marker::Model;
@@ -45,8 +44,9 @@ impl Model for Footprint {
 }
 
 impl Footprint {
-    // The footprint of an event that reads these cells, of which it writes the first ones.
-    pub(crate) fn of(read: Vec<Cell>, written: usize, whole: bool) -> Footprint
+    /// The footprint of an event that reads these cells, of which it writes the first ones. Of a whole event they are
+    /// those that it writes. It takes no memory: where a list with room for no more is refused, the larger one stays.
+    pub fn of(read: Vec<Cell>, written: usize, whole: bool) -> Footprint
         requires within { written ≤ length read.items }
         requires distinct { IsDistinct (eq_by_cmp cell_cmp) read.items }
         ensures { result ≡ record {
@@ -75,20 +75,6 @@ impl Footprint {
         self.cells.as_slice()
     }
 
-    // Whether one of the cells is read.
-    fn has_some(&self, asked: &[Cell]) -> bool
-        ensures { result ≡ list_any (cells.contains self.now.reads) asked.now }
-    {
-        asked.iter().any(|cell| self.has(cell))
-    }
-
-    // Whether a cell is read.
-    fn has(&self, cell: &Cell) -> bool
-        ensures { result ≡ cells.contains self.now.reads cell.now }
-    {
-        is_among(self.reads(), cell)
-    }
-
     /// The cells that are written, each once, in the order of the event's effect.
     pub fn writes(&self) -> &[Cell]
         ensures same { result.now ≡ self.now.writes }
@@ -105,20 +91,23 @@ impl Footprint {
     }
 }
 
-/// Whether two footprints conflict: one is whole, or a cell that one writes is read or written by the other.
-///
-/// It takes no memory. Each cell that one writes is looked for among those that the other reads, one by one.
-pub fn conflict(first: &Footprint, second: &Footprint) -> bool
-    ensures { result ≡ conflict_of cell_cmp (print_of first.now) (print_of second.now) }
-{
-    if first.whole {
-        return true;
+impl HasCells for Footprint {
+    ghost footprint = { λ f. f };
+
+    fn reads_all(&self) -> bool {
+        Footprint::whole(self)
     }
-    if second.whole {
-        return true;
+
+    fn written_count(&self) -> usize {
+        self.written
     }
-    if second.has_some(first.writes()) {
-        return true;
+
+    fn written_cell(&self, place: usize) -> &Cell {
+        &self.cells[place]
     }
-    first.has_some(second.writes())
+
+    // A written cell is read too.
+    fn accesses(&self, cell: &Cell) -> bool {
+        is_among(self.reads(), cell)
+    }
 }

@@ -2,6 +2,7 @@
 #![tactic(auto)]
 
 mod behind;
+mod conflicts;
 mod footprints;
 pub mod laws;
 mod listed;
@@ -9,5 +10,6 @@ mod of_event;
 mod reads;
 mod writes;
 
-pub use footprints::{Footprint, conflict};
+pub use conflicts::{HasCells, conflict, conflict_between};
+pub use footprints::Footprint;
 pub use of_event::footprint;

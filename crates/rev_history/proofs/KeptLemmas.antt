@@ -1,16 +1,11 @@
 -- The cells of a kept footprint, one by one.
-use Rattle.std.proofs.Common.{◌≡◌, ℕ, ◌+◌, ◌<◌, Bool, true, false, ◌||◌, List, [], ◌∷◌, None, Some, length, take, slice_get, get_or, zero, suc, arith, refl, sym, ap, ap₂, ◌∙◌, if◌then◌else◌}
+use Rattle.std.proofs.Common.{◌≡◌, ℕ, ◌<◌, ◌≤◌, Bool, List, [], ◌∷◌, None, Some, length, take, slice_get, get_or, zero, suc, arith, refl, sym, ap, ◌∙◌}
 use Rattle.std.specs.FinSet as cells
-use Rattle.std.specs.List.{cons_option, list_any}
-use Rattle.std.specs.Ordering.{eq_by_cmp}
-use Rattle.std.proofs.lemmas.List.Folds.{list_any_at, list_any_more}
+use Rattle.std.specs.List.{cons_option}
 use Rattle.std.proofs.lemmas.Option.{get_or_from_slice_get}
 use Rattle.rev_accesses.specs.Places.{AreWithin, cells_at}
-use Rattle.rev_causal.specs.Store.{Footprint, Footprint.Whole, Footprint.Cells, among, conflict, is_accessed}
 use Rattle.rev_cells.specs.declared.cell.Cell.{Cell}
-use Rattle.rev_cells.specs.Keys.{cell_cmp}
-use Rattle.rev_cells.proofs.EntryLemmas.{cells_total}
-use Rattle.rev_footprint.specs.Value.{FootprintValue, print_of}
+use Rattle.rev_footprint.specs.Value.{FootprintValue}
 
 -- AT A PLACE
 -- each place of a list has a cell
@@ -55,66 +50,33 @@ cell_there cells (q ∷ ps) (suc i) within lt =
 pub cell_read : (xs : List Cell) (i : ℕ) (c : Cell) → Some c ≡ slice_get xs i → c ≡ get_or xs i c
 cell_read xs i c is = sym (get_or_from_slice_get xs i c c (sym is))
 
--- ONE BY ONE
-module _ (p : Cell → Bool) (xs : List Cell) (i : ℕ) where
-  pub some_here : (c : Cell) → i < length xs → c ≡ get_or xs i c → p c ≡ true → true ≡ list_any p xs
-  some_here c lt is passes = sym (list_any_at p xs i c lt (ap p (sym is) ∙ passes))
+-- A COPY
+taken_all : (xs : List Cell) → take (length xs) xs ≡ xs
+taken_all [] = refl
+taken_all (x ∷ xs) = ap (λ ys. x ∷ ys) (taken_all xs)
 
-  pub none_here : (c : Cell) → i < length xs → c ≡ get_or xs i c → p c ≡ false → list_any p (take i xs) ≡ false → list_any p (take (i + 1) xs) ≡ false
-  none_here c lt is fails before = list_any_more p xs i c lt ∙ (λ j. before j || (ap p (sym is) ∙ fails) j)
+pub copied_all : (xs : List Cell) (i : ℕ) (copied : List Cell) → copied ≡ take i xs → length xs ≡ i → copied ≡ xs
+copied_all xs i copied is done = is ∙ ap (λ n. take n xs) (sym done) ∙ taken_all xs
 
--- CELLS THAT ARE READ OR WRITTEN
--- the cells of a list and of the set of them
-read_there : (xs : List Cell) (s : cells.FinSet cell_cmp) → cells.from_list xs ≡ s → (c : Cell) → among cell_cmp xs c ≡ among cell_cmp (cells.items s) c
-read_there xs s is c = sym (cells.contains-from_list cells_total xs c) ∙ ap (λ t. cells.contains t c) is ∙ cells.contains-items s c
+fewer : (n : ℕ) (xs : List Cell) → length (take n xs) ≤ length xs
+fewer zero xs = omega arith
+fewer (suc n) [] = omega arith
+fewer (suc n) (x ∷ xs) = omega (arith, fewer n xs)
 
--- what is among the first cells is among all
-first_among : (n : ℕ) (xs : List Cell) (c : Cell) → (among cell_cmp (take n xs) c || among cell_cmp xs c) ≡ among cell_cmp xs c
-first_among zero xs c = refl
-first_among (suc n) [] c = refl
-first_among (suc n) (x ∷ xs) c = by (eq_by_cmp cell_cmp c x) (first_among n xs c)
-  where
-    by : (b : Bool) → (among cell_cmp (take n xs) c || among cell_cmp xs c) ≡ among cell_cmp xs c
-        → ((b || among cell_cmp (take n xs) c) || (b || among cell_cmp xs c)) ≡ (b || among cell_cmp xs c)
-    by true rest = refl
-    by false rest = rest
+-- of what is read the first cells are written
+module _ (f : FootprintValue) (reads copied : List Cell) (n : ℕ) (copied_is : copied ≡ reads) (first : take (length f.writes) reads ≡ f.writes) (many : n ≡ length f.writes) where
+  pub copied_within : n ≤ length copied
+  copied_within =
+      let same : length copied ≡ length reads = ap (λ (xs : List Cell). length xs) copied_is in
+      let written : length (take (length f.writes) reads) ≡ length f.writes = ap (λ (xs : List Cell). length xs) first in
+      let less : length (take (length f.writes) reads) ≤ length reads = fewer (length f.writes) reads in
+      omega arith
 
--- the written cells stand first among those that are read
-pub accessed_read : (f : FootprintValue) (reads : List Cell) (c : Cell) → cells.from_list reads ≡ f.reads → take (length f.writes) reads ≡ f.writes
-    → among cell_cmp reads c ≡ is_accessed cell_cmp (Cells (cells.items f.reads) f.writes) c
-accessed_read f reads c same first =
-    sym (first_among (length f.writes) reads c)
-    ∙ ap₂ (λ a b. a || b) (ap (λ ws. among cell_cmp ws c) first) (read_there reads f.reads same c)
-
--- CONFLICTS
-abbrev accessed_of : FootprintValue → Cell → Bool
-accessed_of f = is_accessed cell_cmp (Cells (cells.items f.reads) f.writes)
-
-print_whole : (f : FootprintValue) → f.whole ≡ true → print_of f ≡ Whole
-print_whole f h = ap (λ b. if b then Whole else Cells (cells.items f.reads) f.writes) h
-
-print_cells : (f : FootprintValue) → f.whole ≡ false → print_of f ≡ Cells (cells.items f.reads) f.writes
-print_cells f h = ap (λ b. if b then Whole else Cells (cells.items f.reads) f.writes) h
-
-whole_right : (f : Footprint Cell) → true ≡ conflict cell_cmp f Whole
-whole_right Whole = refl
-whole_right (Cells reads writes) = refl
-
-module _ (f g : FootprintValue) where
-  pub first_whole : f.whole ≡ true → true ≡ conflict cell_cmp (print_of f) (print_of g)
-  first_whole h = sym (ap (λ p. conflict cell_cmp p (print_of g)) (print_whole f h))
-
-  pub second_whole : g.whole ≡ true → true ≡ conflict cell_cmp (print_of f) (print_of g)
-  second_whole h = whole_right (print_of f) ∙ sym (ap (conflict cell_cmp (print_of f)) (print_whole g h))
-
-  module _ (a b : Bool) (one other : List Cell) (part : f.whole ≡ false) (part' : g.whole ≡ false) (one_is : one ≡ f.writes) (is : a ≡ list_any (accessed_of g) one) where
-    by_cells : (list_any (accessed_of g) f.writes || list_any (accessed_of f) g.writes) ≡ conflict cell_cmp (print_of f) (print_of g)
-    by_cells = λ i. conflict cell_cmp (sym (print_cells f part) i) (sym (print_cells g part') i)
-
-    pub first_writes : a ≡ true → true ≡ conflict cell_cmp (print_of f) (print_of g)
-    first_writes h = sym (ap (λ x. x || list_any (accessed_of f) g.writes) (ap (list_any (accessed_of g)) (sym one_is) ∙ sym is ∙ h)) ∙ by_cells
-
-    pub second_writes : a ≡ false → other ≡ g.writes → b ≡ list_any (accessed_of f) other → b ≡ conflict cell_cmp (print_of f) (print_of g)
-    second_writes h other_is found =
-        found ∙ ap (list_any (accessed_of f)) other_is
-        ∙ sym (ap (λ x. x || list_any (accessed_of f) g.writes) (ap (list_any (accessed_of g)) (sym one_is) ∙ sym is ∙ h)) ∙ by_cells
+  pub copied_print : (whole : Bool) → cells.from_list reads ≡ f.reads → whole ≡ f.whole
+      → (let g : FootprintValue = record { reads = cells.from_list copied; writes = take n copied; whole = whole } in g ≡ f)
+  copied_print whole same whole_is = λ i.
+      record {
+        reads = (ap (λ (xs : List Cell). cells.from_list xs) copied_is ∙ same) i;
+        writes = (ap (take n) copied_is ∙ ap (λ m. take m reads) many ∙ first) i;
+        whole = whole_is i;
+      }

@@ -1,5 +1,5 @@
 -- The answer of the order check is exact.
-use Rattle.std.proofs.Common.{◌≡◌, ◌↔◌, ◌≤◌, ◌&&◌, ℕ, Bool, true, false, cond, is_some, IsSome, List, [], ◌∷◌, Option, None, Some, option_map, refl, true≢false, sym, ap, ap₂, subst, ◌∙◌, nat_eq, eq-eqb}
+use Rattle.std.proofs.Common.{◌≡◌, ◌↔◌, ◌<◌, ◌≤◌, ◌&&◌, ℕ, Bool, true, false, cond, is_some, IsSome, List, [], ◌∷◌, Option, None, Some, option_map, refl, true≢false, arith, sym, ap, ap₂, subst, ◌∙◌, nat_eq, eq-eqb}
 use Rattle.std.specs.List.{AllByRecursion}
 use Rattle.rev_accesses.specs.Value.{Prints}
 use Rattle.rev_causal.specs.Chosen.{chosen, is_among, last_of}
@@ -112,6 +112,15 @@ kept_within a s = by a.kept.items s.stepped.each
     by (k ∷ ks) all =
         let low : k ≤ last_of a.accepted.entries = event_at-below k a.accepted.entries all.0 in
         (subst (λ (l : ℕ). k ≤ l) (sym s.last) low, by ks all.1)
+
+-- so all are below a number above the last
+pub kept_below : (a : Inside) → IsSound a → (n : ℕ) → last_of a.accepted.entries < n → AllByRecursion (λ k. k < n) a.kept.items
+kept_below a s n above = by a.kept.items (kept_within a s)
+  where
+    by : (ks : List ℕ) → AllByRecursion (λ k. k ≤ a.last) ks → AllByRecursion (λ k. k < n) ks
+    by [] all = tt
+    by (k ∷ ks) all =
+        (let low : k ≤ a.last = all.0 in let is : a.last ≡ last_of a.accepted.entries = s.last in omega arith, by ks all.1)
 
 pub differ_found : (a b : Inside) (t u : Timeline) → timeline_of a ≡ t → timeline_of b ≡ u
     → renumbered event_eq (chosen a.accepted.entries a.kept.items) (bare (chosen b.accepted.entries b.kept.items)) ≡ None → EventsDiffer ≡ order_of event_eq true t u

@@ -5,9 +5,11 @@ use Rattle.std.specs.Prelude.{Contains, nat_lt}
 use Rattle.std.specs.List.{AllByRecursion}
 use Rattle.std.specs.Map.{lookup}
 use Rattle.rev_accesses.specs.Closing.{cone_behind, conflicts_with_any, joins}
-use Rattle.rev_accesses.specs.Thinned.{AreThinned, IsGone, prints_without, without_all}
+use Rattle.rev_accesses.specs.Thinned.{AreThinned, IsGone, prints_without}
+use Rattle.rev_numbers.specs.Taken.{without_all}
+use Rattle.rev_numbers.proofs.TakenLemmas.{dropped-all, dropped-before, without_more, without_none}
 use Rattle.rev_accesses.specs.Value.{AccessesValue, Prints, Shows}
-use Rattle.rev_accesses.proofs.ThinnedLemmas.{are_thinned_not, are_thinned_then, gone_nowhere, is_gone_still, shows_thinned, without_more, without_none}
+use Rattle.rev_accesses.proofs.ThinnedLemmas.{are_thinned_not, are_thinned_then, gone_nowhere, is_gone_still, shows_thinned}
 use Rattle.rev_causal.specs.Chosen.{IsRising as IsRisingNumbers, chosen, is_among, under, without}
 use Rattle.rev_causal.specs.History as causal
 use Rattle.rev_causal.specs.Store.{Footprint, Footprint.Cells}
@@ -163,56 +165,11 @@ listed_without a b members la sound same placed prints thinned gone = record {
       (λ n f among at. gone n f among (chosen_is (prints_of a.accepted.entries (beside_of a)) a.kept.items n f at)));
 }
 
--- numbers without some
-
-dropped-next : (xs : List ℕ) (i d : ℕ) → i < length xs → drop i xs ≡ get_or xs i d ∷ drop (suc i) xs
-dropped-next [] i d lt = absurd (omega arith)
-dropped-next (x ∷ xs) zero d lt = refl
-dropped-next (x ∷ xs) (suc i) d lt = dropped-next xs i d (omega arith)
-
-pub dropped-before : (xs : List ℕ) (left : ℕ) → 0 < left → left ≤ length xs → drop (left - 1) xs ≡ get_or xs (left - 1) 0 ∷ drop left xs
-dropped-before xs zero some within = absurd (omega arith)
-dropped-before xs (suc i) some within =
-    let one : suc i - 1 ≡ i = omega arith in
-    subst (λ j. drop j xs ≡ get_or xs j 0 ∷ drop (suc i) xs) (sym one) (dropped-next xs i 0 (omega arith))
-
-pub dropped-all : (xs : List ℕ) → drop (length xs) xs ≡ []
-dropped-all [] = refl
-dropped-all (x ∷ xs) = dropped-all xs
+-- members, from the last down
 
 taken-all : (xs : List ℕ) → take (length xs) xs ≡ xs
 taken-all [] = refl
 taken-all (x ∷ xs) = ap (λ ys. x ∷ ys) (taken-all xs)
-
-shorter : (p : ℕ → Bool) (ks : List ℕ) → length (filter p ks) ≤ length ks
-shorter p [] = omega arith
-shorter p (k ∷ ks) = by (p k) (shorter p ks)
-  where
-    by : (b : Bool) → length (filter p ks) ≤ length ks → length (cond b (k ∷ filter p ks) (filter p ks)) ≤ suc (length ks)
-    by true le = omega arith
-    by false le = omega arith
-
--- a number that is not there
-pub without_absent : (n : ℕ) (ks : List ℕ) → is_among ks n ≡ false → without n ks ≡ ks
-without_absent n [] apart = refl
-without_absent n (k ∷ ks) apart = elim (either (nat_eq n k)) [
-  | inl t ↦ absurd (true≢false (sym (ap (λ b. b || is_among ks n) t) ∙ apart))
-  | inr f ↦
-      ap (λ b. cond (not b) (k ∷ without n ks) (without n ks)) (nat_eq_comm k n ∙ f)
-      ∙ ap (λ xs. k ∷ xs) (without_absent n ks (sym (ap (λ b. b || is_among ks n) f) ∙ apart))
-]
-
--- a vector with fewer elements in the same place
-abbrev fewer : {X : Type 0} (v : Vec X) (xs : List X) → length xs ≤ length v.items → Vec X
-fewer v xs le = record { ptr = v.ptr; len = length xs; cap = v.cap; alloc = v.alloc; items = xs; ok = (refl, inside v xs le); small = v.small }
-  where
-    inside : {X : Type 0} (v : Vec X) (xs : List X) → length xs ≤ length v.items → length xs ≤ v.cap
-    inside v xs le =
-        let same : v.len ≡ length v.items = v.ok.0 in
-        let room : v.len ≤ v.cap = v.ok.1 in
-        omega arith
-
--- members, from the last down
 
 -- b is a without some members of the cone of n, and the others are left
 pub record IsDown (a b : Inside) (n : ℕ) (members taken : List ℕ) : Type 0 where
@@ -251,7 +208,7 @@ module _ (members : List ℕ) (left : ℕ) (es : Numbered) (steps : List Placed)
   between a = record a {
     steps = now;
     cells = now_cells;
-    kept = fewer a.kept (without_all (drop left members) a.kept.items) (shorter (λ k. not (is_among (drop left members) k)) a.kept.items);
+    kept = record { items = without_all (drop left members) a.kept.items; room = a.kept.room };
   }
 
   module _ (a : Inside) (n : ℕ) (ha : HasFields a es steps cells) (sa : IsSound a) (are : members ≡ cone_numbers n (timeline_of a)) where

@@ -1,11 +1,12 @@
 -- Events that are taken out of the fields of a history: first out of the access lists, then what stands beside them,
 -- then their numbers.
 use Rattle.std.specs.Prelude.{◌≡◌, ℕ, List, None}
-use Rattle.rev_accesses.specs.Thinned.{prints_without, without_all}
+use Rattle.rev_accesses.specs.Thinned.{prints_without}
 use Rattle.rev_causal.specs.Chosen.{without}
 use Rattle.rev_causal.specs.History as causal
 use Rattle.rev_cells.specs.declared.cell.Cell.{Cell}
 use Rattle.rev_cells.specs.Table.{Table, raised_by}
+use Rattle.rev_numbers.specs.Taken.{without_all}
 use Rattle.rev_history.specs.declared.history.History.TheInside.{Inside}
 use Rattle.rev_history.specs.Sound.{timeline_of, kept_prints, ArePlacedIn, IsSound}
 use Rattle.rev_history.specs.Steps.{Placed}

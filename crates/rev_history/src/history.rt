@@ -18,13 +18,14 @@ use crate::order::{Order, both, first_pair};
 use crate::prints::{nearest, nearest_by, write_noted};
 use crate::step::{Checked, effect, effect_if_accepted, refusal};
 use crate::steps::{Step, step_of};
-use crate::taken::{put_all_back, put_back, take_all_out, thin_lists};
+use crate::taken::{put_all_back, put_back, thin_lists};
 use indexmap::IndexMap;
-use rev_accesses::{Accesses, place_of, put_in, take_out};
+use rev_accesses::Accesses;
 use rev_cells::{Cells, Opening};
 use rev_events::{Event, Fault, Refusal};
 use rev_footprint::{Footprint, footprint as footprint_now};
 use rev_graph::Graph;
+use rev_numbers::{SortedNumbers, place_of};
 use rev_order::matched_places;
 use std::alloc::{AllocError, Global};
 use std::marker::Model;
@@ -39,7 +40,7 @@ pub struct History {
     opening: Opening,
     accepted: IndexMap<u32, Event>,
     steps: Vec<Option<Step>>,
-    kept: Vec<u32>,
+    kept: SortedNumbers,
     accesses: Accesses,
     cells: Cells,
     last: u32,
@@ -96,7 +97,7 @@ impl History {
             opening: opening.copy()?,
             accepted: IndexMap::with_capacity(alloc, usual)?,
             steps: Vec::with_capacity(alloc, usual)?,
-            kept: Vec::with_capacity(alloc, usual)?,
+            kept: SortedNumbers::with_capacity(alloc, usual)?,
             accesses: Accesses::new(alloc),
             cells: Cells::new(alloc, opening)?,
             last: 0,
@@ -148,12 +149,25 @@ impl History {
     pub fn footprint_of(&self, number: u32) -> Option<KeptFootprint<'_>>
         ensures { result ≡ kept_footprint self.now.timeline number }
     {
-        let _place = place_of(&self.kept, number)?;
+        let _place = place_of(self.kept.as_slice(), number)?;
         let step = step_of(&self.accepted, &self.steps, number)?;
         Some(KeptFootprint {
             step,
             accesses: &self.accesses,
         })
+    }
+
+    /// The same as [`History::footprint_of`] in a footprint with a list of its own, as [`History::nearest`] takes one.
+    ///
+    /// # Errors
+    /// [`AllocError`] only where an allocation was refused.
+    pub fn footprint_copy(&self, number: u32) -> Result<Option<Footprint>, AllocError>
+        ensures { IfOk result (λ footprint. footprint ≡ kept_footprint self.now.timeline number) }
+    {
+        match self.footprint_of(number) {
+            Some(lent) => Ok(Some(lent.to_footprint(self.alloc)?)),
+            None => Ok(None),
+        }
     }
 
     /// The least kept number above another whose event conflicts with a footprint. It takes no memory, and looks at the
@@ -164,7 +178,7 @@ impl History {
         ensures least { let t = self.now.timeline in (k : ℕ) → result ≡ Some k
             → IsLeastInTheWay (machine_at t) t.opening (kept_events t) number (print_of footprint.now) k }
     {
-        nearest(number, footprint, &self.kept, &self.accesses)
+        nearest(number, footprint, self.kept.as_slice(), &self.accesses)
     }
 
     /// The same where the footprint is that of a kept event, which is named by its number: none where it is not kept.
@@ -174,9 +188,9 @@ impl History {
             → result ≡ nearest_conflict number f self.now.timeline }
         ensures none { kept_footprint self.now.timeline other ≡ None → result ≡ None }
     {
-        let _place = place_of(&self.kept, other)?;
+        let _place = place_of(self.kept.as_slice(), other)?;
         let step = step_of(&self.accepted, &self.steps, other)?;
-        nearest_by(number, step, &self.kept, &self.accesses)
+        nearest_by(number, step, self.kept.as_slice(), &self.accesses)
     }
 
     /// Accepts an event under a number above all others, and keeps it. Its refusal is that of the present state. Want
@@ -194,7 +208,7 @@ impl History {
         let event = event.copy()?;
         self.accepted.reserve(1)?;
         self.steps.reserve(1)?;
-        self.kept.reserve(1)?;
+        self.kept.reserve()?;
         let step = write_noted(
             &mut self.accesses,
             &mut self.cells,
@@ -204,7 +218,7 @@ impl History {
         )?;
         self.accepted.insert(number, event)?;
         self.steps.push(Some(step))?;
-        self.kept.push(number)?;
+        self.kept.put(number)?;
         self.last = number;
         Ok(())
     }
@@ -309,7 +323,7 @@ impl History {
         if self.event(number).is_none() {
             return Some(Refusal::NoSuchEvent);
         }
-        if place_of(&self.kept, number).is_none() {
+        if !self.kept.has(number) {
             return Some(Refusal::NotKept);
         }
         None
@@ -326,7 +340,7 @@ impl History {
         cone(
             self.alloc,
             number,
-            &self.kept,
+            self.kept.as_slice(),
             &self.accepted,
             &self.steps,
             &self.accesses,
@@ -341,7 +355,7 @@ impl History {
     {
         thin_lists(members, &self.accepted, &self.steps, &mut self.accesses);
         put_all_back(members, &self.accepted, &mut self.steps, &mut self.cells);
-        take_all_out(&mut self.kept, members);
+        self.kept.take_all(members);
     }
 
     // The greatest kept number.
@@ -349,7 +363,7 @@ impl History {
         ensures greatest { result ≡ greatest_kept self.now.timeline }
         ensures legal { IsHistory self.now.timeline }
     {
-        self.kept.last().copied()
+        self.kept.as_slice().last().copied()
     }
 
     /// Why `undo` would refuse a number now, where it would. It takes no memory.
@@ -359,13 +373,13 @@ impl History {
         if self.event(number).is_none() {
             return Some(Refusal::NoSuchEvent);
         }
-        let Some(_place) = place_of(&self.kept, number) else {
+        let Some(_place) = place_of(self.kept.as_slice(), number) else {
             return Some(Refusal::NotKept);
         };
         let Some(step) = step_of(&self.accepted, &self.steps, number) else {
             unreachable!()
         };
-        let dependent = nearest_by(number, step, &self.kept, &self.accesses)?;
+        let dependent = nearest_by(number, step, self.kept.as_slice(), &self.accesses)?;
         Some(Refusal::DependedOn(dependent))
     }
 
@@ -386,7 +400,7 @@ impl History {
         let Some(event) = self.event(number) else {
             return Ok(Checked::Refused(Refusal::NoSuchEvent));
         };
-        if place_of(&self.kept, number).is_some() {
+        if self.kept.has(number) {
             return Ok(Checked::Refused(Refusal::AlreadyKept));
         }
         let refused = refusal(self.alloc, &self.graph, &self.cells, event)?;
@@ -440,9 +454,9 @@ impl History {
     {
         let matched = matched_places(
             self.alloc,
-            &self.kept,
+            self.kept.as_slice(),
             &self.accepted,
-            &other.kept,
+            other.kept.as_slice(),
             &other.accepted,
             self.last,
         )?;
@@ -450,7 +464,7 @@ impl History {
             None => Ok(Order::EventsDiffer),
             Some(places) => Ok(first_pair(
                 &places,
-                &self.kept,
+                self.kept.as_slice(),
                 &self.accepted,
                 &self.steps,
                 &self.accesses,
@@ -482,7 +496,7 @@ impl History {
     {
         thin_lists(&[number], &self.accepted, &self.steps, &mut self.accesses);
         put_back(number, &self.accepted, &mut self.steps, &mut self.cells);
-        take_out(&mut self.kept, number);
+        self.kept.take(number);
     }
 
     // Keeps an event at its number's place that nothing stands in the way of, with the footprint that it has now.
@@ -499,7 +513,7 @@ impl History {
             unreachable!()
         };
         let writes = effect(self.alloc, &self.graph, &self.cells, event)?;
-        self.kept.reserve(1)?;
+        self.kept.reserve()?;
         let step = write_noted(
             &mut self.accesses,
             &mut self.cells,
@@ -507,7 +521,7 @@ impl History {
             &footprint,
             writes,
         )?;
-        put_in(&mut self.kept, number)?;
+        self.kept.put(number)?;
         self.steps[index] = Some(step);
         Ok(())
     }

@@ -1,7 +1,7 @@
 //! Footprints of kept events, as a history lends them.
-ghost use Rattle.std.specs.Prelude.{◌≡◌, ◌<◌, length, slice_index_or, take};
+ghost use Rattle.std.specs.Prelude.{◌≡◌, ◌<◌, IfOk, length, slice_index_or, take};
 ghost use Rattle.std.specs.FinSet as cells;
-ghost use Rattle.std.specs.List.{IsDistinct, list_any};
+ghost use Rattle.std.specs.List.{IsDistinct};
 ghost use Rattle.std.specs.Ordering.{eq_by_cmp};
 ghost use Rattle.rev_causal.specs.Store.{Footprint.Cells, among, conflict as conflict_of, is_accessed};
 ghost use Rattle.rev_cells.specs.Keys.{cell_cmp};
@@ -10,6 +10,8 @@ ghost use Rattle.rev_footprint.specs.Value.{print_of};
 use crate::steps::Step;
 use rev_accesses::Accesses;
 use rev_cells::Cell;
+use rev_footprint::{Footprint, HasCells, conflict_between};
+use std::alloc::{AllocError, Global};
 use std::marker::Model;
 
 /// Cells of a kept footprint, by their places in the history.
@@ -64,6 +66,17 @@ impl<'a> KeptCells<'a> {
             }
         }
         false
+    }
+
+    // Equal cells in a list of their own, with room for no more.
+    fn copied(&self, alloc: Global) -> Result<Vec<Cell>, AllocError>
+        ensures { IfOk result (λ copied. copied.items ≡ self.now) }
+    {
+        let mut copied = Vec::with_capacity(alloc, self.len())?;
+        for index in 0..self.len() {
+            copied.push(self.at(index).copy()?)?;
+        }
+        Ok(copied)
     }
 }
 
@@ -129,34 +142,42 @@ impl<'a> KeptFootprint<'a> {
         self.reads().has(cell)
     }
 
-    // The same of one of some cells.
-    fn has_some(&self, asked: &KeptCells<'_>) -> bool
-        ensures { result
-            ≡ list_any (is_accessed cell_cmp (Cells (cells.items self.now.reads) self.now.writes)) asked.now }
+    /// A footprint with a list of its own, equal to this one: the same cells are read and written, each in its order,
+    /// and it is whole where this one is.
+    ///
+    /// # Errors
+    /// [`AllocError`] only where an allocation was refused.
+    pub fn to_footprint(&self, alloc: Global) -> Result<Footprint, AllocError>
+        ensures { IfOk result (λ footprint. footprint ≡ self.now) }
     {
-        for index in 0..asked.len() {
-            if self.has(asked.at(index)) {
-                return true;
-            }
-        }
-        false
+        let read = self.reads().copied(alloc)?;
+        Ok(Footprint::of(read, self.writes().len(), self.whole()))
     }
 }
 
-/// Whether two kept footprints conflict: one is whole, or a cell that one writes is read or written by the other.
-///
-/// It takes no memory. Each cell that one writes is looked for among those that the other names, one by one.
+impl<'a> HasCells for KeptFootprint<'a> {
+    ghost footprint = { λ f. f };
+
+    fn reads_all(&self) -> bool {
+        self.whole()
+    }
+
+    fn written_count(&self) -> usize {
+        self.writes().len()
+    }
+
+    fn written_cell(&self, place: usize) -> &Cell {
+        self.writes().at(place)
+    }
+
+    fn accesses(&self, cell: &Cell) -> bool {
+        self.has(cell)
+    }
+}
+
+/// [`conflict_between`] of two footprints that a history lends.
 pub fn conflict(first: &KeptFootprint<'_>, second: &KeptFootprint<'_>) -> bool
     ensures { result ≡ conflict_of cell_cmp (print_of first.now) (print_of second.now) }
 {
-    if first.whole() {
-        return true;
-    }
-    if second.whole() {
-        return true;
-    }
-    if second.has_some(&first.writes()) {
-        return true;
-    }
-    first.has_some(&second.writes())
+    conflict_between(first, second)
 }

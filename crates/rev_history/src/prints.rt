@@ -22,9 +22,10 @@ ghost use Rattle.rev_history.specs.Steps.{IsPrintAt, footprint_at, footprint_by_
 ghost use Rattle.rev_order.specs.Pairs.{partner_of};
 
 use crate::steps::Step;
-use rev_accesses::{Accesses, Pending, Places, first_above};
+use rev_accesses::{Accesses, Pending, Places};
 use rev_cells::{Cell, Cells, Value};
 use rev_footprint::Footprint;
+use rev_numbers::first_above;
 use rev_order::first_overtaking;
 use std::alloc::AllocError;
 

@@ -1,7 +1,7 @@
 //! Events that are taken out.
 ghost use Rattle.std.specs.Prelude.{◌≡◌, ℕ, Some, length, true};
-ghost use Rattle.rev_accesses.specs.Thinned.{AreThinned, IsGone, without_all};
-ghost use Rattle.rev_causal.specs.Chosen.{IsRising, is_among, without};
+ghost use Rattle.rev_accesses.specs.Thinned.{AreThinned, IsGone};
+ghost use Rattle.rev_causal.specs.Chosen.{IsRising, is_among};
 ghost use Rattle.rev_causal.specs.History.{event_at};
 ghost use Rattle.rev_causal.specs.Store.{Footprint as Print};
 ghost use Rattle.rev_cells.specs.declared.cell.Cell.{Cell};
@@ -11,12 +11,9 @@ ghost use Rattle.rev_history.specs.Taken.{IsConeHere, IsFreeHere, TakesConeOut, 
 use crate::prints::thin_print;
 use crate::steps::{Step, step_of};
 use indexmap::IndexMap;
-use rev_accesses::{Accesses, is_one_of, place_of, take_out};
+use rev_accesses::Accesses;
 use rev_cells::Cells;
 use rev_events::Event;
-
-// The most members that are taken out one by one.
-const FEW: usize = 64;
 
 // Takes a member out of the lists of the footprint that stands beside its event; other members may go with it.
 fn thin_member(
@@ -96,52 +93,5 @@ pub(crate) fn put_all_back(
     while left > 0 {
         left -= 1;
         put_back(members[left], accepted, steps, cells);
-    }
-}
-
-// Takes members out of numbers in one pass over them.
-fn take_out_in_one(numbers: &mut Vec<u32>, members: &[u32])
-    requires { IsRising members.now }
-    ensures { numbers.new.items ≡ without_all members.now numbers.old.items }
-{
-    match members.first() {
-        Some(first) => numbers.retain(|number| !is_one_of(members, *first, *number)),
-        None => {}
-    }
-}
-
-// Takes a number out, if it is there.
-fn take_one_out(numbers: &mut Vec<u32>, number: u32)
-    requires { IsRising numbers.old.items }
-    ensures { numbers.new.items ≡ without number numbers.old.items }
-{
-    if place_of(numbers, number).is_some() {
-        take_out(numbers, number);
-    }
-}
-
-// Takes members out of numbers one by one, from the last down. Each moves the numbers above it.
-fn take_out_by_one(numbers: &mut Vec<u32>, members: &[u32])
-    requires { IsRising numbers.old.items }
-    ensures { numbers.new.items ≡ without_all members.now numbers.old.items }
-{
-    let mut left = members.len();
-    while left > 0 {
-        left -= 1;
-        take_one_out(numbers, members[left]);
-    }
-}
-
-/// Takes all members out of numbers. A few are taken out one by one, which moves no more than a pass over all numbers
-/// would look at; more in one pass. It takes no memory.
-pub(crate) fn take_all_out(numbers: &mut Vec<u32>, members: &[u32])
-    requires rising { IsRising numbers.old.items }
-    requires members { IsRising members.now }
-    ensures { numbers.new.items ≡ without_all members.now numbers.old.items }
-{
-    if members.len() > FEW {
-        take_out_in_one(numbers, members);
-    } else {
-        take_out_by_one(numbers, members);
     }
 }

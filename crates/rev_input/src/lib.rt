@@ -2,5 +2,7 @@
 #![tactic(auto)]
 
 mod reading;
+mod source;
 
 pub use reading::{READ_BYTES, READ_LIMIT, TakeFault, take, take_up_to};
+pub use source::{Reader, Source, is_interrupted};

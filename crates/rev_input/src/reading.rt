@@ -1,11 +1,11 @@
 //! What is read from a reader.
 ghost use Rattle.std.specs.Prelude.{◌≡◌, ◌<◌, ◌≤◌, ◌+◌, IsTrue, IfOk, IfSome, OnOk, length, vec_len};
 ghost use Rattle.std.specs.Io.KnownBytes.{Consumes, IsAtEnd};
-ghost use Rattle.rev_input.specs.Input.{ReadOn};
+ghost use Rattle.rev_input.specs.Input.{Outcome, ReadOn, ReadsOne, Takes};
 ghost use Rattle.rev_input.specs.declared.reading.TakeFault.TheVariants.{Memory};
 
+use crate::source::{Source, is_interrupted};
 use std::alloc::{AllocError, Global};
-use std::io::{ErrorKind, Read};
 
 /// Why a reader's bytes are not taken. Those that were read before the fault are gone.
 #[derive(Clone, Copy, Debug, PartialEq, Eq)]
@@ -38,18 +38,19 @@ fn room(alloc: Global) -> Result<Vec<u8>, AllocError>
 }
 
 // One read, whose bytes come after those that were read before. It says whether the end has come.
-// A read that a signal cut short has read nothing, and is made again.
-fn read_some<R: Read>(
-    reader: &mut R,
+fn read_some<S: Source>(
+    reader: &mut S,
     room: &mut [u8],
     bytes: &mut Vec<u8>,
 ) -> Result<bool, TakeFault>
     requires { 0 < length room.old }
     ensures room { length room.new ≡ length room.old }
-    ensures bytes { OnOk result (ReadOn (R.remaining reader.old) (R.remaining reader.new) bytes.old.items
+    ensures bytes { OnOk result (ReadOn (S.remaining reader.old) (S.remaining reader.new) bytes.old.items
         bytes.new.items) }
     ensures bounded { length bytes.new.items ≤ length bytes.old.items + length room.old }
-    ensures end { IfOk result (λ ended. IsTrue ended → IsAtEnd (R.remaining reader.new)) }
+    ensures end { IfOk result (λ ended. IsTrue ended → IsAtEnd (S.remaining reader.new)) }
+    ensures one { (o : Outcome) × S.gives reader.old o reader.new
+        × ReadsOne o bytes.old.items bytes.new.items result }
 {
     match reader.read(room) {
         Ok(0) => Ok(true),
@@ -57,30 +58,34 @@ fn read_some<R: Read>(
             bytes.extend_from_slice(&room[..count])?;
             Ok(false)
         }
-        Err(error) if error.kind() == ErrorKind::Interrupted => Ok(false),
+        Err(error) if is_interrupted(&error) => Ok(false),
         Err(_) => Err(TakeFault::Read),
     }
 }
 
-/// Reads until there are more than `most` bytes or the end has come. So no more are given than `most` all is read, and
-/// a reader with more is seen by what is given: more than `most` bytes, and at most one read beyond it.
-///
-/// A read that was interrupted is made again, as `std::io::Read` asks.
+/// Reads until there are more than `most` bytes or the end has come. If at most `most` bytes come back, the reader was
+/// read to its end. Of a reader with more bytes come back more than `most`, and at most one read beyond that.
 ///
 /// # Errors
-/// [`TakeFault::Read`] where a read fails in any other way, or after [`READ_LIMIT`] reads without an end;
-/// [`TakeFault::Memory`] where memory is refused.
+/// [`TakeFault::Read`] where a read fails, unless it was interrupted ([`is_interrupted`]), or after [`READ_LIMIT`]
+/// reads without an end; [`TakeFault::Memory`] where memory is refused.
 #[tactic(auto, using(crate::proofs::InputLemmas::consumes_more))]
-pub fn take_up_to<R: Read>(alloc: Global, reader: &mut R, most: usize) -> Result<Vec<u8>, TakeFault>
+pub fn take_up_to<S: Source>(
+    alloc: Global,
+    reader: &mut S,
+    most: usize,
+) -> Result<Vec<u8>, TakeFault>
     // Where it is known what the reader has, these are its first bytes, and it has lost them.
-    ensures bytes { IfOk result (λ bytes. Consumes (R.remaining reader.old) (R.remaining reader.new) bytes.items) }
+    ensures bytes { IfOk result (λ bytes. Consumes (S.remaining reader.old) (S.remaining reader.new) bytes.items) }
     // It stops early only with more bytes than `most`.
-    ensures end { IfOk result (λ bytes. length bytes.items ≤ most → IsAtEnd (R.remaining reader.new)) }
+    ensures end { IfOk result (λ bytes. length bytes.items ≤ most → IsAtEnd (S.remaining reader.new)) }
     ensures bounded { IfOk result (λ bytes. length bytes.items ≤ most + 65536) }
+    // The answer is that of the reads: `Read` says that the last one failed, or that there were as many as there may be.
+    ensures reads { Takes S.gives most reader.old reader.new result }
 {
     let mut room = room(alloc)?;
     let mut bytes = Vec::new(alloc);
-    for _ in 0..READ_LIMIT {
+    for count in 0..READ_LIMIT {
         let has_ended = read_some(reader, room.as_mut_slice(), &mut bytes)?;
         if has_ended || bytes.len() > most {
             return Ok(bytes);
@@ -94,10 +99,11 @@ pub fn take_up_to<R: Read>(alloc: Global, reader: &mut R, most: usize) -> Result
 /// # Errors
 /// As [`take_up_to`].
 #[tactic(auto, using(crate::proofs::InputLemmas::read_all))]
-pub fn take<R: Read>(alloc: Global, reader: &mut R) -> Result<Vec<u8>, TakeFault>
+pub fn take<S: Source>(alloc: Global, reader: &mut S) -> Result<Vec<u8>, TakeFault>
     // Where it is known what the reader has, these are its bytes.
-    ensures bytes { IfOk result (λ bytes. IfSome (R.remaining reader.old) (λ all. bytes.items ≡ all)) }
-    ensures end { OnOk result (IsAtEnd (R.remaining reader.new)) }
+    ensures bytes { IfOk result (λ bytes. IfSome (S.remaining reader.old) (λ all. bytes.items ≡ all)) }
+    ensures end { OnOk result (IsAtEnd (S.remaining reader.new)) }
+    ensures reads { Takes S.gives usize.MAX reader.old reader.new result }
 {
     take_up_to(alloc, reader, usize::MAX)
 }

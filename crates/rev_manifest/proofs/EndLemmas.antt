@@ -1,20 +1,20 @@
 -- Values at the end: what has a derivation has a value within as many texts as the rule has.
-use Rattle.std.proofs.Common.{◌≡◌, ℕ, zero, suc, ◌+◌, ◌-◌, ◌<◌, ◌≤◌, Bool, true, false, ◌⊎◌, inl, inr, not, ◌||◌, IsTrue, List, [], ◌∷◌, ◌++◌, length, Option, Some, None, is_some, option_map, nat_eq, bytes_eq, codes, refl, sym, ap, ◌∙◌, subst, arith, if◌then◌else◌}
+use Rattle.std.proofs.Common.{◌≡◌, ℕ, zero, suc, ◌+◌, ◌-◌, ◌<◌, ◌≤◌, Bool, true, false, ◌⊎◌, inl, inr, not, ◌||◌, IsTrue, List, [], ◌∷◌, ◌++◌, length, sum, Option, Some, None, is_some, option_map, nat_eq, bytes_eq, codes, refl, sym, ap, ◌∙◌, subst, arith, if◌then◌else◌}
 use Rattle.std.specs.List.{list_any}
 use Rattle.std.proofs.lemmas.Bool.{eqb-true, eqb-false, ltb-true, lt-ltb}
 use Rattle.std.proofs.lemmas.Slice.Eq.{bytes_eq-Decides}
 use Rattle.rev_syntax.specs.Texts.{PieceValue, Byte, Variable}
 use Rattle.rev_scopes.specs.Bindings.{value_of}
 use Rattle.rev_scopes.specs.Scopes.{variable_in}
-use Rattle.rev_scopes.specs.Edges.{EdgeEnvValue, Source, Known, Needs, first_source, paths_named, source, HasValue, Given, Expanded, IsExpanded, Nothing, Plain, Named, AllHaveValues, SomeNeedsItself, SomeIsTooLarge, IsResponseFile, HasPath, IsLarge, HasNone, given_for}
+use Rattle.rev_scopes.specs.Edges.{EdgeEnvValue, Source, Known, Needs, first_source, paths_named, source, HasValue, Given, Expanded, IsExpanded, Nothing, Plain, Named, AllHaveValues, SomeNeedsItself, SomeIsTooLarge, IsResponseFile, HasPath, IsLarge, HasNone, response_given, given_for}
 use Rattle.rev_scopes.specs.declared.edge.EdgeVariables.{EdgeVariables}
 use Rattle.rev_scopes.specs.declared.rule_variable.RuleVariable.{RuleVariable}
 use Rattle.rev_scopes.specs.declared.rule_variable.RuleVariable.TheVariants.{Command, Depfile, Deps, MsvcDepsPrefix, Description, Generator, Restat, Rspfile, RspfileContent, Pool}
 use Rattle.rev_scopes.specs.Expansion.{is_too_large}
 use Rattle.rev_scopes.specs.RuleNames.{name_of, is_needed}
 use Rattle.rev_manifest.specs.declared.fault.FaultKind.TheVariants.{VariableCycle, TooLarge}
-use Rattle.rev_manifest.specs.Held.{seen_values}
-use Rattle.rev_manifest.specs.Ends.{both, text_by, value_by, value_within, value_at, needed, or_empty, response_path, fault_at_end, values_at_end}
+use Rattle.rev_manifest.specs.Held.{path_made, seen_values}
+use Rattle.rev_manifest.specs.Ends.{both, text_by, value_by, value_within, value_at, needed, or_empty, response_path, response_made, fault_at_end, values_at_end}
 
 abbrev pub Look : Type 0
 Look = List ℕ → Option (List ℕ)
@@ -319,20 +319,25 @@ module _ (edge : EdgeEnvValue) where
       else (if any_needed (λ name. is_too_large (or_empty (value_at edge name))) h.0 h.2 large i then Some TooLarge else None))
 
   -- what is given for the response file is its path
-  response_is : (path : List ℕ) → IsResponseFile edge path → response_path (value_at edge (codes "rspfile")) ≡ path
-  response_is path (HasPath has within) =
-      ap response_path (derived edge (codes "rspfile") path has) ∙ ap (λ b. if b then [] else path) (not_larger path within)
-  response_is path (IsLarge {value} has large) =
-      ap response_path (derived edge (codes "rspfile") value has) ∙ ap (λ b. if b then [] else value) (lt-ltb 1048576 (length value) large)
-  response_is path (HasNone none) = by (value_at edge (codes "rspfile")) refl
+  response_is : (path : Option (List ℕ)) → IsResponseFile edge path
+      → (response_path (value_at edge (codes "rspfile")) ≡ or_empty path) × (response_made (value_at edge (codes "rspfile")) ≡ path_made path)
+  response_is _ (HasPath {path} has within) = (
+    ap response_path (derived edge (codes "rspfile") path has) ∙ ap (λ b. if b then [] else path) (not_larger path within),
+    ap response_made (derived edge (codes "rspfile") path has) ∙ ap (λ b. if b then 1048576 else length path) (not_larger path within),
+  )
+  response_is _ (IsLarge {value} has large) = (
+    ap response_path (derived edge (codes "rspfile") value has) ∙ ap (λ b. if b then [] else value) (lt-ltb 1048576 (length value) large),
+    ap response_made (derived edge (codes "rspfile") value has) ∙ ap (λ b. if b then 1048576 else length value) (lt-ltb 1048576 (length value) large),
+  )
+  response_is _ (HasNone none) = by (value_at edge (codes "rspfile")) refl
     where
-      by : (o : Option (List ℕ)) → value_at edge (codes "rspfile") ≡ o → response_path o ≡ []
-      by None e = refl
+      by : (o : Option (List ℕ)) → value_at edge (codes "rspfile") ≡ o → (response_path o ≡ []) × (response_made o ≡ 0)
+      by None e = (refl, refl)
       by (Some v) e = absurd (none v (at_derived edge (codes "rspfile") v e))
 
   -- what is given for each variable is its value
   module _ (values : EdgeVariables) (right : (variable : RuleVariable) → IsTrue (is_needed variable) → HasValue edge (name_of variable) (given_for variable values))
-      (small : (variable : RuleVariable) → length (given_for variable values) ≤ 1048576) (response : IsResponseFile edge values.rspfile.items) where
+      (small : (variable : RuleVariable) → length (given_for variable values) ≤ 1048576) (response : IsResponseFile edge (response_given values)) where
     given_at : (variable : RuleVariable) → IsTrue (is_needed variable) → value_at edge (name_of variable) ≡ Some (given_for variable values)
     given_at variable h = derived edge (name_of variable) (given_for variable values) (right variable h)
 
@@ -354,7 +359,12 @@ module _ (edge : EdgeEnvValue) where
           deps = or_empty (given_at Deps refl i);
           generator = or_empty (given_at Generator refl i);
           restat = or_empty (given_at Restat refl i);
-          rspfile = response_is values.rspfile.items response i;
+          rspfile = (response_is (response_given values) response).0 i;
           rspfile_content = or_empty (given_at RspfileContent refl i);
           pool = or_empty (given_at Pool refl i);
+          made =
+              sum
+              (length (or_empty (given_at Command refl i)) ∷ length (or_empty (given_at Depfile refl i)) ∷ length (or_empty (given_at Deps refl i))
+              ∷ length (or_empty (given_at Generator refl i)) ∷ length (or_empty (given_at Restat refl i)) ∷ length (or_empty (given_at RspfileContent refl i))
+              ∷ length (or_empty (given_at Pool refl i)) ∷ (response_is (response_given values) response).1 i ∷ []);
         })

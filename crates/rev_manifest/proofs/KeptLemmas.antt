@@ -17,8 +17,9 @@ use Rattle.rev_manifest.specs.Declarations.{DeclaredEdgeValue}
 use Rattle.rev_manifest.specs.Answers.{and_then}
 use Rattle.rev_manifest.specs.Builds.{BuildValue, outputs_of, inputs_of, AreOutputs, IsBuild}
 use Rattle.rev_manifest.specs.Ends.{EndValues}
+use Rattle.rev_manifest.specs.Made.{left_of, with_left}
 use Rattle.rev_manifest.specs.Held.{seen_edge}
-use Rattle.rev_manifest.specs.Manifest.{phony_build, command_build, pool_found, pool_number, variables_of, built, built_with, builds_of}
+use Rattle.rev_manifest.specs.Manifest.{EndedEdge, phony_build, command_build, pool_found, pool_number, variables_of, built, built_with, builds_of}
 use Rattle.rev_manifest.specs.Names.{is_empty, has_path, without, name_of, names_of}
 use Rattle.rev_paths.specs.Mentions.{first_mentions}
 use Rattle.rev_manifest.specs.Pools.{PoolValue, pool_of}
@@ -197,23 +198,28 @@ module _ (scopes : List ScopeValue) (pools : List PoolValue) where
   built-command edge values pool within =
       record { outputs = outputs-kept edge; pool = within; phony = λ is. absurd (no-or3 (sym is)) }
 
-  built-by : (edge : DeclaredEdge) (rule : Option RuleValue) (build : BuildValue) → built_with scopes pools (seen_edge edge) rule ≡ Ok build → IsBuild (length pools) build
-  built-by edge None build e =
-      let same : phony_build (seen_edge edge) ≡ build = cc in subst (λ (b : BuildValue). IsBuild (length pools) b) same (built-phony edge)
-  built-by edge (Some rule) build e =
+  built-by : (edge : DeclaredEdge) (rule : Option RuleValue) (room : ℕ) (ended : EndedEdge) → built_with scopes pools room (seen_edge edge) rule ≡ Ok ended → IsBuild (length pools) ended.build
+  built-by edge None room ended e =
+      let made : EndedEdge = record { build = phony_build (seen_edge edge); left = room } in
+      let same : made ≡ ended = cc in subst (λ (x : EndedEdge). IsBuild (length pools) x.build) same (built-phony edge)
+  built-by edge (Some rule) room ended e =
       by (variables_of scopes (seen_edge edge) rule) e
     where
-      with : (values : EndValues) (number : Result (Option ℕ) ManifestFault) → pool_number edge.place pools values.pool ≡ number
-          → and_then number (λ pool. Ok (command_build (seen_edge edge) values pool)) ≡ Ok build → IsBuild (length pools) build
-      with values (Ok pool) is e =
-          let same : command_build (seen_edge edge) values pool ≡ build = cc in
-          subst (λ (b : BuildValue). IsBuild (length pools) b) same (built-command edge values pool (pool-within edge.place pools values.pool pool is))
-      with values (Err fault) is e = cc
+      with : (values : EndValues) (left : Option ℕ) (number : Result (Option ℕ) ManifestFault) → pool_number edge.place pools values.pool ≡ number
+          → with_left edge.place left (λ n. and_then number (λ pool. Ok (record { build = command_build (seen_edge edge) values pool; left = n }))) ≡ Ok ended
+          → IsBuild (length pools) ended.build
+      with values (Some left) (Ok pool) is e =
+          let made : EndedEdge = record { build = command_build (seen_edge edge) values pool; left = left } in
+          let same : made ≡ ended = cc in
+          subst (λ (x : EndedEdge). IsBuild (length pools) x.build) same (built-command edge values pool (pool-within edge.place pools values.pool pool is))
+      with values (Some left) (Err fault) is e = cc
+      with values None number is e = cc
 
       by : (r : Result EndValues ManifestFault)
-          → and_then r (λ values. and_then (pool_number edge.place pools values.pool) (λ pool. Ok (command_build (seen_edge edge) values pool))) ≡ Ok build
-          → IsBuild (length pools) build
-      by (Ok values) e = with values (pool_number edge.place pools values.pool) refl e
+          → and_then r (λ values. with_left edge.place (left_of room values.made) (λ n.
+          and_then (pool_number edge.place pools values.pool) (λ pool. Ok (record { build = command_build (seen_edge edge) values pool; left = n })))) ≡ Ok ended
+          → IsBuild (length pools) ended.build
+      by (Ok values) e = with values (left_of room values.made) (pool_number edge.place pools values.pool) refl e
       by (Err fault) e = cc
 
   each-more : (P : BuildValue → Type 0) (b : BuildValue) (bs : List BuildValue) → P b → All P bs → All P (b ∷ bs)
@@ -221,18 +227,24 @@ module _ (scopes : List ScopeValue) (pools : List PoolValue) where
   each-more P b bs h k (suc i) d within = k i d (omega arith)
 
   -- each edge that is built keeps what a manifest says of it
-  pub builds-kept : (edges : List DeclaredEdge) (builds : List BuildValue) → builds_of scopes pools (map seen_edge edges) ≡ Ok builds → All (IsBuild (length pools)) builds
-  builds-kept [] builds e =
+  pub builds-kept : (room : ℕ) (edges : List DeclaredEdge) (builds : List BuildValue) → builds_of scopes pools room (map seen_edge edges) ≡ Ok builds → All (IsBuild (length pools)) builds
+  builds-kept room [] builds e =
       let same : [] ≡ builds = cc in subst (λ (bs : List BuildValue). All (IsBuild (length pools)) bs) same (λ i d within. absurd (omega arith))
-  builds-kept (edge ∷ edges) builds e =
-      by (built scopes pools (seen_edge edge)) refl (builds_of scopes pools (map seen_edge edges)) (λ bs h. builds-kept edges bs h) e
+  builds-kept room (edge ∷ edges) builds e =
+      by (built scopes pools room (seen_edge edge)) refl (λ left bs h. builds-kept left edges bs h) e
     where
-      by : (first : Result BuildValue ManifestFault) → built scopes pools (seen_edge edge) ≡ first → (others : Result (List BuildValue) ManifestFault)
+      and : (ended : EndedEdge) → built scopes pools room (seen_edge edge) ≡ Ok ended → (others : Result (List BuildValue) ManifestFault)
           → ((bs : List BuildValue) → others ≡ Ok bs → All (IsBuild (length pools)) bs)
-          → and_then first (λ b. and_then others (λ bs. Ok (b ∷ bs))) ≡ Ok builds → All (IsBuild (length pools)) builds
-      by (Ok b) is (Ok bs) rest e =
-          let same : b ∷ bs ≡ builds = cc in
+          → and_then others (λ bs. Ok (ended.build ∷ bs)) ≡ Ok builds → All (IsBuild (length pools)) builds
+      and ended is (Ok bs) rest e =
+          let same : ended.build ∷ bs ≡ builds = cc in
           subst (λ (xs : List BuildValue). All (IsBuild (length pools)) xs) same
-          (each-more (IsBuild (length pools)) b bs (built-by edge (edge.rule) b is) (rest bs refl))
-      by (Ok b) is (Err fault) rest e = cc
-      by (Err fault) is others rest e = cc
+          (each-more (IsBuild (length pools)) ended.build bs (built-by edge edge.rule room ended is) (rest bs refl))
+      and ended is (Err fault) rest e = cc
+
+      by : (first : Result EndedEdge ManifestFault) → built scopes pools room (seen_edge edge) ≡ first
+          → ((left : ℕ) (bs : List BuildValue) → builds_of scopes pools left (map seen_edge edges) ≡ Ok bs → All (IsBuild (length pools)) bs)
+          → and_then first (λ ended. and_then (builds_of scopes pools ended.left (map seen_edge edges)) (λ bs. Ok (ended.build ∷ bs))) ≡ Ok builds
+          → All (IsBuild (length pools)) builds
+      by (Ok ended) is later e = and ended is (builds_of scopes pools ended.left (map seen_edge edges)) (λ bs h. later ended.left bs h) e
+      by (Err fault) is later e = cc

@@ -5,6 +5,7 @@ pub mod EdgeLemmas
 pub mod EndLemmas
 pub mod FileLemmas
 pub mod KeptLemmas
+pub mod MadeLemmas
 pub mod NameLemmas
 pub mod ParallelLemmas
 pub mod PoolLemmas

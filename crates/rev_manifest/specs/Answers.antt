@@ -1,5 +1,5 @@
 -- Answers, of which each is a value or the first fault.
-use Rattle.std.specs.Prelude.{◌≡◌, ℕ, Option, Some, None, Result, Ok, Err}
+use Rattle.std.specs.Prelude.{◌≡◌, ℕ, List, ◌++◌, Option, Some, None, Result, Ok, Err}
 pub use Rattle.rev_syntax.specs.Faults.{and_then}
 use Rattle.rev_syntax.specs.declared.fault.SyntaxKind.{SyntaxKind}
 use Rattle.rev_syntax.specs.declared.fault.SyntaxKind.TheVariants as syntax
@@ -43,3 +43,8 @@ in_file file (Err fault) = refused (record { file = file; line = fault.line }) (
 abbrev pub IsFault : {A : Type 0} → ReadFault → Result A ManifestFault → Type 0
 IsFault Memory meant = Unit {0}
 IsFault (Manifest fault) meant = meant ≡ Err fault
+
+-- elements before those of an answer
+abbrev pub onto_list : {A : Type 0} → List A → Result (List A) ManifestFault → Result (List A) ManifestFault
+onto_list first (Ok others) = Ok (first ++ others)
+onto_list first (Err fault) = Err fault

@@ -3,6 +3,7 @@ use Rattle.std.specs.Prelude.{ℕ, ◌-◌, List, [], ◌∷◌, ◌++◌, Optio
 use Rattle.rev_scopes.specs.Scopes.{ScopeValue, RuleValue, empty_scope}
 use Rattle.rev_manifest.specs.Pools.{PoolValue, console}
 use Rattle.rev_manifest.specs.declared.fault.Place.{Place}
+use Rattle.rev_manifest.specs.declared.declarations.TheConstants.{MAX_MADE_BYTES}
 
 -- the canonical paths of a build line
 pub record PathsValue : Type 0 where
@@ -24,18 +25,19 @@ pub record DeclaredEdgeValue : Type 0 where
   pub paths : PathsValue
   pub place : Place
 
--- scopes and pools, edges in reading order, what `default` statements name, if there was one, and how many bytes may
--- still be read
+-- scopes and pools, edges in reading order, what `default` statements name, if there was one, how many bytes may still be
+-- read, and how many bytes of values may still be made
 pub record DeclarationsValue : Type 0 where
   pub scopes : List ScopeValue
   pub pools : List PoolValue
   pub edges : List DeclaredEdgeValue
   pub defaults : Option (List (List ℕ))
   pub room : ℕ
+  pub value_room : ℕ
 
--- before the first statement there are the manifest's scope and the pool `console`
+-- before the first statement there are the manifest's scope and the pool `console`, and no value was made
 abbrev pub nothing : ℕ → DeclarationsValue
-nothing room = record { scopes = empty_scope None ∷ []; pools = console ∷ []; edges = []; defaults = None; room = room }
+nothing room = record { scopes = empty_scope None ∷ []; pools = console ∷ []; edges = []; defaults = None; room = room; value_room = MAX_MADE_BYTES }
 
 -- so many bytes were read
 abbrev pub after_bytes : ℕ → DeclarationsValue → DeclarationsValue

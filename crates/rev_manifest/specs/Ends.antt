@@ -1,10 +1,11 @@
 -- Expansion at the end: what a name stands for at an edge, once all files are read.
-use Rattle.std.specs.Prelude.{ℕ, zero, suc, ◌+◌, List, [], ◌∷◌, ◌++◌, length, Option, Some, None, option_map, is_some, not, codes, if◌then◌else◌}
+use Rattle.std.specs.Prelude.{ℕ, zero, suc, ◌+◌, List, [], ◌∷◌, ◌++◌, length, sum_by, Option, Some, None, option_map, is_some, not, codes, if◌then◌else◌}
 use Rattle.std.specs.List.{list_any}
 use Rattle.rev_syntax.specs.Texts.{PieceValue, Byte, Variable}
 use Rattle.rev_scopes.specs.Edges.{EdgeEnvValue, Source, Known, Needs, source}
 use Rattle.rev_scopes.specs.Expansion.{is_too_large}
 use Rattle.rev_scopes.specs.Scopes.{ScopeValue, RuleValue}
+use Rattle.rev_scopes.specs.declared.growth.TheConstants.{MAX_VALUE_BYTES}
 use Rattle.rev_manifest.specs.declared.fault.FaultKind.{FaultKind}
 use Rattle.rev_manifest.specs.declared.fault.FaultKind.TheVariants.{VariableCycle, TooLarge}
 use Rattle.rev_manifest.specs.Declarations as declarations
@@ -34,7 +35,7 @@ value_within (suc n) edge name = value_by (value_within n edge) (source edge nam
 abbrev pub value_at : EdgeEnvValue → List ℕ → Option (List ℕ)
 value_at edge name = value_within (length edge.rule + 2) edge name
 
--- the values of the variables that are expanded for an edge
+-- the values of the variables that are expanded for an edge, and how many bytes were made of them
 pub record EndValues : Type 0 where
   pub command : List ℕ
   pub depfile : List ℕ
@@ -44,6 +45,7 @@ pub record EndValues : Type 0 where
   pub rspfile : List ℕ
   pub rspfile_content : List ℕ
   pub pool : List ℕ
+  pub made : ℕ
 
 -- the variables that an edge needs: it is refused where one of them has no value, or one that is too large
 abbrev pub needed : List (List ℕ)
@@ -60,6 +62,16 @@ or_empty (Some value) = value
 abbrev pub response_path : Option (List ℕ) → List ℕ
 response_path None = []
 response_path (Some value) = if is_too_large value then [] else value
+
+-- the bytes that are made of that path: of one that is too large no more than a value may have
+abbrev pub response_made : Option (List ℕ) → ℕ
+response_made None = 0
+response_made (Some value) = if is_too_large value then MAX_VALUE_BYTES else length value
+
+-- the bytes that are made of the values that an edge needs, and of the path of its response file
+abbrev pub made_at_end : EdgeEnvValue → ℕ
+made_at_end edge =
+    sum_by (λ name. length (or_empty (value_at edge name))) needed + response_made (value_at edge (codes "rspfile"))
 
 -- an edge, with its rule, among all scopes
 abbrev pub at_end : List ScopeValue → declarations.DeclaredEdgeValue → RuleValue → EdgeEnvValue
@@ -82,4 +94,5 @@ values_at_end edge =
       rspfile = response_path (value_at edge (codes "rspfile"));
       rspfile_content = or_empty (value_at edge (codes "rspfile_content"));
       pool = or_empty (value_at edge (codes "pool"));
+      made = made_at_end edge;
     }

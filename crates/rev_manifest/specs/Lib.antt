@@ -4,6 +4,7 @@ pub mod Blocks
 pub mod Builds
 pub mod Held
 pub mod Laws
+pub mod Made
 pub mod Depths
 pub mod Ends
 pub mod Fault

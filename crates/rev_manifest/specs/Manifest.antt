@@ -1,17 +1,18 @@
 -- What files say as a manifest: its value, or its first fault.
-use Rattle.std.specs.Prelude.{ℕ, ◌+◌, true, false, not, ◌||◌, List, [], ◌∷◌, ◌++◌, length, Option, Some, None, Result, Ok, Err, if◌then◌else◌}
+use Rattle.std.specs.Prelude.{◌≡◌, ℕ, ◌+◌, ◌-◌, ◌≤◌, true, false, not, ◌||◌, List, [], ◌∷◌, ◌++◌, length, Option, Some, None, Result, Ok, Err, if◌then◌else◌}
 use Rattle.std.specs.List.{flat_map}
 use Rattle.rev_scopes.specs.Edges.{compared}
 use Rattle.rev_scopes.specs.Scopes.{ScopeValue, RuleValue}
 use Rattle.rev_manifest.specs.declared.fault.FaultKind.TheVariants.{NoFile, TooLarge, UnknownPool}
 use Rattle.rev_manifest.specs.declared.fault.ManifestFault.{ManifestFault}
 use Rattle.rev_manifest.specs.declared.fault.Place.{Place}
-use Rattle.rev_manifest.specs.Answers.{and_then, refused, unless}
+use Rattle.rev_manifest.specs.Answers.{and_then, refused, unless, onto_list}
 use Rattle.rev_manifest.specs.Names.{is_empty, without}
 use Rattle.rev_manifest.specs.Files.{FileValue, bytes_left, content_at}
 use Rattle.rev_manifest.specs.Pools.{PoolValue, pool_of}
 use Rattle.rev_manifest.specs.Declarations.{DeclaredEdgeValue, DeclarationsValue, nothing}
 use Rattle.rev_manifest.specs.Ends.{EndValues, at_end, fault_at_end, values_at_end}
+use Rattle.rev_manifest.specs.Made.{left_of, with_left}
 use Rattle.rev_manifest.specs.Reading.{reading}
 pub use Rattle.rev_manifest.specs.Builds.{BuildValue, ManifestValue, outputs_of, inputs_of}
 use Rattle.rev_manifest.specs.declared.manifest.TheConstants.{MOST_DEEP}
@@ -75,24 +76,39 @@ abbrev pub variables_of : List ScopeValue → DeclaredEdgeValue → RuleValue �
 variables_of scopes edge rule =
     unless edge.place (fault_at_end (at_end scopes edge rule)) (values_at_end (at_end scopes edge rule))
 
--- an edge when all files are read, or its first fault
-abbrev pub built_with : List ScopeValue → List PoolValue → DeclaredEdgeValue → Option RuleValue
-    → Result BuildValue ManifestFault
-built_with scopes pools edge None = Ok (phony_build edge)
-built_with scopes pools edge (Some rule) =
+-- an edge when all files are read, and how many bytes of values may be made after it
+pub record EndedEdge : Type 0 where
+  pub build : BuildValue
+  pub left : ℕ
+
+-- an edge where so many bytes of values may be made, or its first fault
+abbrev pub built_with : List ScopeValue → List PoolValue → ℕ → DeclaredEdgeValue → Option RuleValue
+    → Result EndedEdge ManifestFault
+built_with scopes pools room edge None = Ok (record { build = phony_build edge; left = room })
+built_with scopes pools room edge (Some rule) =
     and_then (variables_of scopes edge rule)
-    (λ values. and_then (pool_number edge.place pools values.pool) (λ pool. Ok (command_build edge values pool)))
+    (λ values. with_left edge.place (left_of room values.made) (λ left. and_then (pool_number edge.place pools values.pool)
+    (λ pool. Ok (record { build = command_build edge values pool; left = left }))))
 
-abbrev pub built : List ScopeValue → List PoolValue → DeclaredEdgeValue → Result BuildValue ManifestFault
-built scopes pools edge = built_with scopes pools edge edge.rule
+abbrev pub built : List ScopeValue → List PoolValue → ℕ → DeclaredEdgeValue → Result EndedEdge ManifestFault
+built scopes pools room edge = built_with scopes pools room edge edge.rule
 
--- the edges in reading order, or the fault of the first that has one
-abbrev pub builds_of : List ScopeValue → List PoolValue → List DeclaredEdgeValue
+-- the edges in reading order, where so many bytes of values may be made, or the fault of the first that has one
+abbrev pub builds_of : List ScopeValue → List PoolValue → ℕ → List DeclaredEdgeValue
     → Result (List BuildValue) ManifestFault
-builds_of scopes pools [] = Ok []
-builds_of scopes pools (edge ∷ edges) =
-    and_then (built scopes pools edge)
-    (λ build. and_then (builds_of scopes pools edges) (λ builds. Ok (build ∷ builds)))
+builds_of scopes pools room [] = Ok []
+builds_of scopes pools room (edge ∷ edges) =
+    and_then (built scopes pools room edge)
+    (λ ended. and_then (builds_of scopes pools ended.left edges) (λ builds. Ok (ended.build ∷ builds)))
+
+-- What is known of edges that were ended where so many bytes of values might be made, and of which so many are left: each
+-- further edge goes on with what is left, whatever room there was above what they made.
+pub record AreEnded (scopes : List ScopeValue) (pools : List PoolValue) (room left : ℕ) (edges : List DeclaredEdgeValue)
+    (builds : List BuildValue) : Type 0 where
+  pub within : left ≤ room
+  pub ended : (more : ℕ) (others : List DeclaredEdgeValue)
+      → builds_of scopes pools (room - left + more) (edges ++ others)
+      ≡ onto_list builds (builds_of scopes pools more others)
 
 -- what is built where nothing is named: what `default` statements name, else the outputs that are nowhere an input
 abbrev pub defaults_of : Option (List (List ℕ)) → List BuildValue → List (List ℕ)
@@ -102,7 +118,7 @@ defaults_of None builds = without (flat_map inputs_of builds) (flat_map outputs_
 -- the manifest when all files are read
 abbrev pub ended : DeclarationsValue → Result ManifestValue ManifestFault
 ended above =
-    and_then (builds_of above.scopes above.pools above.edges)
+    and_then (builds_of above.scopes above.pools above.value_room above.edges)
     (λ builds. Ok (record { builds = builds; pools = above.pools; defaults = defaults_of above.defaults builds }))
 
 -- a place that is no line

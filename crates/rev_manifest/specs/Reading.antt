@@ -13,13 +13,17 @@ use Rattle.rev_manifest.specs.Answers.{fault_at, and_then, refused, unless_then,
 use Rattle.rev_manifest.specs.Files.{FileValue, content_at}
 use Rattle.rev_manifest.specs.Declarations.{DeclarationsValue, after_bytes}
 use Rattle.rev_manifest.specs.declared.inclusion.Inclusion.{Inclusion}
-use Rattle.rev_manifest.specs.Statements.{Step, with_form}
+use Rattle.rev_manifest.specs.declared.fault.Place.{Place}
+use Rattle.rev_manifest.specs.Made.{made_by, left_of, with_left}
+use Rattle.rev_manifest.specs.Statements.{Step, look_up, with_form}
 
--- a statement of a file, in a scope
+-- A statement of a file, in a scope. Before all else the bytes of the values that it binds are counted.
 abbrev pub with_statement : List FileValue → ℕ → ℕ → DeclarationsValue → syntax.StatementValue
     → Result Step ManifestFault
 with_statement files file scope above statement =
-    with_form files (record { file = file; line = statement.line }) scope statement.form above
+    let place : Place = record { file = file; line = statement.line } in
+    with_left place (left_of above.value_room (made_by (look_up above scope) statement.form))
+    (λ left. with_form files place scope statement.form (record above { value_room = left }))
 
 -- how a file is read: what it declares after what stands above
 abbrev pub Reader : Type 0

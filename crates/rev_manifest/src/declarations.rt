@@ -10,6 +10,9 @@ use rev_paths::{Name, Paths};
 use rev_scopes::{Bindings, Rule, Scopes};
 use std::alloc::{AllocError, Global};
 
+/// The most bytes of values that all files may make. A value that shares the bytes of another makes none.
+const MAX_MADE_BYTES: usize = 17_179_869_184;
+
 /// An edge before all files are read.
 #[derive(Drop)]
 pub(crate) struct DeclaredEdge {
@@ -40,6 +43,8 @@ pub(crate) struct Declarations {
     pub(crate) paths: Paths,
     /// The bytes that may still be read.
     pub(crate) room: usize,
+    /// The bytes of values that may still be made.
+    pub(crate) value_room: usize,
 }
 
 /// What stands above the first statement: the manifest's scope and the pool `console`. So many bytes may be read.
@@ -55,5 +60,6 @@ pub(crate) fn nothing(alloc: Global, room: usize) -> Result<Declarations, AllocE
         defaults: None,
         paths: Paths::new(alloc),
         room,
+        value_room: MAX_MADE_BYTES,
     })
 }

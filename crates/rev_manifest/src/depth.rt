@@ -32,8 +32,8 @@ fn depth_from(number: u32, digits: &[u8]) -> Option<u32>
     Some(so_far)
 }
 
-// The bytes that a piece stands for.
-fn bytes_of<'a>(piece: Piece<'a>, scopes: &'a Scopes, scope: usize) -> &'a [u8]
+/// The bytes that a piece stands for.
+pub(crate) fn bytes_of<'a>(piece: Piece<'a>, scopes: &'a Scopes, scope: usize) -> &'a [u8]
     requires { scope < length scopes.now }
     ensures { result.now ≡ expanded (variable_in scopes.now scope) (seen_piece piece.entry) }
 {

@@ -1,16 +1,19 @@
 //! Expansion at the end: edge by edge, when all files are read.
-ghost use Rattle.std.specs.Prelude.{◌≡◌, ◌++◌, ◌||◌, not, filter, map, List, ℕ, Ok, IfOk, OnOk, MatchResult, length, option_map};
+ghost use Rattle.std.specs.Prelude.{◌≡◌, ◌++◌, ◌||◌, not, filter, map, List, ℕ, Ok, IfOk, IfSome, OnOk, MatchResult, length, option_map};
 ghost use Rattle.std.specs.List.{flat_map, All};
 ghost use Rattle.rev_manifest.specs.Answers.{IsFault};
 ghost use Rattle.rev_manifest.specs.Names.{has_path};
-ghost use Rattle.rev_manifest.specs.Manifest.{phony_build, command_build, pool_number, variables_of, built, builds_of, inputs_of, outputs_of, defaults_of, ended};
-ghost use Rattle.rev_manifest.specs.Held.{seen_edge, seen_values, seen_declarations};
+ghost use Rattle.rev_manifest.specs.Ends.{or_empty};
+ghost use Rattle.rev_manifest.specs.Made.{left_of};
+ghost use Rattle.rev_manifest.specs.Manifest.{phony_build, command_build, pool_number, variables_of, built, builds_of, AreEnded, inputs_of, outputs_of, defaults_of, ended};
+ghost use Rattle.rev_manifest.specs.Held.{seen_edge, path_made, seen_values, values_made, seen_declarations};
 ghost use Rattle.rev_manifest.specs.Builds.{IsBuild, IsManifest};
 
 use crate::builds::Build;
 use crate::bytes::is_empty;
 use crate::declarations::{Declarations, DeclaredEdge};
 use crate::fault::{FaultKind, Place, ReadFault};
+use crate::made::left_of_all;
 use crate::manifest::{Manifest, Parts};
 use crate::names::{add_names, push_others};
 use crate::parallel::builds_by_threads;
@@ -19,7 +22,8 @@ use crate::shared_text::shared;
 use indexmap::IndexSet;
 use rev_paths::Name;
 use rev_scopes::{
-    EdgeVariables, Rule, Scopes, SharedText, ValueFault, compared_command, edge_variables,
+    EdgeVariables, MAX_VALUE_BYTES, Rule, Scopes, SharedText, ValueFault, compared_command,
+    edge_variables,
 };
 use std::alloc::{AllocError, Global};
 use std::thread::Threads;
@@ -126,6 +130,7 @@ fn variables_of(
 
 // An edge with the values of its rule's variables.
 fn command_build(
+    alloc: Global,
     texts: &mut IndexSet<SharedText>,
     edge: DeclaredEdge,
     values: EdgeVariables,
@@ -151,7 +156,7 @@ fn command_build(
         validations: paths.validations,
         command,
         depfile: values.depfile,
-        rspfile: values.rspfile,
+        rspfile: path_or_empty(alloc, values.rspfile),
         keeps_deps,
         restat,
         generator,
@@ -161,47 +166,107 @@ fn command_build(
     })
 }
 
-// An edge when all files are read.
+// The bytes that are made of the path of a response file, of which there is none where it is too large.
+fn path_made(path: &Option<Vec<u8>>) -> usize
+    ensures { result ≡ path_made (option_map (λ bytes. bytes.items) path.now) }
+{
+    match path {
+        Some(bytes) => bytes.len(),
+        None => MAX_VALUE_BYTES,
+    }
+}
+
+// A path that may be none, which is empty then.
+fn path_or_empty(alloc: Global, path: Option<Vec<u8>>) -> Vec<u8>
+    ensures { result.items ≡ or_empty (option_map (λ bytes. bytes.items) path) }
+{
+    match path {
+        Some(bytes) => bytes,
+        None => Vec::new(alloc),
+    }
+}
+
+// What is left of a room when the values of an edge are made.
+fn left_of_values(values: &EdgeVariables, room: usize) -> Option<usize>
+    ensures { result ≡ left_of room (values_made values.now) }
+{
+    let lengths = [
+        values.command.len(),
+        values.depfile.len(),
+        values.deps.len(),
+        values.generator.len(),
+        values.restat.len(),
+        values.rspfile_content.len(),
+        values.pool.len(),
+        path_made(&values.rspfile),
+    ];
+    left_of_all(&lengths, room)
+}
+
+/// An edge, and how many bytes of values may be made after it.
+#[derive(Drop)]
+struct EndedEdge {
+    build: Build,
+    left: usize,
+}
+
+// An edge when all files are read, where so many bytes of values may be made.
 fn built(
     alloc: Global,
     texts: &mut IndexSet<SharedText>,
     scopes: &Scopes,
     pools: &Pools,
+    room: usize,
     edge: DeclaredEdge,
-) -> Result<Build, ReadFault>
+) -> Result<EndedEdge, ReadFault>
     ensures { MatchResult result
-        (λ build. built scopes.now pools.now (seen_edge edge) ≡ Ok build)
-        (λ fault. IsFault fault (built scopes.now pools.now (seen_edge edge))) }
+        (λ ended. built scopes.now pools.now room (seen_edge edge) ≡ Ok (record { build = ended.build; left = ended.left }))
+        (λ fault. IsFault fault (built scopes.now pools.now room (seen_edge edge))) }
 {
     let Some(rule) = &edge.rule else {
         let build = phony_build(alloc, texts, edge)?;
-        return Ok(build);
+        return Ok(EndedEdge { build, left: room });
     };
     let values = variables_of(alloc, scopes, &edge, rule)?;
+    let Some(left) = left_of_values(&values, room) else {
+        return Err(edge.place.fault(FaultKind::TooLarge));
+    };
     let pool = pool_number(edge.place, pools, &values.pool)?;
-    let build = command_build(texts, edge, values, pool)?;
-    Ok(build)
+    let build = command_build(alloc, texts, edge, values, pool)?;
+    Ok(EndedEdge { build, left })
 }
 
-/// The edges in reading order.
+/// Edges in reading order, and how many bytes of values may be made after them.
+#[derive(Drop)]
+pub(crate) struct EndedEdges {
+    pub(crate) builds: Vec<Build>,
+    pub(crate) left: usize,
+}
+
+/// The edges in reading order, where so many bytes of values may be made.
 pub(crate) fn builds_of(
     alloc: Global,
     scopes: &Scopes,
     pools: &Pools,
+    room: usize,
     edges: Vec<DeclaredEdge>,
-) -> Result<Vec<Build>, ReadFault>
-    ensures { MatchResult result
-        (λ builds. builds_of scopes.now pools.now (map seen_edge edges.items) ≡ Ok builds.items)
-        (λ fault. IsFault fault (builds_of scopes.now pools.now (map seen_edge edges.items))) }
+) -> Result<EndedEdges, ReadFault>
+    ensures meant { MatchResult result
+        (λ ended. builds_of scopes.now pools.now room (map seen_edge edges.items) ≡ Ok ended.builds.items)
+        (λ fault. IsFault fault (builds_of scopes.now pools.now room (map seen_edge edges.items))) }
+    ensures ended { IfOk result (λ ended.
+        AreEnded scopes.now pools.now room ended.left (map seen_edge edges.items) ended.builds.items) }
 {
     let mut texts = IndexSet::new(alloc);
     let mut builds = Vec::with_capacity(alloc, edges.len())?;
+    let mut left = room;
     let mut rest = edges.into_iter();
     while let Some(edge) = rest.next() {
-        let build = built(alloc, &mut texts, scopes, pools, edge)?;
-        builds.push(build)?;
+        let ended = built(alloc, &mut texts, scopes, pools, left, edge)?;
+        builds.push(ended.build)?;
+        left = ended.left;
     }
-    Ok(builds)
+    Ok(EndedEdges { builds, left })
 }
 
 // Adds the inputs of an edge to a set.
@@ -311,21 +376,21 @@ pub(crate) fn ended(alloc: Global, above: Declarations) -> Result<Manifest, Read
         defaults,
         paths: _,
         room: _,
+        value_room,
     } = above;
-    let builds = builds_of(alloc, &scopes, &pools, edges)?;
-    Ok(manifest_of_builds(alloc, builds, pools, defaults)?)
+    let ended = builds_of(alloc, &scopes, &pools, value_room, edges)?;
+    Ok(manifest_of_builds(alloc, ended.builds, pools, defaults)?)
 }
 
-/// The manifest when all files are read, whose edges are ended on several threads.
+/// The manifest when all files are read, whose edges are ended on several threads. None is given where an edge may have a
+/// fault: which one is first is found out by one thread.
 pub(crate) fn ended_by_threads<R: Threads + Sync>(
     rt: &R,
     alloc: Global,
     above: Declarations,
-) -> Result<Manifest, ReadFault>
-    ensures meant { MatchResult result
-        (λ manifest. ended (seen_declarations above) ≡ Ok manifest)
-        (λ fault. IsFault fault (ended (seen_declarations above))) }
-    ensures kept { IfOk result IsManifest }
+) -> Result<Option<Manifest>, AllocError>
+    ensures meant { IfOk result (λ found. IfSome found (λ manifest. ended (seen_declarations above) ≡ Ok manifest)) }
+    ensures kept { IfOk result (λ found. IfSome found IsManifest) }
 {
     let Declarations {
         scopes,
@@ -334,7 +399,13 @@ pub(crate) fn ended_by_threads<R: Threads + Sync>(
         defaults,
         paths: _,
         room: _,
+        value_room,
     } = above;
-    let builds = builds_by_threads(rt, alloc, &scopes, &pools, edges)?;
-    Ok(manifest_of_builds(alloc, builds, pools, defaults)?)
+    match builds_by_threads(rt, alloc, &scopes, &pools, value_room, edges)? {
+        None => Ok(None),
+        Some(ended) => {
+            let manifest = manifest_of_builds(alloc, ended.builds, pools, defaults)?;
+            Ok(Some(manifest))
+        }
+    }
 }

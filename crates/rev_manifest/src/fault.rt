@@ -40,7 +40,7 @@ pub enum FaultKind {
     IncludeDepth,
     /// 22: something is bound to the name `dyndep`.
     Unsupported,
-    /// 23: the files, or an expanded value, are too large.
+    /// 23: the files, an expanded value, or all values together are too large.
     TooLarge,
     /// 24: a pool is declared twice, or is named `console`.
     DoublePool,

@@ -12,6 +12,7 @@ mod fault;
 mod files;
 mod inclusion;
 pub mod laws;
+mod made;
 mod manifest;
 mod names;
 mod parallel;

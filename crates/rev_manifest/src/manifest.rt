@@ -183,7 +183,8 @@ pub fn read(alloc: Global, files: &[(Vec<u8>, Vec<u8>)]) -> Result<Manifest, Rea
     Ok(manifest)
 }
 
-// Reads files of which there is one, and which are not too large. Their edges are ended on several threads.
+// Reads files of which there is one, and which are not too large. Their edges are ended on several threads, and once more
+// on one where an edge may have a fault.
 fn read_all_by_threads<R: Threads + Sync>(
     rt: &R,
     alloc: Global,
@@ -197,7 +198,10 @@ fn read_all_by_threads<R: Threads + Sync>(
     ensures kept { IfOk result IsManifest }
 {
     let above = declared_by(alloc, files, left)?;
-    let manifest = ended_by_threads(rt, alloc, above)?;
+    if let Some(manifest) = ended_by_threads(rt, alloc, above)? {
+        return Ok(manifest);
+    }
+    let manifest = read_all(alloc, files, left)?;
     Ok(manifest)
 }
 

@@ -1,56 +1,89 @@
 //! Edges ended on several threads, each of which takes a part of the list.
-ghost use Rattle.std.specs.Prelude.{◌≡◌, ◌++◌, map, Ok, Result, List, MatchResult};
+ghost use Rattle.std.specs.Prelude.{◌++◌, map, IfOk, IfSome, List};
 ghost use Rattle.std.specs.Thread.{IsSync};
-ghost use Rattle.rev_manifest.specs.Answers.{IsFault, and_then};
-ghost use Rattle.rev_manifest.specs.Manifest.{BuildValue, builds_of};
-ghost use Rattle.rev_manifest.specs.declared.fault.ManifestFault.{ManifestFault};
+ghost use Rattle.rev_scopes.specs.Scopes.{ScopeValue};
+ghost use Rattle.rev_manifest.specs.Pools.{PoolValue};
+ghost use Rattle.rev_manifest.specs.Declarations.{DeclaredEdgeValue};
+ghost use Rattle.rev_manifest.specs.Manifest.{AreEnded};
 ghost use Rattle.rev_manifest.specs.Held.{seen_edge};
 
-use crate::builds::Build;
 use crate::declarations::DeclaredEdge;
-use crate::ends::builds_of;
+use crate::ends::{EndedEdges, builds_of};
 use crate::fault::ReadFault;
 use crate::pools::Pools;
 use rev_scopes::Scopes;
-use std::alloc::Global;
+use std::alloc::{AllocError, Global};
 use std::thread::{Threads, join};
 
 /// The fewest edges that a thread is started for.
 const FEWEST_EDGES: usize = 512;
 
-// The edges of two parts, or the fault of the first part that has one.
+// The edges of two parts, of which each was ended where so many bytes of values might be made. None are given where one
+// part may have a fault, or the two make more together.
 fn joined(
-    earlier: Result<Vec<Build>, ReadFault>,
-    later: Result<Vec<Build>, ReadFault>,
-) -> Result<Vec<Build>, ReadFault>
-    ensures { (first second : Result (List BuildValue) ManifestFault)
-        → MatchResult earlier (λ builds. first ≡ Ok builds.items) (λ fault. IsFault fault first)
-        → MatchResult later (λ builds. second ≡ Ok builds.items) (λ fault. IsFault fault second)
-        → MatchResult result
-        (λ builds. and_then first (λ front. and_then second (λ back. Ok (front ++ back))) ≡ Ok builds.items)
-        (λ fault. IsFault fault (and_then first (λ front. and_then second (λ back. Ok (front ++ back))))) }
+    room: usize,
+    earlier: Result<Option<EndedEdges>, AllocError>,
+    later: Result<Option<EndedEdges>, AllocError>,
+) -> Result<Option<EndedEdges>, AllocError>
+    ensures { (scopes : List ScopeValue) (pools : List PoolValue) (front back : List DeclaredEdgeValue)
+        → IfOk earlier (λ found. IfSome found (λ ended. AreEnded scopes pools room ended.left front ended.builds.items))
+        → IfOk later (λ found. IfSome found (λ ended. AreEnded scopes pools room ended.left back ended.builds.items))
+        → IfOk result (λ found. IfSome found (λ ended. AreEnded scopes pools room ended.left (front ++ back) ended.builds.items)) }
 {
-    let mut builds = earlier?;
-    let mut others = later?;
+    let Some(first) = earlier? else {
+        return Ok(None);
+    };
+    let Some(second) = later? else {
+        return Ok(None);
+    };
+    let Some(made) = room.checked_sub(second.left) else {
+        return Ok(None);
+    };
+    let Some(left) = first.left.checked_sub(made) else {
+        return Ok(None);
+    };
+    let mut builds = first.builds;
+    let mut others = second.builds;
     builds.append(&mut others)?;
-    Ok(builds)
+    Ok(Some(EndedEdges { builds, left }))
 }
 
-// The edges in reading order, ended on so many threads.
+// The edges of a part, where so many bytes of values may be made. None are given where one has a fault.
+fn part_of(
+    alloc: Global,
+    scopes: &Scopes,
+    pools: &Pools,
+    room: usize,
+    edges: Vec<DeclaredEdge>,
+) -> Result<Option<EndedEdges>, AllocError>
+    ensures { IfOk result (λ found.
+        IfSome found (λ ended.
+        AreEnded scopes.now pools.now room ended.left (map seen_edge edges.items) ended.builds.items)) }
+{
+    match builds_of(alloc, scopes, pools, room, edges) {
+        Ok(ended) => Ok(Some(ended)),
+        Err(ReadFault::Memory) => Err(AllocError),
+        Err(ReadFault::Manifest(_)) => Ok(None),
+    }
+}
+
+// The edges in reading order, ended on so many threads, where so many bytes of values may be made. None are given where
+// one may have a fault.
 fn builds_on<R: Threads + Sync>(
     rt: &R,
     alloc: Global,
     scopes: &Scopes,
     pools: &Pools,
+    room: usize,
     mut edges: Vec<DeclaredEdge>,
     threads: usize,
-) -> Result<Vec<Build>, ReadFault>
-    ensures { MatchResult result
-        (λ builds. builds_of scopes.now pools.now (map seen_edge edges.items) ≡ Ok builds.items)
-        (λ fault. IsFault fault (builds_of scopes.now pools.now (map seen_edge edges.items))) }
+) -> Result<Option<EndedEdges>, AllocError>
+    ensures { IfOk result (λ found.
+        IfSome found (λ ended.
+        AreEnded scopes.now pools.now room ended.left (map seen_edge edges.items) ended.builds.items)) }
 {
     if threads < 2 {
-        return builds_of(alloc, scopes, pools, edges);
+        return part_of(alloc, scopes, pools, room, edges);
     }
     let fewer = threads / 2;
     let place = (edges.len() / threads)
@@ -62,38 +95,40 @@ fn builds_on<R: Threads + Sync>(
     edges.shrink_to_fit();
     let (earlier, later) = join(
         rt,
-        move || -> Result<Vec<Build>, ReadFault>
+        move || -> Result<Option<EndedEdges>, AllocError>
             requires { IsSync R.row }
-            ensures { MatchResult result
-                (λ builds. builds_of scopes.entry.now pools.entry.now (map seen_edge edges.items) ≡ Ok builds.items)
-                (λ fault. IsFault fault (builds_of scopes.entry.now pools.entry.now (map seen_edge edges.items))) }
-        { builds_on(rt, alloc, scopes, pools, edges, fewer) },
-        move || -> Result<Vec<Build>, ReadFault>
+            ensures { IfOk result (λ found.
+                IfSome found (λ ended.
+                AreEnded scopes.entry.now pools.entry.now room ended.left (map seen_edge edges.items) ended.builds.items)) }
+        { builds_on(rt, alloc, scopes, pools, room, edges, fewer) },
+        move || -> Result<Option<EndedEdges>, AllocError>
             requires { IsSync R.row }
-            ensures { MatchResult result
-                (λ builds. builds_of scopes.entry.now pools.entry.now (map seen_edge others.items) ≡ Ok builds.items)
-                (λ fault. IsFault fault (builds_of scopes.entry.now pools.entry.now (map seen_edge others.items))) }
-        { builds_on(rt, alloc, scopes, pools, others, more) },
+            ensures { IfOk result (λ found.
+                IfSome found (λ ended.
+                AreEnded scopes.entry.now pools.entry.now room ended.left (map seen_edge others.items) ended.builds.items)) }
+        { builds_on(rt, alloc, scopes, pools, room, others, more) },
     );
-    joined(earlier, later)
+    joined(room, earlier, later)
 }
 
 /// The edges in reading order, ended on as many threads as there are processors, and on fewer where there are few edges.
+/// So many bytes of values may be made. None are given where an edge may have a fault.
 pub(crate) fn builds_by_threads<R: Threads + Sync>(
     rt: &R,
     alloc: Global,
     scopes: &Scopes,
     pools: &Pools,
+    room: usize,
     edges: Vec<DeclaredEdge>,
-) -> Result<Vec<Build>, ReadFault>
-    ensures { MatchResult result
-        (λ builds. builds_of scopes.now pools.now (map seen_edge edges.items) ≡ Ok builds.items)
-        (λ fault. IsFault fault (builds_of scopes.now pools.now (map seen_edge edges.items))) }
+) -> Result<Option<EndedEdges>, AllocError>
+    ensures { IfOk result (λ found.
+        IfSome found (λ ended.
+        AreEnded scopes.now pools.now room ended.left (map seen_edge edges.items) ended.builds.items)) }
 {
     let most = edges.len() / FEWEST_EDGES;
     let threads = match std::thread::available_parallelism(rt) {
         Ok(processors) => processors.get().min(most),
         Err(_) => 1,
     };
-    builds_on(rt, alloc, scopes, pools, edges, threads)
+    builds_on(rt, alloc, scopes, pools, room, edges, threads)
 }

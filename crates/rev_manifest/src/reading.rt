@@ -11,6 +11,7 @@ use crate::declarations::Declarations;
 use crate::fault::{FaultKind, Place, ReadFault};
 use crate::files::Files;
 use crate::inclusion::Inclusion;
+use crate::made::left_of_form;
 use crate::statements::add_statement;
 use rev_syntax::{Line, Statement, first_statement, lines_of};
 use std::alloc::Global;
@@ -38,7 +39,7 @@ fn next_statement<'a>(
     }
 }
 
-// Adds what a statement declares, and gives the file that it names, if it names one.
+// Counts the values that a statement binds, adds what it declares, and gives the file that it names, if it names one.
 fn add_parsed(
     alloc: Global,
     files: &Files<'_>,
@@ -59,7 +60,12 @@ fn add_parsed(
         file,
         line: statement.line,
     };
-    let named = add_statement(alloc, files, above, place, scope, &statement.form)?;
+    let form = &statement.form;
+    let Some(left) = left_of_form(form, &above.scopes, scope, above.value_room) else {
+        return Err(place.fault(FaultKind::TooLarge));
+    };
+    above.value_room = left;
+    let named = add_statement(alloc, files, above, place, scope, form)?;
     Ok(named)
 }
 

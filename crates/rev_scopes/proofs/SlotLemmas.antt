@@ -172,23 +172,27 @@ module _ (edge : EdgeEnvValue) (slots : List (List ℕ × SlotValue)) (new : Opt
   abbrev pub AddedPath : Bool → Type 0
   AddedPath b = IsAdded edge slots (Variable (codes "rspfile") ∷ []) (Some []) b new
 
-  pub response-none : (b : Bool) → b ≡ false → IsSettledFor (codes "rspfile") edge slots → AddedPath b → IsResponseFile edge []
+  pub response-none : (b : Bool) → b ≡ false → IsSettledFor (codes "rspfile") edge slots → AddedPath b → IsResponseFile edge (Some [])
   response-none true h settled added = cc
   response-none false h settled added =
       let waits = name_waits edge slots (codes "rspfile") added in HasNone (stuck_name edge slots (settled waits) (codes "rspfile") waits)
 
-  pub response-some : (b : Bool) → b ≡ true → AddedPath b → (path : List ℕ) → new ≡ Some path → IsResponseFile edge path
+  response-some : (b : Bool) → b ≡ true → AddedPath b → (path : List ℕ) → new ≡ Some path → IsResponseFile edge (Some path)
   response-some false h added path e = cc
   response-some true h added path e =
       let given = name_added edge slots (codes "rspfile") new added in
       let same = limited-some given.0 path (sym given.2 ∙ e) in
       HasPath (subst (λ (v : List ℕ). HasValue edge (codes "rspfile") v) same.0 given.1) same.1
 
-  pub response-large : (b : Bool) → b ≡ true → AddedPath b → new ≡ None → IsResponseFile edge []
+  response-large : (b : Bool) → b ≡ true → AddedPath b → new ≡ None → IsResponseFile edge None
   response-large false h added e = cc
   response-large true h added e =
       let given = name_added edge slots (codes "rspfile") new added in
       IsLarge given.1 (limited-none given.0 (sym given.2 ∙ e))
+
+  pub response-known : (b : Bool) → b ≡ true → AddedPath b → (path : Option (List ℕ)) → new ≡ path → IsResponseFile edge path
+  response-known b h added None e = response-large b h added e
+  response-known b h added (Some path) e = response-some b h added path e
 
 -- what is known where nothing more can be found out
 abbrev pub Stuck : (List ℕ → Type 0) → List (List ℕ × SlotValue) → Type 0

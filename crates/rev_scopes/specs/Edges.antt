@@ -1,5 +1,5 @@
 -- Expansion at the end: what a name stands for at an edge, once all files are read.
-use Rattle.std.specs.Prelude.{◌≡◌, ℕ, ◌<◌, ◌≤◌, IsTrue, List, [], ◌∷◌, ◌++◌, length, Option, None, Some, bytes_eq, codes, if◌then◌else◌}
+use Rattle.std.specs.Prelude.{◌≡◌, ℕ, ◌<◌, ◌≤◌, IsTrue, List, [], ◌∷◌, ◌++◌, length, Option, None, Some, option_map, bytes_eq, codes, if◌then◌else◌}
 use Rattle.std.specs.List.{flat_map}
 use Rattle.rev_paths.specs.Quoting.{quote}
 use Rattle.rev_syntax.specs.Texts.{PieceValue, Byte, Variable}
@@ -9,7 +9,7 @@ use Rattle.rev_scopes.specs.declared.edge.EdgeEnv.{EdgeEnv}
 use Rattle.rev_scopes.specs.declared.edge.EdgeVariables.{EdgeVariables}
 use Rattle.rev_scopes.specs.Bindings.{value_of}
 use Rattle.rev_scopes.specs.RuleNames.{name_of, is_needed}
-use Rattle.rev_scopes.specs.Scopes.{ScopeValue, RuleValue, variable_in}
+use Rattle.rev_scopes.specs.Scopes.{ScopeValue, RuleValue, or_empty, variable_in}
 use Rattle.rev_scopes.specs.declared.growth.TheConstants.{MAX_VALUE_BYTES}
 
 -- what a look-up at an edge goes by: its explicit inputs and outputs, its block with values that are expanded already,
@@ -88,6 +88,10 @@ abbrev pub seen_edge : EdgeEnv → EdgeEnvValue
 seen_edge edge =
     record { ins = edge.ins.now; outs = edge.outs.now; block = edge.block.now; rule = edge.rule.now; scopes = edge.scopes.now; scope = edge.scope }
 
+-- the path that is given for `rspfile`, if it is not too large
+abbrev pub response_given : EdgeVariables → Option (List ℕ)
+response_given values = option_map (λ path. path.items) values.rspfile
+
 -- what is given for a variable
 abbrev pub given_for : RuleVariable → EdgeVariables → List ℕ
 given_for Command values = values.command.items
@@ -97,18 +101,18 @@ given_for MsvcDepsPrefix values = []
 given_for Description values = []
 given_for Generator values = values.generator.items
 given_for Restat values = values.restat.items
-given_for Rspfile values = values.rspfile.items
+given_for Rspfile values = or_empty (response_given values)
 given_for RspfileContent values = values.rspfile_content.items
 given_for Pool values = values.pool.items
 
--- The path of an edge's response file. An edge is not refused for it: the path is empty where `rspfile` has a value
--- that is too large, or none, since it needs itself.
-pub data IsResponseFile (edge : EdgeEnvValue) : List ℕ → Type 0 where
+-- The path of an edge's response file. An edge is not refused for it: there is no path where `rspfile` has a value that
+-- is too large, and the path is empty where `rspfile` has no value, since it needs itself.
+pub data IsResponseFile (edge : EdgeEnvValue) : Option (List ℕ) → Type 0 where
   HasPath : {path : List ℕ} → HasValue edge (codes "rspfile") path → length path ≤ MAX_VALUE_BYTES
-      → IsResponseFile edge path
+      → IsResponseFile edge (Some path)
   IsLarge : {value : List ℕ} → HasValue edge (codes "rspfile") value → MAX_VALUE_BYTES < length value
-      → IsResponseFile edge []
-  HasNone : ((value : List ℕ) → HasValue edge (codes "rspfile") value → ⊥) → IsResponseFile edge []
+      → IsResponseFile edge None
+  HasNone : ((value : List ℕ) → HasValue edge (codes "rspfile") value → ⊥) → IsResponseFile edge (Some [])
 
 -- the command that is compared with the recorded one: behind the command stands the content of its response file, where
 -- there is any

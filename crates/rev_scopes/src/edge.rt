@@ -35,8 +35,8 @@ pub struct EdgeVariables {
     pub generator: Vec<u8>,
     /// `restat`.
     pub restat: Vec<u8>,
-    /// `rspfile`, which no edge is refused for: empty where it has no value, or one that is too large.
-    pub rspfile: Vec<u8>,
+    /// `rspfile`, which no edge is refused for: none where it has a value that is too large, and empty where it has none.
+    pub rspfile: Option<Vec<u8>>,
     /// `rspfile_content`.
     pub rspfile_content: Vec<u8>,
     /// `pool`.

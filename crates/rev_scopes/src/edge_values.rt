@@ -5,7 +5,7 @@ ghost use Rattle.rev_syntax.specs.Pieces.{seen_piece};
 ghost use Rattle.rev_scopes.specs.Expansion.{limited, appended};
 ghost use Rattle.rev_scopes.specs.declared.rule_variable.RuleVariable.{RuleVariable};
 ghost use Rattle.rev_scopes.specs.RuleNames.{name_of, is_needed};
-ghost use Rattle.rev_scopes.specs.Edges.{joined, paths_named, seen_edge, HasValue, AllHaveValues, SomeNeedsItself, SomeIsTooLarge, IsResponseFile, given_for, compared};
+ghost use Rattle.rev_scopes.specs.Edges.{joined, paths_named, seen_edge, HasValue, AllHaveValues, SomeNeedsItself, SomeIsTooLarge, IsResponseFile, response_given, given_for, compared};
 ghost use Rattle.rev_scopes.specs.Slots.{seen_slots, AreOf, IsFound, IsAdded, IsTried, IsRight, IsWaiting, Waits, IsKnowable, AreStuck, IsSettledFor, NoneWaits, SomeWaits};
 ghost use Rattle.rev_scopes.specs.declared.growth.TheConstants.{MAX_VALUE_BYTES};
 
@@ -321,16 +321,16 @@ fn known_value(
     }
 }
 
-// The path of an edge's response file, once no more can be found out of it.
+// The path of an edge's response file, once no more can be found out of it; none where it is too large.
 fn settled_response(
     alloc: Global,
     edge: &EdgeEnv<'_>,
     slots: &[Slot<'_>],
-) -> Result<Vec<u8>, AllocError>
+) -> Result<Option<Vec<u8>>, AllocError>
     requires slots { AreOf (seen_edge edge.now) (seen_slots slots.now) }
     requires settled { IsSettledFor (codes "rspfile") (seen_edge edge.now) (seen_slots slots.now) }
-    ensures path { IfOk result (λ path. IsResponseFile (seen_edge edge.now) path.items) }
-    ensures within { IfOk result (λ path. length path.items ≤ MAX_VALUE_BYTES) }
+    ensures path { IfOk result (λ path. IsResponseFile (seen_edge edge.now) (option_map (λ p. p.items) path)) }
+    ensures within { IfOk result (λ path. IfSome path (λ p. length p.items ≤ MAX_VALUE_BYTES)) }
 {
     let mut value = Growth::new(alloc);
     let is_known = push_piece(
@@ -341,12 +341,9 @@ fn settled_response(
         Piece::Variable(RuleVariable::Rspfile.name()),
     )?;
     if !is_known {
-        return Ok(Vec::new(alloc));
+        return Ok(Some(Vec::new(alloc)));
     }
-    match value.into_value() {
-        Some(path) => Ok(path),
-        None => Ok(Vec::new(alloc)),
-    }
+    Ok(value.into_value())
 }
 
 // The path of an edge's response file. Texts that the edge does not need are expanded only where it leads to them.
@@ -354,10 +351,10 @@ fn response_file(
     alloc: Global,
     edge: &EdgeEnv<'_>,
     slots: Vec<Slot<'_>>,
-) -> Result<Vec<u8>, AllocError>
+) -> Result<Option<Vec<u8>>, AllocError>
     requires slots { AreOf (seen_edge edge.now) (seen_slots slots.items) }
-    ensures path { IfOk result (λ path. IsResponseFile (seen_edge edge.now) path.items) }
-    ensures within { IfOk result (λ path. length path.items ≤ MAX_VALUE_BYTES) }
+    ensures path { IfOk result (λ path. IsResponseFile (seen_edge edge.now) (option_map (λ p. p.items) path)) }
+    ensures within { IfOk result (λ path. IfSome path (λ p. length p.items ≤ MAX_VALUE_BYTES)) }
 {
     if !is_waiting(edge, &slots, RuleVariable::Rspfile) {
         return settled_response(alloc, edge, &slots);
@@ -369,8 +366,8 @@ fn response_file(
 /// The values of the variables that are expanded for an edge that is not phony. A name is looked up as `in`,
 /// `in_newline` and `out`, in the block, in the rule, whose texts are expanded by this same look-up, and then in the
 /// scopes. Each text of the rule is expanded at most once, and those that the edge does not need only where one that it
-/// needs, or `rspfile`, leads to them. No edge is refused for `rspfile`: the path of its response file is empty where
-/// that has no value, or one that is too large.
+/// needs, or `rspfile`, leads to them. No edge is refused for `rspfile`: there is no path of a response file where that has a
+/// value that is too large, and an empty one where it has none.
 ///
 /// # Errors
 /// [`ValueFault::NeedsItself`] where one of the variables has no value, since it needs itself. Where all have one,
@@ -382,7 +379,7 @@ pub fn edge_variables(alloc: Global, edge: &EdgeEnv<'_>) -> Result<EdgeVariables
         → HasValue (seen_edge edge.now) (name_of variable) (given_for variable values)) }
     ensures within { IfOk result (λ values. (variable : RuleVariable)
         → length (given_for variable values) ≤ MAX_VALUE_BYTES) }
-    ensures response { IfOk result (λ values. IsResponseFile (seen_edge edge.now) values.rspfile.items) }
+    ensures response { IfOk result (λ values. IsResponseFile (seen_edge edge.now) (response_given values)) }
     // That a variable has no value comes before that one is too large.
     ensures needs_itself { IsErrOf result ValueFault.NeedsItself → SomeNeedsItself (seen_edge edge.now) }
     ensures all { IsErrOf result ValueFault.TooLarge → AllHaveValues (seen_edge edge.now) }

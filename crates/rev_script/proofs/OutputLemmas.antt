@@ -25,6 +25,29 @@ appends-kept (Some x) None c xs p q = absurd p
 appends-kept (Some x) (Some y) None xs p q = absurd q
 appends-kept (Some x) (Some y) (Some z) xs p q = q ∙ p
 
+-- writes that were interrupted, and then one that was not
+pub keeps-all : (a : Option (List ℕ)) → Keeps a a
+keeps-all None = tt
+keeps-all (Some xs) = refl
+
+pub keeps-then : (a b c : Option (List ℕ)) → Keeps a b → Keeps b c → Keeps a c
+keeps-then None b c p q = tt
+keeps-then (Some x) None c p q = absurd p
+keeps-then (Some x) (Some y) None p q = absurd q
+keeps-then (Some x) (Some y) (Some z) p q = q ∙ p
+
+pub kept-appends : (a b c : Option (List ℕ)) (xs : List ℕ) → Keeps a b → Appends b c xs → Appends a c xs
+kept-appends None b c xs p q = tt
+kept-appends (Some x) None c xs p q = absurd p
+kept-appends (Some x) (Some y) None xs p q = absurd q
+kept-appends (Some x) (Some y) (Some z) xs p q = q ∙ ap (λ l. l ++ xs) p
+
+pub kept-nothing : (a b c : Option (List ℕ)) → Keeps a b → Appends b c [] → Keeps a c
+kept-nothing None b c p q = tt
+kept-nothing (Some x) None c p q = absurd p
+kept-nothing (Some x) (Some y) None p q = absurd q
+kept-nothing (Some x) (Some y) (Some z) p q = q ∙ append-nil y ∙ p
+
 -- one more piece, as long as the count says
 pub appends-more : (a b c : Option (List ℕ)) (text : List ℕ) (n k : ℕ) → Appends a b (take n text) → Appends b c (take k (take (length text - n) (drop n text)))
     → Appends a c (take (n + k) text)

@@ -16,7 +16,6 @@ pub struct Numbers {
     items: Vec<u32>,
 }
 
-// Written, since a derived drop is proved again at each exit of each caller.
 impl Drop for Numbers {
     fn drop(self) {
         let Numbers { items: _items } = self;

@@ -38,7 +38,6 @@ pub enum Word {
     Order(Numbers),
 }
 
-// Written, since a derived drop is proved again at each exit of each caller.
 impl Drop for Word {
     fn drop(self) {
         match self {

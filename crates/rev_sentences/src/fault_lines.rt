@@ -1,11 +1,13 @@
 //! A sentence for the fault line of a report.
-ghost use Rattle.std.specs.Prelude.{◌≡◌, ◌==◌, None};
+ghost use Rattle.std.specs.Prelude.{◌≡◌, ◌==◌, ◌++◌, ℕ, IfOk, IfSome, None, OnOk, is_some};
 ghost use Rattle.std.specs.List.{last_or, slice_get, slice_split};
 ghost use Rattle.std.specs.Option.{option_copied};
-ghost use Rattle.rev_sentences.specs.Sentences.{line_at, lines_of};
+ghost use Rattle.rev_fields.specs.Parts.{vectors_of};
+ghost use Rattle.rev_sentences.specs.Sentences.{Grows, Tells, fault_line, fault_number, line_at, meaning_text, number_at, number_told, report_number, text_or_none, told_by};
+ghost use Rattle.rev_sentences.specs.Meanings.{meaning_of};
 
 use crate::meanings::meaning;
-use rev_fields::{push_number, read_fields, wide_number};
+use rev_fields::{LineFault, push_number, read_fields, wide_number};
 use std::alloc::{AllocError, Global};
 
 /// The names and the bytes that a run was given.
@@ -62,15 +64,27 @@ fn file_named<'a>(files: &'a [(Vec<u8>, Vec<u8>)], name: &'a [u8], line: u64) ->
     }
 }
 
-fn push(sentence: &mut Vec<u8>, text: &str) -> Result<(), AllocError> {
+fn push(sentence: &mut Vec<u8>, text: &str) -> Result<(), AllocError>
+    ensures { OnOk result (sentence.new.items ≡ sentence.old.items ++ text.now) }
+{
     sentence.extend_from_slice(text.as_bytes())
 }
 
-// What the number means, and where more of it stands.
-fn push_meaning(sentence: &mut Vec<u8>, number: u64) -> Result<(), AllocError> {
-    if let Some(words) = meaning(number) {
-        push(sentence, words)?;
+// What a number means, nothing where no report has the number.
+fn words_of(number: u64) -> &'static str
+    ensures { result.now ≡ text_or_none (meaning_of number) }
+{
+    match meaning(number) {
+        Some(words) => words,
+        None => "",
     }
+}
+
+// What the number means, and where more of it stands.
+fn push_meaning(sentence: &mut Vec<u8>, number: u64) -> Result<(), AllocError>
+    ensures { OnOk result (sentence.new.items ≡ sentence.old.items ++ meaning_text number) }
+{
+    push(sentence, words_of(number))?;
     push(sentence, " (")?;
     push_number(sentence, number)?;
     push(sentence, ", docs/CODES.md)")
@@ -95,28 +109,66 @@ fn path_named(line: &[u8]) -> Option<&[u8]> {
     Some(path)
 }
 
+// The file that was given under a name which is longer than a path and ends in it.
+fn given_for<'a>(files: &'a [(Vec<u8>, Vec<u8>)], path: &[u8]) -> Option<&'a [u8]> {
+    for (given, _) in files {
+        if given.ends_with(path) && given.len() > path.len() {
+            return Some(given.as_slice());
+        }
+    }
+    None
+}
+
+// Which file was given under a longer name than the one that was looked for, if there is one, and what to do.
+fn push_given(sentence: &mut Vec<u8>, given: Option<&[u8]>) -> Result<(), AllocError>
+    ensures { OnOk result (Grows sentence.old.items sentence.new.items) }
+{
+    let Some(given) = given else {
+        return push(sentence, "; name it after the options");
+    };
+    push(sentence, "; given was ")?;
+    sentence.extend_from_slice(given)?;
+    push(
+        sentence,
+        ", so run rebug in the folder from which the manifest names its files",
+    )
+}
+
 // Why a file was not found: what was looked for, and the file that was given under a longer name, if there is one.
 fn push_looked_for(
     sentence: &mut Vec<u8>,
     place: Place<'_>,
     files: &[(Vec<u8>, Vec<u8>)],
-) -> Result<(), AllocError> {
+) -> Result<(), AllocError>
+    ensures { OnOk result (Grows sentence.old.items sentence.new.items) }
+{
     let Some(path) = path_named(line_at(place.bytes, place.line)) else {
-        return Ok(());
+        return push(sentence, "");
     };
     push(sentence, "; looked for among the files that were given: ")?;
     sentence.extend_from_slice(path)?;
-    for (given, _) in files {
-        if given.ends_with(path) && given.len() > path.len() {
-            push(sentence, "; given was ")?;
-            sentence.extend_from_slice(given)?;
-            return push(
-                sentence,
-                ", so run rebug in the folder from which the manifest names its files",
-            );
-        }
+    push_given(sentence, given_for(files, path))
+}
+
+// What the line itself shows of a fault.
+fn push_shown(
+    sentence: &mut Vec<u8>,
+    place: Place<'_>,
+    number: u64,
+    files: &[(Vec<u8>, Vec<u8>)],
+) -> Result<(), AllocError>
+    ensures { OnOk result (Grows sentence.old.items sentence.new.items) }
+{
+    if number == 20 {
+        return push_looked_for(sentence, place, files);
     }
-    push(sentence, "; name it after the options")
+    if number >= 100 && line_at(place.bytes, place.line).ends_with(b"\r") {
+        return push(
+            sentence,
+            "; its lines end in CR LF, and here they end in LF alone",
+        );
+    }
+    push(sentence, "")
 }
 
 // A sentence about a place: what the number means, and what the line itself shows of it.
@@ -125,20 +177,34 @@ fn place_sentence(
     place: Place<'_>,
     number: u64,
     files: &[(Vec<u8>, Vec<u8>)],
-) -> Result<Vec<u8>, AllocError> {
+) -> Result<Vec<u8>, AllocError>
+    ensures { IfOk result (λ sentence. Tells sentence.items number) }
+{
     let mut sentence = Vec::new(alloc);
     push_place(&mut sentence, place)?;
     push_meaning(&mut sentence, number)?;
-    if number == 20 {
-        push_looked_for(&mut sentence, place, files)?;
-    }
-    if number >= 100 && line_at(place.bytes, place.line).ends_with(b"\r") {
-        push(
-            &mut sentence,
-            "; its lines end in CR LF, and here they end in LF alone",
-        )?;
-    }
+    push_shown(&mut sentence, place, number, files)?;
     Ok(sentence)
+}
+
+// The name of the manifest, before a colon.
+fn push_manifest(sentence: &mut Vec<u8>, files: &[(Vec<u8>, Vec<u8>)]) -> Result<(), AllocError> {
+    if let Some((name, _)) = files.first() {
+        sentence.extend_from_slice(name)?;
+        push(sentence, ": ")?;
+    }
+    Ok(())
+}
+
+// The path that a fault of a graph names, where it names one.
+fn push_path(sentence: &mut Vec<u8>, path: Option<&Vec<u8>>) -> Result<(), AllocError>
+    ensures { OnOk result (Grows sentence.old.items sentence.new.items) }
+{
+    let Some(path) = path else {
+        return push(sentence, "");
+    };
+    push(sentence, ": ")?;
+    sentence.extend_from_slice(path)
 }
 
 // A sentence about the edges of a manifest, with the path that the fault names, where it names one.
@@ -147,22 +213,20 @@ fn graph_sentence(
     number: u64,
     path: Option<&Vec<u8>>,
     files: &[(Vec<u8>, Vec<u8>)],
-) -> Result<Vec<u8>, AllocError> {
+) -> Result<Vec<u8>, AllocError>
+    ensures { IfOk result (λ sentence. Tells sentence.items number) }
+{
     let mut sentence = Vec::new(alloc);
-    if let Some((name, _)) = files.first() {
-        sentence.extend_from_slice(name)?;
-        push(&mut sentence, ": ")?;
-    }
+    push_manifest(&mut sentence, files)?;
     push_meaning(&mut sentence, number)?;
-    if let Some(path) = path {
-        push(&mut sentence, ": ")?;
-        sentence.extend_from_slice(path)?;
-    }
+    push_path(&mut sentence, path)?;
     Ok(sentence)
 }
 
 // A sentence about a lane.
-fn lane_sentence(alloc: Global, number: u64, lane: u64) -> Result<Vec<u8>, AllocError> {
+fn lane_sentence(alloc: Global, number: u64, lane: u64) -> Result<Vec<u8>, AllocError>
+    ensures { IfOk result (λ sentence. Tells sentence.items number) }
+{
     let mut sentence = Vec::new(alloc);
     push(&mut sentence, "lane ")?;
     push_number(&mut sentence, lane)?;
@@ -171,46 +235,129 @@ fn lane_sentence(alloc: Global, number: u64, lane: u64) -> Result<Vec<u8>, Alloc
     Ok(sentence)
 }
 
-// The number that a field writes.
-fn number_in(field: Option<&Vec<u8>>) -> Option<u64> {
-    wide_number(field?).ok()
+// The number that the field at a place writes, if there is the field and it writes one.
+fn number_at(fields: &[Vec<u8>], place: usize) -> Result<Option<u64>, AllocError>
+    ensures { IfOk result (λ number. number ≡ number_at (vectors_of fields.now) place) }
+{
+    let Some(field) = fields.get(place) else {
+        return Ok(None);
+    };
+    match wide_number(field) {
+        Ok(number) => Ok(Some(number)),
+        Err(LineFault::Memory) => Err(AllocError),
+        Err(LineFault::Kind(_)) => Ok(None),
+    }
 }
 
-// The sentence of a fault line with these fields, none where it has another form.
+// The number at a place, where another field writes one too.
+fn number_beside(fields: &[Vec<u8>], place: usize, beside: usize) -> Result<Option<u64>, AllocError>
+    ensures { IfOk result (λ number. number
+        ≡ told_by (number_at (vectors_of fields.now) beside) (number_at (vectors_of fields.now) place)) }
+{
+    match number_at(fields, beside)? {
+        Some(_) => number_at(fields, place),
+        None => Ok(None),
+    }
+}
+
+// The number of the fault that a line tells with these fields after its first.
+fn fault_number(what: &[u8], rest: &[Vec<u8>]) -> Result<Option<u64>, AllocError>
+    ensures { IfOk result (λ number. number ≡ fault_number what.now (vectors_of rest.now)) }
+{
+    if what == b"graph".as_slice() {
+        return number_at(rest, 0);
+    }
+    if what == b"close".as_slice() {
+        return number_beside(rest, 0, 1);
+    }
+    if what == b"trace".as_slice() {
+        return number_beside(rest, 1, 0);
+    }
+    if what == b"script".as_slice() {
+        return number_beside(rest, 1, 0);
+    }
+    if what == b"manifest".as_slice() {
+        return number_beside(rest, 2, 1);
+    }
+    Ok(None)
+}
+
+// The place of a fault in a trace, a script or a manifest, by what its line has after its first field.
+fn place_of<'a>(
+    what: &[u8],
+    rest: &'a [Vec<u8>],
+    inputs: Inputs<'a>,
+) -> Result<Place<'a>, AllocError> {
+    if what == b"manifest".as_slice() {
+        let line = number_at(rest, 1)?.unwrap_or(0);
+        let name: &'a [u8] = match rest.first() {
+            Some(name) => name.as_slice(),
+            None => &[],
+        };
+        return Ok(file_named(inputs.files, name, line));
+    }
+    let line = number_at(rest, 0)?.unwrap_or(0);
+    let (name, bytes) = if what == b"trace".as_slice() {
+        inputs.trace
+    } else {
+        inputs.script
+    };
+    Ok(Place { name, bytes, line })
+}
+
+// The sentence of a fault line that tells this number, with these fields after its first.
+fn sentence_for(
+    alloc: Global,
+    what: &[u8],
+    rest: &[Vec<u8>],
+    number: u64,
+    inputs: Inputs<'_>,
+) -> Result<Vec<u8>, AllocError>
+    ensures { IfOk result (λ sentence. Tells sentence.items number) }
+{
+    if what == b"graph".as_slice() {
+        return graph_sentence(alloc, number, rest.get(1), inputs.files);
+    }
+    if what == b"close".as_slice() {
+        let lane = number_at(rest, 1)?.unwrap_or(0);
+        return lane_sentence(alloc, number, lane);
+    }
+    let place = place_of(what, rest, inputs)?;
+    place_sentence(alloc, place, number, inputs.files)
+}
+
+// The sentence of a line with these fields, none where it tells no fault.
 fn sentence_of(
     alloc: Global,
     fields: &[Vec<u8>],
     inputs: Inputs<'_>,
-) -> Result<Option<Vec<u8>>, AllocError> {
-    let [_, what, rest @ ..] = fields else {
+) -> Result<Option<Vec<u8>>, AllocError>
+    ensures some { IfOk result (λ said. IfSome said (λ sentence.
+        IfSome (number_told (vectors_of fields.now)) (λ number. Tells sentence.items number))) }
+    ensures told { IfOk result (λ said. is_some said ≡ is_some (number_told (vectors_of fields.now))) }
+{
+    let Some((_fault, others)) = fields.split_first() else {
         return Ok(None);
     };
-    let first = number_in(rest.first());
-    let second = number_in(rest.get(1));
-    match (what.as_slice(), first, second) {
-        (b"graph", Some(number), _) => {
-            let sentence = graph_sentence(alloc, number, rest.get(1), inputs.files)?;
-            Ok(Some(sentence))
-        }
-        (b"close", Some(number), Some(lane)) => Ok(Some(lane_sentence(alloc, number, lane)?)),
-        (b"trace", Some(line), Some(number)) => {
-            let (name, bytes) = inputs.trace;
-            let place = Place { name, bytes, line };
-            Ok(Some(place_sentence(alloc, place, number, inputs.files)?))
-        }
-        (b"script", Some(line), Some(number)) => {
-            let (name, bytes) = inputs.script;
-            let place = Place { name, bytes, line };
-            Ok(Some(place_sentence(alloc, place, number, inputs.files)?))
-        }
-        (b"manifest", _, Some(line)) => {
-            let (Some(name), Some(number)) = (rest.first(), number_in(rest.get(2))) else {
-                return Ok(None);
-            };
-            let place = file_named(inputs.files, name, line);
-            Ok(Some(place_sentence(alloc, place, number, inputs.files)?))
-        }
-        _ => Ok(None),
+    let Some((what, rest)) = others.split_first() else {
+        return Ok(None);
+    };
+    match fault_number(what, rest)? {
+        Some(number) => Ok(Some(sentence_for(alloc, what, rest, number, inputs)?)),
+        None => Ok(None),
+    }
+}
+
+// The last line of a report, where that is a whole fault line.
+fn fault_line(report: &[u8]) -> Option<&[u8]>
+    ensures { option_copied result ≡ fault_line report.now }
+{
+    let lines = report.strip_suffix(b"\n")?;
+    let line = last_line(lines)?;
+    if line.starts_with(b"fault ") {
+        Some(line)
+    } else {
+        None
     }
 }
 
@@ -220,19 +367,18 @@ pub fn sentence(
     alloc: Global,
     report: &[u8],
     inputs: Inputs<'_>,
-) -> Result<Option<Vec<u8>>, AllocError> {
-    let Some(lines) = report.strip_suffix(b"\n") else {
+) -> Result<Option<Vec<u8>>, AllocError>
+    // There is one exactly where the last line tells a fault's number, and what the number means stands in it.
+    ensures told { IfOk result (λ said. is_some said ≡ is_some (report_number report.now)) }
+    ensures meaning { IfOk result (λ said. IfSome said (λ sentence.
+        IfSome (report_number report.now) (λ number. Tells sentence.items number))) }
+{
+    let Some(line) = fault_line(report) else {
         return Ok(None);
     };
-    let Some(line) = last_line(lines) else {
-        return Ok(None);
-    };
-    if !line.starts_with(b"fault ") {
-        return Ok(None);
-    }
     match read_fields(alloc, line) {
         Ok(fields) => sentence_of(alloc, &fields, inputs),
-        Err(rev_fields::LineFault::Memory) => Err(AllocError),
-        Err(_) => Ok(None),
+        Err(LineFault::Memory) => Err(AllocError),
+        Err(LineFault::Kind(_)) => Ok(None),
     }
 }

@@ -1,6 +1,8 @@
 // How often cells are written, and that the lists find what a look at each kept event finds.
 use crate::builds::{LINKS, OBJECTS, opened, says};
-use rev_history::{History, KeptFootprint, conflict};
+use rev_cells::Cell;
+use rev_footprint::Footprint;
+use rev_history::{History, KeptCells, KeptFootprint};
 use std::alloc::{AllocError, Global};
 use std::test::Fail;
 
@@ -132,15 +134,15 @@ struct Row {
     accepted: u32,
 }
 
-// Whether the event of a kept number conflicts with a footprint.
+// Whether the event of a kept number conflicts with a footprint that is lent.
 fn conflicts(history: &History, number: u32, footprint: &KeptFootprint<'_>) -> bool {
     match history.footprint_of(number) {
-        Some(other) => conflict(footprint, &other),
+        Some(other) => rev_history::conflict(footprint, &other),
         None => false,
     }
 }
 
-// The least kept number above another whose event conflicts with a footprint, by a look at each.
+// The least kept number above another whose event conflicts with a footprint that is lent, by a look at each.
 fn scanned(history: &History, number: u32, footprint: &KeptFootprint<'_>) -> Option<u32> {
     for kept in history.kept() {
         if number < *kept && conflicts(history, *kept, footprint) {
@@ -160,19 +162,82 @@ fn agrees(history: &History, kept: u32, footprint: &KeptFootprint<'_>) -> bool {
     true
 }
 
-// Whether they do for the footprint of each kept event.
-fn all_agree(history: &History) -> bool {
+// Whether the event of a kept number conflicts with a footprint.
+fn conflicts_with(
+    history: &History,
+    number: u32,
+    footprint: &Footprint,
+) -> Result<bool, AllocError> {
+    match history.footprint_copy(number)? {
+        Some(other) => Ok(rev_footprint::conflict(footprint, &other)),
+        None => Ok(false),
+    }
+}
+
+// The least kept number above another whose event conflicts with a footprint, by a look at each.
+fn looked_for(
+    history: &History,
+    number: u32,
+    footprint: &Footprint,
+) -> Result<Option<u32>, AllocError> {
     for kept in history.kept() {
-        match history.footprint_of(*kept) {
-            Some(footprint) => {
-                if !agrees(history, *kept, &footprint) {
-                    return false;
-                }
-            }
-            None => return false,
+        if number < *kept && conflicts_with(history, *kept, footprint)? {
+            return Ok(Some(*kept));
         }
     }
-    true
+    Ok(None)
+}
+
+// Whether the lists find what the look at each finds, from each number on, for a footprint.
+fn finds(history: &History, footprint: &Footprint) -> Result<bool, AllocError> {
+    for number in 0..history.last() {
+        if history.nearest(number, footprint) != looked_for(history, number, footprint)? {
+            return Ok(false);
+        }
+    }
+    Ok(true)
+}
+
+// Whether these are the cells that are lent, in their order.
+fn are_lent(cells: &[Cell], lent: &KeptCells<'_>) -> bool {
+    for index in 0..lent.len() {
+        if cells.get(index) != Some(lent.at(index)) {
+            return false;
+        }
+    }
+    cells.len() == lent.len()
+}
+
+// Whether a copy has the cells that are lent, in their order.
+fn is_copy(copy: &Footprint, lent: &KeptFootprint<'_>) -> bool {
+    copy.whole() == lent.whole()
+        && are_lent(copy.reads(), &lent.reads())
+        && are_lent(copy.writes(), &lent.writes())
+}
+
+// Whether all this holds of the footprint of a kept event, as it is lent and as a copy.
+fn holds_of(history: &History, kept: u32, lent: &KeptFootprint<'_>) -> Result<bool, AllocError> {
+    match history.footprint_copy(kept)? {
+        Some(copy) => {
+            Ok(is_copy(&copy, lent) && agrees(history, kept, lent) && finds(history, &copy)?)
+        }
+        None => Ok(false),
+    }
+}
+
+// Whether it does of the footprint of each kept event.
+fn all_agree(history: &History) -> Result<bool, AllocError> {
+    for kept in history.kept() {
+        match history.footprint_of(*kept) {
+            Some(lent) => {
+                if !holds_of(history, *kept, &lent)? {
+                    return Ok(false);
+                }
+            }
+            None => return Ok(false),
+        }
+    }
+    Ok(true)
 }
 
 // How many of these lines are accepted, where lists and looks agree after each.
@@ -184,7 +249,7 @@ fn agreed(alloc: Global, history: &mut History, lines: &[&str]) -> Result<Option
         if says(alloc, history, place, line)? {
             count = count.saturating_add(1);
         }
-        if !all_agree(history) {
+        if !all_agree(history)? {
             return Ok(None);
         }
     }

@@ -5,7 +5,8 @@ use Rattle.rev_accesses.specs.Places.{cells_at}
 use Rattle.rev_accesses.specs.Thinned.{IsGoneUnder}
 use Rattle.rev_accesses.specs.Users.{listed}
 use Rattle.rev_accesses.specs.Value.{numbers_at}
-use Rattle.rev_accesses.proofs.ThinnedLemmas.{gone_more, thinned_same, thinned_then}
+use Rattle.rev_numbers.proofs.TakenLemmas.{thinned_then}
+use Rattle.rev_accesses.proofs.ThinnedLemmas.{gone_more, thinned_same}
 use Rattle.rev_accesses.proofs.index.thin_all.Goals as goal
 
 pub loop-place-init : goal.loop-place-init

@@ -1,8 +1,8 @@
-use Rattle.std.proofs.Common.{◌≡◌, ◌∙◌, map, Ok, MatchResult, subst}
-use Rattle.rev_manifest.specs.Answers.{IsFault}
-use Rattle.rev_manifest.specs.Manifest.{builds_of}
+use Rattle.std.proofs.Common.{◌≡◌, ◌++◌, List, IfOk, IfSome, map, take, drop, sym, ap, subst, ◌∙◌}
+use Rattle.std.proofs.lemmas.List.{map-append, take-append-drop}
+use Rattle.rev_manifest.specs.Declarations.{DeclaredEdgeValue}
+use Rattle.rev_manifest.specs.Manifest.{AreEnded}
 use Rattle.rev_manifest.specs.Held.{seen_edge}
-use Rattle.rev_manifest.proofs.ParallelLemmas.{Meant, both_parts, builds_of-cut}
 use Rattle.rev_manifest.proofs.parallel.+builds_on+fn-builds_on-join+arg2+fn-builds_on-join+arg3.Goals as goal
 
 pub returns : goal.returns
@@ -11,10 +11,10 @@ returns g t c =
     let pools = c.args.pools.now in
     let front = c.shrink_to_fit.new.self.items in
     let back = c.in_ok-others.others.items in
-    let both = c.joined.ensures (builds_of scopes pools (map seen_edge front)) (builds_of scopes pools (map seen_edge back))
-    c.join-earlier.ensures.first c.join-earlier.ensures.second in
-    let whole : both_parts (builds_of scopes pools (map seen_edge front)) (builds_of scopes pools (map seen_edge back))
-    ≡ builds_of scopes pools (map seen_edge c.args.edges.items) =
-    (λ i. both_parts (builds_of scopes pools (map seen_edge ((c.shrink_to_fit.ensures.items ∙ c.in_ok-others.ensures.items) i))) (builds_of scopes pools (map seen_edge (c.in_ok-others.ensures.tail i))))
-    ∙ builds_of-cut scopes pools c.args.edges.items c.min-place.result in
-    subst (λ (meant : Meant). MatchResult c.joined.result (λ builds. meant ≡ Ok builds.items) (λ fault. IsFault fault meant)) whole both
+    let edges = c.args.edges.items in
+    let place = c.min-place.result in
+    let both = c.joined.ensures scopes pools (map seen_edge front) (map seen_edge back) c.join-earlier.ensures.first c.join-earlier.ensures.second in
+    let whole : map seen_edge front ++ map seen_edge back ≡ map seen_edge edges =
+    (λ i. map seen_edge ((c.shrink_to_fit.ensures.items ∙ c.in_ok-others.ensures.items) i) ++ map seen_edge (c.in_ok-others.ensures.tail i))
+    ∙ sym (map-append seen_edge (take place edges) (drop place edges)) ∙ ap (map seen_edge) (take-append-drop place edges) in
+    subst (λ (es : List DeclaredEdgeValue). IfOk c.joined.result (λ found. IfSome found (λ ended. AreEnded scopes pools c.args.room ended.left es ended.builds.items))) whole both

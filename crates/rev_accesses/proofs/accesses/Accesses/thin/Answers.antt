@@ -1,7 +1,8 @@
 use Rattle.std.proofs.Common.{subst, sym}
 use Rattle.rev_accesses.specs.Places.{cells_at}
-use Rattle.rev_accesses.specs.Thinned.{IsThinned}
-use Rattle.rev_accesses.proofs.ThinnedLemmas.{gone_from, thinned_not}
+use Rattle.rev_numbers.specs.Taken.{IsThinned}
+use Rattle.rev_numbers.proofs.TakenLemmas.{thinned_not}
+use Rattle.rev_accesses.proofs.ThinnedLemmas.{gone_from}
 use Rattle.rev_accesses.proofs.accesses.Accesses.thin.Goals as goal
 
 pub returns-clause-thinned : goal.returns-clause-thinned

@@ -15,6 +15,9 @@ use Rattle.rev_history.specs.Steps.{StepValue, named, step_value}
 use Rattle.rev_causal.specs.History as causal
 use Rattle.rev_footprint.specs.Value as footprints
 use Rattle.rev_footprint.specs.Value.{FootprintValue}
+use Rattle.rev_numbers.specs.Value.{with_number}
+use Rattle.rev_numbers.proofs.RisingLemmas.{with_number-last}
+use Rattle.rev_history.proofs.OrderLemmas.{kept_below}
 use Rattle.rev_history.proofs.NamedLemmas.{end_grown, named_grown, placed_end, placed_grown}
 use Rattle.rev_history.proofs.Listed.{prints_rise, print_missing, accepted_prints, same_prints}
 use Rattle.rev_history.proofs.Fields.{same_sound, accepted_sound, accept_refusal_found}
@@ -34,8 +37,8 @@ invariant_of-self-in_err-step c =
     ap (named c.write_noted.new.accesses) c.reserve-2.ensures.items ∙ named_grown c.self.inside.accesses c.write_noted.new.accesses c.self.inside.steps.items c.in_err-step.ensures.grown c.self.invariant.placed in
     record {
       placed = subst (ArePlacedIn c.write_noted.new.accesses.cells) (sym c.reserve-2.ensures.items) (placed_grown c.self.inside.accesses.cells c.write_noted.new.accesses.cells c.self.inside.steps.items c.in_err-step.ensures.grown c.self.invariant.placed);
-      sound = same_sound c.self.inside after c.self.invariant.sound refl refl c.reserve.ensures.entries beside c.reserve-3.ensures.items c.in_err-step.ensures.unchanged c.in_err-step.ensures.jobs refl c.in_err-step.ensures.more;
-      shown = subst (Shows c.write_noted.new.accesses) (same_prints c.self.inside after c.reserve.ensures.entries beside c.reserve-3.ensures.items)
+      sound = same_sound c.self.inside after c.self.invariant.sound refl refl c.reserve.ensures.entries beside c.reserve-3.ensures.same c.in_err-step.ensures.unchanged c.in_err-step.ensures.jobs refl c.in_err-step.ensures.more;
+      shown = subst (Shows c.write_noted.new.accesses) (same_prints c.self.inside after c.reserve.ensures.entries beside c.reserve-3.ensures.same)
           (c.in_err-step.ensures.not_noted (kept_prints c.self.inside) (prints_rise c.self.inside c.self.invariant.sound) (print_missing c.self.inside c.self.invariant.sound c.args.number above) c.self.invariant.shown);
     }
 
@@ -46,9 +49,9 @@ invariant_of-self-2 c =
     let v : StepValue = step_value c.write_noted.new.accesses.cells step in
     let accepted : c.insert.new.self.entries ≡ c.self.inside.accepted.entries ++ (c.args.number, c.args.event.now) ∷ [] =
     inserted c.reserve.new.self c.self.inside.accepted.entries c.insert.new.self.entries c.args.number c.in_ok-event.event c.args.event.now c.in_ok-insert.ensures.entries c.reserve.ensures.entries c.in_ok-event.ensures above in
-    let kept : c.push-2.new.self.items ≡ c.self.inside.kept.items ++ c.args.number ∷ [] = c.in_ok-push-2.ensures.items ∙ ap (λ ks. ks ++ c.args.number ∷ []) c.reserve-3.ensures.items in
+    let kept : c.put.new.self.items ≡ c.self.inside.kept.items ++ c.args.number ∷ [] = c.in_ok-put.ensures.ok ∙ ap (with_number c.args.number) c.reserve-3.ensures.same ∙ with_number-last c.args.number c.self.inside.kept.items (kept_below c.self.inside c.self.invariant.sound c.args.number above) in
     let left : c.push.new.self.items ≡ c.self.inside.steps.items ++ Some step ∷ [] = c.in_ok-push.ensures.items ∙ ap (λ ss. ss ++ Some step ∷ []) c.reserve-2.ensures.items in
-    let after : Inside = record c.self.inside { accepted = c.insert.new.self; steps = c.push.new.self; kept = c.push-2.new.self; accesses = c.write_noted.new.accesses; cells = c.write_noted.new.cells; last = c.args.number } in
+    let after : Inside = record c.self.inside { accepted = c.insert.new.self; steps = c.push.new.self; kept = c.put.new.self; accesses = c.write_noted.new.accesses; cells = c.write_noted.new.cells; last = c.args.number } in
     let steps : beside_of after ≡ beside_of c.self.inside ++ Some v ∷ [] =
     ap (named c.write_noted.new.accesses) left ∙ end_grown c.self.inside.accesses c.write_noted.new.accesses c.self.inside.steps.items step c.in_ok-step.ensures.grown c.self.invariant.placed in
     record {
@@ -74,8 +77,8 @@ returns-clause-ok c =
     let above : last_of c.self.inside.accepted.entries < c.args.number = subst (λ (h : HistoryValue). last_of h.timeline.accepted < c.args.number) (sym c.self.view_is) c.requires in
     let accepted : c.insert.new.self.entries ≡ c.self.inside.accepted.entries ++ (c.args.number, c.args.event.now) ∷ [] =
     inserted c.reserve.new.self c.self.inside.accepted.entries c.insert.new.self.entries c.args.number c.in_ok-event.event c.args.event.now c.in_ok-insert.ensures.entries c.reserve.ensures.entries c.in_ok-event.ensures above in
-    let kept : c.push-2.new.self.items ≡ c.self.inside.kept.items ++ c.args.number ∷ [] =
-    c.in_ok-push-2.ensures.items ∙ ap (λ ks. ks ++ c.args.number ∷ []) c.reserve-3.ensures.items in
+    let kept : c.put.new.self.items ≡ c.self.inside.kept.items ++ c.args.number ∷ [] =
+    c.in_ok-put.ensures.ok ∙ ap (with_number c.args.number) c.reserve-3.ensures.same ∙ with_number-last c.args.number c.self.inside.kept.items (kept_below c.self.inside c.self.invariant.sound c.args.number above) in
     (λ i. record { manifest = c.self.inside.graph.manifest; jobs = c.self.inside.opening.jobs; opening = c.self.inside.opening.state; accepted = accepted i; kept = kept i })
     ∙ ap (λ (h : HistoryValue). accepted_as c.args.number c.args.event.now h.timeline) c.self.view_is
 

@@ -11,6 +11,8 @@ use Rattle.rev_history.proofs.NamedLemmas.{named_grown, placed_grown, placed_set
 use Rattle.rev_footprint.specs.Footprint.{footprint}
 use Rattle.rev_history.specs.Timeline.{redo_refusal, placed, is_among}
 use Rattle.std.specs.Vec.{with_item}
+use Rattle.rev_numbers.specs.Value.{with_number}
+use Rattle.rev_numbers.proofs.RisingLemmas.{with_number-apart}
 use Rattle.rev_accesses.specs.Value.{Shows}
 use Rattle.rev_history.specs.declared.history.History.TheInside.{Inside}
 use Rattle.rev_history.proofs.Listed.{print_now, prints_rise, print_apart, put_prints, same_prints}
@@ -37,8 +39,8 @@ invariant_of-self-in_err-step c =
     let beside : beside_of after ≡ beside_of c.self.inside = named_grown c.self.inside.accesses c.write_noted.new.accesses c.self.inside.steps.items c.in_err-step.ensures.grown c.self.invariant.placed in
     record {
       placed = placed_grown c.self.inside.accesses.cells c.write_noted.new.accesses.cells c.self.inside.steps.items c.in_err-step.ensures.grown c.self.invariant.placed;
-      sound = same_sound c.self.inside after c.self.invariant.sound refl refl refl beside c.reserve.ensures.items c.in_err-step.ensures.unchanged c.in_err-step.ensures.jobs refl c.in_err-step.ensures.more;
-      shown = subst (Shows c.write_noted.new.accesses) (same_prints c.self.inside after refl beside c.reserve.ensures.items)
+      sound = same_sound c.self.inside after c.self.invariant.sound refl refl refl beside c.reserve.ensures.same c.in_err-step.ensures.unchanged c.in_err-step.ensures.jobs refl c.in_err-step.ensures.more;
+      shown = subst (Shows c.write_noted.new.accesses) (same_prints c.self.inside after refl beside c.reserve.ensures.same)
           (c.in_err-step.ensures.not_noted (kept_prints c.self.inside) (prints_rise c.self.inside c.self.invariant.sound) (print_apart c.self.inside c.args.number apart) c.self.invariant.shown);
     }
 
@@ -51,8 +53,8 @@ invariant_of-self-2 c =
     let print : c.args.footprint ≡ footprint c.self.inside.graph.manifest c.self.inside.cells.state c.in-Some-get.event.now = print_now c.self.inside c.self.invariant.sound c.args.self.now.timeline (ap (λ (h : HistoryValue). h.timeline) c.self.view_is) c.args.number c.in-Some-get.event.now c.args.footprint c.requires.print at in
     let place : IsPlace c.args.number c.self.inside.accepted.entries c.in-Some.index = place_found c.args.number c.self.inside.accepted.entries c.in-Some.index (sym c.in-Some.ensures.index) in
     let apart : is_among c.self.inside.kept.items c.args.number ≡ false = (is_ready (timeline_of c.self.inside) c.args.number free).apart in
-    let kept : c.put_in.new.numbers.items ≡ placed c.args.number c.self.inside.kept.items = c.in_ok-put_in.ensures.ok ∙ ap (placed c.args.number) c.reserve.ensures.items in
-    let after : Inside = record c.self.inside { steps = with_item c.self.inside.steps c.in-Some.index (Some step); kept = c.put_in.new.numbers; accesses = c.write_noted.new.accesses; cells = c.write_noted.new.cells } in
+    let kept : c.put.new.self.items ≡ placed c.args.number c.self.inside.kept.items = c.in_ok-put.ensures.ok ∙ ap (with_number c.args.number) c.reserve.ensures.same ∙ sym (with_number-apart c.args.number c.self.inside.kept.items apart) in
+    let after : Inside = record c.self.inside { steps = with_item c.self.inside.steps c.in-Some.index (Some step); kept = c.put.new.self; accesses = c.write_noted.new.accesses; cells = c.write_noted.new.cells } in
     let steps : beside_of after ≡ set (beside_of c.self.inside) c.in-Some.index (Some v) = set_grown c.self.inside.accesses c.write_noted.new.accesses c.self.inside.steps.items step c.in_ok-step.ensures.grown c.self.invariant.placed c.in-Some.index in
     record {
       placed = placed_set c.write_noted.new.accesses.cells c.self.inside.steps.items c.in-Some.index (Some step) (placed_grown c.self.inside.accesses.cells c.write_noted.new.accesses.cells c.self.inside.steps.items c.in_ok-step.ensures.grown c.self.invariant.placed) c.in_ok-step.ensures.placed;

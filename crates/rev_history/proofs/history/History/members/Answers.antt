@@ -19,35 +19,35 @@ ok_rises (Ok members) n prints ks rising is = subst IsRising (sym is) (cone_rise
 ok_rises (Err e) n prints ks rising is = is
 
 pub cone-requires-clause-many : goal.cone-requires-clause-many
-cone-requires-clause-many c = ap (λ (xs : List Placed). length xs) c.deref-2.ensures.value ∙ sym (length_named c.self.inside.accesses c.self.inside.steps.items) ∙ as_many c.self.inside c.self.invariant.sound
+cone-requires-clause-many c = ap (λ (xs : List Placed). length xs) c.deref.ensures.value ∙ sym (length_named c.self.inside.accesses c.self.inside.steps.items) ∙ as_many c.self.inside c.self.invariant.sound
 
 pub cone-requires-clause-rising : goal.cone-requires-clause-rising
-cone-requires-clause-rising c = subst IsRising (sym c.deref.ensures.value) c.self.invariant.sound.stepped.rising
+cone-requires-clause-rising c = subst IsRising (sym c.as_slice.ensures.same) c.self.invariant.sound.stepped.rising
 
 pub cone-requires-clause-beside : goal.cone-requires-clause-beside
 cone-requires-clause-beside c =
-    subst (λ (ks : List ℕ). HasFootprints c.self.inside.accepted.entries (named c.self.inside.accesses c.deref-2.result.now) ks) (sym c.deref.ensures.value)
-    (subst (λ (xs : List Placed). HasFootprints c.self.inside.accepted.entries (named c.self.inside.accesses xs) c.self.inside.kept.items) (sym c.deref-2.ensures.value) (all_footprints c.self.inside c.self.invariant.sound))
+    subst (λ (ks : List ℕ). HasFootprints c.self.inside.accepted.entries (named c.self.inside.accesses c.deref.result.now) ks) (sym c.as_slice.ensures.same)
+    (subst (λ (xs : List Placed). HasFootprints c.self.inside.accepted.entries (named c.self.inside.accesses xs) c.self.inside.kept.items) (sym c.deref.ensures.value) (all_footprints c.self.inside c.self.invariant.sound))
 
 pub cone-requires-clause-shown : goal.cone-requires-clause-shown
 cone-requires-clause-shown c =
-    subst (λ (ks : List ℕ). Shows c.self.inside.accesses (chosen (prints_of c.self.inside.accepted.entries (named c.self.inside.accesses c.deref-2.result.now)) ks)) (sym c.deref.ensures.value)
-    (subst (λ (xs : List Placed). Shows c.self.inside.accesses (chosen (prints_of c.self.inside.accepted.entries (named c.self.inside.accesses xs)) c.self.inside.kept.items)) (sym c.deref-2.ensures.value) c.self.invariant.shown)
+    subst (λ (ks : List ℕ). Shows c.self.inside.accesses (chosen (prints_of c.self.inside.accepted.entries (named c.self.inside.accesses c.deref.result.now)) ks)) (sym c.as_slice.ensures.same)
+    (subst (λ (xs : List Placed). Shows c.self.inside.accesses (chosen (prints_of c.self.inside.accepted.entries (named c.self.inside.accesses xs)) c.self.inside.kept.items)) (sym c.deref.ensures.value) c.self.invariant.shown)
 
 pub cone-requires-clause-among : goal.cone-requires-clause-among
 cone-requires-clause-among c =
     let k : IsKept c.args.self.now.timeline c.args.number = some_kept c.args.self.now.timeline c.args.number c.requires in
-    ap (λ (ks : List ℕ). is_among ks c.args.number) (c.deref.ensures.value ∙ ap (λ (h : HistoryValue). h.timeline.kept) c.self.view_is) ∙ k.among
+    ap (λ (ks : List ℕ). is_among ks c.args.number) (c.as_slice.ensures.same ∙ ap (λ (h : HistoryValue). h.timeline.kept) c.self.view_is) ∙ k.among
 
 pub returns-clause-members : goal.returns-clause-members
 returns-clause-members c =
     subst (λ (ns : List ℕ). IfOk c.cone.result (λ members. members.items ≡ ns))
-    (cone_is_found c.self.inside c.self.invariant.sound c.args.self.now.timeline (ap (λ (h : HistoryValue). h.timeline) c.self.view_is) c.args.number c.deref.result.now (named c.self.inside.accesses c.deref-2.result.now) c.deref.ensures.value (ap (named c.self.inside.accesses) c.deref-2.ensures.value) c.requires)
+    (cone_is_found c.self.inside c.self.invariant.sound c.args.self.now.timeline (ap (λ (h : HistoryValue). h.timeline) c.self.view_is) c.args.number c.as_slice.result.now (named c.self.inside.accesses c.deref.result.now) c.as_slice.ensures.same (ap (named c.self.inside.accesses) c.deref.ensures.value) c.requires)
     c.cone.ensures
 
 pub returns-clause-rising : goal.returns-clause-rising
 returns-clause-rising c =
-    ok_rises c.cone.result c.args.number (prints_of c.self.inside.accepted.entries (named c.self.inside.accesses c.deref-2.result.now)) c.deref.result.now (subst IsRising (sym c.deref.ensures.value) c.self.invariant.sound.stepped.rising) c.cone.ensures
+    ok_rises c.cone.result c.args.number (prints_of c.self.inside.accepted.entries (named c.self.inside.accesses c.deref.result.now)) c.as_slice.result.now (subst IsRising (sym c.as_slice.ensures.same) c.self.invariant.sound.stepped.rising) c.cone.ensures
 
 pub returns-clause-legal : goal.returns-clause-legal
 returns-clause-legal c = subst (λ (h : HistoryValue). IsHistory h.timeline) c.self.view_is (history_of c.self.inside c.self.invariant.sound)

@@ -12,7 +12,7 @@ use Rattle.rev_history.proofs.history.History.nearest.Goals as goal
 pub returns-clause-same : goal.returns-clause-same
 returns-clause-same c =
     nearest_found c.self.inside c.self.invariant.sound c.args.self.now.timeline (ap (λ (h : HistoryValue). h.timeline) c.self.view_is) c.args.number c.args.footprint.now c.nearest.result
-    (c.nearest.ensures (kept_prints c.self.inside) (prints_rise c.self.inside c.self.invariant.sound) (prints_numbers c.self.inside c.self.invariant.sound ∙ sym c.deref.ensures.value) c.self.invariant.shown)
+    (c.nearest.ensures (kept_prints c.self.inside) (prints_rise c.self.inside c.self.invariant.sound) (prints_numbers c.self.inside c.self.invariant.sound ∙ sym c.as_slice.ensures.same) c.self.invariant.shown)
 
 pub returns-clause-least : goal.returns-clause-least
 returns-clause-least c = λ k found.

@@ -16,26 +16,26 @@ none-some f h = cc
 
 pub returns-in_err-_place-clause-same : goal.returns-in_err-_place-clause-same
 returns-in_err-_place-clause-same c = λ f at.
-    absurd (none-some f (no_print c.self.inside c.args.self.now.timeline (ap (λ (h : HistoryValue). h.timeline) c.self.view_is) c.args.other c.deref.result.now c.deref.ensures.value c.in_err-_place.ensures.absent ∙ at))
+    absurd (none-some f (no_print c.self.inside c.args.self.now.timeline (ap (λ (h : HistoryValue). h.timeline) c.self.view_is) c.args.other c.as_slice.result.now c.as_slice.ensures.same c.in_err-_place.ensures.absent ∙ at))
 
 pub returns-in_err-step-clause-same : goal.returns-in_err-step-clause-same
 returns-in_err-step-clause-same c = λ f at.
     absurd (none-some f (
-    none_named c.self.inside.accesses c.args.other c.self.inside.accepted.entries c.self.inside.steps.items (c.in_err-step.ensures ∙ ap (λ (xs : List Placed). step_beside c.args.other c.self.inside.accepted.entries xs) c.deref-2.ensures.value)
-    ∙ print_found c.self.inside c.self.invariant.sound c.args.self.now.timeline (ap (λ (h : HistoryValue). h.timeline) c.self.view_is) c.args.other c.deref.result.now (beside_of c.self.inside) c.deref.ensures.value c.in_ok-_place.ensures.among refl
+    none_named c.self.inside.accesses c.args.other c.self.inside.accepted.entries c.self.inside.steps.items (c.in_err-step.ensures ∙ ap (λ (xs : List Placed). step_beside c.args.other c.self.inside.accepted.entries xs) c.deref.ensures.value)
+    ∙ print_found c.self.inside c.self.invariant.sound c.args.self.now.timeline (ap (λ (h : HistoryValue). h.timeline) c.self.view_is) c.args.other c.as_slice.result.now (beside_of c.self.inside) c.as_slice.ensures.same c.in_ok-_place.ensures.among refl
     ∙ at))
 
 found : (c : goal.After-nearest_by) → Some (footprint_at c.self.inside.accesses.cells c.in_ok-step.step.now) ≡ kept_footprint c.args.self.now.timeline c.args.other
 found c =
-    some_named c.self.inside.accesses c.args.other c.self.inside.accepted.entries c.self.inside.steps.items c.in_ok-step.step.now (c.in_ok-step.ensures ∙ ap (λ (xs : List Placed). step_beside c.args.other c.self.inside.accepted.entries xs) c.deref-2.ensures.value)
-    ∙ print_found c.self.inside c.self.invariant.sound c.args.self.now.timeline (ap (λ (h : HistoryValue). h.timeline) c.self.view_is) c.args.other c.deref.result.now (beside_of c.self.inside) c.deref.ensures.value c.in_ok-_place.ensures.among refl
+    some_named c.self.inside.accesses c.args.other c.self.inside.accepted.entries c.self.inside.steps.items c.in_ok-step.step.now (c.in_ok-step.ensures ∙ ap (λ (xs : List Placed). step_beside c.args.other c.self.inside.accepted.entries xs) c.deref.ensures.value)
+    ∙ print_found c.self.inside c.self.invariant.sound c.args.self.now.timeline (ap (λ (h : HistoryValue). h.timeline) c.self.view_is) c.args.other c.as_slice.result.now (beside_of c.self.inside) c.as_slice.ensures.same c.in_ok-_place.ensures.among refl
 
 pub returns-clause-same : goal.returns-clause-same
 returns-clause-same c = λ f at.
     let one : Some (footprint_at c.self.inside.accesses.cells c.in_ok-step.step.now) ≡ Some f = found c ∙ at in
     let same : footprint_at c.self.inside.accesses.cells c.in_ok-step.step.now ≡ f = cc in
     nearest_found c.self.inside c.self.invariant.sound c.args.self.now.timeline (ap (λ (h : HistoryValue). h.timeline) c.self.view_is) c.args.number f c.nearest_by.result
-    (c.nearest_by.ensures (kept_prints c.self.inside) (prints_rise c.self.inside c.self.invariant.sound) (prints_numbers c.self.inside c.self.invariant.sound ∙ sym c.deref-3.ensures.value) c.self.invariant.shown
+    (c.nearest_by.ensures (kept_prints c.self.inside) (prints_rise c.self.inside c.self.invariant.sound) (prints_numbers c.self.inside c.self.invariant.sound ∙ sym c.as_slice-2.ensures.same) c.self.invariant.shown
     ∙ ap (λ (g : FootprintValue). nearest_in cell_cmp c.args.number (print_of g) (kept_prints c.self.inside)) same)
 
 pub returns-clause-none : goal.returns-clause-none

@@ -21,21 +21,21 @@ matched_places-requires-clause-equality c = equal_events_are_one
 
 pub matched_places-requires-clause-within : goal.matched_places-requires-clause-within
 matched_places-requires-clause-within c =
-    subst (λ (ks : List ℕ). AllByRecursion (λ n. n ≤ c.self.inside.last) ks) (sym c.deref.ensures.value) (kept_within c.self.inside c.self.invariant.sound)
+    subst (λ (ks : List ℕ). AllByRecursion (λ n. n ≤ c.self.inside.last) ks) (sym c.as_slice.ensures.same) (kept_within c.self.inside c.self.invariant.sound)
 
 pub first_pair-requires-clause-beside : goal.first_pair-requires-clause-beside
 first_pair-requires-clause-beside c =
-    subst₂ (λ (xs : List Placed). HasFootprints c.self.inside.accepted.entries (named c.self.inside.accesses xs)) (sym c.deref-in-Some-3.ensures.value) (sym c.deref-in-Some-2.ensures.value) (all_footprints c.self.inside c.self.invariant.sound)
+    subst₂ (λ (xs : List Placed). HasFootprints c.self.inside.accepted.entries (named c.self.inside.accesses xs)) (sym c.deref-in-Some.ensures.value) (sym c.as_slice-in-Some.ensures.same) (all_footprints c.self.inside c.self.invariant.sound)
 
 pub returns-in-Some : goal.returns-in-Some
 returns-in-Some c =
     let a = c.self.inside in
     let b = c.other.inside in
-    let found : ArePlacesOf event_eq (chosen a.accepted.entries c.deref.result.now) (bare (chosen b.accepted.entries c.deref-2.result.now)) c.in-Some.places.items =
-    subst (λ (o : Option (Vec ℕ)). MatchedPlaces event_eq (chosen a.accepted.entries c.deref.result.now) (bare (chosen b.accepted.entries c.deref-2.result.now)) (option_map (λ v. v.items) o)) c.in-Some.is c.in_ok-matched.ensures in
+    let found : ArePlacesOf event_eq (chosen a.accepted.entries c.as_slice.result.now) (bare (chosen b.accepted.entries c.as_slice-2.result.now)) c.in-Some.places.items =
+    subst (λ (o : Option (Vec ℕ)). MatchedPlaces event_eq (chosen a.accepted.entries c.as_slice.result.now) (bare (chosen b.accepted.entries c.as_slice-2.result.now)) (option_map (λ v. v.items) o)) c.in-Some.is c.in_ok-matched.ensures in
     pair_found a b c.args.self.now.timeline c.args.other.now.timeline c.self.invariant.sound
     (ap (λ (h : HistoryValue). h.timeline) c.self.view_is) (ap (λ (h : HistoryValue). h.timeline) c.other.view_is) c.in-Some.places.items
-    (subst₂ (λ (ks ls : List ℕ). ArePlacesOf event_eq (chosen a.accepted.entries ks) (bare (chosen b.accepted.entries ls)) c.in-Some.places.items) c.deref.ensures.value c.deref-2.ensures.value found)
+    (subst₂ (λ (ks ls : List ℕ). ArePlacesOf event_eq (chosen a.accepted.entries ks) (bare (chosen b.accepted.entries ls)) c.in-Some.places.items) c.as_slice.ensures.same c.as_slice-2.ensures.same found)
     (answer_of c.first_pair.result)
     (c.first_pair.ensures
-    ∙ (λ i. pair_answer (turned_pair (conflict cell_cmp) (c.deref-in-Some.ensures.value i) (chosen (prints_of a.accepted.entries (named a.accesses (c.deref-in-Some-3.ensures.value i))) (c.deref-in-Some-2.ensures.value i)))))
+    ∙ (λ i. pair_answer (turned_pair (conflict cell_cmp) (c.deref.ensures.value i) (chosen (prints_of a.accepted.entries (named a.accesses (c.deref-in-Some.ensures.value i))) (c.as_slice-in-Some.ensures.same i)))))

@@ -24,26 +24,26 @@ put_back-requires c = record {
 
 pub invariant_of-self : goal.invariant_of-self
 invariant_of-self c =
-    let after : Inside = record c.self.inside { steps = c.put_back.new.steps; kept = c.take_out.new.numbers; accesses = c.thin_lists.new.accesses; cells = c.put_back.new.cells } in
+    let after : Inside = record c.self.inside { steps = c.put_back.new.steps; kept = c.take.new.self; accesses = c.thin_lists.new.accesses; cells = c.put_back.new.cells } in
     let w : IsWithout c.self.inside after c.args.number =
     c.put_back.ensures c.self.inside after (record { accepted = refl; steps = refl; cells = refl }) c.self.invariant.sound
     (ap (λ (h : HistoryValue). undo_refusal h.timeline c.args.number) c.self.view_is ∙ c.requires)
-    (record { places = c.thin_lists.ensures.cells; graph = refl; opening = refl; last = refl }) (record { accepted = refl; steps = refl; cells = refl }) c.take_out.ensures in
+    (record { places = c.thin_lists.ensures.cells; graph = refl; opening = refl; last = refl }) (record { accepted = refl; steps = refl; cells = refl }) c.take.ensures in
     listed_without c.self.inside after (c.args.number ∷ []) c.self.invariant w.sound c.thin_lists.ensures.cells w.placed w.prints c.thin_lists.ensures.thinned
     (λ n f among at. c.thin_lists.ensures.gone n f among (ap (λ (xs : List Placed). event_at n (prints_of c.self.inside.accepted.entries (named c.self.inside.accesses xs))) c.deref.ensures.value ∙ at))
 
 pub returns-clause-timeline : goal.returns-clause-timeline
 returns-clause-timeline c =
-    let after : Inside = record c.self.inside { steps = c.put_back.new.steps; kept = c.take_out.new.numbers; accesses = c.thin_lists.new.accesses; cells = c.put_back.new.cells } in
+    let after : Inside = record c.self.inside { steps = c.put_back.new.steps; kept = c.take.new.self; accesses = c.thin_lists.new.accesses; cells = c.put_back.new.cells } in
     (c.put_back.ensures c.self.inside after (record { accepted = refl; steps = refl; cells = refl }) c.self.invariant.sound
     (ap (λ (h : HistoryValue). undo_refusal h.timeline c.args.number) c.self.view_is ∙ c.requires)
-    (record { places = c.thin_lists.ensures.cells; graph = refl; opening = refl; last = refl }) (record { accepted = refl; steps = refl; cells = refl }) c.take_out.ensures).timeline
+    (record { places = c.thin_lists.ensures.cells; graph = refl; opening = refl; last = refl }) (record { accepted = refl; steps = refl; cells = refl }) c.take.ensures).timeline
     ∙ ap (λ (h : HistoryValue). undone c.args.number h.timeline) c.self.view_is
 
 pub returns-clause-writes : goal.returns-clause-writes
 returns-clause-writes c =
-    let after : Inside = record c.self.inside { steps = c.put_back.new.steps; kept = c.take_out.new.numbers; accesses = c.thin_lists.new.accesses; cells = c.put_back.new.cells } in
+    let after : Inside = record c.self.inside { steps = c.put_back.new.steps; kept = c.take.new.self; accesses = c.thin_lists.new.accesses; cells = c.put_back.new.cells } in
     (c.put_back.ensures c.self.inside after (record { accepted = refl; steps = refl; cells = refl }) c.self.invariant.sound
     (ap (λ (h : HistoryValue). undo_refusal h.timeline c.args.number) c.self.view_is ∙ c.requires)
-    (record { places = c.thin_lists.ensures.cells; graph = refl; opening = refl; last = refl }) (record { accepted = refl; steps = refl; cells = refl }) c.take_out.ensures).writes
+    (record { places = c.thin_lists.ensures.cells; graph = refl; opening = refl; last = refl }) (record { accepted = refl; steps = refl; cells = refl }) c.take.ensures).writes
     ∙ ap (λ (h : HistoryValue). raised_by (cells_written c.args.number h.timeline) h.writes) c.self.view_is

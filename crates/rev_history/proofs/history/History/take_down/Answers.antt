@@ -24,19 +24,19 @@ put_all_back-requires c = record {
 
 pub invariant_of-self : goal.invariant_of-self
 invariant_of-self c =
-    let after : Inside = record c.self.inside { steps = c.put_all_back.new.steps; kept = c.take_all_out.new.numbers; accesses = c.thin_lists.new.accesses; cells = c.put_all_back.new.cells } in
+    let after : Inside = record c.self.inside { steps = c.put_all_back.new.steps; kept = c.take_all.new.self; accesses = c.thin_lists.new.accesses; cells = c.put_all_back.new.cells } in
     let w : IsWithoutCone c.self.inside after c.args.number c.args.members.now =
     c.put_all_back.ensures c.self.inside after c.args.number (record { accepted = refl; steps = refl; cells = refl }) c.self.invariant.sound
     (c.requires.members ∙ ap (λ (h : HistoryValue). cone_numbers c.args.number h.timeline) (sym c.self.view_is))
-    (record { places = c.thin_lists.ensures.cells; graph = refl; opening = refl; last = refl }) (record { accepted = refl; steps = refl; cells = refl }) c.take_all_out.ensures in
+    (record { places = c.thin_lists.ensures.cells; graph = refl; opening = refl; last = refl }) (record { accepted = refl; steps = refl; cells = refl }) c.take_all.ensures in
     listed_without c.self.inside after c.args.members.now c.self.invariant w.sound c.thin_lists.ensures.cells w.placed w.prints c.thin_lists.ensures.thinned
     (λ n f among at. c.thin_lists.ensures.gone n f among (ap (λ (xs : List Placed). event_at n (prints_of c.self.inside.accepted.entries (named c.self.inside.accesses xs))) c.deref.ensures.value ∙ at))
 
 pub returns : goal.returns
 returns c =
-    let after : Inside = record c.self.inside { steps = c.put_all_back.new.steps; kept = c.take_all_out.new.numbers; accesses = c.thin_lists.new.accesses; cells = c.put_all_back.new.cells } in
+    let after : Inside = record c.self.inside { steps = c.put_all_back.new.steps; kept = c.take_all.new.self; accesses = c.thin_lists.new.accesses; cells = c.put_all_back.new.cells } in
     let w : IsWithoutCone c.self.inside after c.args.number c.args.members.now =
     c.put_all_back.ensures c.self.inside after c.args.number (record { accepted = refl; steps = refl; cells = refl }) c.self.invariant.sound
     (c.requires.members ∙ ap (λ (h : HistoryValue). cone_numbers c.args.number h.timeline) (sym c.self.view_is))
-    (record { places = c.thin_lists.ensures.cells; graph = refl; opening = refl; last = refl }) (record { accepted = refl; steps = refl; cells = refl }) c.take_all_out.ensures in
+    (record { places = c.thin_lists.ensures.cells; graph = refl; opening = refl; last = refl }) (record { accepted = refl; steps = refl; cells = refl }) c.take_all.ensures in
     w.timeline ∙ ap (λ (h : HistoryValue). coned c.args.number h.timeline) c.self.view_is

@@ -10,25 +10,25 @@ use Rattle.rev_history.proofs.history.History.undo_refused.Goals as goal
 
 pub unreachable-requires : goal.unreachable-requires
 unreachable-requires c =
-    has_print c.self.inside c.self.invariant.sound c.args.number (subst (λ (ks : List ℕ). is_among ks c.args.number ≡ true) c.deref.ensures.value c.in-Some.ensures.among)
+    has_print c.self.inside c.self.invariant.sound c.args.number (subst (λ (ks : List ℕ). is_among ks c.args.number ≡ true) c.as_slice.ensures.same c.in-Some.ensures.among)
     (none_named c.self.inside.accesses c.args.number c.self.inside.accepted.entries c.self.inside.steps.items
-    (c.in_default-step_of.ensures ∙ ap (λ (xs : List Placed). step_beside c.args.number c.self.inside.accepted.entries xs) c.deref-2.ensures.value))
+    (c.in_default-step_of.ensures ∙ ap (λ (xs : List Placed). step_beside c.args.number c.self.inside.accepted.entries xs) c.deref.ensures.value))
 
 pub returns-in_err-dependent : goal.returns-in_err-dependent
 returns-in_err-dependent c =
     let some : IsSome (event_at c.args.self.now.timeline c.args.number) = search rules in
     let f = footprint_at c.self.inside.accesses.cells c.in-Some-step_of.step.now in
     c.from_residual.ensures
-    ∙ undo_refusal_found c.self.inside c.self.invariant.sound c.args.self.now.timeline (ap (λ (h : HistoryValue). h.timeline) c.self.view_is) c.args.number f c.deref.result.now (beside_of c.self.inside)
-    c.deref.ensures.value c.in-Some.ensures.among refl (some_named c.self.inside.accesses c.args.number c.self.inside.accepted.entries c.self.inside.steps.items c.in-Some-step_of.step.now (c.in-Some-step_of.ensures ∙ ap (λ (xs : List Placed). step_beside c.args.number c.self.inside.accepted.entries xs) c.deref-2.ensures.value)) some None
+    ∙ undo_refusal_found c.self.inside c.self.invariant.sound c.args.self.now.timeline (ap (λ (h : HistoryValue). h.timeline) c.self.view_is) c.args.number f c.as_slice.result.now (beside_of c.self.inside)
+    c.as_slice.ensures.same c.in-Some.ensures.among refl (some_named c.self.inside.accesses c.args.number c.self.inside.accepted.entries c.self.inside.steps.items c.in-Some-step_of.step.now (c.in-Some-step_of.ensures ∙ ap (λ (xs : List Placed). step_beside c.args.number c.self.inside.accepted.entries xs) c.deref.ensures.value)) some None
     (nearest_found c.self.inside c.self.invariant.sound c.args.self.now.timeline (ap (λ (h : HistoryValue). h.timeline) c.self.view_is) c.args.number f None
-    (c.in_err-dependent.ensures (kept_prints c.self.inside) (prints_rise c.self.inside c.self.invariant.sound) (prints_numbers c.self.inside c.self.invariant.sound ∙ sym c.deref-3.ensures.value) c.self.invariant.shown))
+    (c.in_err-dependent.ensures (kept_prints c.self.inside) (prints_rise c.self.inside c.self.invariant.sound) (prints_numbers c.self.inside c.self.invariant.sound ∙ sym c.as_slice-2.ensures.same) c.self.invariant.shown))
 
 pub returns : goal.returns
 returns c =
     let some : IsSome (event_at c.args.self.now.timeline c.args.number) = search rules in
     let f = footprint_at c.self.inside.accesses.cells c.in-Some-step_of.step.now in
-    undo_refusal_found c.self.inside c.self.invariant.sound c.args.self.now.timeline (ap (λ (h : HistoryValue). h.timeline) c.self.view_is) c.args.number f c.deref.result.now (beside_of c.self.inside)
-    c.deref.ensures.value c.in-Some.ensures.among refl (some_named c.self.inside.accesses c.args.number c.self.inside.accepted.entries c.self.inside.steps.items c.in-Some-step_of.step.now (c.in-Some-step_of.ensures ∙ ap (λ (xs : List Placed). step_beside c.args.number c.self.inside.accepted.entries xs) c.deref-2.ensures.value)) some (Some c.in_ok-dependent.dependent)
+    undo_refusal_found c.self.inside c.self.invariant.sound c.args.self.now.timeline (ap (λ (h : HistoryValue). h.timeline) c.self.view_is) c.args.number f c.as_slice.result.now (beside_of c.self.inside)
+    c.as_slice.ensures.same c.in-Some.ensures.among refl (some_named c.self.inside.accesses c.args.number c.self.inside.accepted.entries c.self.inside.steps.items c.in-Some-step_of.step.now (c.in-Some-step_of.ensures ∙ ap (λ (xs : List Placed). step_beside c.args.number c.self.inside.accepted.entries xs) c.deref.ensures.value)) some (Some c.in_ok-dependent.dependent)
     (nearest_found c.self.inside c.self.invariant.sound c.args.self.now.timeline (ap (λ (h : HistoryValue). h.timeline) c.self.view_is) c.args.number f (Some c.in_ok-dependent.dependent)
-    (c.in_ok-dependent.ensures (kept_prints c.self.inside) (prints_rise c.self.inside c.self.invariant.sound) (prints_numbers c.self.inside c.self.invariant.sound ∙ sym c.deref-3.ensures.value) c.self.invariant.shown))
+    (c.in_ok-dependent.ensures (kept_prints c.self.inside) (prints_rise c.self.inside c.self.invariant.sound) (prints_numbers c.self.inside c.self.invariant.sound ∙ sym c.as_slice-2.ensures.same) c.self.invariant.shown))

@@ -3,7 +3,7 @@ use Rattle.std.specs.Ordering.{eq_by_cmp}
 use Rattle.rev_cells.specs.declared.cell.Cell.{Cell}
 use Rattle.rev_cells.specs.Keys.{cell_cmp}
 use Rattle.rev_cells.proofs.EntryLemmas.{cell_eq-is}
-use Rattle.rev_history.proofs.KeptLemmas.{none_here, some_here}
+use Rattle.rev_footprint.proofs.ConflictLemmas.{none_here, some_here}
 use Rattle.rev_history.proofs.kept.KeptCells.has.Goals as goal
 
 pub returns-then-eq : goal.returns-then-eq

@@ -1,5 +1,5 @@
 use Rattle.std.proofs.Common.{◌∙◌}
-use Rattle.rev_history.proofs.KeptLemmas.{accessed_read}
+use Rattle.rev_footprint.proofs.ConflictLemmas.{accessed_read}
 use Rattle.rev_history.proofs.kept.KeptFootprint.has.Goals as goal
 
 pub returns : goal.returns
