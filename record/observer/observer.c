@@ -426,7 +426,10 @@ static bool enter_without_path(pid_t pid, struct task *t, const struct rule *r, 
     case SPAWN:
         t->clone_flags = c.flags & SPACES;
         if (c.flags & SPACES) is_plain = false;
-        if (c.flags & UNTRACED) tell(pid, (struct call){.kind = UNKNOWN}, 0);
+        if (c.flags & UNTRACED) { /* a process that cannot be observed, as those are that trace their maker */
+            tell(pid, (struct call){.kind = UNKNOWN}, 0);
+            tell(pid, (struct call){.kind = TRACE, .result = -EPERM}, 0);
+        }
         return true;
     case LIST: {
         ssize_t n = behind(pid, (int)a[0], whole);
