@@ -115,4 +115,5 @@ class Room:
         ran = subprocess.run(line, stdin=subprocess.DEVNULL, stdout=subprocess.PIPE, stderr=subprocess.STDOUT,
                              env={**os.environ, **environment}, timeout=timeout)
         observed = out / "observed"
-        return Build(folder, ran.returncode, os.fsdecode(ran.stdout), read_observed(observed) if observed.exists() else {})
+        commands = read_observed(observed) if observed.exists() else {}
+        return Build(folder, ran.returncode, os.fsdecode(ran.stdout), commands)

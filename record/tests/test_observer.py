@@ -43,8 +43,9 @@ class Reading(unittest.TestCase):
         return list(records.events()), records
 
     def test_texts_calls_commands_and_events(self):
-        events, records = self.read(self.LINE + self.FIRST + block(calls=[(2, 0, 0, 0, 0, 0, 0), (0, 0, 512, 0, 0, 0, 0)],
-                                                                   events=[(7, 5, 9, 8), (9, 4, -15, 9), (7, 4, 0, 9)]))
+        second = block(calls=[(2, 0, 0, 0, 0, 0, 0), (0, 0, 512, 0, 0, 0, 0)],
+                       events=[(7, 5, 9, 8), (9, 4, -15, 9), (7, 4, 0, 9)])
+        events, records = self.read(self.LINE + self.FIRST + second)
         self.assertTrue(records.is_whole)
         self.assertEqual(records.began, 1764200000000)
         told = [(process, it.kind, whole(it), it.other, it.flags, it.result, it.command) for process, it in events]
@@ -293,7 +294,8 @@ class Nothing(unittest.TestCase):
 
     def test_a_signal_from_outside(self):
         for number in (signal.SIGINT, signal.SIGTERM, signal.SIGHUP):
-            log = self.run_shell(f"trap 'exit 9' {number.value}; echo; while :; do sleep 0.05; done", stdout=subprocess.PIPE)
+            script = f"trap 'exit 9' {number.value}; echo; while :; do sleep 0.05; done"
+            log = self.run_shell(script, stdout=subprocess.PIPE)
             with log.process.stdout as said:
                 said.readline()
             log.process.send_signal(number)
