@@ -1,5 +1,5 @@
-"""SIGINT, SIGTERM and SIGHUP at any moment of a recording, observed and not: the build ends as it would without, nothing
-is left behind, and what is recorded is whole.
+"""SIGINT, SIGTERM and SIGHUP at any moment of a recording, observed and not: the build ends as it would without, no
+process stays behind, and what is recorded is whole.
 
 REBUG_SIGNALS is the number of runs of each kind (12, if it is not set).
 """
@@ -22,8 +22,8 @@ from observing import Room, read_observed, refusal
 RUNS = int(os.environ.get("REBUG_SIGNALS", "12"))
 SIGNALS = (signal.SIGINT, signal.SIGTERM, signal.SIGHUP)
 SOME = 16
-MANIFEST = ("rule c\n  command = for i in 1 2 3; do cat a > $out.new; sleep 0.02; done; cat b >> $out.new; mv $out.new $out\n"
-            + "".join(f"build o{it}: c a\n" for it in range(SOME)))
+MANIFEST = ("rule c\n  command = for i in 1 2 3; do cat a > $out.new; sleep 0.02; done; cat b >> $out.new; "
+            "mv $out.new $out\n" + "".join(f"build o{it}: c a\n" for it in range(SOME)))
 WITHOUT_NINJA = builds.missing_tools("ninja")
 
 

@@ -34,14 +34,14 @@ rule keep
 build names.txt: generate one two gone | generate.py
   command = ./generate.py names.txt one two gone
 build packed: sh names.txt
-  cmd = tar cf packed names.txt parts && mkdir -p un && tar xf packed -C un && find un -name '*.txt' | xargs cat > un/all
+  cmd = tar cf packed names.txt parts && mkdir -p un && tar xf packed -C un && find un -name '*.txt' | xargs cat > all
 build kept.txt: keep one
 build edited: sh packed
-  cmd = cp one edited && sed -i s/1/2/ edited && echo more >> edited && rm -f nothing un/all
+  cmd = cp one edited && sed -i s/1/2/ edited && echo more >> edited && rm -f nothing all
 build linked: sh edited
   cmd = ln -sf edited link && ln -f edited hard && cat link hard > linked && mv link other && test -e link || true
 build sub: sh | linked
-  cmd = (cd parts && cat ../one x.txt > ../sub) && for i in 1 2 3; do cat one > t$$i & done; wait; cat t1 t2 t3 >> sub; rm t?
+  cmd = (cd parts && cat ../one x.txt > ../sub); for i in 1 2 3; do cat one > t$$i & done; wait; cat t? >> sub; rm t?
 build inner: sh | sub
   cmd = ninja -f inner.ninja --quiet && touch inner
 build all: phony names.txt packed kept.txt edited linked sub inner
@@ -82,7 +82,8 @@ def by_hand(folder: pathlib.Path) -> pathlib.Path:
 
 def by_cmake(folder: pathlib.Path) -> pathlib.Path:
     """A project of CMake's."""
-    return _generated(folder, "CMakeLists.txt", projects.CMAKE, "cmake", "-G", "Ninja", "-S", "src \u00fc", "-B", "b\u00fcild it")
+    words = ("cmake", "-G", "Ninja", "-S", "src \u00fc", "-B", "b\u00fcild it")
+    return _generated(folder, "CMakeLists.txt", projects.CMAKE, *words)
 
 
 def by_meson(folder: pathlib.Path) -> pathlib.Path:
