@@ -101,8 +101,8 @@ def _generated(folder: pathlib.Path, name: str, text: str, *words: str) -> pathl
 
 
 def _without_chance(paths: set[bytes]) -> list[bytes]:
-    """The names of temporaries without what ar and Python choose by chance."""
-    return sorted(re.sub(rb"\b(st|tmp)\w{6,8}$", rb"\1", it) for it in paths)
+    """The names of temporaries without what ar, sed and Python choose by chance."""
+    return sorted(re.sub(rb"\b(st|tmp|sed)\w{6,8}$", rb"\1", it) for it in paths)
 
 
 @unittest.skipIf(REFUSED, REFUSED)
