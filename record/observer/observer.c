@@ -433,8 +433,9 @@ static bool enter_without_path(pid_t pid, struct task *t, const struct rule *r, 
         return true;
     case LIST: {
         ssize_t n = behind(pid, (int)a[0], whole);
-        c.folder = n > 0 ? text(whole, (size_t)n) : 0;
-        if (n > 0) tell(pid, c, 0);
+        if (n <= 0 || !strncmp(whole, "/proc/", 6)) return true;
+        c.folder = text(whole, (size_t)n);
+        tell(pid, c, 0);
         return true;
     }
     case OTHER_USER: /* a user without rights stays what it is */
