@@ -88,7 +88,8 @@ class Log:
 def observed(observer: Observer, words: Sequence[str | bytes | pathlib.Path], folder: pathlib.Path,
              before: Callable[[], None] | None = None, output: bool = False) -> Observed:
     """Runs the words in the folder to their end."""
-    log = Log(observer, words, cwd=folder, preexec_fn=before, stdout=subprocess.PIPE if output else subprocess.DEVNULL)
+    log = Log(observer, words, cwd=folder, preexec_fn=before, stderr=subprocess.DEVNULL,
+              stdout=subprocess.PIPE if output else subprocess.DEVNULL)
     events = log.events()
     said = log.process.stdout.read() if log.process.stdout else b""
     if log.process.stdout:

@@ -1,7 +1,7 @@
 """SIGINT, SIGTERM and SIGHUP at any moment of a recording, observed and not: the build ends as it would without, no
 process stays behind, and what is recorded is whole.
 
-REBUG_SIGNALS is the number of runs of each kind (12, if it is not set).
+REBUG_SIGNALS is the number of runs of each kind (6, if it is not set).
 """
 
 import os
@@ -19,7 +19,7 @@ import unittest
 import builds
 from observing import Room, read_observed, refusal
 
-RUNS = int(os.environ.get("REBUG_SIGNALS", "12"))
+RUNS = int(os.environ.get("REBUG_SIGNALS", "6"))
 SIGNALS = (signal.SIGINT, signal.SIGTERM, signal.SIGHUP)
 SOME = 16
 MANIFEST = ("rule c\n  command = for i in 1 2 3; do cat a > $out.new; sleep 0.02; done; cat b >> $out.new; "
