@@ -2,7 +2,8 @@
 
 `due` has a line for each look of a command at what another command leaves: the edge, the kinds of which one is due (by
 the day: who asks first misses what who asks later reads), and the path. Other looks at what others leave are not due.
-`changes` has what each command leaves, where that is more than its own outputs.
+`changes` has what each command leaves, where that is more than its own outputs; a temporary that another command took
+away first is left, as far as its own command knows.
 """
 
 from __future__ import annotations
@@ -73,7 +74,7 @@ PROJECTS = (
     Project("one_temporary", "two commands have one temporary file",
             "build a.out: shell\n  do = echo a > work.tmp; cat work.tmp > a.out; rm -f work.tmp\n"
             "build b.out: shell\n  do = echo b > work.tmp; cat work.tmp > b.out; rm -f work.tmp\n",
-            changes=("a.out temps work.tmp", "b.out temps work.tmp")),
+            changes=("a.out temps|writes work.tmp", "b.out temps|writes work.tmp")),
     Project("change_in_place", "a command changes another's output in place, and a third reads it at any time",
             "build lib.txt: shell\n  do = echo library > lib.txt\n"
             "build strip.stamp: shell lib.txt\n  do = echo stripped >> lib.txt; touch strip.stamp\n"

@@ -52,11 +52,11 @@ class Cases:
             looks = {kind for kind in LOOKS if path in getattr(commands[user], kind)}
             self.assertTrue(looks & set(kinds.decode().split("|")), f"{project.name}: {user} {path}: {looks}")
             due.add((user, path))
-        for maker, kind, path in (it.encode().split(b" ") for it in project.changes):
-            self.assertIn(path, getattr(commands[maker], kind.decode()), f"{project.name}: {maker}")
+        for maker, kinds, path in (it.encode().split(b" ") for it in project.changes):
+            left = {kind for kind in LEAVES if path in getattr(commands[maker], kind)}
+            self.assertTrue(left & set(kinds.decode().split("|")), f"{project.name}: {maker} {path}: {left}")
         for edge, its in commands.items():
-            self.assertIn(edge, its.writes)
-            self.assertEqual(its.flags, set())
+            self.assertEqual((edge in its.writes, its.flags), ((found.folder / os.fsdecode(edge)).exists(), set()))
         self.assertLessEqual(conflicts(commands), due)
 
 
