@@ -16,6 +16,7 @@ _rebug() {
     races) COMPREPLY=($(compgen -W "--all --json --mend --witness" -- "$word")) ;;
     ask) COMPREPLY=($(compgen -W "--json" -- "$word")) ;;
     picture) COMPREPLY=($(compgen -W "--html --event" -- "$word")) ;;
+    record) COMPREPLY=($(compgen -W "--check --rebug --help -j --jobs-as-run --lanes --anyway --force --verbose --observe --observe=if-possible --observer --keep-log" -- "$word")) ;;
     -*) COMPREPLY=($(compgen -W "--try --manifest --trace --script --workers --migrate --help --version" -- "$word")) ;;
   esac
 }

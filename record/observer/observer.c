@@ -289,15 +289,7 @@ static bool copy(pid_t pid, uint64_t at, void *to, size_t length) {
     at &= ((uint64_t)1 << 56) - 1;
 #endif
     struct iovec here = {to, length}, there = {(void *)(uintptr_t)at, length};
-    if (process_vm_readv(pid, &here, 1, &there, 1, 0) == (ssize_t)length) return true;
-    for (size_t i = 0; errno == EPERM && i < length; i += sizeof(long)) { /* a process that lets nobody read it */
-        errno = 0;
-        long word = ptrace(PTRACE_PEEKDATA, pid, at + i, 0);
-        if (errno) return false;
-        memcpy((char *)to + i, &word, length - i < sizeof word ? length - i : sizeof word);
-        errno = EPERM;
-    }
-    return errno == EPERM;
+    return process_vm_readv(pid, &here, 1, &there, 1, 0) == (ssize_t)length;
 }
 /* A path as a process gave it: its length, -1 where it cannot be read or is longer than a path may be. */
 static ssize_t path_at(pid_t pid, uint64_t at, char *to) {
@@ -342,6 +334,7 @@ enum place { TOLD, NOWHERE, HIDDEN };
 /* Where a call's path leads: numbers of its folder (0: the path is absolute) and path, and both joined in `whole`. */
 static enum place place(pid_t pid, int descriptor, uint64_t at, uint32_t *folder, uint32_t *path, char *whole) {
     static char given[PATH_MAX + 512];
+    errno = 0;
     ssize_t n = at ? path_at(pid, at, given) : 0, begin = 0;
     if (n < 0) return errno == EPERM ? HIDDEN : NOWHERE;
     given[n] = 0;
@@ -433,12 +426,16 @@ static bool enter_without_path(pid_t pid, struct task *t, const struct rule *r, 
     case SPAWN:
         t->clone_flags = c.flags & SPACES;
         if (c.flags & SPACES) is_plain = false;
-        if (c.flags & UNTRACED) tell(pid, (struct call){.kind = UNKNOWN}, 0);
+        if (c.flags & UNTRACED) { /* a process that cannot be observed, as those are that trace their maker */
+            tell(pid, (struct call){.kind = UNKNOWN}, 0);
+            tell(pid, (struct call){.kind = TRACE, .result = -EPERM}, 0);
+        }
         return true;
     case LIST: {
         ssize_t n = behind(pid, (int)a[0], whole);
-        c.folder = n > 0 ? text(whole, (size_t)n) : 0;
-        if (n > 0) tell(pid, c, 0);
+        if (n <= 0 || !strncmp(whole, "/proc/", 6)) return true;
+        c.folder = text(whole, (size_t)n);
+        tell(pid, c, 0);
         return true;
     }
     case OTHER_USER: /* a user without rights stays what it is */

@@ -120,17 +120,26 @@ def _recording_words() -> argparse.ArgumentParser:
     return words
 
 
+def told_words() -> list[tuple[str, str | None, str]]:
+    """The words of a recording that stand in front of `--`, each with the name of its value, or None, and its meaning."""
+    found = []
+    for action in _recording_words()._actions:
+        for word in action.option_strings[-1:]:
+            found.append((word, action.metavar if isinstance(action.metavar, str) else None, action.help or ""))
+    return found
+
+
 def _add_observing_words(words: argparse.ArgumentParser) -> None:
     group = words.add_argument_group("what commands read and write")
     group.add_argument("--observe", action="store_const", const=ALWAYS,
-                       help="observe which files each command reads and writes, declared or not, and write them to "
-                            "`observed`; where that cannot be done Ninja is not run")
+                       help="observe which files each command reads and writes, declared or not, and write them to the "
+                            "recording's file observed; where that cannot be done Ninja is not run")
     group.add_argument("--observe=if-possible", dest="observe", action="store_const", const=IF_POSSIBLE,
                        help="the same, but where that cannot be done record without")
     group.add_argument("--observer", metavar="NAME", choices=list(OBSERVERS),
-                       help=f"the program that observes: {' or '.join(OBSERVERS)}; else the first that can be used")
+                       help=f"the program that observes, {' or '.join(OBSERVERS)}; else the first that can be used")
     group.add_argument("--keep-log", action="store_true",
-                       help="keep what the observer wrote, too, in `observed-log`: it is large")
+                       help="keep what the observer wrote, too, as observed-log, which is large")
 
 
 def read_words(words: Sequence[str]) -> Options | Checking:

@@ -24,12 +24,12 @@ class NotBuilt(Exception):
 
 
 class Own:
-    """The observer of record/observer."""
+    """The observer of record/observer. `program` names one that is built already."""
 
     name = b"ptrace"
 
-    def __init__(self):
-        self.unread, self._program = 0, None
+    def __init__(self, program: pathlib.Path | None = None):
+        self.unread, self._program = 0, program
 
     def program(self) -> pathlib.Path:
         """The program, which is built at the first use. Raises NotBuilt where it cannot be."""

@@ -32,7 +32,8 @@ _EXIT = re.compile(rb"\+\+\+ (?:exited with (\d+)|killed by (\w+)(?: \([^)]*\))?
 _SUPERSEDED = re.compile(rb"\+\+\+ superseded by execve in pid (\d+) \+\+\+\n")
 _RESUMED = b" resumed>"
 _UNFINISHED = b" <unfinished ...>\n"
-_LESS, _GREATER, _PLUS, _MINUS, _QUOTE, _BACKSLASH = b'<>+-"\\'
+_OF_DESCRIPTOR_END = b"AT_EMPTY_PATH) = 0\n"
+_LESS, _GREATER, _PLUS, _MINUS, _BRACE, _QUOTE, _BACKSLASH = b'<>+-{"\\'
 
 _AT = re.compile(_PATH)
 _AT_FOLDER = re.compile(_FOLDER + rb", " + _PATH)
@@ -115,7 +116,7 @@ class StraceText:
         first = text[0]
         if first == _PLUS:
             return self._end(number, text)
-        if first == _MINUS or text.endswith(b"AT_EMPTY_PATH) = 0\n"):
+        if first == _MINUS or first == _BRACE and text.endswith(_OF_DESCRIPTOR_END):
             return None
         call = self._keep(text, text)
         if number in self._threads and call is not None and call.kind is Kind.EXEC:

@@ -16,7 +16,7 @@ from .processes import FLAGS, Command
 
 _LEAVES = ("writes", "edits", "deletes")
 _MAKES = (*_LEAVES, "temps", "folders")
-_LOOKS = ("reads", "stats", "misses", "lists")
+_DEVICES = (b"/dev/", b"/proc/", b"/sys/")
 
 
 class Observed:
@@ -65,6 +65,8 @@ class Observed:
         """Whether a place is named; one that is not holds no race."""
         if kind == "misses":
             return place in self._made or place in self.names.outputs
+        if self.places.paths[place].startswith(_DEVICES):
+            return False
         return self.names.is_inside(place) or place in self._left or place in self._shared
 
     def sets_of(self, command: Command) -> Iterator[tuple[str, list[int]]]:
