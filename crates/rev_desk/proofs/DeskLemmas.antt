@@ -8,13 +8,13 @@ use Rattle.rev_manifest.specs.Manifest.{ManifestValue}
 use Rattle.rev_history.specs.Timeline.{Timeline, IsHistory, opened}
 use Rattle.rev_desk.specs.declared.reply.Reply.{Reply}
 use Rattle.rev_desk.specs.declared.reply.Entry.{Entry}
-use Rattle.rev_desk.specs.Machine.{BenchValue, DeskValue, opened_desk, after, bench_after, bench_of, entry_of, moved_by, moved_on, next_number, refusal_on, reply_to, target}
+use Rattle.rev_desk.specs.Machine.{DeskStateValue, DeskValue, opened_desk, after, desk_state_after, desk_state_of, entry_of, moved_by, moved_on, next_number, refusal_on, reply_to, target}
 use Rattle.rev_desk.specs.Sound.{IsDesk, IsLegalFrom, opening_of, run_of}
 
-abbrev pub opened_on : BenchValue → Timeline
+abbrev pub opened_on : DeskStateValue → Timeline
 opened_on s = opened s.history.manifest s.history.jobs s.history.opening
 
-moved_keeps : (s : BenchValue) (n : ℕ) (m : Option ℕ) (c : Command) → opened_on (moved_on s n m c) ≡ opened_on s
+moved_keeps : (s : DeskStateValue) (n : ℕ) (m : Option ℕ) (c : Command) → opened_on (moved_on s n m c) ≡ opened_on s
 moved_keeps s n m (command.Event e) = refl
 moved_keeps s n m (command.Undo w) = refl
 moved_keeps s n m (command.Redo w) = refl
@@ -25,13 +25,13 @@ moved_keeps s n m (command.Unbreak b) = refl
 moved_keeps s n m command.Continue = refl
 
 -- no command changes where the history opened
-bench_keeps : (s : BenchValue) (n : ℕ) (m : Option ℕ) (c : Command) → opened_on (bench_after s n m c) ≡ opened_on s
-bench_keeps s n m c = elim (refusal_on s m c) as (λ r. opened_on (moved_by s (moved_on s n m c) r) ≡ opened_on s) [ None ↦ moved_keeps s n m c | Some r ↦ refl ]
+desk_state_keeps : (s : DeskStateValue) (n : ℕ) (m : Option ℕ) (c : Command) → opened_on (desk_state_after s n m c) ≡ opened_on s
+desk_state_keeps s n m c = elim (refusal_on s m c) as (λ r. opened_on (moved_by s (moved_on s n m c) r) ≡ opened_on s) [ None ↦ moved_keeps s n m c | Some r ↦ refl ]
 
 pub same_opening : (d : DeskValue) (lane : ℕ) (c : Command) → opening_of (after d lane c) ≡ opening_of d
 same_opening d lane c =
     let build : Timeline → DeskValue = λ t. record { history = t; breaks = []; paused = false; journal = []; lanes = d.lanes } in
-    ap build (bench_keeps (bench_of d) (next_number d) (target d.journal c) c)
+    ap build (desk_state_keeps (desk_state_of d) (next_number d) (target d.journal c) c)
 
 pub run-push : (d : DeskValue) (es : List Entry) (e : Entry) → run_of d (es ++ e ∷ []) ≡ after (run_of d es) e.lane e.command
 run-push d [] e = refl
@@ -55,13 +55,13 @@ IsDesk-after d lane c lt room history h = record {
   most = h.most;
 }
 
-abbrev pub with_parts : BenchValue → List Entry → ℕ → DeskValue
+abbrev pub with_parts : DeskStateValue → List Entry → ℕ → DeskValue
 with_parts s es lanes = record { history = s.history; breaks = s.breaks; paused = s.paused; journal = es; lanes = lanes }
 
-pub same_parts : (s u : BenchValue) (es fs : List Entry) (m n : ℕ) → s ≡ u → es ≡ fs → m ≡ n → with_parts s es m ≡ with_parts u fs n
+pub same_parts : (s u : DeskStateValue) (es fs : List Entry) (m n : ℕ) → s ≡ u → es ≡ fs → m ≡ n → with_parts s es m ≡ with_parts u fs n
 same_parts s u es fs m n e f g = ap (λ x. with_parts x es m) e ∙ ap (λ x. with_parts u x m) f ∙ ap (λ x. with_parts u fs x) g
 
-pub value-after : (d : DeskValue) (s : BenchValue) (es : List Entry) (lanes lane : ℕ) (c : Command) (r : Reply) → s ≡ bench_after (bench_of d) (next_number d) (target d.journal c) c
+pub value-after : (d : DeskValue) (s : DeskStateValue) (es : List Entry) (lanes lane : ℕ) (c : Command) (r : Reply) → s ≡ desk_state_after (desk_state_of d) (next_number d) (target d.journal c) c
     → r ≡ reply_to d c → es ≡ d.journal ++ record { lane = lane; command = c; reply = r } ∷ [] → lanes ≡ d.lanes → with_parts s es lanes ≡ after d lane c
 value-after d s es lanes lane c r is reply entries same =
     let entry : Reply → Entry = λ x. record { lane = lane; command = c; reply = x } in

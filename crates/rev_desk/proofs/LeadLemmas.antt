@@ -12,7 +12,7 @@ use Rattle.rev_history.proofs.Commands.{accepted_history, free_undo, greatest_fr
 use Rattle.rev_history.proofs.Cones.{coned_history}
 use Rattle.rev_desk.specs.declared.reply.Entry.{Entry}
 use Rattle.rev_desk.specs.Laws.{KeptEventsLead}
-use Rattle.rev_desk.specs.Machine.{BenchValue, DeskValue, after, bench_after, bench_of, entry_of, moved_by, moved_on, next_number, opened_desk, refusal_on, refused_by, target}
+use Rattle.rev_desk.specs.Machine.{DeskStateValue, DeskValue, after, desk_state_after, desk_state_of, entry_of, moved_by, moved_on, next_number, opened_desk, refusal_on, refused_by, target}
 use Rattle.rev_desk.specs.Sound.{run_of}
 
 -- the kept events are accepted one after the other, and no event has the number n or one above
@@ -51,7 +51,7 @@ back_by t n (Some k) e l h = later t (undone k t) n refl (undone_history t k l.h
 
 -- a command that is not refused
 
-moved_leads : (s : BenchValue) (n : ℕ) (m : Option ℕ) (c : Command) → Leads s.history n → refusal_on s m c ≡ None → Leads (moved_on s n m c).history (n + 1)
+moved_leads : (s : DeskStateValue) (n : ℕ) (m : Option ℕ) (c : Command) → Leads s.history n → refusal_on s m c ≡ None → Leads (moved_on s n m c).history (n + 1)
 moved_leads s n m (command.Event e) l h = accepted_leads s.history n e l (not_paused s.paused (accept_refusal s.history e) h)
 moved_leads s n m (command.Undo w) l h = undone_leads s.history n m l h
 moved_leads s n m (command.Redo w) l h = redone_leads s.history n m l h
@@ -61,16 +61,16 @@ moved_leads s n m (command.Break p) l h = later s.history s.history n refl l.his
 moved_leads s n m (command.Unbreak b) l h = later s.history s.history n refl l.history l
 moved_leads s n m command.Continue l h = later s.history s.history n refl l.history l
 
-bench_by : (s : BenchValue) (n : ℕ) (m : Option ℕ) (c : Command) (r : Option Refusal) → refusal_on s m c ≡ r → Leads s.history n → Leads (moved_by s (moved_on s n m c) r).history (n + 1)
-bench_by s n m c None e l = moved_leads s n m c l e
-bench_by s n m c (Some r) e l = later s.history s.history n refl l.history l
+desk_state_by : (s : DeskStateValue) (n : ℕ) (m : Option ℕ) (c : Command) (r : Option Refusal) → refusal_on s m c ≡ r → Leads s.history n → Leads (moved_by s (moved_on s n m c) r).history (n + 1)
+desk_state_by s n m c None e l = moved_leads s n m c l e
+desk_state_by s n m c (Some r) e l = later s.history s.history n refl l.history l
 
 -- all of them
 
 desk_leads : (d : DeskValue) (lane : ℕ) (c : Command) → Leads d.history (next_number d) → Leads (after d lane c).history (next_number (after d lane c))
 desk_leads d lane c l =
     let n : next_number d + 1 ≡ next_number (after d lane c) = omega (arith, length-append d.journal (entry_of d lane c ∷ [])) in
-    subst (Leads (after d lane c).history) n (bench_by (bench_of d) (next_number d) (target d.journal c) c (refusal_on (bench_of d) (target d.journal c) c) refl l)
+    subst (Leads (after d lane c).history) n (desk_state_by (desk_state_of d) (next_number d) (target d.journal c) c (refusal_on (desk_state_of d) (target d.journal c) c) refl l)
 
 run_leads : (d : DeskValue) (said : List Entry) → Leads d.history (next_number d) → Leads (run_of d said).history (next_number (run_of d said))
 run_leads d [] l = l

@@ -1,8 +1,8 @@
-pub mod BenchLemmas
+pub mod DeskStateLemmas
 pub mod BreakLemmas
 pub mod DeskLemmas
 pub mod JournalLemmas
 pub mod LeadLemmas
 pub mod Promises
 pub mod Rising
-pub mod SpotLemmas
+pub mod BreakKeyLemmas

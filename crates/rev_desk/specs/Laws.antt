@@ -12,7 +12,7 @@ use Rattle.rev_history.specs.Timeline.{IsHistory, is_among, kept_events, machine
 use Rattle.rev_history.specs.Laws.{DependsOn}
 use Rattle.rev_desk.specs.declared.reply.Entry.{Entry}
 use Rattle.rev_desk.specs.declared.reply.Reply.TheVariants.{Refused}
-use Rattle.rev_desk.specs.Machine.{DeskValue, after, bench_of, opened_desk, refusal_of, reply_to}
+use Rattle.rev_desk.specs.Machine.{DeskValue, after, desk_state_of, opened_desk, refusal_of, reply_to}
 use Rattle.rev_desk.specs.Sound.{IsDesk, run_of}
 
 -- Whatever lanes say from an opening on, the kept events are then accepted one after the other from there: the state is
@@ -26,7 +26,7 @@ KeptEventsLead =
 abbrev pub RefusedChangesNothing : Type 0
 RefusedChangesNothing =
     (d : DeskValue) (lane : ℕ) (c : Command) (r : Refusal) → reply_to d c ≡ Refused r
-    → bench_of (after d lane c) ≡ bench_of d
+    → desk_state_of (after d lane c) ≡ desk_state_of d
 
 -- an event can be undone exactly where it is kept and no event of a later kept number depends on it
 abbrev pub UndoExactlyWhenIndependent : Type 0

@@ -1,4 +1,4 @@
-pub mod Bench
+pub mod DeskState
 pub mod Breaks
 pub mod Codes
 pub mod Fault
@@ -8,4 +8,4 @@ pub mod Laws
 pub mod Machine
 pub mod Names
 pub mod Sound
-pub mod Spots
+pub mod BreakKeys

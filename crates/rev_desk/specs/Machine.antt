@@ -14,11 +14,11 @@ use Rattle.rev_desk.specs.declared.reply.Reply.TheVariants as reply
 use Rattle.rev_desk.specs.declared.reply.Entry.{Entry}
 use Rattle.rev_desk.specs.Codes.{coded_entry, coded_point}
 pub use Rattle.rev_desk.specs.Names.{lane_numbers, accepted_event, named, target}
-pub use Rattle.rev_desk.specs.Spots.{meets, point_spot, least_met, stands, without_break}
+pub use Rattle.rev_desk.specs.BreakKeys.{meets, point_break_key, least_met, stands, without_break}
 
 -- what commands change: the history of the build, the breaks that stand, under their numbers, and whether events wait
 -- for a `continue`
-pub record BenchValue : Type 0 where
+pub record DeskStateValue : Type 0 where
   pub history : Timeline
   pub breaks : List (ℕ × Point)
   pub paused : Bool
@@ -45,8 +45,8 @@ abbrev pub opened_desk : ManifestValue → ℕ → State → ℕ → DeskValue
 opened_desk manifest jobs state lanes =
     record { history = opened manifest jobs state; breaks = []; paused = false; journal = []; lanes = lanes }
 
-abbrev pub bench_of : DeskValue → BenchValue
-bench_of d = record { history = d.history; breaks = d.breaks; paused = d.paused }
+abbrev pub desk_state_of : DeskValue → DeskStateValue
+desk_state_of d = record { history = d.history; breaks = d.breaks; paused = d.paused }
 
 -- the number of the next entry; they count from 1
 abbrev pub next_number : DeskValue → ℕ
@@ -59,24 +59,24 @@ refused_by why None = Some NoSuchEvent
 refused_by why (Some n) = why n
 
 -- why a command is refused, where `m` is what it names
-abbrev pub refusal_on : BenchValue → Option ℕ → Command → Option Refusal
+abbrev pub refusal_on : DeskStateValue → Option ℕ → Command → Option Refusal
 refusal_on s m (command.Event e) = if s.paused then Some Paused else accept_refusal s.history e
 refusal_on s m (command.Undo w) = refused_by (undo_refusal s.history) m
 refusal_on s m (command.Redo w) = refused_by (redo_refusal s.history) m
 refusal_on s m command.Back = back_refusal s.history
 refusal_on s m (command.Cone w) = refused_by (cone_refusal s.history) m
-refusal_on s m (command.Break p) = if is_none (point_spot s.history.manifest p) then Some NoSuchEdge else None
+refusal_on s m (command.Break p) = if is_none (point_break_key s.history.manifest p) then Some NoSuchEdge else None
 refusal_on s m (command.Unbreak b) = if stands s.breaks b then None else Some NoSuchBreak
 refusal_on s m command.Continue = None
 
 -- the reply to a command that is not refused, whose entry has the number n
-abbrev pub answer_on : BenchValue → ℕ → Option ℕ → Command → Reply
+abbrev pub answer_on : DeskStateValue → ℕ → Option ℕ → Command → Reply
 answer_on s n m (command.Event e) = reply.Accepted n (least_met s.history.manifest e s.breaks)
 answer_on s n m (command.Cone w) = reply.Coned n (length (cone_numbers (unwrap_or m 0) s.history))
 answer_on s n m _ = reply.Accepted n None
 
 -- what it changes
-abbrev pub moved_on : BenchValue → ℕ → Option ℕ → Command → BenchValue
+abbrev pub moved_on : DeskStateValue → ℕ → Option ℕ → Command → DeskStateValue
 moved_on s n m (command.Event e) =
     record s { history = accepted_as n e s.history; paused = is_some (least_met s.history.manifest e s.breaks) }
 moved_on s n m (command.Undo w) = record s { history = undone (unwrap_or m 0) s.history }
@@ -91,30 +91,30 @@ abbrev pub reply_by : Reply → Option Refusal → Reply
 reply_by answer None = answer
 reply_by answer (Some r) = reply.Refused r
 
-abbrev pub moved_by : BenchValue → BenchValue → Option Refusal → BenchValue
+abbrev pub moved_by : DeskStateValue → DeskStateValue → Option Refusal → DeskStateValue
 moved_by old new None = new
 moved_by old new (Some r) = old
 
-abbrev pub reply_on : BenchValue → ℕ → Option ℕ → Command → Reply
+abbrev pub reply_on : DeskStateValue → ℕ → Option ℕ → Command → Reply
 reply_on s n m c = reply_by (answer_on s n m c) (refusal_on s m c)
 
 -- A refused command changes nothing.
-abbrev pub bench_after : BenchValue → ℕ → Option ℕ → Command → BenchValue
-bench_after s n m c = moved_by s (moved_on s n m c) (refusal_on s m c)
+abbrev pub desk_state_after : DeskStateValue → ℕ → Option ℕ → Command → DeskStateValue
+desk_state_after s n m c = moved_by s (moved_on s n m c) (refusal_on s m c)
 
 -- why a command is refused now
 abbrev pub refusal_of : DeskValue → Command → Option Refusal
-refusal_of d c = refusal_on (bench_of d) (target d.journal c) c
+refusal_of d c = refusal_on (desk_state_of d) (target d.journal c) c
 
 -- The reply to a command, which is the same for every lane.
 abbrev pub reply_to : DeskValue → Command → Reply
-reply_to d c = reply_on (bench_of d) (next_number d) (target d.journal c) c
+reply_to d c = reply_on (desk_state_of d) (next_number d) (target d.journal c) c
 
 abbrev pub entry_of : DeskValue → ℕ → Command → Entry
 entry_of d lane c = record { lane = lane; command = c; reply = reply_to d c }
 
-abbrev pub with_bench : DeskValue → BenchValue → Entry → DeskValue
-with_bench d s e =
+abbrev pub with_desk_state : DeskValue → DeskStateValue → Entry → DeskValue
+with_desk_state d s e =
     record {
       history = s.history;
       breaks = s.breaks;
@@ -125,4 +125,4 @@ with_bench d s e =
 
 -- The desk after a command of a lane, which has one entry more, also where the command is refused.
 abbrev pub after : DeskValue → ℕ → Command → DeskValue
-after d lane c = with_bench d (bench_after (bench_of d) (next_number d) (target d.journal c) c) (entry_of d lane c)
+after d lane c = with_desk_state d (desk_state_after (desk_state_of d) (next_number d) (target d.journal c) c) (entry_of d lane c)

@@ -1,14 +1,14 @@
 //! The breaks that stand.
 ghost use Rattle.std.specs.Prelude.{◌≡◌, [], ◌∷◌, ◌++◌, IfOk, OnOk, OnErr, Some, true, slice_get, if◌then◌else◌};
 ghost use Rattle.rev_causal.specs.Chosen.{IsRising, without};
-ghost use Rattle.rev_desk.specs.declared.spot.Spot.{Spot};
+ghost use Rattle.rev_desk.specs.declared.break_key.BreakKey.{BreakKey};
 ghost use Rattle.rev_desk.specs.Breaks.{AreBelow, AreSound, listed_at};
-ghost use Rattle.rev_desk.specs.Spots.{both_same, least_met, point_spot as point_spot_in, same_spot, stands};
-ghost use Rattle.rev_desk.specs.Spots.{without_break};
+ghost use Rattle.rev_desk.specs.BreakKeys.{both_same, least_met, point_break_key as point_break_key_in, numbers_of, same_break_key, stands};
+ghost use Rattle.rev_desk.specs.BreakKeys.{without_break};
 ghost use Rattle.rev_manifest.specs.Manifest.{ManifestValue};
 
+use crate::break_key::{BreakKey, event_break_key, point_break_key};
 use crate::numbers::take_out;
-use crate::spot::{Spot, event_spot, point_spot};
 use indexmap::IndexMap;
 use rev_accesses::place_of;
 use rev_commands::Point;
@@ -16,19 +16,19 @@ use rev_events::Event;
 use rev_graph::Graph;
 use std::alloc::{AllocError, Global};
 
-// Adds a number to those beside a spot.
+// Adds a number to the entry of a key.
 fn note(
-    spots: &mut IndexMap<Spot, Vec<u32>>,
+    break_keys: &mut IndexMap<BreakKey, Vec<u32>>,
     alloc: Global,
-    spot: Spot,
+    break_key: BreakKey,
     number: u32,
 ) -> Result<(), AllocError>
-    ensures ok { OnOk result ((s : Spot) → listed_at spots.new.entries s ≡
-        (if same_spot spot s then listed_at spots.old.entries s ++ number ∷ []
-        else listed_at spots.old.entries s)) }
-    ensures err { OnErr result ((s : Spot) → listed_at spots.new.entries s ≡ listed_at spots.old.entries s) }
+    ensures ok { OnOk result ((s : BreakKey) → listed_at break_keys.new.entries s ≡
+        (if same_break_key break_key s then listed_at break_keys.old.entries s ++ number ∷ []
+        else listed_at break_keys.old.entries s)) }
+    ensures err { OnErr result ((s : BreakKey) → listed_at break_keys.new.entries s ≡ listed_at break_keys.old.entries s) }
 {
-    match spots.get_mut(&spot) {
+    match break_keys.get_mut(&break_key) {
         Some(numbers) => {
             numbers.push(number)?;
             Ok(())
@@ -36,41 +36,41 @@ fn note(
         None => {
             let mut numbers = Vec::new(alloc);
             numbers.push(number)?;
-            spots.insert(spot, numbers)?;
+            break_keys.insert(break_key, numbers)?;
             Ok(())
         }
     }
 }
 
-// Takes a number out of those beside a spot.
-fn forget(spots: &mut IndexMap<Spot, Vec<u32>>, spot: &Spot, number: u32)
-    requires { IsRising (listed_at spots.old.entries spot.now) }
-    ensures { (s : Spot) → listed_at spots.new.entries s ≡
-        (if same_spot spot.now s then without number (listed_at spots.old.entries s)
-        else listed_at spots.old.entries s) }
+// Removes a number from the entry of a key.
+fn forget(break_keys: &mut IndexMap<BreakKey, Vec<u32>>, break_key: &BreakKey, number: u32)
+    requires { IsRising (listed_at break_keys.old.entries break_key.now) }
+    ensures { (s : BreakKey) → listed_at break_keys.new.entries s ≡
+        (if same_break_key break_key.now s then without number (listed_at break_keys.old.entries s)
+        else listed_at break_keys.old.entries s) }
 {
-    match spots.get_mut(spot) {
+    match break_keys.get_mut(break_key) {
         Some(numbers) => take_out(numbers, number),
         None => {}
     }
 }
 
-// Takes the number of a break out of those beside the spot of its point.
+// Removes a break's number from the entry of its point.
 fn forget_at(
-    spots: &mut IndexMap<Spot, Vec<u32>>,
+    break_keys: &mut IndexMap<BreakKey, Vec<u32>>,
     graph: &Graph,
     point: &Point,
     number: u32,
 ) -> Result<(), AllocError>
-    requires { (s : Spot) → IsRising (listed_at spots.old.entries s) }
-    ensures ok { OnOk result ((s : Spot) → listed_at spots.new.entries s ≡
-        (if both_same (point_spot_in graph.now.manifest point.now) (Some s)
-        then without number (listed_at spots.old.entries s) else listed_at spots.old.entries s)) }
-    ensures err { OnErr result ((s : Spot) → listed_at spots.new.entries s ≡ listed_at spots.old.entries s) }
+    requires { (s : BreakKey) → IsRising (listed_at break_keys.old.entries s) }
+    ensures ok { OnOk result ((s : BreakKey) → listed_at break_keys.new.entries s ≡
+        (if both_same (point_break_key_in graph.now.manifest point.now) (Some s)
+        then without number (listed_at break_keys.old.entries s) else listed_at break_keys.old.entries s)) }
+    ensures err { OnErr result ((s : BreakKey) → listed_at break_keys.new.entries s ≡ listed_at break_keys.old.entries s) }
 {
-    match point_spot(graph, point)? {
-        Some(spot) => {
-            forget(spots, &spot, number);
+    match point_break_key(graph, point)? {
+        Some(break_key) => {
+            forget(break_keys, &break_key, number);
             Ok(())
         }
         None => Ok(()),
@@ -82,16 +82,15 @@ fn forget_at(
 pub(crate) struct Breaks {
     pub(crate) standing: Vec<(u32, Point)>,
     pub(crate) numbers: Vec<u32>,
-    pub(crate) spots: IndexMap<Spot, Vec<u32>>,
+    pub(crate) break_keys: IndexMap<BreakKey, Vec<u32>>,
 }
 
-// Written, since a derived drop is proved again at each exit of each caller.
 impl Drop for Breaks {
     fn drop(self) {
         let Breaks {
             standing: _standing,
             numbers: _numbers,
-            spots: _spots,
+            break_keys: _break_keys,
         } = self;
     }
 }
@@ -105,7 +104,7 @@ impl Breaks {
         Breaks {
             standing: Vec::new(alloc),
             numbers: Vec::new(alloc),
-            spots: IndexMap::new(alloc),
+            break_keys: IndexMap::new(alloc),
         }
     }
 
@@ -126,25 +125,26 @@ impl Breaks {
         if self.standing.is_empty() {
             return Ok(None);
         }
-        match event_spot(graph, event)? {
-            Some(spot) => Ok(self.first_at(&spot)),
+        match event_break_key(graph, event)? {
+            Some(break_key) => Ok(self.first_at(&break_key)),
             None => Ok(None),
         }
     }
 
-    // The least number beside a spot.
-    fn first_at(&self, spot: &Spot) -> Option<u32>
-        ensures { result ≡ slice_get (listed_at self.now.spots.entries spot.now) 0 }
+    // The least number beside a key.
+    fn first_at(&self, break_key: &BreakKey) -> Option<u32>
+        ensures { result ≡ slice_get (listed_at self.now.break_keys.entries break_key.now) 0 }
     {
-        match self.spots.get(spot) {
+        match self.break_keys.get(break_key) {
             Some(numbers) => numbers.first().copied(),
             None => None,
         }
     }
 
     /// Whether the break of a number stands.
-    pub(crate) fn stands(&self, graph: &Graph, number: u32) -> bool
-        requires { AreSound graph.now.manifest self.now }
+    pub(crate) fn stands(&self, number: u32) -> bool
+        requires numbers { self.now.numbers.items ≡ numbers_of self.now.standing.items }
+        requires rising { IsRising (numbers_of self.now.standing.items) }
         ensures { result ≡ stands self.now.standing.items number }
     {
         place_of(&self.numbers, number).is_some()
@@ -157,18 +157,18 @@ impl Breaks {
         graph: &Graph,
         number: u32,
         point: Point,
-        spot: Spot,
+        break_key: BreakKey,
     ) -> Result<(), AllocError>
         requires sound { AreSound graph.now.manifest self.old }
         requires above { AreBelow number self.old.standing.items }
-        requires spot { point_spot_in graph.now.manifest point ≡ Some spot }
+        requires break_key { point_break_key_in graph.now.manifest point ≡ Some break_key }
         ensures ok { OnOk result (self.new.standing.items ≡ self.old.standing.items ++ (number, point) ∷ []) }
         ensures err { OnErr result (self.new.standing.items ≡ self.old.standing.items) }
         ensures sound { AreSound graph.now.manifest self.new }
     {
         self.standing.reserve(1)?;
         self.numbers.reserve(1)?;
-        note(&mut self.spots, alloc, spot, number)?;
+        note(&mut self.break_keys, alloc, break_key, number)?;
         self.numbers.push_reserved(number);
         self.standing.push_reserved((number, point));
         Ok(())
@@ -186,7 +186,7 @@ impl Breaks {
             unreachable!()
         };
         let (_, point) = &self.standing[place];
-        forget_at(&mut self.spots, graph, point, number)?;
+        forget_at(&mut self.break_keys, graph, point, number)?;
         self.numbers.remove(place);
         self.standing.remove(place);
         Ok(())

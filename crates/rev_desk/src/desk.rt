@@ -5,12 +5,12 @@ ghost use Rattle.rev_causal.specs.Chosen.{IsRising};
 ghost use Rattle.rev_desk.specs.declared.fault.Why.TheVariants as why;
 ghost use Rattle.rev_desk.specs.Machine.{after, answer_on, moved_on, named, opened_desk, refusal_on, reply_to, target};
 ghost use Rattle.rev_desk.specs.Sound.{IsDesk};
-ghost use Rattle.rev_desk.specs.Bench.{Does, IsReady, bench_value};
+ghost use Rattle.rev_desk.specs.DeskState.{Does, IsReady, desk_state_value};
 ghost use Rattle.rev_desk.specs.Journal.{HasRoom, IsIndexed};
-ghost use Rattle.rev_desk.specs.Spots.{numbers_of};
+ghost use Rattle.rev_desk.specs.BreakKeys.{numbers_of};
 
-use crate::bench::Bench;
 use crate::breaks::Breaks;
+use crate::desk_state::DeskState;
 use crate::fault::{DeskFault, Unsaid, Why};
 use crate::journal::Journal;
 use crate::reply::{Entry, Reply};
@@ -25,15 +25,14 @@ use std::marker::Model;
 /// journal, also where it is refused. The journal alone says where the desk stands: its commands, answered from the
 /// opening, lead to the history, to the breaks that stand, and to the pause.
 pub struct Desk {
-    bench: Bench,
+    desk_state: DeskState,
     journal: Journal,
 }
 
-// Written, since a derived drop is proved again at each exit of each caller.
 impl Drop for Desk {
     fn drop(self) {
         let Desk {
-            bench: _bench,
+            desk_state: _desk_state,
             journal: _journal,
         } = self;
     }
@@ -60,7 +59,7 @@ impl Desk {
     /// The most entries that a journal has.
     pub const MAX_ENTRIES: usize = Journal::MAX_ENTRIES;
 
-    /// A desk to which nothing was said yet.
+    /// A new desk with an empty journal.
     ///
     /// # Errors
     /// [`DeskFault::BadLanes`] unless there are 1 to 64 lanes; [`DeskFault::Memory`] only where an allocation was
@@ -86,7 +85,7 @@ impl Desk {
         let journal = Journal::new(alloc, lanes, usual)?;
         let breaks = Breaks::new(alloc);
         Ok(Desk {
-            bench: Bench {
+            desk_state: DeskState {
                 alloc,
                 history,
                 breaks,
@@ -119,14 +118,14 @@ impl Desk {
         ensures history { result.now.timeline ≡ self.now.history }
         ensures legal { IsDesk self.now }
     {
-        &self.bench.history
+        &self.desk_state.history
     }
 
     /// Whether events wait for a `continue`.
     pub fn paused(&self) -> bool
         ensures { result ≡ self.now.paused }
     {
-        self.bench.paused
+        self.desk_state.paused
     }
 
     /// The breaks that stand, under their numbers, which rise.
@@ -134,7 +133,7 @@ impl Desk {
         ensures breaks { result.now ≡ self.now.breaks }
         ensures rising { IsRising (numbers_of result.now) }
     {
-        self.bench.breaks.standing()
+        self.desk_state.breaks.standing()
     }
 
     /// The number that a name stands for: a number is its own; a label stands for the entry of that place
@@ -165,13 +164,13 @@ impl Desk {
                 command,
             });
         }
-        let Ok(reply) = answered(&mut self.bench, &mut self.journal, lane, &command) else {
+        let Ok(reply) = answered(&mut self.desk_state, &mut self.journal, lane, &command) else {
             return Err(Unsaid {
                 why: Why::Memory,
                 command,
             });
         };
-        let _kept = self.bench.history.kept();
+        let _kept = self.desk_state.history.kept();
         self.journal.push(lane, command, reply);
         Ok(reply)
     }
@@ -180,7 +179,7 @@ impl Desk {
     pub fn verdict(&self, command: &Command) -> Result<Reply, AllocError>
         ensures { IfOk result (λ reply. reply ≡ reply_to self.now command.now) }
     {
-        self.bench.verdict(
+        self.desk_state.verdict(
             self.journal.next_number(),
             self.journal.target(command),
             command,
@@ -190,25 +189,25 @@ impl Desk {
 
 // Makes room for the entry of a command, and then answers it.
 fn answered(
-    bench: &mut Bench,
+    desk_state: &mut DeskState,
     journal: &mut Journal,
     lane: u32,
     command: &Command,
 ) -> Result<Reply, AllocError>
-    requires ready { IsReady bench.old (length journal.old.entries.items + 1) }
+    requires ready { IsReady desk_state.old (length journal.old.entries.items + 1) }
     requires indexed { IsIndexed journal.old }
     requires few { length journal.old.entries.items < Desk.MAX_ENTRIES }
     requires lane { lane < length journal.old.numbers.items }
     ensures does { let n = length journal.old.entries.items + 1 in
         let m = target journal.old.entries.items command.now in
-        Does bench.old bench.new n (refusal_on (bench_value bench.old) m command.now)
-        (answer_on (bench_value bench.old) n m command.now)
-        (moved_on (bench_value bench.old) n m command.now) result }
+        Does desk_state.old desk_state.new n (refusal_on (desk_state_value desk_state.old) m command.now)
+        (answer_on (desk_state_value desk_state.old) n m command.now)
+        (moved_on (desk_state_value desk_state.old) n m command.now) result }
     ensures entries { journal.new.entries.items ≡ journal.old.entries.items }
     ensures lanes { length journal.new.numbers.items ≡ length journal.old.numbers.items }
     ensures indexed { IsIndexed journal.new }
     ensures room { OnOk result (HasRoom journal.new lane) }
 {
     journal.reserve(lane)?;
-    bench.carry_out(journal.next_number(), journal.target(command), command)
+    desk_state.carry_out(journal.next_number(), journal.target(command), command)
 }

@@ -75,7 +75,6 @@ impl Unsaid {
     }
 }
 
-// Written, since a derived drop is proved again at each exit of each caller.
 impl Drop for Unsaid {
     fn drop(self) {
         let Unsaid {

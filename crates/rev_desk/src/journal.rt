@@ -13,7 +13,6 @@ pub(crate) struct Journal {
     pub(crate) numbers: Vec<Vec<u32>>,
 }
 
-// Written, since a derived drop is proved again at each exit of each caller.
 impl Drop for Journal {
     fn drop(self) {
         let Journal {

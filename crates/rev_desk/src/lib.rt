@@ -2,15 +2,15 @@
 //! it; labels name events by the lane that said them.
 #![tactic(auto)]
 
-mod bench;
+mod break_key;
 mod breaks;
 mod desk;
+mod desk_state;
 mod fault;
 mod journal;
 pub mod laws;
 mod numbers;
 mod reply;
-mod spot;
 
 pub use desk::Desk;
 pub use fault::{DeskFault, Unsaid, Why};

@@ -7,8 +7,7 @@ use rev_events::Refusal;
 /// The answer to a command, which carries the number of the command's entry where it is not a refusal.
 #[derive(Clone, Copy, Debug, PartialEq, Eq)]
 pub enum Reply {
-    /// It was done, under this number. An event that meets breaks which stand has the least of their numbers beside,
-    /// and the desk is then paused.
+    /// Done, under this number. If the event met standing breaks, the least of them; the desk is then paused.
     Accepted(u32, Option<u32>),
     /// A cone was taken back, under this number, and so many events with it.
     Coned(u32, u64),
@@ -54,7 +53,6 @@ pub struct Entry {
     pub reply: Reply,
 }
 
-// Written, since a derived drop is proved again at each exit of each caller.
 impl Drop for Entry {
     fn drop(self) {
         let Entry {

@@ -1,8 +1,11 @@
 -- Fields read byte by byte and line by line.
-use Rattle.std.proofs.Common.{◌≡◌, ℕ, ◌<◌, ◌+◌, ◌≤◌, Bool, true, false, cond, ◌==◌, List, [], ◌∷◌, ◌++◌, length, get_or, drop, refl, ap, ◌∙◌, sym, Option, Some, None, append_assoc}
+use Rattle.std.proofs.Common.{◌≡◌, ℕ, ◌<◌, ◌+◌, ◌≤◌, Bool, true, false, cond, ◌==◌, List, [], ◌∷◌, ◌++◌, length, get_or, drop, refl, ap, ◌∙◌, sym, Option, Some, None, append_assoc, not, ◌&&◌, IsTrue, bytes_eq, if◌then◌else◌}
+use Rattle.std.proofs.lemmas.Bool.{eqb-true}
+use Rattle.std.proofs.lemmas.Slice.Eq.{bytes_eq-Decides}
+use Rattle.std.specs.List.{list_all}
 use Rattle.std.proofs.lemmas.List.{at_drop_more, drop_all, append-nil}
-use Rattle.std.specs.Option.{option_map, is_some}
-use Rattle.rev_fields.specs.Fields.{letter_of, byte_of, before_text, before_texts, unescaped, text_of, all_texts}
+use Rattle.std.specs.Option.{option_map, is_some, is_none}
+use Rattle.rev_fields.specs.Fields.{letter_of, byte_of, before_text, before_texts, unescaped, empty_field, text_of, all_texts}
 
 -- what follows, after bytes or texts that are read already
 abbrev pub joined : {X : Type 0} → List X → Option (List X) → Option (List X)
@@ -84,3 +87,48 @@ cut_short field out i h inv = sym inv ∙ ap (λ bs. joined out (rest_of true bs
 
 pub all_read : (fields out : List (List ℕ)) (i : ℕ) → length fields ≤ i → joined out (all_texts (drop i fields)) ≡ all_texts fields → all_texts fields ≡ Some out
 all_read fields out i h inv = sym inv ∙ ap (λ bs. joined out (all_texts bs)) (drop_all i fields h) ∙ ap Some (append-nil out)
+
+-- a byte that no letter is written for
+no-letter : (b : ℕ) → is_none (letter_of b) ≡ true → is_some (letter_of b) ≡ false
+no-letter b h = by (letter_of b) h
+  where
+    by : (o : Option ℕ) → is_none o ≡ true → is_some o ≡ false
+    by None h = refl
+    by (Some l) h = cc
+
+no-backslash : (b : ℕ) → is_none (letter_of b) ≡ true → (b == 92) ≡ false
+no-backslash b h = by (b == 92) refl
+  where
+    by : (t : Bool) → (b == 92) ≡ t → t ≡ false
+    by true e = let no : is_none (letter_of b) ≡ false = ap (λ n. is_none (letter_of n)) (eqb-true b 92 e) in cc
+    by false e = refl
+
+both : (p q : Bool) → (p && q) ≡ true → (p ≡ true) × (q ≡ true)
+both true true h = (refl, refl)
+both true false h = cc
+both false q h = cc
+
+-- whether no letter is written for any of these bytes
+abbrev pub all_plain : List ℕ → Bool
+all_plain bytes = list_all (λ b. is_none (letter_of b)) bytes
+
+unescaped-all : (field : List ℕ) → all_plain field ≡ true → unescaped field ≡ Some field
+unescaped-all [] h = refl
+unescaped-all (b ∷ bs) h =
+    let here = both (is_none (letter_of b)) (all_plain bs) h in
+    unescaped-plain b bs (no-backslash b here.0) (no-letter b here.0) ∙ ap (before_text (Some b)) (unescaped-all bs here.1)
+
+-- a field of such bytes writes them
+pub own-text : (field : List ℕ) → all_plain field ≡ true → IsTrue (not (length field == 0)) → text_of field ≡ Some field
+own-text [] h some = cc
+own-text (b ∷ bs) h some = by (bytes_eq (b ∷ bs) empty_field) refl
+  where
+    by : (t : Bool) → bytes_eq (b ∷ bs) empty_field ≡ t → (if t then Some [] else unescaped (b ∷ bs)) ≡ Some (b ∷ bs)
+    by true e =
+        let here = both (is_none (letter_of b)) (all_plain bs) h in
+        let same : b ∷ bs ≡ empty_field = (bytes_eq-Decides (b ∷ bs) empty_field).0 e in
+        let first : b ≡ 92 = cc in
+        let yes : is_none (letter_of b) ≡ true = here.0 in
+        let no : is_none (letter_of b) ≡ false = ap (λ n. is_none (letter_of n)) first in
+        cc
+    by false e = unescaped-all (b ∷ bs) h

@@ -3,8 +3,10 @@ use Rattle.std.proofs.Common.{◌≡◌, ℕ, zero, suc, ◌<◌, ◌≤◌, ◌
 use Rattle.std.proofs.Math.ListN.{get_or-map, length-map}
 use Rattle.std.proofs.lemmas.List.{drop-map, length-drop, take_all}
 use Rattle.std.specs.Borrow.{Bor}
-use Rattle.std.specs.Global.{Vec}
-use Rattle.rev_fields.specs.Parts.{slices_of, vectors_of}
+use Rattle.std.specs.Cow.{cow_slice_items}
+use Rattle.std.specs.Global.{Vec, Global}
+use Rattle.std.specs.declared.borrow.CowSlice.{CowSlice}
+use Rattle.rev_fields.specs.Parts.{slices_of, vectors_of, lent_of}
 
 pub length-slices_of : (xs : List (Bor (List ℕ))) → length (slices_of xs) ≡ length xs
 length-slices_of xs = length-map xs (λ s. s.now)
@@ -40,3 +42,17 @@ pub at-vectors_of : (xs : List (Vec ℕ)) (i : ℕ) (x : Vec ℕ) → i < length
 at-vectors_of [] i x lt e = absurd (omega arith)
 at-vectors_of (y ∷ ys) zero x lt e = ap (λ (v : Vec ℕ). v.items) (sym e)
 at-vectors_of (y ∷ ys) (suc i) x lt e = at-vectors_of ys i x (omega arith) e
+
+pub lent_of-push : (xs : List (CowSlice ℕ Global)) (x : CowSlice ℕ Global) → lent_of (xs ++ x ∷ []) ≡ lent_of xs ++ cow_slice_items x ∷ []
+lent_of-push [] x = refl
+lent_of-push (y ∷ ys) x = ap (λ l. cow_slice_items y ∷ l) (lent_of-push ys x)
+
+pub length-lent_of : (xs : List (CowSlice ℕ Global)) → length (lent_of xs) ≡ length xs
+length-lent_of xs = length-map xs (λ t. cow_slice_items t)
+
+-- the text at a place
+pub at-lent_of : (xs : List (CowSlice ℕ Global)) (i : ℕ) (x : CowSlice ℕ Global) → i < length xs → x ≡ get_or xs i x
+    → get_or (lent_of xs) i [] ≡ cow_slice_items x
+at-lent_of [] i x lt e = absurd (omega arith)
+at-lent_of (y ∷ ys) zero x lt e = ap (λ (t : CowSlice ℕ Global). cow_slice_items t) (sym e)
+at-lent_of (y ∷ ys) (suc i) x lt e = at-lent_of ys i x (omega arith) e

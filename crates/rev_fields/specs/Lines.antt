@@ -1,5 +1,5 @@
 -- Lines: what one says by itself, and what all lines of a text say.
-use Rattle.std.specs.Prelude.{ℕ, ◌^◌, ◌==◌, Bool, true, false, ◌||◌, if◌then◌else◌, nat_lt, List, [], ◌∷◌, length, Option, Some, None, Result, Ok, Err}
+use Rattle.std.specs.Prelude.{ℕ, ◌==◌, Bool, true, false, ◌||◌, if◌then◌else◌, nat_lt, List, [], ◌∷◌, length, Option, Some, None, Result, Ok, Err}
 use Rattle.std.specs.Result.{result_ok, result_err}
 use Rattle.std.specs.List.{slice_split, filter_map}
 use Rattle.rev_paths.specs.Canonical.{canonical}

@@ -1,14 +1,16 @@
 //! Fields, the parts of a line between single spaces.
-ghost use Rattle.std.specs.Prelude.{◌≡◌, ◌++◌, Some, IfOk, OnOk};
+ghost use Rattle.std.specs.Prelude.{◌≡◌, ◌++◌, Some, IsTrue, IfOk, OnOk};
 ghost use Rattle.std.specs.Option.{ok_or};
 ghost use Rattle.rev_fields.specs.declared.faults.FaultKind.TheVariants.{Syntax};
 ghost use Rattle.rev_fields.specs.Faults.{Answers};
 ghost use Rattle.rev_fields.specs.Fields.{letter_of, byte_of, field_text, spaced, unescaped, text_of, texts_of};
-ghost use Rattle.rev_fields.specs.Parts.{vectors_of};
+ghost use Rattle.rev_fields.specs.Parts.{vectors_of, lent_of};
+ghost use Rattle.std.specs.Cow.{cow_slice_items};
 
 use crate::faults::{FaultKind, LineFault};
 use crate::parts::parts_at;
 use std::alloc::{AllocError, Global};
+use std::borrow::CowSlice;
 
 const BAD_FIELD: LineFault = LineFault::Kind(FaultKind::Syntax);
 
@@ -81,6 +83,42 @@ fn read_field(alloc: Global, field: &[u8]) -> Result<Vec<u8>, LineFault>
         return Ok(Vec::new(alloc));
     }
     unescape(alloc, field)
+}
+
+// Whether a field writes its own bytes, since each of them stands for itself.
+fn is_plain(field: &[u8]) -> bool
+    ensures { IsTrue result → text_of field.now ≡ Some field.now }
+{
+    for byte in field {
+        if letter(*byte).is_some() {
+            return false;
+        }
+    }
+    !field.is_empty()
+}
+
+// The text that a field writes, lent where each of its bytes stands for itself.
+fn lent_field(alloc: Global, field: &[u8]) -> Result<CowSlice<'_, u8>, LineFault>
+    ensures text { Answers result (λ text. cow_slice_items text) (ok_or (text_of field.now) Syntax) }
+{
+    if is_plain(field) {
+        return Ok(CowSlice::Borrowed(field));
+    }
+    let text = read_field(alloc, field)?;
+    Ok(CowSlice::Owned(text))
+}
+
+/// The texts that the fields of a line write. A text is lent from the line where no backslash stands in its field.
+pub fn lent_fields(alloc: Global, line: &[u8]) -> Result<Vec<CowSlice<'_, u8>>, LineFault>
+    ensures { Answers result (λ texts. lent_of texts.items) (ok_or (texts_of line.now) Syntax) }
+{
+    let fields = parts_at(alloc, line, b' ')?;
+    let mut texts = Vec::with_capacity(alloc, fields.len())?;
+    for field in &fields {
+        let text = lent_field(alloc, field)?;
+        texts.push(text)?;
+    }
+    Ok(texts)
 }
 
 /// The texts that the fields of a line write.

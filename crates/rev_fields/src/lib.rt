@@ -9,7 +9,7 @@ mod numbers;
 mod parts;
 
 pub use faults::{FaultKind, LineFault, ReadFault, TextFault};
-pub use fields::{field, next_field, push_field, read_fields};
+pub use fields::{field, lent_fields, next_field, push_field, read_fields};
 pub use names::{next_paths, path, paths};
 pub use numbers::{next_number, next_numbers, number, push_number, wide_number, wide_numbers};
 pub use parts::parts_at;

@@ -5,12 +5,13 @@ ghost use Rattle.rev_fields.specs.Faults.{Answers};
 ghost use Rattle.rev_fields.specs.Fields.{field_text, spaced};
 ghost use Rattle.rev_fields.specs.Lines.{path_of, paths_of};
 ghost use Rattle.rev_paths.specs.Canonical.{IsCanonical};
-ghost use Rattle.rev_fields.specs.Parts.{vectors_of};
+ghost use Rattle.rev_fields.specs.Parts.{lent_of};
 
 use crate::faults::LineFault;
 use crate::fields::next_field;
 use rev_paths::Name;
 use std::alloc::{AllocError, Global};
+use std::borrow::CowSlice;
 
 /// The path that a text names.
 pub fn path(alloc: Global, text: &[u8]) -> Result<Name, LineFault>
@@ -20,8 +21,8 @@ pub fn path(alloc: Global, text: &[u8]) -> Result<Name, LineFault>
 }
 
 /// The paths that texts name.
-pub fn paths(alloc: Global, texts: &[Vec<u8>]) -> Result<Vec<Name>, LineFault>
-    ensures { Answers result (λ names. names.items) (paths_of (vectors_of texts.now)) }
+pub fn paths(alloc: Global, texts: &[CowSlice<'_, u8>]) -> Result<Vec<Name>, LineFault>
+    ensures { Answers result (λ names. names.items) (paths_of (lent_of texts.now)) }
 {
     let mut names = Vec::with_capacity(alloc, texts.len())?;
     for text in texts {

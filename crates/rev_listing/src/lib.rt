@@ -3,10 +3,10 @@
 
 mod logs;
 mod marks;
+mod nondefault_cells;
 mod output;
 mod reasons;
 mod stamps;
-mod there;
 
 pub use logs::logs_text;
 pub use marks::marks_text;

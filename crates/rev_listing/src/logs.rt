@@ -6,7 +6,7 @@ ghost use Rattle.std.specs.Option.{option_copied};
 ghost use Rattle.rev_cells.specs.State.{built_in, deps_in, value_at};
 ghost use Rattle.rev_listing.specs.Logs.{built_text, deps_text, log_text, logs_text};
 
-use crate::there::cells_there;
+use crate::nondefault_cells::cells_there;
 use rev_cells::{BuiltRecord, Cell, Cells, DepsRecord, Value};
 use rev_fields::{next_field, next_number, next_paths};
 use rev_paths::Name;

@@ -8,8 +8,8 @@ ghost use Rattle.rev_listing.specs.Listing.{line};
 ghost use Rattle.rev_listing.specs.Marks.{depth_text, halted_text, job_text, mark_fields, mark_text, marks_text, number_or_dash, numbers_or_dash, output_field, slot_text};
 ghost use Rattle.std.specs.Prelude.{codes, decimal};
 
+use crate::nondefault_cells::cells_there;
 use crate::output::next_edge;
-use crate::there::cells_there;
 use rev_cells::{Cell, Cells, Mark, Value};
 use rev_fields::{next_number, next_numbers};
 use rev_graph::Graph;

@@ -4,7 +4,7 @@ ghost use Rattle.rev_cells.specs.State.{stamp_in, value_at};
 ghost use Rattle.rev_listing.specs.Listing.{told};
 ghost use Rattle.rev_listing.specs.Stamps.{stamp_text, stamps_text};
 
-use crate::there::cells_there;
+use crate::nondefault_cells::cells_there;
 use rev_cells::{Cell, Cells, Value};
 use rev_fields::{next_field, next_number};
 use std::alloc::{AllocError, Global};

@@ -20,8 +20,8 @@ fn why_of(unsaid: Unsaid) -> Why
     unsaid.why
 }
 
-/// Says a command of a lane to a desk, and gives the reply, or `None` where the journal has no room. `Memory` is
-/// answered only where the system refused memory.
+/// Sends a lane's command to the desk; `None` if the journal is full. `Memory` is answered only where the system
+/// refused memory.
 pub(crate) fn answer(
     desk: &mut Desk,
     lane: u32,

@@ -1,10 +1,9 @@
 //! What depends on a kept event.
-ghost use Rattle.std.specs.Prelude.{◌≡◌, ◌++◌, codes, decimal, is_some, IfOk, OnOk};
+ghost use Rattle.std.specs.Prelude.{◌≡◌, ◌++◌, codes, decimal, IfOk, OnOk};
 ghost use Rattle.std.specs.List.{flat_map};
 ghost use Rattle.rev_report.specs.Dependents.{dependents};
 ghost use Rattle.rev_report.specs.Report.{dependents_line, dependents_text, named_text};
 ghost use Rattle.rev_desk.specs.Machine.{named};
-ghost use Rattle.rev_history.specs.Timeline.{event_at, is_among};
 
 use rev_desk::{Desk, Which};
 use rev_events::Refusal;
@@ -30,20 +29,6 @@ fn push_dependents(text: &mut Vec<u8>, history: &History, number: u32) -> Result
     Ok(())
 }
 
-// Whether a number is that of a kept event.
-fn is_kept(history: &History, number: u32) -> bool
-    ensures { result ≡ is_among history.now.timeline.kept number }
-{
-    history.kept().iter().any(|kept| number == *kept)
-}
-
-// Whether an event was accepted under a number.
-fn is_accepted(history: &History, number: u32) -> bool
-    ensures { result ≡ is_some (event_at history.now.timeline number) }
-{
-    history.event(number).is_some()
-}
-
 // `dependents N M...`
 fn answered(alloc: Global, history: &History, number: u32) -> Result<Vec<u8>, AllocError>
     ensures { IfOk result (λ text. text.items
@@ -61,13 +46,10 @@ fn answered(alloc: Global, history: &History, number: u32) -> Result<Vec<u8>, Al
 fn dependents_text(alloc: Global, history: &History, number: u32) -> Result<Vec<u8>, AllocError>
     ensures { IfOk result (λ text. text.items ≡ dependents_text history.now.timeline number) }
 {
-    if !is_accepted(history, number) {
-        return refused_line(alloc, Refusal::NoSuchEvent.code());
+    match history.cone_refused(number) {
+        Some(refusal) => refused_line(alloc, refusal.code()),
+        None => answered(alloc, history, number),
     }
-    if !is_kept(history, number) {
-        return refused_line(alloc, Refusal::NotKept.code());
-    }
-    answered(alloc, history, number)
 }
 
 /// The line `dependents N M...` with the number of a kept event and those of the kept events that depend on it;

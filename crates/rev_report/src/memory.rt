@@ -1,4 +1,6 @@
 //! What a run has in memory.
+ghost use Rattle.std.specs.Prelude.{◌≡◌, None};
+
 use rev_desk::Desk;
 use rev_trace::Trace;
 
@@ -14,7 +16,10 @@ pub struct RunMemory {
 
 impl RunMemory {
     /// That of a run which has not begun.
-    pub fn new() -> RunMemory {
+    pub fn new() -> RunMemory
+        ensures trace { result.trace ≡ None }
+        ensures desk { result.desk ≡ None }
+    {
         RunMemory {
             trace: None,
             desk: None,

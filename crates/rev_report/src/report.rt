@@ -1,7 +1,8 @@
 //! The report of a run: what is written for files, a trace and a script.
-ghost use Rattle.std.specs.Prelude.{◌≡◌, ◌<◌, ◌≤◌, ◌+◌, IfOk, OnOk, drop, length};
+ghost use Rattle.std.specs.Prelude.{◌≡◌, ◌<◌, ◌≤◌, ◌+◌, IfOk, IsSome, OnOk, drop, length};
 ghost use Rattle.rev_report.specs.Report.{after_word, edges_report, kept_text, left_after, named_text, report, script_report, script_text, session_text, trace_report, why_edge, word_text};
 ghost use Rattle.rev_script.specs.Output.{Writes};
+ghost use Rattle.rev_script.specs.declared.status.Status.TheVariants as status_is;
 ghost use Rattle.rev_script.specs.SeenTurns.{seen_turns};
 ghost use Rattle.rev_script.specs.Turns.{AreOf, turns};
 ghost use Rattle.rev_desk.specs.Machine.{named, opened_desk};
@@ -212,7 +213,7 @@ pub fn run_words<W: Write>(
     Ok(())
 }
 
-/// A desk to which nothing was said yet, with one lane more than these.
+/// A desk with an empty journal and one lane more than these.
 pub fn open_desk(
     alloc: Global,
     graph: Graph,
@@ -260,8 +261,9 @@ fn run_script<W: Write>(
     memory: &mut RunMemory,
 ) -> Result<(), RunFault>
     requires { length lanes.now ≤ Trace.MAX_LANES }
-    ensures { Writes result (W.contents writer.old) (W.contents writer.new)
+    ensures text { Writes result (W.contents writer.old) (W.contents writer.new)
         (session_text graph.manifest opening.now (lanes_of lanes.now) words.now) }
+    ensures desk { OnOk result (IsSome memory.new.desk) }
 {
     let mut desk = open_desk(alloc, graph, opening, lanes)?;
     let ran = run_opened(alloc, &mut desk, lanes, words, writer);
@@ -285,6 +287,7 @@ fn report_script<W: Write>(
     ensures status { IfOk result (λ status. status
         ≡ (script_report graph.manifest trace.now.opening (lanes_of trace.now.lanes.items)
         script.now).status) }
+    ensures desk { IfOk result (λ status. status ≡ status_is.Success → IsSome memory.new.desk) }
 {
     match read_script(alloc, script) {
         Ok(words) => {
@@ -316,6 +319,8 @@ fn report_trace<W: Write>(
     ensures text { Writes result (W.contents writer.old) (W.contents writer.new)
         (trace_report graph.manifest trace.now script.now).text }
     ensures status { IfOk result (λ status. status ≡ (trace_report graph.manifest trace.now script.now).status) }
+    ensures desk { IfOk result (λ status. status ≡ status_is.Success → IsSome memory.new.desk) }
+    ensures trace { IfOk result (λ status. status ≡ status_is.Success → IsSome memory.new.trace) }
 {
     match rev_trace::read(alloc, trace) {
         Ok(trace) => {
@@ -340,6 +345,8 @@ fn report_edges<W: Write>(
     ensures text { Writes result (W.contents writer.old) (W.contents writer.new)
         (edges_report manifest.now trace.now script.now).text }
     ensures status { IfOk result (λ status. status ≡ (edges_report manifest.now trace.now script.now).status) }
+    ensures desk { IfOk result (λ status. status ≡ status_is.Success → IsSome memory.new.desk) }
+    ensures trace { IfOk result (λ status. status ≡ status_is.Success → IsSome memory.new.trace) }
 {
     match Graph::build(alloc, manifest) {
         Ok(graph) => report_trace(alloc, graph, trace, script, writer, memory),
@@ -347,8 +354,7 @@ fn report_edges<W: Write>(
     }
 }
 
-/// As `run_serial`, but the trace that was read and the desk that its commands were said to stand in `memory` at the
-/// end, whether the run went to its end or not, so that the caller chooses when they are freed.
+/// Like `run_serial`, but leaves the trace and the desk in `memory`, even if it ends early.
 pub fn run_serial_in<W: Write>(
     alloc: Global,
     files: &[(Vec<u8>, Vec<u8>)],
@@ -360,6 +366,9 @@ pub fn run_serial_in<W: Write>(
     ensures text { Writes result (W.contents writer.old) (W.contents writer.new)
         (report (seen_files files.now) trace.now script.now).text }
     ensures status { IfOk result (λ status. status ≡ (report (seen_files files.now) trace.now script.now).status) }
+    // After a run to its end with no fault both stand there.
+    ensures desk { IfOk result (λ status. status ≡ status_is.Success → IsSome memory.new.desk) }
+    ensures trace { IfOk result (λ status. status ≡ status_is.Success → IsSome memory.new.trace) }
 {
     let manifest = match read(alloc, files) {
         Ok(manifest) => manifest,

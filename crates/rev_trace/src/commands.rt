@@ -1,7 +1,7 @@
 //! Commands of lines.
-ghost use Rattle.std.specs.Prelude.{[]};
+ghost use Rattle.std.specs.Prelude.{◌≡◌, [], IfOk};
 ghost use Rattle.rev_fields.specs.Faults.{Answers};
-ghost use Rattle.rev_fields.specs.Parts.{vectors_of};
+ghost use Rattle.rev_fields.specs.Parts.{lent_of, vectors_of};
 ghost use Rattle.rev_trace.specs.Commands.{bare_of, command_line, command_of, taken_by};
 
 use crate::events::{
@@ -14,12 +14,13 @@ use crate::verb::Verb;
 use rev_cells::Names;
 use rev_commands::Command;
 use rev_events::Event;
-use rev_fields::{LineFault, read_fields};
-use std::alloc::Global;
+use rev_fields::{LineFault, lent_fields};
+use std::alloc::{AllocError, Global};
+use std::borrow::CowSlice;
 
 // A word that stands alone.
-fn bare(command: Command, texts: &[Vec<u8>]) -> Result<Command, LineFault>
-    ensures { Answers result (λ c. c) (bare_of command (vectors_of texts.now)) }
+fn bare(command: Command, texts: &[CowSlice<'_, u8>]) -> Result<Command, LineFault>
+    ensures { Answers result (λ c. c) (bare_of command (lent_of texts.now)) }
 {
     nothing(texts)?;
     Ok(command)
@@ -31,9 +32,9 @@ fn taken_by(
     mentions: &mut Mentions,
     targets: &Names,
     verb: Verb,
-    texts: &[Vec<u8>],
+    texts: &[CowSlice<'_, u8>],
 ) -> Result<Command, LineFault>
-    ensures { Answers result (λ c. c) (taken_by targets.now verb (vectors_of texts.now)) }
+    ensures { Answers result (λ c. c) (taken_by targets.now verb (lent_of texts.now)) }
 {
     match verb {
         Verb::Plan => plan(alloc, targets, texts),
@@ -62,9 +63,9 @@ pub(crate) fn command_among(
     alloc: Global,
     mentions: &mut Mentions,
     targets: &Names,
-    texts: &[Vec<u8>],
+    texts: &[CowSlice<'_, u8>],
 ) -> Result<Command, LineFault>
-    ensures { Answers result (λ c. c) (command_of targets.now (vectors_of texts.now)) }
+    ensures { Answers result (λ c. c) (command_of targets.now (lent_of texts.now)) }
 {
     let Some((word, rest)) = texts.split_first() else {
         return Err(BAD_LINE);
@@ -73,6 +74,17 @@ pub(crate) fn command_among(
         None => Err(BAD_LINE),
         Some(verb) => taken_by(alloc, mentions, targets, verb, rest),
     }
+}
+
+// The same texts, lent.
+fn lent(alloc: Global, texts: &[Vec<u8>]) -> Result<Vec<CowSlice<'_, u8>>, AllocError>
+    ensures { IfOk result (λ lent. lent_of lent.items ≡ vectors_of texts.now) }
+{
+    let mut lent = Vec::with_capacity(alloc, texts.len())?;
+    for text in texts {
+        lent.push(CowSlice::Borrowed(text.as_slice()))?;
+    }
+    Ok(lent)
 }
 
 /// The command that the texts of a line's fields are, where `plan` without a path means these targets.
@@ -84,7 +96,8 @@ pub fn command_of_texts(
     ensures { Answers result (λ c. c) (command_of targets.now (vectors_of texts.now)) }
 {
     let mut mentions = Mentions::new(alloc);
-    command_among(alloc, &mut mentions, targets, texts)
+    let lent = lent(alloc, texts)?;
+    command_among(alloc, &mut mentions, targets, &lent)
 }
 
 /// The command that a line is, which stands without its end. `plan` without a path has no targets.
@@ -92,6 +105,7 @@ pub fn read_line(alloc: Global, line: &[u8]) -> Result<Command, LineFault>
     ensures { Answers result (λ c. c) (command_line [] line.now) }
 {
     let none = Names::new(Vec::new(alloc))?;
-    let texts = read_fields(alloc, line)?;
-    command_of_texts(alloc, &none, &texts)
+    let texts = lent_fields(alloc, line)?;
+    let mut mentions = Mentions::new(alloc);
+    command_among(alloc, &mut mentions, &none, &texts)
 }

@@ -2,7 +2,7 @@
 ghost use Rattle.std.specs.Prelude.{◌∷◌};
 ghost use Rattle.rev_events.specs.declared.event.Event.TheVariants as event;
 ghost use Rattle.rev_fields.specs.Faults.{Answers};
-ghost use Rattle.rev_fields.specs.Parts.{vectors_of};
+ghost use Rattle.rev_fields.specs.Parts.{lent_of};
 ghost use Rattle.rev_trace.specs.Commands.{alone_of, break_number_of, depfile_of, ended_of, ending_of, finish_of, list_of, listing_of, name_of, nothing_of, plan_of, resize_of, settled_of, start_of, touch_of};
 
 use crate::labels::which_of;
@@ -13,12 +13,17 @@ use rev_events::{Event, Listing, Stamps};
 use rev_fields::{FaultKind, LineFault, number, path, paths, wide_number, wide_numbers};
 use rev_paths::Name;
 use std::alloc::Global;
+use std::borrow::CowSlice;
 
 pub(crate) const BAD_LINE: LineFault = LineFault::Kind(FaultKind::Syntax);
 
 /// `plan PATH...`; without a path these targets are meant.
-pub(crate) fn plan(alloc: Global, targets: &Names, texts: &[Vec<u8>]) -> Result<Command, LineFault>
-    ensures { Answers result (λ c. c) (plan_of targets.now (vectors_of texts.now)) }
+pub(crate) fn plan(
+    alloc: Global,
+    targets: &Names,
+    texts: &[CowSlice<'_, u8>],
+) -> Result<Command, LineFault>
+    ensures { Answers result (λ c. c) (plan_of targets.now (lent_of texts.now)) }
 {
     if texts.is_empty() {
         return Ok(Command::Event(Event::Plan(targets.copy()?)));
@@ -28,8 +33,13 @@ pub(crate) fn plan(alloc: Global, targets: &Names, texts: &[Vec<u8>]) -> Result<
 }
 
 // `start OUT JOB [SLOT]`, by its parts
-fn started(alloc: Global, out: &[u8], job: &[u8], rest: &[Vec<u8>]) -> Result<Command, LineFault>
-    ensures { Answers result (λ c. c) (start_of (out.now ∷ job.now ∷ vectors_of rest.now)) }
+fn started(
+    alloc: Global,
+    out: &[u8],
+    job: &[u8],
+    rest: &[CowSlice<'_, u8>],
+) -> Result<Command, LineFault>
+    ensures { Answers result (λ c. c) (start_of (out.now ∷ job.now ∷ lent_of rest.now)) }
 {
     match rest {
         [] => {
@@ -49,8 +59,8 @@ fn started(alloc: Global, out: &[u8], job: &[u8], rest: &[Vec<u8>]) -> Result<Co
 }
 
 /// `start OUT JOB [SLOT]`
-pub(crate) fn start(alloc: Global, texts: &[Vec<u8>]) -> Result<Command, LineFault>
-    ensures { Answers result (λ c. c) (start_of (vectors_of texts.now)) }
+pub(crate) fn start(alloc: Global, texts: &[CowSlice<'_, u8>]) -> Result<Command, LineFault>
+    ensures { Answers result (λ c. c) (start_of (lent_of texts.now)) }
 {
     let Some((out, after_out)) = texts.split_first() else {
         return Err(BAD_LINE);
@@ -62,8 +72,8 @@ pub(crate) fn start(alloc: Global, texts: &[Vec<u8>]) -> Result<Command, LineFau
 }
 
 // `depfile TEXT`
-fn depfile(alloc: Global, texts: &[Vec<u8>]) -> Result<Listing, LineFault>
-    ensures { Answers result (λ l. l) (depfile_of (vectors_of texts.now)) }
+fn depfile(alloc: Global, texts: &[CowSlice<'_, u8>]) -> Result<Listing, LineFault>
+    ensures { Answers result (λ l. l) (depfile_of (lent_of texts.now)) }
 {
     match texts {
         [text] => Ok(Listing::Depfile(Text::new(Vec::from_slice(alloc, text)?)?)),
@@ -72,16 +82,24 @@ fn depfile(alloc: Global, texts: &[Vec<u8>]) -> Result<Listing, LineFault>
 }
 
 // `list PATH...`
-fn list(alloc: Global, mentions: &mut Mentions, texts: &[Vec<u8>]) -> Result<Listing, LineFault>
-    ensures { Answers result (λ l. l) (list_of (vectors_of texts.now)) }
+fn list(
+    alloc: Global,
+    mentions: &mut Mentions,
+    texts: &[CowSlice<'_, u8>],
+) -> Result<Listing, LineFault>
+    ensures { Answers result (λ l. l) (list_of (lent_of texts.now)) }
 {
     let paths = mentions.paths(alloc, texts)?;
     Ok(Listing::Paths(Names::new(paths)?))
 }
 
 // Nothing, `depfile TEXT` or `list PATH...`
-fn listing(alloc: Global, mentions: &mut Mentions, texts: &[Vec<u8>]) -> Result<Listing, LineFault>
-    ensures { Answers result (λ l. l) (listing_of (vectors_of texts.now)) }
+fn listing(
+    alloc: Global,
+    mentions: &mut Mentions,
+    texts: &[CowSlice<'_, u8>],
+) -> Result<Listing, LineFault>
+    ensures { Answers result (λ l. l) (listing_of (lent_of texts.now)) }
 {
     let Some((word, rest)) = texts.split_first() else {
         return Ok(Listing::Nothing);
@@ -101,9 +119,9 @@ fn finished(
     mentions: &mut Mentions,
     out: &[u8],
     stamps: &[u8],
-    rest: &[Vec<u8>],
+    rest: &[CowSlice<'_, u8>],
 ) -> Result<Command, LineFault>
-    ensures { Answers result (λ c. c) (finish_of (out.now ∷ stamps.now ∷ vectors_of rest.now)) }
+    ensures { Answers result (λ c. c) (finish_of (out.now ∷ stamps.now ∷ lent_of rest.now)) }
 {
     let out = path(alloc, out)?;
     let listing = listing(alloc, mentions, rest)?;
@@ -119,9 +137,9 @@ fn finished(
 pub(crate) fn finish(
     alloc: Global,
     mentions: &mut Mentions,
-    texts: &[Vec<u8>],
+    texts: &[CowSlice<'_, u8>],
 ) -> Result<Command, LineFault>
-    ensures { Answers result (λ c. c) (finish_of (vectors_of texts.now)) }
+    ensures { Answers result (λ c. c) (finish_of (lent_of texts.now)) }
 {
     let Some((out, after_out)) = texts.split_first() else {
         return Err(BAD_LINE);
@@ -133,8 +151,8 @@ pub(crate) fn finish(
 }
 
 // An output and stamps: `OUT N,N...`
-fn ended(alloc: Global, texts: &[Vec<u8>]) -> Result<(Name, Stamps), LineFault>
-    ensures { Answers result (λ e. e) (ending_of (vectors_of texts.now)) }
+fn ended(alloc: Global, texts: &[CowSlice<'_, u8>]) -> Result<(Name, Stamps), LineFault>
+    ensures { Answers result (λ e. e) (ending_of (lent_of texts.now)) }
 {
     match texts {
         [out, stamps] => {
@@ -147,24 +165,24 @@ fn ended(alloc: Global, texts: &[Vec<u8>]) -> Result<(Name, Stamps), LineFault>
 }
 
 /// `fail OUT N,N...`
-pub(crate) fn fail(alloc: Global, texts: &[Vec<u8>]) -> Result<Command, LineFault>
-    ensures { Answers result (λ c. c) (ended_of event.Fail (vectors_of texts.now)) }
+pub(crate) fn fail(alloc: Global, texts: &[CowSlice<'_, u8>]) -> Result<Command, LineFault>
+    ensures { Answers result (λ c. c) (ended_of event.Fail (lent_of texts.now)) }
 {
     let (out, stamps) = ended(alloc, texts)?;
     Ok(Command::Event(Event::Fail { out, stamps }))
 }
 
 /// `abort OUT N,N...`
-pub(crate) fn abort(alloc: Global, texts: &[Vec<u8>]) -> Result<Command, LineFault>
-    ensures { Answers result (λ c. c) (ended_of event.Abort (vectors_of texts.now)) }
+pub(crate) fn abort(alloc: Global, texts: &[CowSlice<'_, u8>]) -> Result<Command, LineFault>
+    ensures { Answers result (λ c. c) (ended_of event.Abort (lent_of texts.now)) }
 {
     let (out, stamps) = ended(alloc, texts)?;
     Ok(Command::Event(Event::Abort { out, stamps }))
 }
 
 /// A path alone.
-pub(crate) fn alone(alloc: Global, texts: &[Vec<u8>]) -> Result<Name, LineFault>
-    ensures { Answers result (λ name. name) (alone_of (vectors_of texts.now)) }
+pub(crate) fn alone(alloc: Global, texts: &[CowSlice<'_, u8>]) -> Result<Name, LineFault>
+    ensures { Answers result (λ name. name) (alone_of (lent_of texts.now)) }
 {
     match texts {
         [text] => path(alloc, text),
@@ -173,24 +191,24 @@ pub(crate) fn alone(alloc: Global, texts: &[Vec<u8>]) -> Result<Name, LineFault>
 }
 
 /// `clean OUT`
-pub(crate) fn clean(alloc: Global, texts: &[Vec<u8>]) -> Result<Command, LineFault>
-    ensures { Answers result (λ c. c) (settled_of event.Clean (vectors_of texts.now)) }
+pub(crate) fn clean(alloc: Global, texts: &[CowSlice<'_, u8>]) -> Result<Command, LineFault>
+    ensures { Answers result (λ c. c) (settled_of event.Clean (lent_of texts.now)) }
 {
     let out = alone(alloc, texts)?;
     Ok(Command::Event(Event::Clean { out }))
 }
 
 /// `pass OUT`
-pub(crate) fn pass(alloc: Global, texts: &[Vec<u8>]) -> Result<Command, LineFault>
-    ensures { Answers result (λ c. c) (settled_of event.Pass (vectors_of texts.now)) }
+pub(crate) fn pass(alloc: Global, texts: &[CowSlice<'_, u8>]) -> Result<Command, LineFault>
+    ensures { Answers result (λ c. c) (settled_of event.Pass (lent_of texts.now)) }
 {
     let out = alone(alloc, texts)?;
     Ok(Command::Event(Event::Pass { out }))
 }
 
 /// `touch PATH N`
-pub(crate) fn touch(alloc: Global, texts: &[Vec<u8>]) -> Result<Command, LineFault>
-    ensures { Answers result (λ c. c) (touch_of (vectors_of texts.now)) }
+pub(crate) fn touch(alloc: Global, texts: &[CowSlice<'_, u8>]) -> Result<Command, LineFault>
+    ensures { Answers result (λ c. c) (touch_of (lent_of texts.now)) }
 {
     match texts {
         [text, stamp] => {
@@ -203,8 +221,8 @@ pub(crate) fn touch(alloc: Global, texts: &[Vec<u8>]) -> Result<Command, LineFau
 }
 
 /// `resize POOL DEPTH`
-pub(crate) fn resize(texts: &[Vec<u8>]) -> Result<Command, LineFault>
-    ensures { Answers result (λ c. c) (resize_of (vectors_of texts.now)) }
+pub(crate) fn resize(texts: &[CowSlice<'_, u8>]) -> Result<Command, LineFault>
+    ensures { Answers result (λ c. c) (resize_of (lent_of texts.now)) }
 {
     match texts {
         [pool, depth] => {
@@ -217,8 +235,8 @@ pub(crate) fn resize(texts: &[Vec<u8>]) -> Result<Command, LineFault>
 }
 
 /// Nothing more.
-pub(crate) fn nothing(texts: &[Vec<u8>]) -> Result<(), LineFault>
-    ensures { Answers result (λ u. u) (nothing_of (vectors_of texts.now)) }
+pub(crate) fn nothing(texts: &[CowSlice<'_, u8>]) -> Result<(), LineFault>
+    ensures { Answers result (λ u. u) (nothing_of (lent_of texts.now)) }
 {
     if texts.is_empty() {
         return Ok(());
@@ -227,8 +245,8 @@ pub(crate) fn nothing(texts: &[Vec<u8>]) -> Result<(), LineFault>
 }
 
 /// The name of an event.
-pub(crate) fn event_name(alloc: Global, texts: &[Vec<u8>]) -> Result<Which, LineFault>
-    ensures { Answers result (λ w. w) (name_of (vectors_of texts.now)) }
+pub(crate) fn event_name(alloc: Global, texts: &[CowSlice<'_, u8>]) -> Result<Which, LineFault>
+    ensures { Answers result (λ w. w) (name_of (lent_of texts.now)) }
 {
     match texts {
         [text] => which_of(alloc, text),
@@ -237,8 +255,8 @@ pub(crate) fn event_name(alloc: Global, texts: &[Vec<u8>]) -> Result<Which, Line
 }
 
 /// The number of a break.
-pub(crate) fn break_number(texts: &[Vec<u8>]) -> Result<u32, LineFault>
-    ensures { Answers result (λ n. n) (break_number_of (vectors_of texts.now)) }
+pub(crate) fn break_number(texts: &[CowSlice<'_, u8>]) -> Result<u32, LineFault>
+    ensures { Answers result (λ n. n) (break_number_of (lent_of texts.now)) }
 {
     match texts {
         [text] => number(text),

@@ -1,7 +1,7 @@
 //! What the opening lines of a trace make.
 ghost use Rattle.std.specs.Prelude.{◌≡◌, ◌&&◌, Some, None, OnOk, IfOk, IsErrOf};
 ghost use Rattle.rev_fields.specs.declared.faults.FaultKind.{FaultKind};
-ghost use Rattle.rev_fields.specs.Parts.{vectors_of};
+ghost use Rattle.rev_fields.specs.Parts.{lent_of};
 ghost use Rattle.rev_trace.specs.Heads.{IsAdded, record_fault, seen};
 ghost use Rattle.rev_trace.specs.Records.{empty_head, gives_jobs, head_with, opening_wrong, record_wrong};
 
@@ -10,9 +10,10 @@ use crate::mentions::Mentions;
 use crate::record::Record;
 use crate::records::{gives_jobs, record};
 use rev_cells::{BuiltRecord, DepsRecord, Opening, OpeningFault};
-use rev_fields::{FaultKind, LineFault, read_fields};
+use rev_fields::{FaultKind, LineFault, lent_fields};
 use rev_paths::Name;
 use std::alloc::Global;
+use std::borrow::CowSlice;
 
 /// The jobs and records, the targets, and whether the jobs were given.
 #[derive(Drop)]
@@ -96,8 +97,8 @@ fn add(head: &mut Head, said: Record) -> Result<(), LineFault>
 }
 
 // Whether a line with these texts gives the jobs a second time.
-fn is_second(head: &Head, texts: &[Vec<u8>]) -> bool
-    ensures { result ≡ (head.now.has_jobs && gives_jobs (vectors_of texts.now)) }
+fn is_second(head: &Head, texts: &[CowSlice<'_, u8>]) -> bool
+    ensures { result ≡ (head.now.has_jobs && gives_jobs (lent_of texts.now)) }
 {
     head.has_jobs && gives_jobs(texts)
 }
@@ -113,7 +114,7 @@ pub(crate) fn add_line(
     ensures fault { (kind : FaultKind) → IsErrOf result (LineFault.Kind kind)
         → opening_wrong (seen head.old) line.now ≡ Some kind }
 {
-    let texts = read_fields(alloc, line)?;
+    let texts = lent_fields(alloc, line)?;
     if is_second(head, &texts) {
         return Err(BAD_LINE);
     }

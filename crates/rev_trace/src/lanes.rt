@@ -2,7 +2,7 @@
 ghost use Rattle.std.specs.Prelude.{◌≡◌, ◌<◌, length, Some, IfOk, OnOk, IsErrOf};
 ghost use Rattle.rev_fields.specs.declared.faults.FaultKind.{FaultKind};
 ghost use Rattle.rev_fields.specs.Faults.{Answers};
-ghost use Rattle.rev_fields.specs.Parts.{vectors_of};
+ghost use Rattle.rev_fields.specs.Parts.{lent_of};
 ghost use Rattle.rev_trace.specs.Lanes.{lane_in_turn, lane_line, lane_named, lane_number, opens_lane};
 ghost use Rattle.rev_trace.specs.Lists.{IsHeld, one_lane, shown, with_command, with_lane};
 ghost use Rattle.rev_trace.specs.Traces.{wrong_in_lane};
@@ -15,8 +15,9 @@ use crate::traces::Trace;
 use crate::version::Version;
 use rev_cells::Names;
 use rev_commands::Command;
-use rev_fields::{FaultKind, LineFault, number, read_fields};
+use rev_fields::{FaultKind, LineFault, lent_fields, number};
 use std::alloc::{AllocError, Global};
+use std::borrow::CowSlice;
 
 const BAD_LANE: LineFault = LineFault::Kind(FaultKind::Lane);
 
@@ -28,8 +29,8 @@ pub(crate) fn opens_lane(line: &[u8]) -> bool
 }
 
 // The number in a line `lane N`, from the texts of its fields.
-fn lane_named(texts: &[Vec<u8>]) -> Result<u32, LineFault>
-    ensures { Answers result (λ n. n) (lane_named (vectors_of texts.now)) }
+fn lane_named(texts: &[CowSlice<'_, u8>]) -> Result<u32, LineFault>
+    ensures { Answers result (λ n. n) (lane_named (lent_of texts.now)) }
 {
     match texts {
         [_word, text] => number(text),
@@ -57,7 +58,7 @@ pub(crate) fn lane_line(
 ) -> Result<u32, LineFault>
     ensures said { Answers result (λ n. n) (lane_line version count line.now) }
 {
-    let texts = read_fields(alloc, line)?;
+    let texts = lent_fields(alloc, line)?;
     let number = lane_named(&texts)?;
     in_turn(version, count, number)
 }
@@ -72,7 +73,7 @@ fn held_line(
 ) -> Result<Command, LineFault>
     ensures { Answers result (λ c. c) (held_line version targets.now line.now) }
 {
-    let texts = read_fields(alloc, line)?;
+    let texts = lent_fields(alloc, line)?;
     if !version.may_begin(&texts) {
         return Err(BAD_LINE);
     }

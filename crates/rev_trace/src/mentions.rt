@@ -6,12 +6,13 @@ ghost use Rattle.std.proofs.Common.{ap, rules};
 ghost use Rattle.std.proofs.lemmas.Slice.Eq.{bytes_eq-Decides};
 ghost use Rattle.rev_fields.specs.Faults.{Answers};
 ghost use Rattle.rev_fields.specs.Lines.{path_of, paths_of};
-ghost use Rattle.rev_fields.specs.Parts.{vectors_of};
+ghost use Rattle.rev_fields.specs.Parts.{lent_of};
 
 use indexmap::{Equivalent, IndexSet};
 use rev_fields::{LineFault, path};
 use rev_paths::Name;
 use std::alloc::{AllocError, Global};
+use std::borrow::CowSlice;
 use std::hash::{Hash, Hasher};
 
 // A path as it is looked up: by its text, of which no name is made for it.
@@ -99,8 +100,12 @@ impl Mentions {
     }
 
     /// The paths that the texts of a list name.
-    pub(crate) fn paths(&mut self, alloc: Global, texts: &[Vec<u8>]) -> Result<Vec<Name>, LineFault>
-        ensures { Answers result (λ names. names.items) (paths_of (vectors_of texts.now)) }
+    pub(crate) fn paths(
+        &mut self,
+        alloc: Global,
+        texts: &[CowSlice<'_, u8>],
+    ) -> Result<Vec<Name>, LineFault>
+        ensures { Answers result (λ names. names.items) (paths_of (lent_of texts.now)) }
     {
         let mut names = Vec::with_capacity(alloc, texts.len())?;
         for text in texts {

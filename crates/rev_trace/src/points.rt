@@ -3,7 +3,7 @@ ghost use Rattle.std.specs.Prelude.{◌≡◌, ◌++◌, OnOk};
 ghost use Rattle.std.specs.List.{flat_map};
 ghost use Rattle.rev_fields.specs.Faults.{Answers};
 ghost use Rattle.rev_fields.specs.Fields.{field_text, spaced};
-ghost use Rattle.rev_fields.specs.Parts.{vectors_of};
+ghost use Rattle.rev_fields.specs.Parts.{lent_of};
 ghost use Rattle.rev_paths.specs.Canonical.{IsCanonical};
 ghost use Rattle.rev_trace.specs.Commands.{point_by, point_of, word_of};
 ghost use Rattle.rev_trace.specs.Texts.{IsPoint, point_fields};
@@ -14,10 +14,11 @@ use rev_commands::Point;
 use rev_fields::{LineFault, next_field};
 use rev_paths::Name;
 use std::alloc::{AllocError, Global};
+use std::borrow::CowSlice;
 
 // What a break waits for, by the word of its events.
-fn point_by(alloc: Global, verb: Verb, texts: &[Vec<u8>]) -> Result<Point, LineFault>
-    ensures { Answers result (λ p. p) (point_by verb (vectors_of texts.now)) }
+fn point_by(alloc: Global, verb: Verb, texts: &[CowSlice<'_, u8>]) -> Result<Point, LineFault>
+    ensures { Answers result (λ p. p) (point_by verb (lent_of texts.now)) }
 {
     match verb {
         Verb::Plan => {
@@ -47,8 +48,8 @@ fn point_by(alloc: Global, verb: Verb, texts: &[Vec<u8>]) -> Result<Point, LineF
 }
 
 /// `KIND OUT`, `touch PATH`, `plan` or `interrupt`.
-pub(crate) fn point(alloc: Global, texts: &[Vec<u8>]) -> Result<Point, LineFault>
-    ensures { Answers result (λ p. p) (point_of (vectors_of texts.now)) }
+pub(crate) fn point(alloc: Global, texts: &[CowSlice<'_, u8>]) -> Result<Point, LineFault>
+    ensures { Answers result (λ p. p) (point_of (lent_of texts.now)) }
 {
     let Some((word, rest)) = texts.split_first() else {
         return Err(BAD_LINE);

@@ -1,7 +1,7 @@
 //! Opening lines, from the texts of their fields.
 ghost use Rattle.std.specs.Prelude.{◌≡◌, ◌∷◌};
 ghost use Rattle.rev_fields.specs.Faults.{Answers};
-ghost use Rattle.rev_fields.specs.Parts.{vectors_of};
+ghost use Rattle.rev_fields.specs.Parts.{lent_of};
 ghost use Rattle.rev_trace.specs.Records.{built_of, deps_of, gives_jobs, jobs_of, record_of, stamp_of, target_of};
 
 use crate::events::BAD_LINE;
@@ -10,10 +10,11 @@ use crate::record::Record;
 use rev_cells::{Names, Text};
 use rev_fields::{LineFault, number, path, wide_number};
 use std::alloc::Global;
+use std::borrow::CowSlice;
 
 // `jobs N`
-fn jobs(texts: &[Vec<u8>]) -> Result<Record, LineFault>
-    ensures { Answers result (λ r. r) (jobs_of (vectors_of texts.now)) }
+fn jobs(texts: &[CowSlice<'_, u8>]) -> Result<Record, LineFault>
+    ensures { Answers result (λ r. r) (jobs_of (lent_of texts.now)) }
 {
     match texts {
         [text] => Ok(Record::Jobs(number(text)?)),
@@ -22,8 +23,8 @@ fn jobs(texts: &[Vec<u8>]) -> Result<Record, LineFault>
 }
 
 // `stamp PATH N`
-fn stamp(alloc: Global, texts: &[Vec<u8>]) -> Result<Record, LineFault>
-    ensures { Answers result (λ r. r) (stamp_of (vectors_of texts.now)) }
+fn stamp(alloc: Global, texts: &[CowSlice<'_, u8>]) -> Result<Record, LineFault>
+    ensures { Answers result (λ r. r) (stamp_of (lent_of texts.now)) }
 {
     match texts {
         [text, stamp] => {
@@ -36,8 +37,13 @@ fn stamp(alloc: Global, texts: &[Vec<u8>]) -> Result<Record, LineFault>
 }
 
 // `built PATH N COMMAND`, by its parts
-fn logged(alloc: Global, text: &[u8], stamp: &[u8], rest: &[Vec<u8>]) -> Result<Record, LineFault>
-    ensures { Answers result (λ r. r) (built_of (text.now ∷ stamp.now ∷ vectors_of rest.now)) }
+fn logged(
+    alloc: Global,
+    text: &[u8],
+    stamp: &[u8],
+    rest: &[CowSlice<'_, u8>],
+) -> Result<Record, LineFault>
+    ensures { Answers result (λ r. r) (built_of (text.now ∷ stamp.now ∷ lent_of rest.now)) }
 {
     match rest {
         [] => Err(BAD_LINE),
@@ -52,8 +58,8 @@ fn logged(alloc: Global, text: &[u8], stamp: &[u8], rest: &[Vec<u8>]) -> Result<
 }
 
 // `built PATH N COMMAND`
-fn built(alloc: Global, texts: &[Vec<u8>]) -> Result<Record, LineFault>
-    ensures { Answers result (λ r. r) (built_of (vectors_of texts.now)) }
+fn built(alloc: Global, texts: &[CowSlice<'_, u8>]) -> Result<Record, LineFault>
+    ensures { Answers result (λ r. r) (built_of (lent_of texts.now)) }
 {
     let Some((text, after_path)) = texts.split_first() else {
         return Err(BAD_LINE);
@@ -70,9 +76,9 @@ fn listed(
     mentions: &mut Mentions,
     text: &[u8],
     stamp: &[u8],
-    rest: &[Vec<u8>],
+    rest: &[CowSlice<'_, u8>],
 ) -> Result<Record, LineFault>
-    ensures { Answers result (λ r. r) (deps_of (text.now ∷ stamp.now ∷ vectors_of rest.now)) }
+    ensures { Answers result (λ r. r) (deps_of (text.now ∷ stamp.now ∷ lent_of rest.now)) }
 {
     let path = path(alloc, text)?;
     let paths = Names::new(mentions.paths(alloc, rest)?)?;
@@ -81,8 +87,12 @@ fn listed(
 }
 
 // `deps PATH N PATH...`
-fn deps(alloc: Global, mentions: &mut Mentions, texts: &[Vec<u8>]) -> Result<Record, LineFault>
-    ensures { Answers result (λ r. r) (deps_of (vectors_of texts.now)) }
+fn deps(
+    alloc: Global,
+    mentions: &mut Mentions,
+    texts: &[CowSlice<'_, u8>],
+) -> Result<Record, LineFault>
+    ensures { Answers result (λ r. r) (deps_of (lent_of texts.now)) }
 {
     let Some((text, after_path)) = texts.split_first() else {
         return Err(BAD_LINE);
@@ -94,8 +104,8 @@ fn deps(alloc: Global, mentions: &mut Mentions, texts: &[Vec<u8>]) -> Result<Rec
 }
 
 // `target PATH`
-fn target(alloc: Global, texts: &[Vec<u8>]) -> Result<Record, LineFault>
-    ensures { Answers result (λ r. r) (target_of (vectors_of texts.now)) }
+fn target(alloc: Global, texts: &[CowSlice<'_, u8>]) -> Result<Record, LineFault>
+    ensures { Answers result (λ r. r) (target_of (lent_of texts.now)) }
 {
     match texts {
         [text] => Ok(Record::Target(path(alloc, text)?)),
@@ -107,9 +117,9 @@ fn target(alloc: Global, texts: &[Vec<u8>]) -> Result<Record, LineFault>
 pub(crate) fn record(
     alloc: Global,
     mentions: &mut Mentions,
-    texts: &[Vec<u8>],
+    texts: &[CowSlice<'_, u8>],
 ) -> Result<Record, LineFault>
-    ensures { Answers result (λ r. r) (record_of (vectors_of texts.now)) }
+    ensures { Answers result (λ r. r) (record_of (lent_of texts.now)) }
 {
     let Some((word, rest)) = texts.split_first() else {
         return Err(BAD_LINE);
@@ -133,8 +143,8 @@ pub(crate) fn record(
 }
 
 /// Whether the texts are those of a line that gives the number of jobs.
-pub(crate) fn gives_jobs(texts: &[Vec<u8>]) -> bool
-    ensures { result ≡ gives_jobs (vectors_of texts.now) }
+pub(crate) fn gives_jobs(texts: &[CowSlice<'_, u8>]) -> bool
+    ensures { result ≡ gives_jobs (lent_of texts.now) }
 {
     match texts.split_first() {
         None => false,

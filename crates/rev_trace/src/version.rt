@@ -1,7 +1,9 @@
 //! The versions of the format.
 ghost use Rattle.std.specs.Prelude.{◌≡◌, ◌==◌, ◌&&◌, nat_lt, if◌then◌else◌, Some, None};
-ghost use Rattle.rev_fields.specs.Parts.{vectors_of};
+ghost use Rattle.rev_fields.specs.Parts.{lent_of};
 ghost use Rattle.rev_trace.specs.Versions.{is_first, may_begin as may_begin_in, may_name as may_name_in, version_of};
+
+use std::borrow::CowSlice;
 
 /// A version of the format.
 #[derive(Clone, Copy, Debug, PartialEq, Eq)]
@@ -37,8 +39,8 @@ impl Version {
     }
 
     /// Whether a line of a lane may begin with the word that stands first among these texts.
-    pub(crate) fn may_begin(self, texts: &[Vec<u8>]) -> bool
-        ensures { result ≡ may_begin_in self (vectors_of texts.now) }
+    pub(crate) fn may_begin(self, texts: &[CowSlice<'_, u8>]) -> bool
+        ensures { result ≡ may_begin_in self (lent_of texts.now) }
     {
         match (self, texts.first()) {
             (Version::One, Some(word)) => word.as_slice() != b"resize".as_slice(),

@@ -1,8 +1,12 @@
+pub mod Closed
 pub mod Counts
 pub mod Covered
 pub mod Each
 pub mod Runs
 pub mod Said
+pub mod Sends
 pub mod Sets
+pub mod Stands
+pub mod Surveyed
 pub mod Together
 pub mod Touches

@@ -35,7 +35,7 @@ use Rattle.rev_commands.specs.declared.command.Command.TheVariants as command
 use Rattle.rev_desk.specs.declared.reply.Reply.{Reply}
 use Rattle.rev_desk.specs.declared.reply.Reply.TheVariants as reply
 use Rattle.rev_desk.specs.declared.reply.Entry.{Entry}
-use Rattle.rev_desk.specs.Machine.{BenchValue, DeskValue, after, answer_on, bench_after, bench_of, entry_of, least_met, moved_by, moved_on, next_number, refusal_on, reply_by, reply_on, reply_to, target}
+use Rattle.rev_desk.specs.Machine.{DeskStateValue, DeskValue, after, answer_on, desk_state_after, desk_state_of, entry_of, least_met, moved_by, moved_on, next_number, refusal_on, reply_by, reply_on, reply_to, target}
 use Rattle.rev_desk.specs.Sound.{IsDesk, opening_of, run_of}
 use Rattle.rev_workers.specs.Waiting.{is_blocked, is_for_input, is_made, is_plain, is_touch}
 
@@ -171,7 +171,7 @@ event-kept manifest jobs s u o (Pass out) p made h =
 event-kept manifest jobs s u o e p made h = cc
 
 -- NUMBERS OF EVENTS
-few-moved : (s : BenchValue) (n k : ℕ) (m : Option ℕ) (c : Command) → last_of s.history.accepted ≤ k → n ≡ k + 1 → last_of (moved_on s n m c).history.accepted ≤ n
+few-moved : (s : DeskStateValue) (n k : ℕ) (m : Option ℕ) (c : Command) → last_of s.history.accepted ≤ k → n ≡ k + 1 → last_of (moved_on s n m c).history.accepted ≤ n
 few-moved s n k m (command.Event e) h is = omega (arith, last_of-push s.history.accepted n e (omega arith))
 few-moved s n k m (command.Undo w) h is = omega arith
 few-moved s n k m (command.Redo w) h is = omega arith
@@ -181,13 +181,13 @@ few-moved s n k m (command.Break p) h is = omega arith
 few-moved s n k m (command.Unbreak b) h is = omega arith
 few-moved s n k m command.Continue h is = omega arith
 
-few-after : (s : BenchValue) (n k : ℕ) (m : Option ℕ) (c : Command) → last_of s.history.accepted ≤ k → n ≡ k + 1 → last_of (bench_after s n m c).history.accepted ≤ n
+few-after : (s : DeskStateValue) (n k : ℕ) (m : Option ℕ) (c : Command) → last_of s.history.accepted ≤ k → n ≡ k + 1 → last_of (desk_state_after s n m c).history.accepted ≤ n
 few-after s n k m c h is =
     elim (refusal_on s m c) as (λ r. last_of (moved_by s (moved_on s n m c) r).history.accepted ≤ n) [ None ↦ few-moved s n k m c h is | Some r ↦ omega arith ]
 
 few-step : (d : DeskValue) (lane : ℕ) (c : Command) → last_of d.history.accepted ≤ length d.journal → last_of (after d lane c).history.accepted ≤ length (after d lane c).journal
 few-step d lane c h =
-    let few : last_of (after d lane c).history.accepted ≤ next_number d = few-after (bench_of d) (next_number d) (length d.journal) (target d.journal c) c h refl in
+    let few : last_of (after d lane c).history.accepted ≤ next_number d = few-after (desk_state_of d) (next_number d) (length d.journal) (target d.journal c) c h refl in
     omega (arith, few, length-append d.journal (entry_of d lane c ∷ []))
 
 few-run : (d : DeskValue) (es : List Entry) → last_of d.history.accepted ≤ length d.journal → last_of (run_of d es).history.accepted ≤ length (run_of d es).journal
@@ -212,13 +212,13 @@ refused-by true r met n p h = cc
 refused-by false None met n p h = cc
 refused-by false (Some x) met n p h = cc
 
-bench-touched : (s : BenchValue) (n : ℕ) (m : Option ℕ) (e : Event) → s.paused ≡ false → accept_refusal s.history e ≡ None → least_met s.history.manifest e s.breaks ≡ None
-    → bench_after s n m (command.Event e) ≡ record s { history = accepted_as n e s.history; paused = false }
-bench-touched s n m e going none met =
+desk_state-touched : (s : DeskStateValue) (n : ℕ) (m : Option ℕ) (e : Event) → s.paused ≡ false → accept_refusal s.history e ≡ None → least_met s.history.manifest e s.breaks ≡ None
+    → desk_state_after s n m (command.Event e) ≡ record s { history = accepted_as n e s.history; paused = false }
+desk_state-touched s n m e going none met =
     ap (moved_by s (moved_on s n m (command.Event e))) (ap (λ b. if b then Some Paused else accept_refusal s.history e) going ∙ none)
     ∙ ap (λ (b : Option ℕ). record s { history = accepted_as n e s.history; paused = is_some b }) met
 
-refused-now : (s : BenchValue) (n : ℕ) (m : Option ℕ) (e : Event) (r : Refusal) → s.paused ≡ false → accept_refusal s.history e ≡ Some r → reply_on s n m (command.Event e) ≡ reply.Refused r
+refused-now : (s : DeskStateValue) (n : ℕ) (m : Option ℕ) (e : Event) (r : Refusal) → s.paused ≡ false → accept_refusal s.history e ≡ Some r → reply_on s n m (command.Event e) ≡ reply.Refused r
 refused-now s n m e r going is =
     ap (reply_by (answer_on s n m (command.Event e))) (ap (λ b. if b then Some Paused else accept_refusal s.history e) going ∙ is)
 
@@ -241,8 +241,8 @@ event-touched d lane path stamp e p desk plain made is =
     let state = state_at d.history in
     let kept : refusal d.history.manifest d.history.jobs (state_after d.history.manifest state t) e ≡ Some (Blocked p) = event-kept d.history.manifest d.history.jobs state (state_after d.history.manifest state t) (touched d.history.manifest state path stamp) e p made was in
     let now : accept_refusal (accepted_as n t d.history) e ≡ Some (Blocked p) = ap (λ s. refusal d.history.manifest d.history.jobs s e) (accepted_state d.history n t desk.history (last-below d desk)) ∙ kept in
-    ap (λ (s : BenchValue). reply_on s (next_number next) (target next.journal (command.Event e)) (command.Event e)) (bench-touched (bench_of d) n (target d.journal (command.Event t)) t parts.0 parts.1 parts.2)
-    ∙ refused-now (record (bench_of d) { history = accepted_as n t d.history; paused = false }) (next_number next) (target next.journal (command.Event e)) e (Blocked p) refl now
+    ap (λ (s : DeskStateValue). reply_on s (next_number next) (target next.journal (command.Event e)) (command.Event e)) (desk_state-touched (desk_state_of d) n (target d.journal (command.Event t)) t parts.0 parts.1 parts.2)
+    ∙ refused-now (record (desk_state_of d) { history = accepted_as n t d.history; paused = false }) (next_number next) (target next.journal (command.Event e)) e (Blocked p) refl now
 
 command-touched : (d : DeskValue) (lane : ℕ) (path : List ℕ) (stamp : ℕ) (c : Command) (p : ℕ) → IsDesk d → is_plain (reply_to d (command.Event (Touch path stamp))) ≡ true → is_made c ≡ true
     → reply_to d c ≡ reply.Refused (Blocked p) → reply_to (after d lane (command.Event (Touch path stamp))) c ≡ reply.Refused (Blocked p)

@@ -1,5 +1,5 @@
 -- What it is that lanes say their commands.
-use Rattle.std.specs.Prelude.{ℕ, ◌≡◌, ◌<◌, ◌≤◌, ◌⊎◌, ⊤, nat_lt, List, [], ◌∷◌, ◌++◌, Option, Some, None, IfSome, length, map, drop, slice_get, Contains, if◌then◌else◌}
+use Rattle.std.specs.Prelude.{ℕ, ◌≡◌, ◌<◌, ◌≤◌, ◌^◌, ◌⊎◌, ⊤, nat_lt, List, [], ◌∷◌, ◌++◌, Option, Some, None, IfSome, length, map, drop, slice_get, Contains, if◌then◌else◌}
 use Rattle.std.specs.List.{AllByRecursion}
 use Rattle.rev_commands.specs.declared.command.Command.{Command}
 use Rattle.rev_desk.specs.declared.reply.Reply.{Reply}
@@ -43,6 +43,12 @@ done_numbers ds = map (λ (d : DoneValue). d.lane.number) ds
 
 abbrev pub DidSay : Track → List Command → DoneValue → Type 0
 DidSay t commands d = Ran t commands d.lane × (d.seen ≡ t.seen) × (d.before ≡ length t.list)
+
+-- the gate was told of each of so many commands of a lane, before it was sent and once it was answered; places are kept
+-- in 32 bits
+abbrev pub AreTold : {S : Type 0} → (S → ℕ → ℕ → Type 0) → (S → ℕ → ℕ → Type 0) → S → ℕ → ℕ → Type 0
+AreTold told answered gate lane count =
+    (place : ℕ) → 0 < place → place ≤ count → place < 2 ^ 32 → told gate lane place × answered gate lane place
 
 -- a number is not below the least one, where there is one; and it is below
 abbrev pub IsFrom : Option ℕ → ℕ → Type 0

@@ -1,8 +1,8 @@
 //! Whether lanes fit a journal.
-ghost use Rattle.std.specs.Prelude.{◌≡◌, ◌≢◌, ◌<◌, ◌≤◌, ◌↔◌, Contains, IsTrue, IfSome, IfNone, ℕ, length, drop, slice_get};
+ghost use Rattle.std.specs.Prelude.{◌≡◌, ◌≢◌, ◌<◌, ◌≤◌, ◌↔◌, Contains, IsTrue, IfSome, IfNone, ℕ, length, drop, slice_get, take};
 ghost use Rattle.std.specs.List.{AllByRecursion};
 ghost use Rattle.rev_workers.specs.Closing.{numbered, IsStated, base_in, part, entries_of, AreStated, IsMisstated, due};
-ghost use Rattle.rev_workers.specs.Running.{DoneValue, IsConfirmed, IsUnder, done_numbers, lesser};
+ghost use Rattle.rev_workers.specs.Running.{DoneValue, IsConfirmed, IsUnder, done_numbers, lanes_in, lesser};
 
 use crate::jobs::Done;
 use crate::lane::Lane;
@@ -109,6 +109,16 @@ fn said_past(list: &[(Command, Reply)], before: u64) -> &[(Command, Reply)]
     &list[before as usize..]
 }
 
+// What was said up to a command of a list.
+fn said_until(list: &[(Command, Reply)], before: u64) -> &[(Command, Reply)]
+    ensures { result.now ≡ take before list.now }
+{
+    if before >= list.len() as u64 {
+        return list;
+    }
+    &list[..before as usize]
+}
+
 // Whether what a lane has said is its part of the journal past what it had seen before.
 fn is_confirmed<L: Ledger>(done: &Done<L>, journal: &[Entry]) -> bool
     ensures { IsTrue result ↔ IsConfirmed journal.now done.now }
@@ -118,6 +128,36 @@ fn is_confirmed<L: Ledger>(done: &Done<L>, journal: &[Entry]) -> bool
         done.lane().number(),
         past(journal, done.seen()),
     )
+}
+
+// Whether a lane's whole list is its part of the journal past the first entries, where what it has said last is
+// confirmed, which is not compared again.
+fn is_stated_before<L: Ledger>(done: &Done<L>, base: u64, journal: &[Entry]) -> bool
+    requires { IsConfirmed journal.now done.now }
+    ensures { IsTrue result ↔ (done.now.lane.list ≡ part done.now.lane.number (drop base journal.now)) }
+{
+    let lane = done.lane();
+    let seen = done.seen();
+    if seen < base || seen > journal.len() as u64 {
+        return is_part(lane.list(), lane.number(), past(journal, base));
+    }
+    is_part(
+        said_until(lane.list(), done.before()),
+        lane.number(),
+        &journal[base as usize..seen as usize],
+    )
+}
+
+// The base of the first lane 0 of those that said all.
+fn base_of_done<L: Ledger>(done: &[Done<L>]) -> u64
+    ensures { result ≡ base_in (lanes_in done.now) }
+{
+    for each in done {
+        if each.lane().number() == 0 {
+            return each.lane().base();
+        }
+    }
+    0
 }
 
 // The lesser of two numbers, where there is one.
@@ -137,19 +177,37 @@ pub(crate) fn lesser(first: Option<u32>, second: Option<u32>) -> Option<u32>
     }
 }
 
-// The least number of a lane that the journal does not confirm.
-pub(crate) fn unconfirmed<L: Ledger>(done: &[Done<L>], journal: &[Entry]) -> Option<u32>
-    ensures among { IfSome result (λ n. Contains (done_numbers done.now) n) }
-    ensures under { (k : ℕ) (d : DoneValue) → slice_get done.now k ≡ Some d
-        → IsUnder result d.lane.number → IsConfirmed journal.now d }
+/// What the journal says of lanes that said all: the least number of those of which it does not have what they said
+/// last, and the least of the others whose whole list is not their part of it.
+#[derive(Clone, Copy)]
+pub(crate) struct Survey {
+    pub(crate) unconfirmed: Option<u32>,
+    pub(crate) misstated: Option<u32>,
+}
+
+// Compares what each lane said with its part of the journal, each command once.
+pub(crate) fn survey_of<L: Ledger>(done: &[Done<L>], journal: &[Entry]) -> Survey
+    ensures among { IfSome result.unconfirmed (λ n. Contains (done_numbers done.now) n) }
+    ensures confirmed { (k : ℕ) (d : DoneValue) → slice_get done.now k ≡ Some d
+        → IsUnder result.unconfirmed d.lane.number → IsConfirmed journal.now d }
+    ensures stated { result.unconfirmed ≡ None → result.misstated ≡ None → (k : ℕ) (d : DoneValue)
+        → slice_get done.now k ≡ Some d → d.lane.list ≡ part d.lane.number (drop (base_in (lanes_in done.now)) journal.now) }
 {
-    let mut least = None;
+    let base = base_of_done(done);
+    let mut unconfirmed = None;
+    let mut misstated = None;
     for place in 0..done.len() {
+        let number = Some(done[place].lane().number());
         if !is_confirmed(&done[place], journal) {
-            least = lesser(least, Some(done[place].lane().number()));
+            unconfirmed = lesser(unconfirmed, number);
+        } else if !is_stated_before(&done[place], base, journal) {
+            misstated = lesser(misstated, number);
         }
     }
-    least
+    Survey {
+        unconfirmed,
+        misstated,
+    }
 }
 
 // Puts the lanes' shares together. With every part of the ledger they have what its book counts.
@@ -168,4 +226,64 @@ pub(crate) fn settle<L: Ledger>(book: Book<L>, lanes: Vec<Lane<L>>)
         all.merge(lane.into_share());
     }
     book.audit(&mut all);
+}
+
+// A list that is not a lane's part of the journal: no call of another crate makes one, so the test stands here.
+#[cfg(test)]
+mod tests {
+    use super::*;
+    use crate::fault::CloseCode;
+    use rev_events::Refusal;
+    use std::alloc::{AllocError, Global};
+    use std::marker::Brand;
+    use std::sync::ledger::Blank;
+    use std::test::Fail;
+
+    const TOLD: Reply = Reply::Refused(Refusal::NothingKept);
+
+    // Which lane is misstated by a journal in which lane 1 stepped back, where its list has this command and reply.
+    fn misstated_by<L: Ledger>(
+        alloc: Global,
+        blank: Blank,
+        said: (Command, Reply),
+    ) -> Result<Option<u32>, AllocError>
+        requires name { blank.name ≡ L.name }
+        requires parts { blank.parts ≡ L.parts }
+        requires two { blank.parts ≡ 2 }
+    {
+        let (mut book, mut rest) = blank.open::<L>();
+        let mut share = rest.split_off(1, 0);
+        book.add(&mut share, 1);
+        let mut list = Vec::new(alloc);
+        list.push(said)?;
+        let lane = Lane {
+            number: 1,
+            base: 0,
+            seen: 1,
+            list,
+            share,
+        };
+        let journal = [Entry {
+            lane: 1,
+            command: Command::Back,
+            reply: TOLD,
+        }];
+        let lanes = [lane];
+        Ok(misstated(&lanes, 2, &journal))
+    }
+
+    fn misstated_where(alloc: Global, said: (Command, Reply)) -> Result<Option<u32>, AllocError> {
+        misstated_by::<Brand>(alloc, Blank::new(2), said)
+    }
+
+    #[test]
+    fn a_list_that_the_journal_does_not_have(rt: HostRuntime) -> Result<(), Fail> {
+        let alloc = rt.alloc();
+        assert!(rt; misstated_where(alloc, (Command::Back, TOLD))? == None);
+        assert!(rt; misstated_where(alloc, (Command::Continue, TOLD))? == Some(1));
+        let other = Reply::Refused(Refusal::Halted);
+        assert!(rt; misstated_where(alloc, (Command::Back, other))? == Some(1));
+        assert!(rt; CloseCode::LaneMismatch.number() == 111);
+        Ok(())
+    }
 }

@@ -49,7 +49,6 @@ impl CloseFault {
     }
 }
 
-// Written, since a derived drop is proved again at each exit of each caller.
 impl Drop for CloseFault {
     fn drop(self) {
         let CloseFault {

@@ -1,5 +1,5 @@
 //! What lies under the lock.
-ghost use Rattle.std.specs.Prelude.{◌≡◌, ◌≢◌, ◌<◌, ◌≤◌, ◌^◌, ℕ, Some, IfOk, IfErr, OnOk, OnErr, length, slice_get, slice_set};
+ghost use Rattle.std.specs.Prelude.{◌≡◌, ◌≢◌, ◌<◌, ◌≤◌, ◌^◌, ℕ, Some, None, IfOk, IfErr, OnOk, OnErr, length, slice_get, slice_set};
 ghost use Rattle.rev_commands.specs.declared.command.Command.{Command};
 ghost use Rattle.rev_desk.specs.declared.fault.Unsaid.{Unsaid};
 ghost use Rattle.rev_desk.specs.Machine.{reply_to, after};
@@ -8,10 +8,10 @@ ghost use Rattle.rev_workers.specs.Closing.{AreStated, IsMissing, IsMisstated, I
 ghost use Rattle.rev_workers.specs.declared.fault.CloseCode.TheVariants as code;
 ghost use Rattle.std.specs.List.{AllByRecursion, list_any};
 ghost use Rattle.rev_workers.specs.Tracks.{Track, Carries, fresh, said};
-ghost use Rattle.rev_workers.specs.declared.held.Untold.TheVariants as untold;
+ghost use Rattle.rev_workers.specs.declared.held.NotAnswered.TheVariants as not_answered;
 ghost use Rattle.rev_workers.specs.declared.standing.Standing.TheVariants as standing;
-ghost use Rattle.rev_workers.specs.Waiting.{MayPass, OthersAreStill, is_to_look};
-ghost use Rattle.rev_workers.specs.Waiting.{standings_after, waiting};
+ghost use Rattle.rev_workers.specs.Waiting.{BeginsToWait, MayPass, OthersAreStill, OthersRest, Stands};
+ghost use Rattle.rev_workers.specs.Waiting.{is_to_look, standings_after};
 
 use crate::closing::{missing, misstated, settle};
 use crate::fault::{CloseCode, CloseFault};
@@ -23,25 +23,26 @@ use crate::standing::{
 use rev_desk::{Command, Desk, Reply, Unsaid, Why};
 use std::alloc::{AllocError, Global};
 use std::marker::Model;
+use std::snapshot::Snapshot;
 use std::sync::ledger::{Blank, Book, Ledger};
 
 /// Why a command that waits until it is able has no answer.
 #[derive(Drop)]
-pub enum Untold {
+pub enum NotAnswered {
     /// It is to wait.
     Waits(Command),
     /// It can make no entry.
     Unsaid(Unsaid),
 }
 
-/// A desk, the book of its ledger, and how each lane stands. Contracts see the desk and the standings.
+/// A desk, the book of its ledger, and how each lane stands. Contracts see the desk and the standings. A lane that waits
+/// and need not look again has a command that this very desk refuses with 68, 72 or 74.
 pub struct Held<L: Ledger> {
     desk: Desk,
     book: Book<L>,
     standings: Vec<Standing>,
 }
 
-// Written, since a derived drop is proved again at each exit of each caller.
 impl<L: Ledger> Drop for Held<L> {
     fn drop(self) {
         let Held {
@@ -54,7 +55,9 @@ impl<L: Ledger> Drop for Held<L> {
 
 impl<L: Ledger> Model for Held<L> {
     ghost use Rattle.std.specs.Prelude.{◌≡◌, ◌<◌, length};
+    ghost use Rattle.std.specs.List.{AllByRecursion};
     ghost use Rattle.rev_workers.specs.Locked.{Locked, coded_locked};
+    ghost use Rattle.rev_workers.specs.Waiting.{Stands};
 
     ghost Value = { Locked };
 
@@ -63,7 +66,8 @@ impl<L: Ledger> Model for Held<L> {
     ghost view = { λ h. record { desk = h.desk; standings = h.standings.items } };
 
     ghost invariant = { λ h. (h.book.total ≡ length h.desk.journal) × (h.desk.lanes ≡ L.parts)
-        × (length h.standings.items ≡ L.parts) × (0 < L.parts) };
+        × (length h.standings.items ≡ L.parts) × (0 < L.parts)
+        × AllByRecursion (Stands h.desk) h.standings.items };
 }
 
 impl<L: Ledger> Held<L> {
@@ -141,25 +145,28 @@ impl<L: Ledger> Held<L> {
     }
 
     /// Answers a command of a lane, or has the lane wait: it waits exactly where the command is refused 68, 72 or 74
-    /// and another lane goes on. So such a refusal is answered only where every other lane has ended, or waits and need
-    /// not look at this journal.
-    pub fn step_when_able(&mut self, lane: &mut Lane<L>, command: Command) -> Result<Reply, Untold>
+    /// and another lane goes on. So such a refusal is answered only where every other lane has ended, or waits with a
+    /// command that this very desk refuses so.
+    pub fn step_when_able(
+        &mut self,
+        lane: &mut Lane<L>,
+        command: Command,
+    ) -> Result<Reply, NotAnswered>
         requires { lane.old.number < self.old.desk.lanes }
         ensures reply { IfOk result (λ reply. reply ≡ reply_to self.old.desk command) }
         ensures able { IfOk result (λ reply. MayPass reply
-            → OthersAreStill lane.old.number (length self.old.desk.journal) self.old.standings) }
+            → OthersRest lane.old.number self.old.desk self.old.standings) }
         ensures desk { OnOk result (self.new.desk ≡ after self.old.desk lane.old.number command) }
         ensures lane { IfOk result (λ reply. lane.new
             ≡ said lane.old command reply (length self.new.desk.journal)) }
         ensures carried { IfOk result (λ reply. Carries reply lane.new.seen) }
         ensures goes { OnOk result (self.new.standings ≡ standings_after self.old.desk command
             (slice_set self.old.standings lane.old.number standing.Going)) }
-        ensures waits { IfErr result (λ why. (c : Command) → why ≡ untold.Waits c
+        ensures waits { IfErr result (λ why. (c : Command) → why ≡ not_answered.Waits c
             → (c ≡ command) × MayPass (reply_to self.old.desk command)
             × ¬ (OthersAreStill lane.old.number (length self.old.desk.journal) self.old.standings)
-            × (self.new.standings ≡ slice_set self.old.standings lane.old.number
-            (waiting self.old.desk command))) }
-        ensures unsaid { IfErr result (λ why. (u : Unsaid) → why ≡ untold.Unsaid u
+            × BeginsToWait self.old.desk lane.old.number command self.old.standings self.new.standings) }
+        ensures unsaid { IfErr result (λ why. (u : Unsaid) → why ≡ not_answered.Unsaid u
             → (u.command ≡ command)
             × (self.new.standings ≡ slice_set self.old.standings lane.old.number standing.Going)) }
         ensures same { OnErr result (self.new.desk ≡ self.old.desk) }
@@ -169,7 +176,7 @@ impl<L: Ledger> Held<L> {
         if !others_are_still(&self.standings, lane.number, entries) {
             let Ok(verdict) = self.desk.verdict(&command) else {
                 self.stand(lane.number, Standing::Going);
-                return Err(Untold::Unsaid(Unsaid {
+                return Err(NotAnswered::Unsaid(Unsaid {
                     why: Why::Memory,
                     command,
                 }));
@@ -178,15 +185,16 @@ impl<L: Ledger> Held<L> {
                 let standing = Standing::Waiting {
                     refused_at: entries,
                     for_input: is_for_input(&command, verdict),
+                    command: Snapshot::of(&command),
                 };
                 self.stand(lane.number, standing);
-                return Err(Untold::Waits(command));
+                return Err(NotAnswered::Waits(command));
             }
         }
         self.stand(lane.number, Standing::Going);
         match self.step(lane, command) {
             Ok(answer) => Ok(answer),
-            Err(unsaid) => Err(Untold::Unsaid(unsaid)),
+            Err(unsaid) => Err(NotAnswered::Unsaid(unsaid)),
         }
     }
 
@@ -205,8 +213,28 @@ impl<L: Ledger> Held<L> {
         ensures not_stopped { IfErr result (λ fault. fault.code ≢ code.LaneStopped) }
     {
         let count = self.desk.lanes();
-        let missing = missing(&lanes, count);
         let misstated = misstated(&lanes, count, self.desk.journal());
+        self.close_by(lanes, misstated)
+    }
+
+    // Takes the lanes back, of which the least is given whose list is not its part of the journal, where there is one.
+    pub(crate) fn close_by(
+        self,
+        lanes: Vec<Lane<L>>,
+        misstated: Option<u32>,
+    ) -> Result<Desk, CloseFault>
+        ensures desk { left_by result ≡ self.desk }
+        ensures counted { IsOneOfEach (left_by result).lanes lanes.items
+            → length (left_by result).journal ≡ entries_of lanes.items }
+        ensures ok { OnOk result (misstated ≡ None × IsOneOfEach self.desk.lanes lanes.items) }
+        ensures missing { IfErr result (λ fault. fault.code ≡ code.LaneMissing
+            → IsMissing fault.desk.lanes lanes.items fault.lane) }
+        ensures mismatch { IfErr result (λ fault. fault.code ≡ code.LaneMismatch
+            → IsOneOfEach fault.desk.lanes lanes.items × (misstated ≡ Some fault.lane)) }
+        ensures not_stopped { IfErr result (λ fault. fault.code ≢ code.LaneStopped) }
+    {
+        let count = self.desk.lanes();
+        let missing = missing(&lanes, count);
         let Held {
             desk,
             book,
@@ -230,11 +258,12 @@ impl<L: Ledger> Held<L> {
         Ok(desk)
     }
 
-    // There is a lane for each part of the ledger. Proofs alone need the call.
-    pub(crate) fn know_lanes(&self)
-        ensures { self.now.desk.lanes ≡ L.parts }
+    // How many lanes there are: one for each part of the ledger.
+    pub(crate) fn lanes(&self) -> u32
+        ensures lanes { result ≡ self.now.desk.lanes }
+        ensures parts { self.now.desk.lanes ≡ L.parts }
     {
-        let _ = &self.desk;
+        self.desk.lanes()
     }
 
     // Notes that these lanes go on, and that all others have ended.
@@ -278,7 +307,8 @@ impl<L: Ledger> Held<L> {
 
     // Notes how a lane stands.
     pub(crate) fn stand(&mut self, number: u32, standing: Standing)
-        requires { number < self.old.desk.lanes }
+        requires lane { number < self.old.desk.lanes }
+        requires stands { Stands self.old.desk standing }
         ensures { self.new ≡ record self.old { standings = slice_set self.old.standings number standing } }
     {
         self.standings[number as usize] = standing;

@@ -1,8 +1,8 @@
 //! Lanes with what they are to say.
-ghost use Rattle.std.specs.Prelude.{◌≡◌, ◌<◌, [], IfErr, IfOk, IfSome, List, length, map};
+ghost use Rattle.std.specs.Prelude.{◌≡◌, ◌<◌, [], IfErr, IfOk, IfSome, List, OnOk, length, map};
 ghost use Rattle.rev_commands.specs.declared.command.Command.{Command};
 ghost use Rattle.rev_workers.specs.Tracks.{Track};
-ghost use Rattle.rev_workers.specs.Running.{DidSay, DoneValue, lanes_in, pair_up};
+ghost use Rattle.rev_workers.specs.Running.{AreTold, DidSay, DoneValue, lanes_in, pair_up};
 
 use crate::gate::Gate;
 use crate::lane::Lane;
@@ -19,7 +19,6 @@ pub(crate) struct Job<L: Ledger> {
     commands: Vec<Command>,
 }
 
-// Written, since a derived drop is proved again at each exit of each caller.
 impl<L: Ledger> Drop for Job<L> {
     fn drop(self) {
         let Job {
@@ -57,14 +56,13 @@ impl<L: Ledger> Job<L> {
     }
 }
 
-/// A lane that said all that it had to say, with what it had seen and how many commands it had said before that.
+/// A lane that sent all its commands, with its `seen` and number of calls before.
 pub(crate) struct Done<L: Ledger> {
     lane: Lane<L>,
     seen: u64,
     before: u64,
 }
 
-// Written, since a derived drop is proved again at each exit of each caller.
 impl<L: Ledger> Drop for Done<L> {
     fn drop(self) {
         let Done {
@@ -175,10 +173,26 @@ pub(crate) fn run_job<L: Ledger, R: Wait, G: Gate>(
 ) -> Result<Done<L>, u32>
     requires { job.0.number < shared.now }
     ensures ok { IfOk result (λ done. DidSay job.0 job.1 done) }
+    ensures told { OnOk result (AreTold G.told G.answered gate.now job.0.number (length job.1)) }
     ensures stopped { IfErr result (λ number. number ≡ job.0.number) }
 {
     let (lane, commands) = job.into_parts();
     run_lane(rt, shared, gate, lane, commands)
+}
+
+// Tells a gate that a lane is about to send the command at a place.
+fn tell_sending<G: Gate>(gate: &G, lane: u32, place: u32)
+    ensures { G.told gate.now lane place }
+{
+    gate.before(lane, place);
+}
+
+// Tells a gate that this command was answered, or made no entry.
+fn tell_answered<G: Gate>(gate: &G, lane: u32, place: u32)
+    requires told { G.told gate.now lane place }
+    ensures { G.answered gate.now lane place }
+{
+    gate.after(lane, place);
 }
 
 // Says a lane's commands. Where one makes no entry it stops, and gives the lane's number.
@@ -191,6 +205,7 @@ fn run_lane<L: Ledger, R: Wait, G: Gate>(
 ) -> Result<Done<L>, u32>
     requires { lane.number < shared.now }
     ensures ok { IfOk result (λ done. DidSay lane commands.items done) }
+    ensures told { OnOk result (AreTold G.told G.answered gate.now lane.number (length commands.items)) }
     ensures stopped { IfErr result (λ number. number ≡ lane.number) }
 {
     let mut lane = lane;
@@ -198,9 +213,9 @@ fn run_lane<L: Ledger, R: Wait, G: Gate>(
     let mut place = 0u32;
     for command in commands {
         place = place.saturating_add(1);
-        gate.before(number, place);
+        tell_sending(gate, number, place);
         let answer = lane.send_when_able(shared, rt, command);
-        gate.after(number, place);
+        tell_answered(gate, number, place);
         let Ok(_reply) = answer else {
             shared.end(rt, number);
             return Err(number);

@@ -1,5 +1,5 @@
 //! A lane's token.
-ghost use Rattle.std.specs.Prelude.{◌≡◌, ◌<◌, ◌+◌, ◌++◌, ◌∷◌, [], length, slice_set};
+ghost use Rattle.std.specs.Prelude.{◌≡◌, ◌<◌, ◌+◌, ◌++◌, ◌∷◌, [], length};
 ghost use Rattle.rev_workers.specs.Tracks.{fresh, base_at};
 
 use rev_desk::{Command, Reply};
@@ -16,7 +16,6 @@ pub struct Lane<L: Ledger> {
     pub(crate) share: Share<L>,
 }
 
-// Written, since a derived drop is proved again at each exit of each caller.
 impl<L: Ledger> Drop for Lane<L> {
     fn drop(self) {
         let Lane {
@@ -104,15 +103,6 @@ impl<L: Ledger> Lane<L> {
         ensures { result ≡ self.now.seen }
     {
         self.seen
-    }
-
-    /// Puts another command and reply in the place of those that the lane said and was told there. Number, base, what
-    /// it has seen and the other places stay. The journal is not touched, so [`close`](crate::close) finds it (111).
-    pub fn restate(&mut self, place: usize, command: Command, reply: Reply)
-        requires { place < length self.old.list }
-        ensures { self.new ≡ record self.old { list = slice_set self.old.list place (command, reply) } }
-    {
-        self.list[place] = (command, reply);
     }
 
     /// The lane's commands, each with its reply.

@@ -15,7 +15,7 @@ mod standing;
 
 pub use fault::{CloseCode, CloseFault};
 pub use gate::Gate;
-pub use held::{Held, Untold};
+pub use held::{Held, NotAnswered};
 pub use lane::Lane;
 pub use run::run_workers;
 pub use shared::{Shared, close};

@@ -7,7 +7,7 @@ ghost use Rattle.rev_workers.specs.declared.fault.CloseCode.TheVariants as code;
 ghost use Rattle.rev_workers.specs.Running.{AreConfirmed, AreSaid, HasNumber, HaveSaid, HaveSaidBelow, IsLeastStopped};
 ghost use Rattle.rev_workers.specs.Running.{lanes_in};
 
-use crate::closing::{lesser, unconfirmed};
+use crate::closing::{lesser, survey_of};
 use crate::fault::CloseFault;
 use crate::gate::Gate;
 use crate::halves::run_halves;
@@ -37,8 +37,8 @@ fn least_number<L: Ledger>(lanes: &[Lane<L>]) -> Option<u32>
     Some(least)
 }
 
-/// Each lane says the commands of the trace's lane at its place, each from a thread of its own, and the desk is
-/// closed. Lanes past the trace's last have nothing to say. The trace's opening and targets are not looked at.
+/// Runs each lane on a thread with the commands of its trace lane, then closes the desk. Lanes past the trace's last
+/// have nothing to say. The trace's opening and targets are not looked at.
 ///
 /// # Errors
 /// [`CloseCode::LaneStopped`](crate::CloseCode::LaneStopped) where lanes could not say all that they were to say:
@@ -136,12 +136,13 @@ fn close_done<L: Ledger>(
     ensures ok { IfOk result (λ desk. (stopped ≡ None) × IsOneOfEach desk.lanes (lanes_in done.items)
         × AreStated desk.lanes desk.journal (lanes_in done.items)) }
 {
-    let stopped = lesser(stopped, unconfirmed(&done, held.desk().journal()));
+    let found = survey_of(&done, held.desk().journal());
+    let stopped = lesser(stopped, found.unconfirmed);
     if let Some(lane) = stopped {
         return Err(held.stopped_at(lane));
     }
     let Some(lanes) = lanes_of(done, room) else {
         return Err(held.stopped_at(least));
     };
-    held.close(lanes)
+    held.close_by(lanes, found.misstated)
 }

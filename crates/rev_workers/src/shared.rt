@@ -7,7 +7,7 @@ ghost use Rattle.std.specs.List.{AllByRecursion};
 ghost use Rattle.rev_workers.specs.Tracks.{Track, Carries, fresh, said};
 
 use crate::fault::CloseFault;
-use crate::held::{Held, Untold};
+use crate::held::{Held, NotAnswered};
 use crate::lane::Lane;
 use crate::standing::Standing;
 use rev_desk::{Command, Desk, Reply, Unsaid, Why};
@@ -23,7 +23,6 @@ pub struct Shared<L: Ledger> {
     changed: Condvar,
 }
 
-// Written, since a derived drop is proved again at each exit of each caller.
 impl<L: Ledger> Drop for Shared<L> {
     fn drop(self) {
         let Shared {
@@ -85,7 +84,7 @@ impl<L: Ledger> Shared<L> {
         requires { number < self.now }
     {
         let mut held = self.held.lock(rt);
-        held.know_lanes();
+        let _lanes = held.lanes();
         held.stand(number, Standing::Ended);
         drop(held);
         self.changed.notify_all();
@@ -133,7 +132,7 @@ impl<L: Ledger> Lane<L> {
         ensures err { OnErr result (self.new ≡ self.old) }
     {
         let mut held = shared.held.lock(rt);
-        held.know_lanes();
+        let _lanes = held.lanes();
         let reply = held.step(self, command)?;
         let some_look = held.some_look();
         drop(held);
@@ -157,7 +156,7 @@ impl<L: Ledger> Lane<L> {
         let mut held = shared.held.lock(rt);
         let mut command = command;
         for _ in rt.forever() {
-            held.know_lanes();
+            let _lanes = held.lanes();
             match held.step_when_able(self, command) {
                 Ok(reply) => {
                     let some_look = held.some_look();
@@ -165,8 +164,8 @@ impl<L: Ledger> Lane<L> {
                     shared.tell(some_look);
                     return Ok(reply);
                 }
-                Err(Untold::Unsaid(unsaid)) => return Err(unsaid),
-                Err(Untold::Waits(back)) => {
+                Err(NotAnswered::Unsaid(unsaid)) => return Err(unsaid),
+                Err(NotAnswered::Waits(back)) => {
                     command = back;
                     held = shared.changed.wait(rt, held);
                 }

@@ -1,21 +1,26 @@
 //! How lanes stand: which go on, and which of those that wait are to look again.
 ghost use Rattle.std.specs.Prelude.{◌≡◌, ◌<◌, ◌^◌, ◌↔◌, ◌&&◌, IsTrue, if◌then◌else◌, length, map};
-ghost use Rattle.std.specs.List.{list_any};
-ghost use Rattle.rev_workers.specs.Waiting.{MayPass, OthersAreStill, IsStill, is_for_input, is_touch, is_plain, is_to_look, kept_waiting};
+ghost use Rattle.std.specs.List.{AllByRecursion, list_any};
+ghost use Rattle.rev_workers.specs.Waiting.{MayPass, OthersAreStill, IsStill, is_for_input, is_touch, is_plain, is_to_look, kept_waiting, IsOutOfWay};
 
 use crate::lane::Lane;
 use rev_desk::{Command, Reply};
 use rev_events::{Event, Refusal};
+use std::snapshot::Snapshot;
 use std::sync::ledger::Ledger;
 
 /// How a lane stands.
-#[derive(Clone, Copy, Debug, PartialEq, Eq)]
+#[derive(Drop)]
 pub enum Standing {
     /// It goes on.
     Going,
-    /// It waits. Its command was refused by a desk whose journal had so many entries, and where that was for an input,
-    /// it has been so since: where there are more entries by now, it is to look again, and goes on.
-    Waiting { refused_at: u64, for_input: bool },
+    /// Waiting. Its command was last known to be refused at this journal length; past it the lane is to look again, and
+    /// counts as one that goes on. The command is for contracts alone, and takes no bytes.
+    Waiting {
+        refused_at: u64,
+        for_input: bool,
+        command: Snapshot<Command>,
+    },
     /// It sends no more.
     Ended,
 }
@@ -25,7 +30,9 @@ pub(crate) fn may_pass(reply: Reply) -> bool
     ensures { IsTrue result ↔ MayPass reply }
 {
     match reply {
-        Reply::Refused(refusal) => matches!(refusal.code(), 68 | 72 | 74),
+        Reply::Refused(Refusal::Blocked(_)) => true,
+        Reply::Refused(Refusal::JobBusy(_)) => true,
+        Reply::Refused(Refusal::SlotBusy(_)) => true,
         _ => false,
     }
 }
@@ -115,8 +122,7 @@ fn keep_one(standing: &mut Standing, entries: u64)
     }
 }
 
-// Notes one entry more, by whether its command touches a file, and its reply: a touch that meets no break makes no
-// input.
+// Notes one entry more, by whether its command touches a file, and its reply: a touch that meets no break makes no input.
 pub(crate) fn keep_waiting(standings: &mut [Standing], entries: u64, touches: bool, reply: Reply)
     requires { entries < 2 ^ 32 }
     ensures { standings.new ≡ (if touches && is_plain reply then map (kept_waiting entries) standings.old
@@ -132,9 +138,12 @@ pub(crate) fn keep_waiting(standings: &mut [Standing], entries: u64, touches: bo
 
 // These lanes go on, and all others have ended.
 pub(crate) fn stand_at_first<L: Ledger>(standings: &mut [Standing], lanes: &[Lane<L>])
-    ensures { length standings.new ≡ length standings.old }
+    ensures length { length standings.new ≡ length standings.old }
+    ensures none { AllByRecursion IsOutOfWay standings.new }
 {
-    standings.fill(Standing::Ended);
+    for standing in standings.iter_mut() {
+        *standing = Standing::Ended;
+    }
     for lane in lanes {
         let number = lane.number() as usize;
         if number < standings.len() {

@@ -1,10 +1,12 @@
-use Rattle.std.proofs.Common.{◌≡◌, None, Some, Option, IfOk, Result, ap, sym, subst}
+use Rattle.std.proofs.Common.{◌≡◌, None, Some, Option, IfOk, Result, ap, refl, sym, subst}
+use Rattle.std.proofs.lemmas.Result.{IfOk-weaker}
 use Rattle.rev_graph.specs.declared.fault.GraphFault.{GraphFault}
 use Rattle.rev_manifest.specs.Manifest.{ManifestValue}
 use Rattle.rev_graph.specs.Decided.{graph_fault}
 use Rattle.rev_graph.proofs.DecidedLemmas.{fault-decided, faultless-decided}
 use Rattle.rev_script.specs.declared.fault.RunFault.{RunFault}
 use Rattle.rev_script.specs.declared.status.Status.{Status}
+use Rattle.rev_script.specs.declared.status.Status.TheVariants.{Success, Fault}
 use Rattle.rev_script.specs.Output.{Writes}
 use Rattle.rev_report.specs.Report.{Report, edges_report, trace_report, unless_fault}
 use Rattle.rev_script.specs.Lines.{edges_fault_line}
@@ -38,3 +40,12 @@ returns-in-Err-clause-status g c =
     c.report_graph_fault.ensures.status (edges_report c.args.manifest.now c.args.trace.now c.args.script.now).status
     (λ other. ap (λ fault. (unless_fault fault edges_fault_line (trace_report c.args.manifest.now c.args.trace.now c.args.script.now)).status)
     (fault-decided c.args.manifest.now.builds c.in-Err.fault other c.in-Err.ensures.fault))
+
+-- a fault of a graph is no success
+pub returns-in-Err-clause-desk : goal.returns-in-Err-clause-desk
+returns-in-Err-clause-desk g c =
+    IfOk-weaker c.report_graph_fault.result _ _ (λ s is other. cc) (c.report_graph_fault.ensures.status Fault (λ _. refl))
+
+pub returns-in-Err-clause-trace : goal.returns-in-Err-clause-trace
+returns-in-Err-clause-trace g c =
+    IfOk-weaker c.report_graph_fault.result _ _ (λ s is other. cc) (c.report_graph_fault.ensures.status Fault (λ _. refl))

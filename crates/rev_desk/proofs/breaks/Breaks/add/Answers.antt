@@ -8,7 +8,7 @@ returns-in_err-note-clause-sound c = AreSound-same c.args.graph.now.manifest c.a
 
 pub returns-clause-sound : goal.returns-clause-sound
 returns-clause-sound c =
-    AreSound-push c.args.graph.now.manifest c.args.self.now _ c.args.number c.args.point c.args.spot c.requires.spot c.requires.above
+    AreSound-push c.args.graph.now.manifest c.args.self.now _ c.args.number c.args.point c.args.break_key c.requires.break_key c.requires.above
     (c.push_reserved-2.ensures.items ∙ ap (λ (bs : List (ℕ × Point)). bs ++ (c.args.number, c.args.point) ∷ []) c.reserve.ensures.items)
     (c.push_reserved.ensures.items ∙ ap (λ (ns : List ℕ). ns ++ c.args.number ∷ []) c.reserve-2.ensures.items)
     c.in_ok-note.ensures.ok c.requires.sound

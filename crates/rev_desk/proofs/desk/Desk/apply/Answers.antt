@@ -2,7 +2,7 @@ use Rattle.std.proofs.Common.{◌≡◌, ◌<◌, ◌^◌, ◌+◌, ℕ, List, [
 use Rattle.std.proofs.lemmas.Grind.{common_steps}
 use Rattle.rev_history.specs.Timeline.{IsHistory}
 use Rattle.rev_desk.specs.declared.reply.Entry.{Entry}
-use Rattle.rev_desk.specs.Bench.{IsReady, bench_value}
+use Rattle.rev_desk.specs.DeskState.{IsReady, desk_state_value}
 use Rattle.rev_desk.specs.Inside.{value_of}
 use Rattle.rev_desk.specs.Machine.{DeskValue, after, reply_to}
 use Rattle.rev_desk.specs.Sound.{IsDesk}
@@ -14,7 +14,7 @@ returns-clause-reply c = c.in-Ok.ensures.does.reply ∙ ap (λ (d : DeskValue). 
 
 pub returns-clause-ok : goal.returns-clause-ok
 returns-clause-ok c =
-    value-after (value_of c.self.inside) (bench_value c.answered.new.bench) c.push.new.self.entries.items (length c.push.new.self.numbers.items) c.args.lane c.args.command c.in-Ok.reply
+    value-after (value_of c.self.inside) (desk_state_value c.answered.new.desk_state) c.push.new.self.entries.items (length c.push.new.self.numbers.items) c.args.lane c.args.command c.in-Ok.reply
     c.in-Ok.ensures.does.ok c.in-Ok.ensures.does.reply
     (c.push.ensures.entries ∙ ap (λ (es : List Entry). es ++ record { lane = c.args.lane; command = c.args.command; reply = c.in-Ok.reply } ∷ []) c.in-Ok.ensures.entries)
     (c.push.ensures.lanes ∙ c.in-Ok.ensures.lanes)
@@ -26,7 +26,7 @@ invariant_of-self-2 c =
     let entry : Entry = record { lane = c.args.lane; command = c.args.command; reply = c.in-Ok.reply } in
     let entries : c.push.new.self.entries.items ≡ c.self.inside.journal.entries.items ++ entry ∷ [] = c.push.ensures.entries ∙ ap (λ (es : List Entry). es ++ entry ∷ []) c.in-Ok.ensures.entries in
     let is =
-    value-after d (bench_value c.answered.new.bench) c.push.new.self.entries.items (length c.push.new.self.numbers.items) c.args.lane c.args.command c.in-Ok.reply
+    value-after d (desk_state_value c.answered.new.desk_state) c.push.new.self.entries.items (length c.push.new.self.numbers.items) c.args.lane c.args.command c.in-Ok.reply
     c.in-Ok.ensures.does.ok c.in-Ok.ensures.does.reply entries (c.push.ensures.lanes ∙ c.in-Ok.ensures.lanes) in
     let lt : c.args.lane < d.lanes = subst (λ (x : DeskValue). c.args.lane < x.lanes) (sym c.self.view_is) c.requires in
     let room : length c.self.inside.journal.entries.items < 2 ^ 20 = first_of (search rules, grind (arith, common_steps)) in
@@ -35,6 +35,6 @@ invariant_of-self-2 c =
     omega (arith, ap length entries, length-append c.self.inside.journal.entries.items (entry ∷ [])) in
     record {
       desk = subst IsDesk (sym is) (IsDesk-after d c.args.lane c.args.command lt room history c.self.invariant.desk);
-      ready = subst (IsReady c.answered.new.bench) count c.in-Ok.ensures.does.ready;
+      ready = subst (IsReady c.answered.new.desk_state) count c.in-Ok.ensures.does.ready;
       indexed = c.push.ensures.indexed;
     }

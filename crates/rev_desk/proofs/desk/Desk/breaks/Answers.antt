@@ -1,7 +1,7 @@
 use Rattle.std.proofs.Common.{ℕ, List, subst, sym}
 use Rattle.rev_causal.specs.Chosen.{IsRising}
 use Rattle.rev_commands.specs.declared.point.Point.{Point}
-use Rattle.rev_desk.specs.Spots.{numbers_of}
+use Rattle.rev_desk.specs.BreakKeys.{numbers_of}
 use Rattle.rev_desk.proofs.desk.Desk.breaks.Goals as goal
 
 pub returns-clause-rising : goal.returns-clause-rising

@@ -4,7 +4,7 @@ use Rattle.rev_history.specs.Timeline.{Timeline, last_of, opened}
 use Rattle.rev_history.specs.Value.{HistoryValue}
 use Rattle.rev_desk.specs.declared.reply.Entry.{Entry}
 use Rattle.rev_desk.specs.Breaks.{AreBelow}
-use Rattle.rev_desk.specs.Machine.{BenchValue, DeskValue, opened_desk}
+use Rattle.rev_desk.specs.Machine.{DeskStateValue, DeskValue, opened_desk}
 use Rattle.rev_desk.specs.Sound.{IsDesk}
 use Rattle.rev_desk.proofs.DeskLemmas.{IsDesk-opened, same_parts}
 use Rattle.rev_desk.proofs.desk.Desk.new.Goals as goal
@@ -12,7 +12,7 @@ use Rattle.rev_desk.proofs.desk.Desk.new.Goals as goal
 pub invariant_of-result : goal.invariant_of-result
 invariant_of-result c =
     let time : c.in_ok-history.history.timeline ≡ opened c.args.graph.manifest c.args.opening.now.jobs c.args.opening.now.state = ap (λ (h : HistoryValue). h.timeline) c.in_ok-history.ensures in
-    let with : Timeline → List (ℕ × Point) → BenchValue = λ t bs. record { history = t; breaks = bs; paused = false } in
+    let with : Timeline → List (ℕ × Point) → DeskStateValue = λ t bs. record { history = t; breaks = bs; paused = false } in
     let is =
     same_parts (with c.in_ok-history.history.timeline c.new-breaks.result.standing.items) (with (opened c.args.graph.manifest c.args.opening.now.jobs c.args.opening.now.state) [])
     c.in_ok-journal.journal.entries.items [] (length c.in_ok-journal.journal.numbers.items) c.args.lanes

@@ -2,16 +2,16 @@ use Rattle.std.proofs.Common.{◌≡◌, ◌+◌, ◌<◌, ◌≤◌, [], rules,
 use Rattle.std.proofs.lemmas.Result.{err_from_is_err_and}
 use Rattle.rev_fields.specs.Faults.{each_of}
 use Rattle.rev_fields.specs.Lines.{path_of, paths_of}
-use Rattle.rev_fields.specs.Parts.{vectors_of}
+use Rattle.rev_fields.specs.Parts.{lent_of}
 use Rattle.rev_fields.proofs.AnswerLemmas.{fault_passes}
 use Rattle.rev_fields.proofs.EachLemmas.{after, after-empty, each_step, each_fault, each_all}
-use Rattle.rev_fields.proofs.SliceLemmas.{at-vectors_of, length-vectors_of}
+use Rattle.rev_fields.proofs.SliceLemmas.{at-lent_of, length-lent_of}
 use Rattle.rev_trace.proofs.mentions.Mentions.paths.Goals as goal
 
 pub loop-text-init : goal.loop-text-init
 loop-text-init c =
     let start : c.in_ok-names.names.items ≡ [] = search rules in
-    let rest = each_of path_of (vectors_of c.args.texts.now) in
+    let rest = each_of path_of (lent_of c.args.texts.now) in
     ap (λ out. after out rest) start ∙ after-empty rest
 
 pub returns-in_err-name : goal.returns-in_err-name
@@ -19,21 +19,21 @@ returns-in_err-name c =
     let items = c.args.texts.now in
     let i = c.loop-text.text-index in
     let p = err_from_is_err_and c.from_residual-in_err-name.result c.from_residual-in_err-name.ensures.1 in
-    let within : i < length (vectors_of items) = omega (arith, length-vectors_of items, c.loop-text-test.true) in
-    fault_passes c.from_residual-in_err-name.result c.in_err-name.field-0.0 (λ n. n) (λ names. names.items) _ (paths_of (vectors_of items))
+    let within : i < length (lent_of items) = omega (arith, length-lent_of items, c.loop-text-test.true) in
+    fault_passes c.from_residual-in_err-name.result c.in_err-name.field-0.0 (λ n. n) (λ names. names.items) _ (paths_of (lent_of items))
     (p.1 ∙ ap Err p.2) (λ kind said.
-    each_fault path_of (vectors_of items) c.loop-text.names.items i [] kind within (ap path_of (at-vectors_of items i c.text-item.result c.loop-text-test.true c.text-item.is ∙ sym c.deref.ensures.value) ∙ said) c.loop-text.invariant) c.in_err-name.ensures
+    each_fault path_of (lent_of items) c.loop-text.names.items i [] kind within (ap path_of (at-lent_of items i c.text-item.result c.loop-text-test.true c.text-item.is ∙ sym c.deref.ensures.value) ∙ said) c.loop-text.invariant) c.in_err-name.ensures
 
 pub loop-text-preserved : goal.loop-text-preserved
 loop-text-preserved c =
     let items = c.args.texts.now in
     let i = c.loop-text.text-index in
-    let within : i < length (vectors_of items) = omega (arith, length-vectors_of items, c.loop-text-test.true) in
-    let step = each_step path_of (vectors_of items) c.loop-text.names.items i [] c.in_ok-name.name within (ap path_of (at-vectors_of items i c.text-item.result c.loop-text-test.true c.text-item.is ∙ sym c.deref.ensures.value) ∙ c.in_ok-name.ensures) c.loop-text.invariant in
-    ap (λ out. after out (each_of path_of (drop (i + 1) (vectors_of items)))) c.in_ok-push.ensures.items ∙ step
+    let within : i < length (lent_of items) = omega (arith, length-lent_of items, c.loop-text-test.true) in
+    let step = each_step path_of (lent_of items) c.loop-text.names.items i [] c.in_ok-name.name within (ap path_of (at-lent_of items i c.text-item.result c.loop-text-test.true c.text-item.is ∙ sym c.deref.ensures.value) ∙ c.in_ok-name.ensures) c.loop-text.invariant in
+    ap (λ out. after out (each_of path_of (drop (i + 1) (lent_of items)))) c.in_ok-push.ensures.items ∙ step
 
 pub returns : goal.returns
 returns c =
     let items = c.args.texts.now in
-    let past : length (vectors_of items) ≤ c.loop-text.text-index = omega (arith, length-vectors_of items, c.loop-text-test.false) in
-    each_all path_of (vectors_of items) c.loop-text.names.items c.loop-text.text-index past c.loop-text.invariant
+    let past : length (lent_of items) ≤ c.loop-text.text-index = omega (arith, length-lent_of items, c.loop-text-test.false) in
+    each_all path_of (lent_of items) c.loop-text.names.items c.loop-text.text-index past c.loop-text.invariant

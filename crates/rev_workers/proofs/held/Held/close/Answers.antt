@@ -1,34 +1,21 @@
-use Rattle.std.proofs.Common.{◌≡◌, ◌<◌, ◌≤◌, ℕ, length, arith}
-use Rattle.rev_workers.specs.Closing.{numbered, AreStated, IsMisstated}
-use Rattle.rev_workers.proofs.Counts.{one_of_each, is_missing, all_counted}
+use Rattle.std.proofs.Common.{IfNone, IfSome, subst}
+use Rattle.rev_workers.specs.Closing.{AreStated, IsMisstated}
+use Rattle.rev_workers.specs.Locked.{Locked}
+use Rattle.rev_workers.proofs.Closed.{closed-mismatch, closed-ok}
 use Rattle.rev_workers.proofs.held.Held.close.Goals as goal
-
-pub returns-in-Some-clause-counted : goal.returns-in-Some-clause-counted
-returns-in-Some-clause-counted g c = let i = c.self.invariant in
-    (all_counted c.self.inside.desk c.args.lanes.items g.L.Ledger.parts c.self.inside.book.total i.0 i.1 c.settle.ensures.few c.settle.ensures.all)
-
-pub returns-in-Some-misstated-clause-counted : goal.returns-in-Some-misstated-clause-counted
-returns-in-Some-misstated-clause-counted g c = let i = c.self.invariant in
-    (all_counted c.self.inside.desk c.args.lanes.items g.L.Ledger.parts c.self.inside.book.total i.0 i.1 c.settle.ensures.few c.settle.ensures.all)
-
-pub returns-clause-counted : goal.returns-clause-counted
-returns-clause-counted g c = let i = c.self.invariant in
-    (all_counted c.self.inside.desk c.args.lanes.items g.L.Ledger.parts c.self.inside.book.total i.0 i.1 c.settle.ensures.few c.settle.ensures.all)
-
-pub returns-in-Some-clause-missing : goal.returns-in-Some-clause-missing
-returns-in-Some-clause-missing g c = λ is.
-    rw (← c.lanes-count.ensures.lanes, ← c.deref.ensures.value) (is_missing c.lanes-count.result c.deref.result.now c.in-Some.lane c.in-Some.ensures.some)
-
-pub returns-in-Some-misstated-clause-mismatch : goal.returns-in-Some-misstated-clause-mismatch
-returns-in-Some-misstated-clause-mismatch g c = λ is.
-    let few : length c.args.lanes.items ≤ c.self.inside.desk.lanes = omega (arith, c.settle.ensures.few, c.self.invariant.1) in
-    let all : (n : ℕ) → n < c.self.inside.desk.lanes → numbered n c.args.lanes.items ≡ 1 = rw (← c.lanes-count.ensures.lanes, ← c.deref.ensures.value) c.in_default.ensures.none in
-    let least : IsMisstated c.self.inside.desk.lanes c.self.inside.desk.journal c.args.lanes.items c.in-Some-misstated.lane = rw (← c.lanes-count.ensures.lanes, ← c.deref-2.ensures.value, ← c.journal.ensures.journal) c.in-Some-misstated.ensures.some in
-    (one_of_each c.self.inside.desk.lanes c.args.lanes.items all few, least)
 
 pub returns-clause-ok : goal.returns-clause-ok
 returns-clause-ok g c =
-    let few : length c.args.lanes.items ≤ c.self.inside.desk.lanes = omega (arith, c.settle.ensures.few, c.self.invariant.1) in
-    let all : (n : ℕ) → n < c.self.inside.desk.lanes → numbered n c.args.lanes.items ≡ 1 = rw (← c.lanes-count.ensures.lanes, ← c.deref.ensures.value) c.in_default.ensures.none in
-    let stated : AreStated c.self.inside.desk.lanes c.self.inside.desk.journal c.args.lanes.items = rw (← c.lanes-count.ensures.lanes, ← c.deref-2.ensures.value, ← c.journal.ensures.journal) c.in_default-misstated.ensures.none in
-    (one_of_each c.self.inside.desk.lanes c.args.lanes.items all few, stated)
+    let m = c.misstated-misstated.result in
+    let here : IfNone m (AreStated c.self.inside.desk.lanes c.self.inside.desk.journal c.args.lanes.items) =
+    rw (← c.lanes-count.ensures.lanes, ← c.deref.ensures.value, ← c.journal.ensures.journal) c.misstated-misstated.ensures.none in
+    let stated = subst (λ (h : Locked). IfNone m (AreStated h.desk.lanes h.desk.journal c.args.lanes.items)) c.self.view_is here in
+    closed-ok c.close_by.result c.args.self.desk c.args.lanes.items m c.close_by.ensures.desk c.close_by.ensures.ok stated
+
+pub returns-clause-mismatch : goal.returns-clause-mismatch
+returns-clause-mismatch g c =
+    let m = c.misstated-misstated.result in
+    let here : IfSome m (λ n. IsMisstated c.self.inside.desk.lanes c.self.inside.desk.journal c.args.lanes.items n) =
+    rw (← c.lanes-count.ensures.lanes, ← c.deref.ensures.value, ← c.journal.ensures.journal) c.misstated-misstated.ensures.some in
+    let misstated = subst (λ (h : Locked). IfSome m (λ n. IsMisstated h.desk.lanes h.desk.journal c.args.lanes.items n)) c.self.view_is here in
+    closed-mismatch c.close_by.result c.args.self.desk c.args.lanes.items m c.close_by.ensures.desk c.close_by.ensures.mismatch misstated

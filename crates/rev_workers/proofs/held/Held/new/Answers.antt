@@ -1,7 +1,9 @@
 use Rattle.std.proofs.Common.{rules, ◌≡◌, ℕ, zero, suc, ◌+◌, ◌<◌, refl, ap, ◌∙◌, arith, if◌then◌else◌}
 use Rattle.std.proofs.lemmas.Bool.{ne_eqb}
 use Rattle.rev_workers.specs.Tracks.{base_at, fresh}
-use Rattle.rev_workers.proofs.Each.{each_more}
+use Rattle.rev_workers.specs.declared.standing.Standing.TheVariants as standing
+use Rattle.rev_workers.specs.Waiting.{IsOutOfWay}
+use Rattle.rev_workers.proofs.Each.{all-push, each_more}
 use Rattle.rev_workers.proofs.held.Held.new.Goals as goal
 
 -- the book's total after a lane's base: the first lane brings all entries, and the others none
@@ -24,6 +26,7 @@ loop-number-preserved g c =
       first = search rules;
       total = λ h. raised c.loop-number.number _ _ _ _ i.first i.total c.base_of.ensures c.add.ensures.total;
       standings = search rules;
+      out = rw c.in_ok-push-2.ensures.items (all-push IsOutOfWay _ standing.Going i.out tt);
       count = search rules;
       lanes = rw c.in_ok-push.ensures.items (each_more (fresh _) _ _ _ i.count c.fresh.ensures i.lanes);
     }

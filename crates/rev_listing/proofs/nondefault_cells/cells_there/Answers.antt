@@ -1,0 +1,30 @@
+use Rattle.std.proofs.Common.{◌≡◌, ◌+◌, ℕ, List, take, IfOk, ap, subst, ◌∙◌, sym, arith}
+use Rattle.std.proofs.lemmas.Grind.{common_steps}
+use Rattle.rev_cells.specs.declared.cell.Cell.{Cell}
+use Rattle.rev_listing.proofs.CellLemmas.{AreThere, all_there, none_there, place_within, puts_cell, skips_default}
+use Rattle.rev_listing.proofs.LineLemmas.{cells_from}
+use Rattle.rev_listing.proofs.nondefault_cells.cells_there.Goals as goal
+use Rattle.rev_listing.proofs.nondefault_cells.cells_there.Goals.{then-is_there+in_ok-copy+in_ok-insert, else-is_there}
+
+pub loop-place-init : goal.loop-place-init
+loop-place-init c = none_there _ _ c.new-there.ensures.empty
+
+pub loop-place-preserved : goal.loop-place-preserved
+loop-place-preserved c =
+    let s = c.args.cells.now.state in
+    let places = c.args.cells.now.places in
+    let i = c.loop-place.place in
+    let cell = c.in-Some.cell.now in
+    elim c.if-is_there.branch [
+      | then-is_there+in_ok-copy+in_ok-insert w ↦
+          puts_cell s places i cell _ c.loop-place.there.entries c.if-is_there.there.entries c.in-Some.ensures.place (sym c.is_there.ensures ∙ w.if-is_there.true) w.in_ok-copy.ensures (ap (λ m. m.entries) w.there-is ∙ w.in_ok-insert.ensures.entries) c.loop-place.invariant
+      | else-is_there w ↦
+          let P : List (Cell × Unit {0}) → Type 0 = λ es. AreThere s (take (i + 1) places) es in
+          subst P (sym (ap (λ m. m.entries) w.there-is)) (skips_default s places i cell c.loop-place.there.entries c.in-Some.ensures.place (sym c.is_there.ensures ∙ w.if-is_there.false) c.loop-place.invariant)
+    ]
+
+pub returns : goal.returns
+returns c =
+    let collected : IfOk c.collect.result (λ there. there.items ≡ c.loop-place.there.entries) = grind (arith, common_steps) in
+    let whole = all_there c.args.cells.now.state c.args.cells.now.places c.loop-place.place c.loop-place.there.entries c.in_default.ensures.place c.in_default.ensures.all c.loop-place.invariant in
+    cells_from c.collect.result c.loop-place.there.entries c.args.cells.now.state collected whole
