@@ -91,11 +91,13 @@ class Build:
 
     def _on_open(self, process: Process, call: Call) -> None:
         command, flags = process.command, call.flags
+        if command is None:
+            return  # Ninja's own
         path, place = self._resolved(process, call)
         is_unnamed = flags & os.O_TMPFILE == os.O_TMPFILE
         if call.result >= 0:
             process.note(call.result, None if is_unnamed else path)
-        if place is None or command is None or command.footprint is None:
+        if place is None or command.footprint is None:
             return
         footprint, follows = command.footprint, not flags & os.O_NOFOLLOW
         if call.result < 0:
