@@ -15,7 +15,8 @@ ONE = "rule c\n  command = {}\nbuild out: c\n"
 PYTHON = f"{os.path.realpath(sys.executable)} -B -E"
 ODD = b'caf\xc3\xa9 \xff"\\x>.txt'
 MANY = ("rule c\n  command = for i in 1 2 3; do cat a$$i > o$$i & done; wait; touch $out\nbuild out: c\n"
-        "rule d\n  command = sleep 0.01; cat $in > $out\n" + "".join(f"build w{it}: d a{it % 3 + 1}\n" for it in range(200)))
+        "rule d\n  command = sleep 0.01; cat $in > $out\n"
+        + "".join(f"build w{it}: d a{it % 3 + 1}\n" for it in range(200)))
 CHAIN = """rule copy
   command = cat $in > $out
 rule keep
@@ -76,8 +77,9 @@ class Cases:
         self.assertEqual((it.reads, it.writes), ({b"a"}, {b"out"}))
 
     def test_threads_that_have_a_folder_in_common(self):
-        script = ("import threading, os\ndef f():\n    os.chdir('d')\n    open('../out', 'w').write(open('../a').read())\n"
-                  "os.mkdir('d')\nt = threading.Thread(target=f)\nt.start()\nt.join()\nopen('../b', 'w').close()\n"
+        script = ("import threading, os\ndef f():\n    os.chdir('d')\n"
+                  "    open('../out', 'w').write(open('../a').read())\nos.mkdir('d')\n"
+                  "t = threading.Thread(target=f)\nt.start()\nt.join()\nopen('../b', 'w').close()\n"
                   "open('c', 'w').close()\n")
         it = self.one(f"{PYTHON} t.py", {"a": "1", "t.py": script})
         self.assertEqual((it.reads, it.writes, it.folders),
@@ -91,8 +93,8 @@ class Cases:
         self.assertEqual((it.reads, it.writes, it.flags), ({b"d/a", b"d/b", b"t.py"}, {b"out"}, set()))
 
     def test_renamed_folders(self):
-        it = self.one("mkdir -p d && cd d && mkdir -p e && cat ../a > e/x && mv e g && cd g && cat x ../../b > ../../out",
-                      {"a": "1", "b": "2"})
+        it = self.one("mkdir -p d && cd d && mkdir -p e && cat ../a > e/x && mv e g && cd g && cat x ../../b > "
+                      "../../out", {"a": "1", "b": "2"})
         self.assertEqual((it.reads, it.writes, it.folders, it.temps),
                          ({b"a", b"b"}, {b"out", b"d/g/x"}, {b"d", b"d/g"}, {b"d/e/x"}))
 
@@ -139,8 +141,8 @@ class Cases:
         self.assertEqual((it.reads, it.writes), ({b"out.rsp"}, {b"out", b"out.d"}))
 
     def test_pythons_import_lists_folders_for_modules_alone(self):
-        ninja = (f"rule c\n  command = $do\nbuild out: c\n  do = {PYTHON} gen.py out\nbuild late.h: c\n  do = : > late.h\n"
-                 f"build late.py: c | out\n  do = : > late.py\n"
+        ninja = (f"rule c\n  command = $do\nbuild out: c\n  do = {PYTHON} gen.py out\n"
+                 f"build late.h: c\n  do = : > late.h\nbuild late.py: c | out\n  do = : > late.py\n"
                  f"build list: c\n  do = {PYTHON} -c \"import os; open('list', 'w').write(str(os.listdir('.')))\"\n")
         found = self.room.build(self.observer, ninja, {"gen.py": "import sys, helper\nopen(sys.argv[1], 'w')\n",
                                                        "helper.py": ""}, words=("-j", "1"))
@@ -198,7 +200,8 @@ class Cases:
         ninja = CHAIN + "rule cc\n  command = cc -MD -MF $out.d -c $in -o $out\n  depfile = $out.d\n  deps = gcc\n" \
                         "build m.o: cc m.c\nrule say\n  command = echo said; cat nothing >&2 || :; : > $out\n" \
                         "build said: say\nbuild bad: fail s1\n"
-        files = {"s1": "1", "s2": "2", "list.h": "h", "m.h": "", "m.c": '#include "m.h"\nint main(void) { return 0; }\n'}
+        files = {"s1": "1", "s2": "2", "list.h": "h", "m.h": "",
+                 "m.c": '#include "m.h"\nint main(void) { return 0; }\n'}
         with_it = self.room.build(self.observer, ninja, files, words=("-j1", "-k0"))
         recording = {it.name: it.read_bytes() for it in with_it.out.iterdir() if it.is_file()}
         subprocess.run(["ninja", "-t", "clean"], cwd=with_it.folder, check=True, capture_output=True)

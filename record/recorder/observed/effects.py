@@ -137,7 +137,7 @@ class Build:
             footprint.list((place, *self.places.way(place))[-1], by_import)
 
     def _of_path(self, process: Process, call: Call) -> tuple[Footprint | None, int | None]:
-        """The footprint that a call belongs to and the place of its path, where it went well; else its look is noted."""
+        """The footprint that a call belongs to and the place of its path, where it went well; else it is noted."""
         command = process.command
         if command is None or command.footprint is None:
             return None, None

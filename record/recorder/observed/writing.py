@@ -1,4 +1,4 @@
-"""Writes the file `observed`: which paths each command read and wrote, paths once and sets as ranges of their numbers."""
+"""Writes the file `observed`: what each command read and wrote, paths once and sets as ranges of their numbers."""
 
 from __future__ import annotations
 
