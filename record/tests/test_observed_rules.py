@@ -77,7 +77,8 @@ class Rules(unittest.TestCase):
         self.assertEqual(
             self.one(opened(b"a"), call(Kind.STAT, b"b"), opened(b"c", result=ABSENT),
                      call(Kind.STAT, b"d", result=ABSENT), call(Kind.EXEC, b"e"),
-                     opened(b"f", os.O_RDONLY | os.O_DIRECTORY, 5), call(Kind.LIST, folder=5), opened(b"g", os.O_RDONLY | os.O_DIRECTORY, 6),
+                     opened(b"f", os.O_RDONLY | os.O_DIRECTORY, 5), call(Kind.LIST, folder=5),
+                     opened(b"g", os.O_RDONLY | os.O_DIRECTORY, 6),
                      call(Kind.UNLINK, b"h", result=ABSENT), opened(b"i", result=-errno.EACCES),
                      opened(b"j", os.O_RDONLY | os.O_DIRECTORY, -errno.ENOTDIR)),
             {"reads": {b"a", b"e"}, "stats": {b"b", b"g", b"i", b"j"}, "misses": {b"c", b"d", b"h"}, "lists": {b"f"}})
