@@ -121,7 +121,7 @@ def _recording_words() -> argparse.ArgumentParser:
 
 
 def told_words() -> list[tuple[str, str | None, str]]:
-    """The words of a recording that stand in front of `--`, each with the name of its value, or None, and its meaning."""
+    """The words of a recording in front of `--`, each with the name of its value, or None, and its meaning."""
     found = []
     for action in _recording_words()._actions:
         for word in action.option_strings[-1:]:

@@ -84,8 +84,8 @@ PROJECTS = (
                                "change",
             "build out.txt: python gen.py\nbuild late.h: shell\n  do = echo 1 > late.h\n"
             "build user.txt: shell | late.h\n  do = cat late.h settings.ini > user.txt\n",
-            {"gen.py": "import sys, helper\nopen(sys.argv[1], 'w').write(helper.TEXT)\n", "helper.py": "TEXT = 'text'\n",
-             "settings.ini": "a=1\n"},
+            {"gen.py": "import sys, helper\nopen(sys.argv[1], 'w').write(helper.TEXT)\n",
+             "helper.py": "TEXT = 'text'\n", "settings.ini": "a=1\n"},
             ("user.txt reads late.h", "out.txt reads helper.py", "user.txt reads settings.ini")),
     Project("equal_commands", "two edges have one command, and only one of them waits",
             "rule same\n  command = cat shared.txt >/dev/null 2>&1; mktemp part.XXXXXX >/dev/null\n"

@@ -75,9 +75,10 @@ class Rules(unittest.TestCase):
 
     def test_kinds_of_looks(self):
         self.assertEqual(
-            self.one(opened(b"a"), call(Kind.STAT, b"b"), opened(b"c", result=ABSENT), call(Kind.STAT, b"d", result=ABSENT),
-                     call(Kind.EXEC, b"e"), opened(b"f", os.O_RDONLY | os.O_DIRECTORY, 5),
-                     call(Kind.LIST, folder=5), opened(b"g", os.O_RDONLY | os.O_DIRECTORY, 6),
+            self.one(opened(b"a"), call(Kind.STAT, b"b"), opened(b"c", result=ABSENT),
+                     call(Kind.STAT, b"d", result=ABSENT), call(Kind.EXEC, b"e"),
+                     opened(b"f", os.O_RDONLY | os.O_DIRECTORY, 5), call(Kind.LIST, folder=5),
+                     opened(b"g", os.O_RDONLY | os.O_DIRECTORY, 6),
                      call(Kind.UNLINK, b"h", result=ABSENT), opened(b"i", result=-errno.EACCES),
                      opened(b"j", os.O_RDONLY | os.O_DIRECTORY, -errno.ENOTDIR)),
             {"reads": {b"a", b"e"}, "stats": {b"b", b"g", b"i", b"j"}, "misses": {b"c", b"d", b"h"}, "lists": {b"f"}})
@@ -160,7 +161,8 @@ class Rules(unittest.TestCase):
     def test_a_folder_of_threads_is_one(self):
         thread = call(Kind.SPAWN, result=SHELL + 1, flags=CLONE_THREAD | CLONE_FS | CLONE_FILES)
         self.assertEqual(self.one(thread, (SHELL + 1, call(Kind.CHDIR, b"d")), opened(b"a"),
-                                  (SHELL + 1, opened(b"../b")), (SHELL + 1, call(Kind.EXIT))), {"reads": {b"d/a", b"b"}})
+                                  (SHELL + 1, opened(b"../b")), (SHELL + 1, call(Kind.EXIT))),
+                         {"reads": {b"d/a", b"b"}})
 
     def test_a_folder_of_processes_is_their_own(self):
         child = call(Kind.SPAWN, result=SHELL + 1)
@@ -304,7 +306,7 @@ class Matching(unittest.TestCase):
     def test_equal_texts_in_one_millisecond_may_be_exchanged_and_say_so(self):
         edges = [Edge(number, b"xyz"[number : number + 1]) for number in range(3)]
         commands = self.commands(0, 0, 0)
-        match(commands, edges, [Run(edges[0], "finish", 5, 9), Run(edges[1], "finish", 5, 9), Run(edges[2], "finish", 6, 9)])
+        match(commands, edges, [Run(edges[number], "finish", start, 9) for number, start in enumerate((5, 5, 6))])
         self.assertEqual([it.flags for it in commands], [{"twin"}, {"twin"}, set()])
 
     def test_one_of_equal_texts_that_failed(self):
@@ -316,7 +318,8 @@ class Matching(unittest.TestCase):
 
     def test_equal_texts_that_nothing_tells_apart_say_so(self):
         x, y = Edge(0, b"x"), Edge(1, b"y")
-        for statuses, words in (((1, 1), ("fail", "fail")), ((0, None), ("finish", "abort")), ((0, 0), ("finish", "fail"))):
+        cases = ((1, 1), ("fail", "fail")), ((0, None), ("finish", "abort")), ((0, 0), ("finish", "fail"))
+        for statuses, words in cases:
             commands = self.commands(*statuses)
             match(commands, [x, y], [Run(x, words[0], 4, 20), Run(y, words[1], 5, 30)])
             self.assertEqual([it.flags for it in commands], [{"twin"}, {"twin"}])

@@ -42,7 +42,6 @@ changed, and what stands behind it works faster with calls that it has met befor
                                                                              PTRACE_SEIZE or PTRACE_TRACEME)
 """
 
-import os
 from collections.abc import Iterator
 from dataclasses import dataclass
 from enum import IntEnum, auto
@@ -94,9 +93,9 @@ class Call:
     """A call that came to its end. Two calls are the same only where they are one object.
 
     `path` stands as the process gave it: absolute, or relative to `folder`. `folder` is CURRENT, a descriptor of the
-    process, or (bytes) the path of that descriptor's folder, where the observer has asked the system for it. A call on a
-    descriptor alone (fchdir, AT_EMPTY_PATH, dup) has an empty path. `flags` are the numbers of this machine, as in `os`.
-    `result` is what the call gave; -errno where it failed.
+    process, or (bytes) the path of that descriptor's folder, where the observer has asked the system for it. A call on
+    a descriptor alone (fchdir, AT_EMPTY_PATH, dup) has an empty path. `flags` are the numbers of this machine, as in
+    `os`. `result` is what the call gave; -errno where it failed.
 
     `command` is given for EXEC alone: TEXT, where the words are `/bin/sh`, `-c` and TEXT and no others, as Ninja starts
     a command. It is None for all others. No field is changed but `memo`, where what stands behind the observers keeps
@@ -141,8 +140,3 @@ class Observer(Protocol):
         """The events of a log, as they come. What cannot be read is left out and counted in `unread`."""
 
     unread: int
-
-
-def is_look(call: Call) -> bool:
-    """Whether a call, where it went well, changes nothing: an open for reading, or a question about a path."""
-    return call.kind is Kind.STAT or call.kind is Kind.OPEN and not call.flags & (os.O_ACCMODE | os.O_CREAT | os.O_TRUNC)

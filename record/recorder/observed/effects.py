@@ -91,11 +91,13 @@ class Build:
 
     def _on_open(self, process: Process, call: Call) -> None:
         command, flags = process.command, call.flags
+        if command is None:
+            return  # Ninja's own
         path, place = self._resolved(process, call)
         is_unnamed = flags & os.O_TMPFILE == os.O_TMPFILE
         if call.result >= 0:
             process.note(call.result, None if is_unnamed else path)
-        if place is None or command is None or command.footprint is None:
+        if place is None or command.footprint is None:
             return
         footprint, follows = command.footprint, not flags & os.O_NOFOLLOW
         if call.result < 0:
@@ -135,7 +137,7 @@ class Build:
             footprint.list((place, *self.places.way(place))[-1], by_import)
 
     def _of_path(self, process: Process, call: Call) -> tuple[Footprint | None, int | None]:
-        """The footprint that a call belongs to and the place of its path, where it went well; else its look is noted."""
+        """The footprint that a call belongs to and the place of its path, where it went well; else it is noted."""
         command = process.command
         if command is None or command.footprint is None:
             return None, None

@@ -14,7 +14,10 @@ def text_of(edge: Any) -> bytes:
     return edge.ninja_command.removesuffix(rest)
 
 
-def match(commands: list[Command], edges: list[Any], runs: list[Any]) -> tuple[list[tuple[Any, Command]], list[Command]]:
+Pair = tuple[Any, Command]
+
+
+def match(commands: list[Command], edges: list[Any], runs: list[Any]) -> tuple[list[Pair], list[Command]]:
     """Pairs of an edge and its command in the order of the starts, and the commands of no edge.
 
     `runs` are the edges that the recording has as run: Ninja's log has when each of those that ended well started, and
@@ -35,7 +38,7 @@ def match(commands: list[Command], edges: list[Any], runs: list[Any]) -> tuple[l
     return sorted(pairs, key=lambda it: it[1].start), left
 
 
-def _pairs(group: list[Command], edges: list[Any], ran: dict[int, Any]) -> tuple[list[tuple[Any, Command]], list[Command]]:
+def _pairs(group: list[Command], edges: list[Any], ran: dict[int, Any]) -> tuple[list[Pair], list[Command]]:
     """Pairs the commands of one text with the edges that have it."""
     if len(edges) <= 1:
         return [(edge, group[-1]) for edge in edges], [] if edges else group

@@ -42,7 +42,8 @@ def _of_inputs(build: bytes, manifest: Any) -> list[bytes]:
     for edge in manifest.edges:
         for path in (*edge.explicit, *edge.implicit):
             if path not in manifest.producer and path.startswith((b"/", b"..")):
-                folders.add(os.path.dirname(os.path.realpath(os.path.join(build, path))))
+                folders.add(os.path.dirname(path))
+    folders = {os.path.realpath(os.path.join(build, it)) for it in folders}
     folders = {it for it in folders if not it.startswith((*_SYSTEM, build + b"/")) and it != build}
     common = os.path.commonpath(folders) if folders else b"/"
     return [common] if common.count(b"/") > 1 else sorted(folders)

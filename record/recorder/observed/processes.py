@@ -30,7 +30,7 @@ def path_is_own(path: bytes) -> bool:
 
 @dataclass(slots=True)
 class Folders:
-    """The folder that relative paths begin at, and the root of absolute ones (empty: the system's). Threads share it."""
+    """Where relative paths begin, and the root of absolute ones (empty: the system's). Threads have it in common."""
 
     current: bytes | None
     root: bytes = b""
@@ -133,7 +133,7 @@ class Processes:
         self._early: dict[int, tuple[list[Call], list[Command]]] = {}
 
     def of(self, number: int, call: Call) -> Process | None:
-        """The process of an event. The events of one of which no SPAWN has told wait until one does: then it is None."""
+        """The process of an event; None where no SPAWN has told of it yet, and the event waits until one does."""
         process = self.running.get(number)
         if process is not None:
             return process

@@ -22,8 +22,8 @@ _PROBE_SECONDS = 20
 class Strace:
     """Runs Ninja under strace, whose log is text.
 
-    strace is the grandchild that observes (-D), so that Ninja stays the recorder's child and gets its signals. Nobody may
-    kill it: the calls that its filter hands to it would fail from then on.
+    strace observes as a grandchild (-D), so that Ninja stays the recorder's child and gets its signals. Nobody may kill
+    it: the calls that its filter hands to it would fail from then on.
     """
 
     def __init__(self) -> None:

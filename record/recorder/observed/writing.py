@@ -1,4 +1,4 @@
-"""Writes the file `observed`: which paths each command read and wrote, paths once and sets as ranges of their numbers."""
+"""Writes the file `observed`: what each command read and wrote, paths once and sets as ranges of their numbers."""
 
 from __future__ import annotations
 
@@ -89,8 +89,8 @@ class Observed:
         found = set()
         for place in reads:
             path = self.places.paths[place]
-            folder, is_there, name = path.rpartition(b"/__pycache__/")
-            if is_there and name.endswith(b".pyc"):
+            if path.endswith(b".pyc") and b"/__pycache__/" in path:
+                folder, _, name = path.rpartition(b"/__pycache__/")
                 found.add(self.places.number(folder + b"/" + name.split(b".")[0] + b".py"))
         return found
 
