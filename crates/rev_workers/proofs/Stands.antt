@@ -41,7 +41,7 @@ still-stands : (d : DeskValue) (lane : ℕ) (t c : Command) (for_input : Bool) �
 still-stands d lane t c for_input desk touch plain is h =
     subst (λ (r : Reply). IsRefusedSo for_input c r) (sym (touch-kept d lane t c desk touch plain (sym h.1 ∙ is))) h
 
-Refused : Bool → DeskValue → Type 0
+abbrev Refused : Bool → DeskValue → Type 0
 Refused for_input d = (asked : Command) × IsRefusedSo for_input asked (reply_to d asked)
 
 kept-by : (d : DeskValue) (lane : ℕ) (t : Command) (refused_at : ℕ) (for_input : Bool) → IsDesk d → is_touch t ≡ true → is_plain (reply_to d t) ≡ true
