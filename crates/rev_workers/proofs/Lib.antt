@@ -4,7 +4,6 @@ pub mod Covered
 pub mod Each
 pub mod Runs
 pub mod Said
-pub mod Sends
 pub mod Sets
 pub mod Stands
 pub mod Surveyed

@@ -155,7 +155,6 @@ pub(crate) fn run_halves<L: Ledger + Send + Sync, R: Threads + Wait + Sync, G: G
 
 // Runs two halves, the later one in a new thread.
 #[cycle(halves)]
-#[tactic(auto, using(crate::proofs::Sends::standing_send))]
 fn run_both<L: Ledger + Send + Sync, R: Threads + Wait + Sync, G: Gate>(
     rt: &R,
     alloc: Global,
