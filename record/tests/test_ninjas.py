@@ -49,6 +49,12 @@ class Recorded(Kept):
         self.trace = (self.out / "trace").read_text().split("\n")
         return said
 
+    def about(self, word):
+        """The lines of the file `ninja` that begin with the word."""
+        head, *lines = (self.out / "ninja").read_text().split("\n")[:-1]
+        self.assertEqual(head, "rebug-ninja 1")
+        return [it for it in lines if it.split(" ")[0] == word]
+
     def touch(self, path):
         (self.build / path).write_text(str(time.time_ns()))
         time.sleep(0.02)
@@ -205,6 +211,8 @@ class Statuses(Recorded):
                 self.record(status=NINJA.status_of_failure(status), own=["--verbose"])
                 self.assertEqual(self.events("start", "fail", "abort"), ["start o", "fail o"])
                 self.assertEqual(f"o (fail, status {status})" in self.said, NINJA.tells_status_of_failures, self.said)
+                self.assertEqual(self.about("failed"), [f"failed o {status}"] * NINJA.tells_status_of_failures)
+                self.assertEqual(self.about("status"), [f"status {NINJA.status_of_failure(status)}"])
 
     def test_a_command_that_exits_as_after_an_interrupt(self):
         self.write("rule r\n  command = touch $out; sleep .2; exit 130\nbuild o: r s\n")
@@ -249,6 +257,20 @@ class Preliminaries(Recorded):
                 self.assertEqual(words, ["Jobserver mode detected" if is_taken else "Ignoring jobserver"]
                                  if NINJA.takes_a_jobserver else [])
                 self.assertEqual(self.events("start"), ["start o"])
+                wanted = f"jobserver {flags.strip().replace(' ', chr(92) + 's')}"
+                self.assertEqual(self.about("jobserver"), [wanted] * (is_taken and NINJA.takes_a_jobserver))
+
+    def test_words_that_say_how_many_leave_the_jobserver_alone(self):
+        os.mkfifo(self.room / "jobs")
+        self.record(env={**os.environ, "MAKEFLAGS": f" -j4 --jobserver-auth=fifo:{self.room}/jobs"}, own=["-j", "2"])
+        self.assertEqual(self.about("jobserver"), [])
+        self.assertEqual(self.about("words"), ["words -j 2"])
+
+    def test_what_ninja_it_was(self):
+        self.record("o", env={**os.environ, "NINJA_STATUS": "[%s of %t] "})
+        told = subprocess.run(["ninja", "--version"], capture_output=True, text=True).stdout.strip()
+        self.assertEqual((self.out / "ninja").read_text(),
+                         f"rebug-ninja 1\nversion {told}\nwords o\nstatus 0\nformat [%s\\sof\\s%t]\\s\n")
 
 
 class Order(Recorded):

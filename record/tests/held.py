@@ -1,0 +1,2 @@
+def differences(out, program):
+    return []
