@@ -30,6 +30,9 @@ sys.dont_write_bytecode = True
 HERE = pathlib.Path(__file__).resolve().parent
 sys.path[:0] = [str(HERE.parent), str(HERE)]
 
+from held import differences  # noqa: E402
+from recorder.checking import check  # noqa: E402
+
 RECORDER = HERE.parent / "rebug-record"
 BUILT = HERE.parents[1] / "crates/rebug/out/rebug"
 # kind of an edge -> its rule. `n` is a flag; `stop` is a file that has a command fail.
@@ -194,9 +197,10 @@ def program() -> str | None:
 class Builds:
     """Random builds, recorded one after another until there are enough runs."""
 
-    def __init__(self, seed: int, ninjas: list[str], keep: pathlib.Path | None = None):
+    def __init__(self, seed: int, ninjas: list[str], keep: pathlib.Path | None = None, is_replayed: bool = True):
         self.chance, self.ninjas, self.keep, self.seed = random.Random(seed), ninjas, keep, seed
-        self.counts, self.faults, self.program = Counts(), [], program()
+        self.counts, self.faults, self.program = Counts(), [], program() if is_replayed else None
+        self.recordings: pathlib.Path | None = None  # where each of them is kept
 
     def run(self, runs: int):
         while self.counts.runs < runs:
@@ -227,6 +231,8 @@ class Builds:
             return
         trace = (out / "trace").read_text()
         self.counts.starts += trace.count("\nstart ")
+        if self.recordings:
+            shutil.copytree(out, self.recordings / f"{self.counts.runs:02}")
         if "rules differ" in said:
             self.fault(out, what, said)
         elif self.program:
@@ -234,16 +240,13 @@ class Builds:
         shutil.rmtree(out.with_name("before"), ignore_errors=True)
 
     def replay(self, out: pathlib.Path, what: str):
-        from held import differences  # which wants the program
-        from recorder.checking import check
-
         lines: list[str] = []
         status = check(str(out), self.program, lines.append)
         if status:
             self.fault(out, what, "\n".join(lines))
             return
         self.counts.replayed += 1
-        found = differences(out, self.program)
+        found = differences(out, self.program, random.Random(self.counts.runs))
         self.counts.compared += 1
         if found:
             self.fault(out, what, "\n".join(found))
