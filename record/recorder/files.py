@@ -1,5 +1,5 @@
-"""Writes a recording: the manifest's files, the trace, its times, other names of outputs, what Ninja it was, the script,
-and a script that replays them."""
+"""Writes a recording: the manifest's files, the trace, its times, other names of outputs, what Ninja it was, the
+script, and a script that replays them."""
 
 import os
 import stat

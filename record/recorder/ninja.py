@@ -43,7 +43,8 @@ class Ninja:
 
     @property
     def log_version(self) -> int:
-        """The version of the build logs that it writes; of a later Ninja than is known here the least that it can be."""
+        """The version of the build logs that it writes; of a later Ninja than is known here the least that it can
+        be."""
         return 5 if self.version < (1, 12) else 6 if self.version < (1, 13) else 7
 
     @property

@@ -294,7 +294,8 @@ def shell_chain():
     it.record("nothing_to_do", "o/listed")
     (it.build / "begun").unlink()
     it.write("sub/less.ninja", "build o/slow: slow s2\n  seconds = 20\nbuild o/behind: copy o/slow\n")
-    it.record("interrupted_while_slow", "o/behind", "o/p1", "o/p3", status=NINJA.status_of_interrupt, interrupt_when="begun")
+    it.record("interrupted_while_slow", "o/behind", "o/p1", "o/p3", status=NINJA.status_of_interrupt,
+              interrupt_when="begun")
     it.write("sub/less.ninja", "build o/slow: slow s2\n  seconds = 0.2\nbuild o/behind: copy o/slow\n")
     it.record("resumed", "o/behind", "o/p3")
 

@@ -1,7 +1,7 @@
 #!/usr/bin/env python3
-"""Holds the recorder's reading of rebug's rules to the program: reads a recording by the recorder's own modules (manifest,
-depfiles, rules, listed), runs its events through these rules, and compares all that the program answers: each reply
-with its numbers, the plan's marks and reasons, and at the end marks, stamps and both logs.
+"""Holds the recorder's reading of rebug's rules to the program: reads a recording by the recorder's own modules
+(manifest, depfiles, rules, listed), runs its events through these rules, and compares all that the program answers:
+each reply with its numbers, the plan's marks and reasons, and at the end marks, stamps and both logs.
 
     held.py RECORDING...        as recorded, and ten times with some of its events changed, so that rules refuse
 
@@ -147,7 +147,8 @@ def disturbed(it: Recorded, chance: random.Random) -> list[tuple]:
     names = [edge.name for edge in it.manifest.edges]
     for _ in range(chance.randint(1, 4)):
         place = chance.randrange(len(events) + 1)
-        what = chance.choice(["gone", "twice", "moved", "other", "touch", "interrupt", "plan", "stamps", "clean", "pass"])
+        what = chance.choice(["gone", "twice", "moved", "other", "touch", "interrupt", "plan", "stamps", "clean",
+                              "pass"])
         if what in ("gone", "twice", "moved", "other") and events:
             event = events.pop(place % len(events))
             if what == "twice":
@@ -166,9 +167,16 @@ def disturbed(it: Recorded, chance: random.Random) -> list[tuple]:
         elif what in ("clean", "pass"):
             events.insert(place, (what, chance.choice(names)))
         elif what == "stamps":
-            events = [(word, rest[0], [1 + chance.randrange(3) for _ in rest[1]], *rest[2:])
-                      if word in ("finish", "fail") and chance.random() < 0.5 else (word, *rest) for word, *rest in events]
+            events = [other_stamps(it, chance) if chance.random() < 0.5 else it for it in events]
     return [first, *events]
+
+
+def other_stamps(event: tuple, chance: random.Random) -> tuple:
+    """The event, where it is the end of a command with stamps of long ago."""
+    word, *rest = event
+    if word not in ("finish", "fail"):
+        return event
+    return word, rest[0], [1 + chance.randrange(3) for _ in rest[1]], *rest[2:]
 
 
 def differences(folder: pathlib.Path, program: str, chance: random.Random, times: int = 10) -> list[str]:

@@ -6,11 +6,11 @@
 A build folder gets random edges (restat, deps lists, depfiles, generators, pools, response files, phony groups, several
 outputs, commands that fail, that write a source, or that write their output anew where it is another) and is then built
 again and again, each time after some changes: other sources, flags, lists, touched, broken and deleted files. Each run
-is recorded, with a Ninja that is chosen anew of those that are named (else the one on the PATH). Where the program rebug
-is there (REBUG_PROGRAM, or as built here), it replays each recording, and `held` compares it with the recorder's rules.
+is recorded, with a Ninja that is chosen anew of those that are named (else the one on the PATH). Where the program is
+there (REBUG_PROGRAM, or as built here), it replays each recording, and `held` compares it with the recorder's rules.
 
-What is known to differ (docs/NINJA.md) is left out of the builds, so that each refusal is a fault. The last line has the
-counts; the status is 1 where something was refused, and FOLDER keeps that recording.
+What is known to differ (docs/NINJA.md) is left out of the builds, so that each refusal is a fault. The last line has
+the counts; the status is 1 where something was refused, and FOLDER keeps that recording.
 """
 
 from __future__ import annotations
@@ -42,8 +42,8 @@ RULES = {
     "keep": "command = cat $in > $out.new; cmp -s $out.new $out && rm $out.new || mv $out.new $out # $n\n  restat = 1",
     "once": "command = test -e $out || cat $in > $out # $n\n  restat = 1",
     "dep": "command = cat $in > $out && echo $out: $in $list > $out.d # $n\n  depfile = $out.d\n  deps = gcc",
-    "keptdep": ("command = cat $in > $out.new; cmp -s $out.new $out || mv $out.new $out; echo $out: $list > $out.d # $n\n"
-                "  depfile = $out.d\n  deps = gcc\n  restat = 1"),
+    "keptdep": ("command = cat $in > $out.new; cmp -s $out.new $out || mv $out.new $out; echo $out: $list > $out.d "
+                "# $n\n  depfile = $out.d\n  deps = gcc\n  restat = 1"),
     "depfile": "command = cat $in > $out && echo $out: $in $list > $out.d # $n\n  depfile = $out.d",
     "made": "command = cat $in > $out # $n\n  generator = 1",
     "madekeep": "command = cat $in | cmp -s - $out || cat $in > $out # $n\n  generator = 1\n  restat = 1",
@@ -133,8 +133,8 @@ class Project:
     def change(self) -> str:
         """One change, and what it was."""
         chance = self.chance
-        what = chance.choice(["source", "source", "same", "header", "output", "gone", "flag", "list", "stop", "go", "quiet",
-                              "edge", "log", "nothing"])
+        what = chance.choice(["source", "source", "same", "header", "output", "gone", "flag", "list", "stop", "go",
+                              "quiet", "edge", "log", "nothing"])
         if what in ("source", "same"):
             path = chance.choice(self.sources)
             self.write(path, path if what == "same" else f"{path} {chance.randint(1, 3)}")
@@ -144,7 +144,8 @@ class Project:
         elif what == "output":
             path = chance.choice(self.outputs() or self.sources)
             # one with a list would be newer than its record, which docs/NINJA.md tells of
-            if not any(path in it.outputs and it.kind in LISTING for it in self.edges) and (self.folder / path).exists():
+            is_listing = any(path in it.outputs and it.kind in LISTING for it in self.edges)
+            if not is_listing and (self.folder / path).exists():
                 os.utime(self.folder / path)
         elif what == "gone":
             (self.folder / chance.choice(self.outputs() or ["none"])).unlink(missing_ok=True)

@@ -88,8 +88,8 @@ class Replays(unittest.TestCase):
             self.assertEqual(shown.get(path, 0), disk.get(path, 0), path)
 
     def look_at_built(self, lines, expected, manifest):
-        """Ninja writes one stamp into the records of all outputs of an edge, the greatest; rebug each output's own. From
-        1.12 on Ninja's is that of the moment at which the command began."""
+        """Ninja writes one stamp into the records of all outputs of an edge, the greatest, and from 1.12 on that of the
+        moment at which the command began; rebug each output's own."""
         shown = {unescaped(line[1]): (int(line[2]), unescaped(line[3])) for line in lines if line[0] == b"built"}
         logged = {path.encode("latin-1"): it for path, it in expected["built"].items()}
         self.assertEqual({it for it in logged if it in manifest.producer}, set(shown))
