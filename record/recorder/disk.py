@@ -74,7 +74,8 @@ def _listed_paths(deps):
 def built_records(manifest, log, hash_of, changed=()):
     """The built records of the log: output -> (stamp, command).
 
-    `hash_of` is the hash in the log. Where it is None, the commands are the manifest's but for the outputs in `changed`.
+    `hash_of` is the hash in the log. Where it is None, the commands are the manifest's, those of the outputs in
+    `changed` excepted.
     """
     records, hashes = {}, {}
     for entry in log.last(manifest.producer).values():

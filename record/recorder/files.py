@@ -1,5 +1,5 @@
-"""Writes a recording: the manifest's files, the trace, its times, other names of outputs, the script, and a script that
-replays them."""
+"""Writes a recording: the manifest's files, the trace, its times, other names of outputs, what Ninja it was, the
+script, and a script that replays them."""
 
 import os
 import stat
@@ -11,7 +11,7 @@ from .replaying import replay_text
 
 MOST_LANES = 63
 # The files beside those of the manifest.
-WRITTEN = (b"trace", b"script", b"replay", b"times", b"names")
+WRITTEN = (b"trace", b"script", b"replay", b"times", b"names", b"ninja")
 # What no file of the manifest may have as the first part of its name; that of an absolute path is empty.
 _TAKEN = (b"", b".", b"..", b"outside", *WRITTEN, *OPTIONAL)
 
@@ -33,6 +33,9 @@ def write_recording(it, folder, with_lanes, program, at):
     with folder.create(b"names") as file:
         file.write(b"rebug-names 1\n")
         file.writelines(line(path, it.names[path]) + b"\n" for path in sorted(it.names))
+    with folder.create(b"ninja") as file:
+        file.write(b"rebug-ninja 1\n")
+        file.writelines(text + b"\n" for text in it.about_ninja)
     with folder.create(b"script") as file:
         file.writelines(text + b"\n" for text in script)
     _write_replay(folder, replay_text([os.fsdecode(name) for name in names], script, with_lanes, _beside(program, at)))

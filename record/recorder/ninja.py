@@ -22,7 +22,7 @@ from .fields import canonical
 from .hashes import murmur_hash, rapid_hash
 from .logs import BuildLog, LogEntry
 
-_VERSION = re.compile(rb"^(\d+)\.(\d+)", re.MULTILINE)
+_VERSION = re.compile(rb"^(\d+)\.(\d+)\S*", re.MULTILINE)
 _CHANGED = re.compile(rb"ninja explain: command line changed for (.*)")
 _LONGEST_ANSWER = 60
 # Version of a log -> the hash in it, where Ninja wrote the log as its own.
@@ -35,14 +35,16 @@ class NoNinja(Exception):
 
 @dataclass(frozen=True)
 class Ninja:
-    """A Ninja by its program and the first two numbers of its version."""
+    """A Ninja by its program, the first two numbers of its version, and the version as it tells it."""
 
     program: str
     version: tuple[int, int]
+    told: bytes = b""
 
     @property
     def log_version(self) -> int:
-        """The version of the build logs that it writes; of a later Ninja than is known here the least that it can be."""
+        """The version of the build logs that it writes; of a later Ninja than is known here the least that it can
+        be."""
         return 5 if self.version < (1, 12) else 6 if self.version < (1, 13) else 7
 
     @property
@@ -104,7 +106,7 @@ def asked_ninja(program: str) -> Ninja:
     version = _VERSION.search(said)
     if not version:
         raise NoNinja(f"{program} does not tell Ninja's version (`{program} --version`), by which its logs are read")
-    return Ninja(program, (int(version[1]), int(version[2])))
+    return Ninja(program, (int(version[1]), int(version[2])), version[0])
 
 
 def changed_commands(explained: bytes) -> set[bytes]:

@@ -19,7 +19,8 @@ ALWAYS, IF_POSSIBLE = "always", "if-possible"
 _MORE = """What stands behind -- goes to Ninja: targets, -k N, -v, -f FILE, ...
 
 exit status:
-  Ninja's where Ninja ran, and 128 and the signal's number where a signal ended Ninja or this program
+  Ninja's where Ninja ran, and 128 and the signal's number where a signal ended Ninja or this program; from Ninja 1.13
+  on that may be any number, since it is the status of the last command that failed, and 130 after an interrupt
   2  Ninja was not run: one of the words or a folder is at fault, as a sentence on standard error says
   3  nothing was recorded, though Ninja ended well
   With --check: 0 where rebug accepts every command of the recording, 1 where it refuses one, 2 where the program

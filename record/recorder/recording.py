@@ -1,10 +1,11 @@
 """From what was there before and after a run of Ninja to the events of a trace."""
 
+import os
 import statistics
 from dataclasses import dataclass, field, replace
 
 from .disk import built_records, deps_records, stamp_of
-from .fields import canonical, shown
+from .fields import canonical, line, shown
 from .limits import place_of
 from .logs import BuildLog, new_entries
 from .ninja import differing
@@ -23,7 +24,7 @@ _LONGEST_BEGINNING = 500 * _NANOSECONDS
 @dataclass
 class Recording:
     """Everything that is written of one build. `runs` are the commands that ran, `names` has other names of outputs,
-    `remarks` are notes that ask for nothing."""
+    `about_ninja` the lines of the file `ninja`, `remarks` are notes that ask for nothing."""
 
     manifest: object
     jobs: int
@@ -34,6 +35,7 @@ class Recording:
     found: Sequence = None
     runs: list = field(default_factory=list)
     names: dict = field(default_factory=dict)
+    about_ninja: list = field(default_factory=list)
     notes: list = field(default_factory=list)
     remarks: list = field(default_factory=list)
 
@@ -56,6 +58,7 @@ def record(ninja, folder, manifest, words, jobs, before, after, ran):
     it.stamps.update(stamps_of_what_was_built(it, before, ninja))
     runs, begin = _runs(it, ninja, before, after, ran)
     it.runs = runs
+    it.about_ninja = _about_ninja(ninja, words, ran, runs)
     touches = _touches(it, before, after, runs, begin, ran.begin, folder)
     build = Build(manifest, it.jobs, it.stamps, it.built, it.deps)
     it.found = sequence(build, it.targets, runs, touches, words.failures, ran.interrupted, as_run=jobs is not None,
@@ -68,6 +71,15 @@ def record(ninja, folder, manifest, words, jobs, before, after, ran):
     if runs or not ran.status:
         _note_refusals(it, build)
     return it
+
+
+def _about_ninja(ninja, words, ran, runs):
+    """What ran the build: docs/FORMATS.md."""
+    found = [line("version", ninja.told), line("words", *map(os.fsencode, words.all)), line("status", str(ran.status)),
+             line("format", ran.status_format)]
+    if ran.jobserver is not None:
+        found.append(line("jobserver", ran.jobserver))
+    return found + [line("failed", run.edge.name, str(run.code)) for run in runs if run.code is not None]
 
 
 def _built(ninja, manifest, before, after):

@@ -25,6 +25,7 @@ _BEGIN, _END = b"\x1e", b"\x1f"
 _MARK = re.compile(_BEGIN + rb"(\d+)\.(\d{3})" + _END)
 _COLOUR = re.compile(rb"\x1b\[[0-9;]*[A-Za-z]")
 _FAILED = re.compile(rb"FAILED: (?:\[code=(-?\d+)\] )?(.*?) ?")
+_JOBSERVER, _NO_JOBSERVER = b"ninja: Jobserver mode detected: ", b"ninja: error: Could not initialize jobserver"
 _LONGEST_MARK = 32
 _MARK_COLUMNS = 7  # those of a mark of the first ten seconds
 _NARROWEST = 40  # Ninja cuts the middle out of lines that are too wide, and a mark must stand in the first half
@@ -58,6 +59,8 @@ class Ran:
     begin: int
     failed: list = field(default_factory=list)
     children: list = field(default_factory=list)
+    status_format: bytes = b""
+    jobserver: bytes | None = None  # MAKEFLAGS, where Ninja says that it asks the jobserver in it
     said_interrupted: bool = False
     said_stopped: bool = False
 
@@ -76,6 +79,7 @@ class _Output:
 
     def __init__(self, ran, write):
         self.ran, self.write, self.held, self.line, self.time = ran, write, b"", b"", None
+        self.has_begun = False  # before its first status line Ninja speaks of itself alone
 
     def take(self, data):
         data = self.held + data
@@ -97,6 +101,7 @@ class _Output:
     def look(self, line):
         marks = _MARK.findall(line)
         if marks:
+            self.has_begun = True
             self.time = int(marks[-1][0]) * 1000 + int(marks[-1][1])
         text = _COLOUR.sub(b"", _MARK.sub(b"", line)).rstrip(b"\r\n")
         failed = _FAILED.fullmatch(text)
@@ -105,6 +110,8 @@ class _Output:
             self.ran.failed.append(Failed(failed[2], code, self.time, time.time_ns()))
         elif not marks:
             self.time = None
+        if not self.has_begun and text.startswith((_JOBSERVER, _NO_JOBSERVER)):
+            self.ran.jobserver = text[len(_JOBSERVER) :].strip() if text.startswith(_JOBSERVER) else None
         if text.startswith(b"ninja: build stopped: "):
             self.ran.said_stopped = True
             self.ran.said_interrupted = self.ran.said_interrupted or text[22:].startswith(b"interrupted")
@@ -197,7 +204,7 @@ def run_ninja(ninja, words, folder, signals):
     outer, inner = _channel(1)
     status_format = os.environb.get(b"NINJA_STATUS", b"[%f/%t] ")
     environment = {**os.environb, b"NINJA_STATUS": _BEGIN + b"%e" + _END + status_format}
-    ran, started, early = Ran(0, time.time_ns()), [], []
+    ran, started, early = Ran(0, time.time_ns(), status_format=status_format), [], []
 
     def hand_on(number):
         if not started:

@@ -91,7 +91,7 @@ class Session:
         return Observation(observer, self.build, manifest, log)
 
     def snapshot_before(self, manifest):
-        """What is there before the run. Of a log whose hash is not known Ninja says which commands are not the log's."""
+        """What is there before the run. Where the log's hash is not known, Ninja says which commands are others."""
         before = take_snapshot(self.build, manifest, self.ninja)
         if not before.log.is_empty() and self.ninja.hash_in(before.log) is None:
             words = [self.program, "-n", "-d", "explain", *self.words.all]

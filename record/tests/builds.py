@@ -6,6 +6,7 @@ said right after the run.
 """
 
 import atexit
+import functools
 import json
 import os
 import pathlib
@@ -293,7 +294,8 @@ def shell_chain():
     it.record("nothing_to_do", "o/listed")
     (it.build / "begun").unlink()
     it.write("sub/less.ninja", "build o/slow: slow s2\n  seconds = 20\nbuild o/behind: copy o/slow\n")
-    it.record("interrupted_while_slow", "o/behind", "o/p1", "o/p3", status=NINJA.status_of_interrupt, interrupt_when="begun")
+    it.record("interrupted_while_slow", "o/behind", "o/p1", "o/p3", status=NINJA.status_of_interrupt,
+              interrupt_when="begun")
     it.write("sub/less.ninja", "build o/slow: slow s2\n  seconds = 0.2\nbuild o/behind: copy o/slow\n")
     it.record("resumed", "o/behind", "o/p3")
 
@@ -332,6 +334,62 @@ def failing_chain():
     it.record("jobs_as_run", "w", own=["--jobs-as-run"])
 
 
+SWITCHED_MANIFEST = """rule copy
+  command = cat $in > $out # %s
+rule keep
+  command = cmp -s $in $out || cp $in $out
+  restat = 1
+rule list
+  command = cat $in > $out && echo "$out: $in list.h" > $out.d
+  depfile = $out.d
+  deps = gcc
+rule answer
+  command = cat $out.rsp > $out
+  rspfile = $out.rsp
+  rspfile_content = $in $more
+rule make
+  command = test ! -e stop && touch $out
+  generator = 1
+build kept: keep s1
+build user: copy kept
+build listed: list s2 | user
+build answer: answer s1 listed
+build made: make s2
+build group: phony user listed
+build last: copy answer made || group
+"""
+
+
+def switched_chain(other):
+    """Four builds of this Ninja, each behind one of another Ninja's: nothing changed, a source, a flag, a failure."""
+    it = Chain(f"switched_from_{version_of(other)}")
+    it.write("build.ninja", SWITCHED_MANIFEST % "one")
+    for name in ("s1", "s2", "list.h"):
+        it.write(name, name + "\n")
+
+    def built_before():
+        subprocess.run([other, "-k0"], cwd=it.build, stdin=subprocess.DEVNULL, capture_output=True)
+        time.sleep(0.02)
+
+    built_before()
+    it.record("nothing_changed")
+    built_before()
+    it.write("s1", "s1\n")
+    it.write("list.h", "more\n")
+    it.record("a_source_and_a_header_touched")
+    built_before()
+    it.write("build.ninja", SWITCHED_MANIFEST % "two")
+    it.record("another_flag")
+    it.write("stop", "")
+    it.write("s2", "s2 again\n")
+    built_before()
+    it.record("a_failure", "-k0", status=1)
+
+
+def version_of(ninja):
+    return subprocess.run([ninja, "--version"], stdin=subprocess.DEVNULL, capture_output=True, text=True).stdout.strip()
+
+
 # chain -> the function that makes it, what it needs, its recordings
 CHAINS = {
     "cmake": (cmake_chain, ("ninja", "cmake", "cc"), (
@@ -345,6 +403,10 @@ CHAINS = {
     "failing": (failing_chain, ("ninja",), (
         "first_failure_ends", "keep_going", "console_failure", "repaired", "recorded_with_lanes", "jobs_as_run")),
 }
+
+for _other in other_ninjas():
+    CHAINS[f"switched_from_{version_of(_other)}"] = (functools.partial(switched_chain, _other), ("ninja",), (
+        "nothing_changed", "a_source_and_a_header_touched", "another_flag", "a_failure"))
 
 
 def made(chain):

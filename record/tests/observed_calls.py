@@ -78,7 +78,7 @@ class Log:
         with os.fdopen(self.reader, "rb") as file:
             return list(self.observer.events(file))
 
-    def end(self, timeout: float = 60) -> int:
+    def end(self, timeout: float = 300) -> int:
         """Waits for the process; gives its status."""
         status = self.process.wait(timeout)
         shutil.rmtree(self.folder, ignore_errors=True)

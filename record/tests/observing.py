@@ -7,6 +7,7 @@ import shutil
 import subprocess
 import sys
 import tempfile
+import time
 from collections.abc import Callable, Iterable, Mapping
 from dataclasses import dataclass, field
 
@@ -62,6 +63,14 @@ def _numbers(words: Iterable[bytes]) -> Iterable[int]:
         yield from range(int(first), int(last or first) + 1)
 
 
+def wait_for(path: pathlib.Path, seconds: float = 300) -> None:
+    """Waits for a file that a process makes."""
+    until = time.monotonic() + seconds
+    while not path.exists():
+        assert time.monotonic() < until, f"{path} did not come"
+        time.sleep(0.02)
+
+
 def refusal(observer: str) -> str | None:
     """Why this observer cannot be tested here."""
     why = OBSERVERS[observer]().refusal() if shutil.which("ninja") else "there is no Ninja"
@@ -94,7 +103,7 @@ class Room:
     def build(self, observer: str, ninja: str | bytes, files: Mapping[str | bytes, str | bytes] = {}, *,
               words: Iterable[str] = ("-j", "2", "-k", "0"), own: Iterable[str] = (),
               before: Callable[[pathlib.Path], None] | None = None, environment: Mapping[str, str] = {},
-              timeout: float = 300) -> Build:
+              timeout: float = 900) -> Build:
         """Records the build of a manifest and files in a folder of its own."""
         folder = pathlib.Path(tempfile.mkdtemp(dir=self.path)) / "build"
         folder.mkdir()
@@ -108,12 +117,13 @@ class Room:
         return self.record(observer, folder, words=words, own=own, environment=environment, timeout=timeout)
 
     def record(self, observer: str, folder: pathlib.Path, *, words: Iterable[str] = (), own: Iterable[str] = (),
-               environment: Mapping[str, str] = {}, timeout: float = 300) -> Build:
+               environment: Mapping[str, str] = {}, timeout: float = 900) -> Build:
         """Records a build in a folder that is there, observed."""
         out = folder.parent / "out"
         line = [sys.executable, RECORDER, folder, out, "--observe", "--observer", observer, *own, "--", *words]
-        ran = subprocess.run(line, stdin=subprocess.DEVNULL, stdout=subprocess.PIPE, stderr=subprocess.STDOUT,
-                             env={**os.environ, **environment}, timeout=timeout)
+        with open(folder.parent / "said", "w+b") as said:  # a file, since what lives on may keep it open
+            ran = subprocess.run(line, stdin=subprocess.DEVNULL, stdout=said, stderr=subprocess.STDOUT,
+                                 env={**os.environ, **environment}, timeout=timeout)
         observed = out / "observed"
         commands = read_observed(observed) if observed.exists() else {}
-        return Build(folder, ran.returncode, os.fsdecode(ran.stdout), commands)
+        return Build(folder, ran.returncode, os.fsdecode((folder.parent / "said").read_bytes()), commands)

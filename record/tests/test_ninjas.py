@@ -1,5 +1,5 @@
-"""What differs from one Ninja to the next: logs, their hashes and stamps, statuses, the jobserver. With the Ninja on the
-PATH, and with those that NINJAS names as the ones that built before."""
+"""What differs from one Ninja to the next: logs, their hashes and stamps, statuses, the jobserver. With the Ninja on
+the PATH, and with those that NINJAS names as the ones that built before."""
 
 from __future__ import annotations
 
@@ -37,7 +37,8 @@ class Recorded(Kept):
     """A build folder, and its recordings in `out`."""
 
     def ninja(self, *words, program="ninja"):
-        done = subprocess.run([program, *words], cwd=self.build, stdin=subprocess.DEVNULL, capture_output=True, text=True)
+        done = subprocess.run([program, *words], cwd=self.build, stdin=subprocess.DEVNULL, capture_output=True,
+                              text=True)
         time.sleep(0.02)
         return done.stdout + done.stderr
 
@@ -48,6 +49,12 @@ class Recorded(Kept):
         self.said = said
         self.trace = (self.out / "trace").read_text().split("\n")
         return said
+
+    def about(self, word):
+        """The lines of the file `ninja` that begin with the word."""
+        head, *lines = (self.out / "ninja").read_text().split("\n")[:-1]
+        self.assertEqual(head, "rebug-ninja 1")
+        return [it for it in lines if it.split(" ")[0] == word]
 
     def touch(self, path):
         (self.build / path).write_text(str(time.time_ns()))
@@ -146,7 +153,8 @@ class UnknownHash(Recorded):
         self.assertEqual(sorted(self.events("start", "fail")), ["fail a", "fail b", "start a", "start b"])
 
     def test_a_command_behind_one_that_restat_left_alone(self):
-        text = ("rule keep\n  command = test -e $out || touch $out # %s\n  restat = 1\nrule cp\n  command = cp $in $out # %s\n"
+        text = ("rule keep\n  command = test -e $out || touch $out # %s\n  restat = 1\n"
+                "rule cp\n  command = cp $in $out # %s\n"
                 "build a: keep s\nbuild b: cp a\n")
         self.write(text % (1, 1))
         self.record()
@@ -205,6 +213,8 @@ class Statuses(Recorded):
                 self.record(status=NINJA.status_of_failure(status), own=["--verbose"])
                 self.assertEqual(self.events("start", "fail", "abort"), ["start o", "fail o"])
                 self.assertEqual(f"o (fail, status {status})" in self.said, NINJA.tells_status_of_failures, self.said)
+                self.assertEqual(self.about("failed"), [f"failed o {status}"] * NINJA.tells_status_of_failures)
+                self.assertEqual(self.about("status"), [f"status {NINJA.status_of_failure(status)}"])
 
     def test_a_command_that_exits_as_after_an_interrupt(self):
         self.write("rule r\n  command = touch $out; sleep .2; exit 130\nbuild o: r s\n")
@@ -240,7 +250,8 @@ class Preliminaries(Recorded):
         end = os.open(self.room / "jobs", os.O_RDWR)
         self.addCleanup(os.close, end)
         os.write(end, b"+++")
-        for flags, is_taken in ((f" -j4 --jobserver-auth=fifo:{self.room}/jobs", True), (" --jobserver-auth=3,4", False)):
+        given = ((f" -j4 --jobserver-auth=fifo:{self.room}/jobs", True), (" --jobserver-auth=3,4", False))
+        for flags, is_taken in given:
             with self.subTest(flags=flags):
                 (self.build / "o").unlink(missing_ok=True)
                 self.record(env={**os.environ, "MAKEFLAGS": flags})
@@ -249,6 +260,20 @@ class Preliminaries(Recorded):
                 self.assertEqual(words, ["Jobserver mode detected" if is_taken else "Ignoring jobserver"]
                                  if NINJA.takes_a_jobserver else [])
                 self.assertEqual(self.events("start"), ["start o"])
+                wanted = f"jobserver {flags.strip().replace(' ', chr(92) + 's')}"
+                self.assertEqual(self.about("jobserver"), [wanted] * (is_taken and NINJA.takes_a_jobserver))
+
+    def test_words_that_say_how_many_leave_the_jobserver_alone(self):
+        os.mkfifo(self.room / "jobs")
+        self.record(env={**os.environ, "MAKEFLAGS": f" -j4 --jobserver-auth=fifo:{self.room}/jobs"}, own=["-j", "2"])
+        self.assertEqual(self.about("jobserver"), [])
+        self.assertEqual(self.about("words"), ["words -j 2"])
+
+    def test_what_ninja_it_was(self):
+        self.record("o", env={**os.environ, "NINJA_STATUS": "[%s of %t] "})
+        told = subprocess.run(["ninja", "--version"], capture_output=True, text=True).stdout.strip()
+        self.assertEqual((self.out / "ninja").read_text(),
+                         f"rebug-ninja 1\nversion {told}\nwords o\nstatus 0\nformat [%s\\sof\\s%t]\\s\n")
 
 
 class Order(Recorded):
@@ -276,13 +301,14 @@ class Versions(unittest.TestCase):
 
     def test_logs_that_are_read(self):
         entries = [LogEntry(0, 1, 2, b"o", 3)]
-        for version, read in (((1, 11), {4, 5, 6, 7, 8}), ((1, 12), {6}), ((1, 13), {7}), ((1, 14), {7, 8, 9}), ((2, 0), {7, 8, 9})):
+        for version, read in (((1, 11), {4, 5, 6, 7, 8}), ((1, 12), {6}), ((1, 13), {7}), ((1, 14), {7, 8}),
+                              ((2, 0), {7, 8})):
             ninja = Ninja("ninja", version)
-            found = {it for it in range(10) if ninja.as_read(BuildLog(it, entries if it > 3 else [])).entries}
-            self.assertEqual(found & {4, 5, 6, 7, 8, 9}, read | ({9} if version == (1, 11) else set()))
+            self.assertEqual({it for it in range(4, 9) if ninja.as_read(BuildLog(it, entries)).entries}, read)
 
     def test_the_hash_follows_from_the_ninja(self):
-        for version, log, wanted in (((1, 11), 7, 5), ((1, 11), 5, 5), ((1, 12), 6, 6), ((1, 13), 7, 7), ((1, 14), 8, None)):
+        for version, log, wanted in (((1, 11), 7, 5), ((1, 11), 5, 5), ((1, 12), 6, 6), ((1, 13), 7, 7),
+                                     ((1, 14), 8, None)):
             ninja = Ninja("ninja", version)
             self.assertIs(ninja.hash_in(ninja.as_read(BuildLog(log, []))), HASHES.get(wanted), version)
 

@@ -68,7 +68,7 @@ class Signals(unittest.TestCase):
         if number is not None:
             time.sleep(delay)
             process.send_signal(number)
-        said, _ = process.communicate(timeout=120)
+        said, _ = process.communicate(timeout=600)
         return process.returncode, said.decode()
 
     def by_terminal(self, words, number, delay):
@@ -89,7 +89,7 @@ class Signals(unittest.TestCase):
             if part == b"":
                 break
             said += part or b""
-            self.assertLess(time.monotonic() - begin, 120)
+            self.assertLess(time.monotonic() - begin, 600)
         os.close(terminal)
         _, status = os.waitpid(child, 0)
         return os.waitstatus_to_exitcode(status), said.decode()
@@ -103,14 +103,14 @@ class Signals(unittest.TestCase):
         self.assertIn(status, allowed, said)
         begin = time.monotonic()
         while left := processes_of(folder):
-            self.assertLess(time.monotonic() - begin, 30, left)
+            self.assertLess(time.monotonic() - begin, 300, left)
             time.sleep(0.05)
         for output in build.glob("o*"):  # whole, or taken away by Ninja
             if "." not in output.name:
                 self.assertEqual(output.read_text(), "a\nb\n")
         if (out / "trace").exists():
             self.look_at_recording(build, out, observer, said)
-        ran = subprocess.run(["ninja", "--quiet"], cwd=build, capture_output=True, timeout=120)
+        ran = subprocess.run(["ninja", "--quiet"], cwd=build, capture_output=True, timeout=600)
         self.assertEqual((ran.returncode, len(list(build.glob("o*[0-9]")))), (0, SOME), ran)
 
     def look_at_recording(self, build, out, observer, said):

@@ -349,18 +349,19 @@ class Nothing(unittest.TestCase):
     def test_where_the_observer_is_killed_the_command_ends_at_once(self):
         log = self.run_shell("sleep 60; true")
         os.kill(log.beside(), signal.SIGKILL)
-        self.assertEqual(log.end(timeout=20), -9)
+        self.assertEqual(log.end(), -9)
         os.close(log.reader)
 
     def test_what_lives_on_is_observed_on(self):
         with tempfile.TemporaryDirectory() as room:
             program = built(pathlib.Path(room))
-            log = Log(Own(), [program, "daemon", "0.6", "late"], cwd=room)
-            self.assertEqual(log.process.wait(20), 0)
+            log = Log(Own(), [program, "daemon", "when", "late"], cwd=room)
+            self.assertEqual(log.process.wait(60), 0)
             self.assertFalse(os.path.exists(os.path.join(room, "late")))
+            pathlib.Path(room, "when").touch()
             events = log.events()
-            ended = [process for process, call in events if call.kind is Kind.EXIT].index(log.process.pid)
-            self.assertLess(ended, 2)
+            ended = [process for process, call in events if call.kind is Kind.EXIT]
+            self.assertEqual((len(ended), ended.index(log.process.pid) < 2), (3, True))
             self.assertEqual(events[-2][1].path, b"late")
             self.assertEqual(log.end(), 0)
 

@@ -356,8 +356,8 @@ class Whole(unittest.TestCase):
         before = {b"a.c": at(-5), b"b.c": 5, b"a.o": 7, b"b.o": 0, b"app": 0}
         after = {**before, b"a.o": at(59), b"b.o": at(39), b"x.h": 4, b"made.h": at(20), b"app": 0}
         deps = {b"a.o": (at(59), [b"a.c", b"x.h"]), b"b.o": (at(39), [b"b.c", b"made.h"])}
-        ran = Ran(1, self.begin, failed=[Failed(b"app", None, 90, 0)], children=[Child([b"/bin/sh", b"-c", b"ld a.o b.o"], at(65))],
-                  said_stopped=True)
+        ran = Ran(1, self.begin, failed=[Failed(b"app", None, 90, 0)], said_stopped=True,
+                  children=[Child([b"/bin/sh", b"-c", b"ld a.o b.o"], at(65))])
         self.found = record(NINJA_1_11, "nowhere", self.manifest, read_words([]), 2,
                             Snapshot(before, BuildLog(5, old), {b"a.o": (7, [b"a.c"])}, {}),
                             Snapshot(after, BuildLog(5, old + new), deps, {}), ran)

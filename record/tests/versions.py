@@ -1,5 +1,5 @@
-"""What is expected of each Ninja: one table, by its version. Where the recorder's tests run with several (`run` tells how),
-each is held to its own column. docs/NINJA.md has the same table for readers."""
+"""What is expected of each Ninja: one table, by its version. Where the recorder's tests run with several (`run` tells
+how), each is held to its own column. docs/NINJA.md has the same table for readers."""
 
 from __future__ import annotations
 

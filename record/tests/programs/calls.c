@@ -140,12 +140,12 @@ int main(int count, char **words) {
         signal(SIGUSR1, count_signal), signal(SIGTRAP, count_signal);
         for (int i = 0; i < atoi(f[0]); i++) must(kill(getpid(), i % 2 ? SIGUSR1 : SIGTRAP));
         return signals_seen != atoi(f[0]);
-    } else if (!strcmp(word, "daemon")) { /* SECONDS TO: writes once its maker and Ninja have ended */
+    } else if (!strcmp(word, "daemon")) { /* WHEN TO: lives on after its maker, and writes once WHEN is there */
         if (fork()) return 0;
         setsid();
         if (fork()) return 0;
         for (int i = 0; i < 3; i++) close(i);
-        usleep((useconds_t)(atof(f[0]) * 1e6));
+        for (int i = 0; i < 12000 && access(f[0], F_OK); i++) usleep(50000);
         must(creat(f[1], 0644));
     } else return 2;
     return 0;
