@@ -307,10 +307,12 @@ static ssize_t link_of(pid_t pid, const char *what, int descriptor, char *to) {
     snprintf(name, sizeof name, descriptor < 0 ? "/proc/%d/%s" : "/proc/%d/%s/%d", pid, what, descriptor);
     return readlink(name, to, PATH_MAX);
 }
-/* The folder or file behind a descriptor (AT_FDCWD: the thread's folder). 0 where no file system has it. */
+/* The folder or file behind a descriptor (AT_FDCWD: the thread's folder). 0 where it has no name in a file system. */
 static ssize_t behind(pid_t pid, int descriptor, char *to) {
-    ssize_t n = link_of(pid, descriptor == AT_FDCWD ? "cwd" : "fd", descriptor == AT_FDCWD ? -1 : descriptor, to);
-    return n > 0 && (to[0] != '/' || !strncmp(to, "/memfd:", 7)) ? 0 : n;
+    if (descriptor == AT_FDCWD) return link_of(pid, "cwd", -1, to);
+    ssize_t n = link_of(pid, "fd", descriptor, to);
+    bool is_gone = n > 10 && !memcmp(to + n - 10, " (deleted)", 10);
+    return n > 0 && (to[0] != '/' || is_gone) ? 0 : n;
 }
 /* A path that leads through the process's own entry in /proc: that which the link says, and the rest. */
 static ssize_t resolve_own(pid_t pid, char *path, ssize_t n) {
@@ -332,11 +334,13 @@ static ssize_t resolve_own(pid_t pid, char *path, ssize_t n) {
 }
 enum place { TOLD, NOWHERE, HIDDEN };
 /* Where a call's path leads: numbers of its folder (0: the path is absolute) and path, and both joined in `whole`. */
-static enum place place(pid_t pid, int descriptor, uint64_t at, uint32_t *folder, uint32_t *path, char *whole) {
+static enum place place(pid_t pid, int descriptor, uint64_t at, bool may_be_empty, uint32_t *folder, uint32_t *path,
+                        char *whole) {
     static char given[PATH_MAX + 512];
     errno = 0;
     ssize_t n = at ? path_at(pid, at, given) : 0, begin = 0;
     if (n < 0) return errno == EPERM ? HIDDEN : NOWHERE;
+    if (!n && !may_be_empty) return NOWHERE; /* the call fails */
     given[n] = 0;
     bool is_absolute = given[0] == '/';
     if (is_absolute && !(n = resolve_own(pid, given, n))) return NOWHERE;
@@ -464,8 +468,12 @@ static void enter(pid_t pid, struct task *t) {
     enum place found = TOLD;
     int from = r->folder == NO ? AT_FDCWD : (int)a[r->folder];
     int to = r->other_folder == NO ? AT_FDCWD : (int)a[r->other_folder];
-    if (r->other != NO) found = place(pid, to, a[r->other], &c.other_folder, &c.other, whole);
-    if (found == TOLD && r->path != NO) found = place(pid, from, a[r->path], &c.folder, &c.path, whole);
+    bool may_be_empty = (r->reading == AT || r->reading == FOLLOWING) && a[r->flags] & AT_EMPTY_PATH;
+    if (r->other != NO) found = place(pid, to, a[r->other], false, &c.other_folder, &c.other, whole);
+    if (found == TOLD && r->path != NO) {
+        found = place(pid, from, a[r->path], may_be_empty, &c.folder, &c.path, whole);
+        if (found == NOWHERE && c.kind == LINK) found = TOLD; /* a file without a name gets one */
+    }
     if (found == HIDDEN) tell(pid, (struct call){.kind = UNKNOWN}, 0);
     if (found != TOLD) return;
     bool is_look = c.kind == STAT || c.kind == EXEC || (c.kind == OPEN && !(c.flags & (O_ACCMODE | O_CREAT | O_TRUNC)));

@@ -1,11 +1,17 @@
 """Runs rebug on a recording and tells in words what it accepted."""
 
+from __future__ import annotations
+
 import os
 import shutil
 import subprocess
+from typing import Callable, Dict, List, Optional, Tuple
 
 from .folders import whole
 from .replaying import words_of_replay
+
+# The recorded commands of each lane: the number of the line, and its text. Those of the script are of no lane.
+Lanes = Dict[Optional[int], List[Tuple[int, bytes]]]
 
 # What a refusal of a recorded command says of the recording, by its number.
 MEANINGS = {
@@ -44,7 +50,8 @@ REASONS = {1: "an output is missing", 2: "there is no deps record", 3: "the deps
            8: "another command"}
 
 
-def check(folder, program=None, say=print, launcher=None):
+def check(folder: str, program: str | None = None, say: Callable[[str], None] = print,
+          launcher: str | None = None) -> int:
     """Replays the recording, says how it went, and gives the exit status: 0 where every command was accepted.
 
     The program is the one that is given, else the one that REBUG names, else the launcher: a recording may have been
@@ -53,7 +60,7 @@ def check(folder, program=None, say=print, launcher=None):
     """
     given = program or os.environ.get("REBUG")
     found = _found(given) if given else launcher
-    if given and not found:
+    if not found:
         say(f"{given} cannot be run: {'--rebug' if program else 'REBUG'} wants the program rebug")
         return 2
     with whole(folder) as room:
@@ -75,7 +82,7 @@ def check(folder, program=None, say=print, launcher=None):
         return _judge(room, report, say)
 
 
-def _words(folder):
+def _words(folder: str) -> list[str] | None:
     try:
         with open(os.path.join(folder, "replay"), encoding="utf-8", errors="surrogateescape") as file:
             return words_of_replay(file.read())
@@ -83,7 +90,7 @@ def _words(folder):
         return None
 
 
-def _found(program):
+def _found(program: str) -> str | None:
     """The whole path of a program that is named by a path, or by a name on the PATH; None where there is none."""
     path = os.path.abspath(program)
     if os.path.isfile(path) and os.access(path, os.X_OK):
@@ -91,9 +98,10 @@ def _found(program):
     return shutil.which(program) if os.path.basename(program) == program else None
 
 
-def read_commands(folder):
+def read_commands(folder: str) -> Lanes:
     """The recorded commands: lane -> list of (line number, text); the script's commands are those of lane None."""
-    lanes, lane = {}, None
+    lanes: Lanes = {None: []}
+    lane = None
     with open(os.path.join(folder, "trace"), "rb") as file:
         for number, text in enumerate(file.read().split(b"\n"), 1):
             if text.startswith(b"lane "):
@@ -108,10 +116,11 @@ def read_commands(folder):
     return lanes
 
 
-def _judge(folder, report, say):
+def _judge(folder: str, report: list[bytes], say: Callable[[str], None]) -> int:
     lanes = read_commands(folder)
     count = len(lanes) - 1
-    taken, accepted, refused = {}, 0, []
+    taken: dict[int | None, int] = {}
+    accepted, refused = 0, []
     for text in report:
         parts = text.split(b" ")
         if len(parts) < 3 or not parts[0].isdigit() or parts[2] not in (b"ok", b"refused"):
@@ -135,7 +144,8 @@ def _judge(folder, report, say):
     return 1
 
 
-def _say_refusal(lane, number, command, numbers, say):
+def _say_refusal(lane: int | None, number: int, command: bytes, numbers: list[int],
+                 say: Callable[[str], None]) -> None:
     where = f"trace:{number}" if lane is not None else f"script:{number}"
     shown = command.decode("utf-8", "backslashreplace")
     say(f"{where}: refused {' '.join(map(str, numbers))}: {shown[:200]}")

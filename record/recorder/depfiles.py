@@ -3,7 +3,10 @@
 Only edges with `depfile` and without `deps` need it: of the others Ninja itself keeps the list.
 """
 
+from __future__ import annotations
+
 import re
+from typing import Container
 
 from .fields import LONGEST_PATH, canonical
 
@@ -11,9 +14,10 @@ _BLANK = re.compile(rb"\\\r?\n|[ \t]")
 _BREAK = re.compile(rb"[ \t\r\n]")
 
 
-def read_depfile(text, outputs):
+def read_depfile(text: bytes, outputs: Container[bytes]) -> list[bytes] | None:
     """The prerequisites, each once; None where rebug would refuse the text for these outputs."""
-    found, at = {}, 0
+    found: dict[bytes, None] = {}
+    at = 0
     while at < len(text):
         targets, prerequisites, has_colon, at = _line(text, at)
         if (targets or prerequisites) and not has_colon:
@@ -26,13 +30,14 @@ def read_depfile(text, outputs):
     return list(found)
 
 
-def _name(word):
+def _name(word: bytes) -> bytes | None:
     return canonical(word) if len(word) <= LONGEST_PATH else None
 
 
-def _line(text, at):
+def _line(text: bytes, at: int) -> tuple[list[bytes], list[bytes], bool, int]:
     """The words before and after the separating colon of the line at `at`, and where the next line begins."""
-    words, has_colon = ([], []), False
+    words: tuple[list[bytes], list[bytes]] = ([], [])
+    has_colon = False
     while at < len(text):
         blank = _BLANK.match(text, at)
         if blank:
@@ -47,15 +52,15 @@ def _line(text, at):
     return *words, has_colon, at
 
 
-def _ends_word(text, at):
+def _ends_word(text: bytes, at: int) -> bool:
     return at >= len(text) or bool(_BREAK.match(text, at)) and not _lone_cr(text, at) or bool(_BLANK.match(text, at))
 
 
-def _lone_cr(text, at):
+def _lone_cr(text: bytes, at: int) -> bool:
     return text.startswith(b"\r", at) and not text.startswith(b"\r\n", at)
 
 
-def _word(text, at, has_colon):
+def _word(text: bytes, at: int, has_colon: bool) -> tuple[bytes, int]:
     word = b""
     while at < len(text):
         if text[at : at + 1] in (b" ", b"\t", b"\n") or text.startswith(b"\r\n", at):
@@ -74,7 +79,7 @@ def _word(text, at, has_colon):
     return word, at
 
 
-def _backslashes(text, at):
+def _backslashes(text: bytes, at: int) -> tuple[bytes, int, bool]:
     """What a run of backslashes gives: bytes of the word, where they end, and whether the word ends there."""
     end = at
     while text.startswith(b"\\", end):

@@ -1,10 +1,13 @@
 """Reads Ninja's deps log from its file. Lists stay there and are read one by one, since together they are large."""
 
+from __future__ import annotations
+
 import array
 import os
 import struct
 import sys
 from operator import itemgetter
+from typing import Iterable, Sequence, TypeVar, Union
 
 from .fields import LONGEST_PATH, canonical, field, shown
 
@@ -12,6 +15,9 @@ _HEADER = b"# ninjadeps\n"
 _KNOWN = (3, 4)
 _RECORD = 1 << 31
 _LARGEST = 1 << 19  # Ninja takes no larger record
+
+
+T = TypeVar("T")
 
 
 class BrokenLog(Exception):
@@ -23,17 +29,18 @@ class Listing:
 
     __slots__ = ("log", "at", "count")
 
-    def __init__(self, log, at, count):
+    def __init__(self, log: DepsLog, at: int, count: int) -> None:
         self.log, self.at, self.count = log, at, count
 
-    def numbers(self):
+    def numbers(self) -> tuple[int, ...]:
         """The listed paths by their numbers in the log."""
         return struct.unpack(f"<{self.count}I", os.pread(self.log.file.fileno(), 4 * self.count, self.at))
 
-    def paths(self):
+    def paths(self) -> Sequence[bytes]:
+        """The listed paths."""
         return taken(self.log.paths, self.numbers())
 
-    def text(self):
+    def text(self) -> bytes:
         """The paths as fields of a trace line, with a space in front of each."""
         fields = self.log.fields
         if len(fields) != len(self.log.paths):
@@ -41,7 +48,7 @@ class Listing:
         return b"".join(taken(fields, self.numbers()))
 
 
-def taken(values, numbers):
+def taken(values: Sequence[T], numbers: Sequence[int]) -> tuple[T, ...]:
     """The values with these numbers. One getter for all is the quickest way of many, and it wants two numbers."""
     return itemgetter(*numbers)(values) if len(numbers) > 1 else tuple(values[it] for it in numbers)
 
@@ -52,21 +59,22 @@ class DepsLog:
     The file is kept open, so lists can be read also when Ninja has written the log anew.
     """
 
-    def __init__(self, path=None, ends_at_unknown_paths=False):
-        self.paths, self.fields, self.places, self.file, self.version = [], [], {}, None, 0
+    def __init__(self, path: bytes | str | None = None, ends_at_unknown_paths: bool = False) -> None:
+        self.paths: list[bytes] = []
+        self.fields: list[bytes] = []
+        self.places: dict[bytes, tuple[int, Listing]] = {}
+        self.version = 0
         self.ends_at_unknown_paths = ends_at_unknown_paths
         try:
-            self.file = open(path, "rb") if path else None
+            self.file = open(path or os.devnull, "rb")
         except OSError:
-            return
-        if self.file:
-            self._read()
+            self.file = open(os.devnull, "rb")
+        self._read()
 
-    def __del__(self):
-        if self.file:
-            self.file.close()
+    def __del__(self) -> None:
+        self.file.close()
 
-    def _read(self):
+    def _read(self) -> None:
         head = self.file.read(len(_HEADER) + 4)
         if head[:-4] != _HEADER or len(head) != len(_HEADER) + 4:
             return
@@ -85,7 +93,7 @@ class DepsLog:
                 break
             at += 4 + length
 
-    def _note(self, body, at):
+    def _note(self, body: bytes, at: int) -> bool:
         """The record of an output; false where the log ends there. That of a number without a path is left out."""
         number, skip = int.from_bytes(body[:4], "little"), 12 if self.version >= 4 else 8
         if len(body) < skip:
@@ -103,12 +111,12 @@ class DepsLog:
             self.places[self.paths[number]] = max(0, stamp), Listing(self, at + skip, len(listed))
         return True
 
-    def _broken(self, what):
+    def _broken(self, what: str) -> BrokenLog:
         name = shown(os.fsencode(self.file.name))
         return BrokenLog(f"{name} is broken: it has {what}. Ninja ends by a fault of its own on it, and makes another "
                          f"where it is taken away; edges with lists are then built again")
 
-    def _name(self, body):
+    def _name(self, body: bytes) -> bool:
         """A path's record: its bytes, filled up by NULs to four, and its number turned over."""
         if int.from_bytes(body[-4:], "little") != len(self.paths) ^ 0xFFFFFFFF:
             return False
@@ -119,11 +127,11 @@ class DepsLog:
         return True
 
 
-def paths_of(listing):
+def paths_of(listing: Union[Listing, Sequence[bytes]]) -> Sequence[bytes]:
     """The paths of a listing, whether it is a list or stands in a file."""
     return listing.paths() if isinstance(listing, Listing) else listing
 
 
-def text_of(listing):
+def text_of(listing: Union[Listing, Iterable[bytes]]) -> bytes:
     """The paths of a listing as fields, with a space in front of each."""
     return listing.text() if isinstance(listing, Listing) else b"".join(b" " + field(it) for it in listing)

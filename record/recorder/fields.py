@@ -1,5 +1,7 @@
 """Paths and fields as rebug's texts have them. Everything here is bytes: paths need not be UTF-8."""
 
+from __future__ import annotations
+
 import re
 
 LONGEST_PATH = 4096
@@ -9,11 +11,11 @@ _TO_ESCAPE = re.compile(rb"[ \t\n\r\\]").search
 _ESCAPES = ((b"\\", b"\\\\"), (b" ", b"\\s"), (b"\t", b"\\t"), (b"\n", b"\\n"), (b"\r", b"\\r"))
 
 
-def canonical(path):
+def canonical(path: bytes) -> bytes:
     """The canonical form of a path, as rebug compares paths."""
     if not (b"//" in path or b"./" in path or path.endswith((b"/", b"."))):
         return path
-    kept = []
+    kept: list[bytes] = []
     is_rooted = path.startswith(b"/")
     for part in path.split(b"/"):
         if part in (b"", b"."):
@@ -28,12 +30,12 @@ def canonical(path):
     return b"/" + text if is_rooted else text or b"."
 
 
-def quoted(path):
+def quoted(path: bytes) -> bytes:
     """A path as it stands in a command."""
     return path if _PLAIN.fullmatch(path) else b"'" + path.replace(b"'", b"'\\''") + b"'"
 
 
-def field(text):
+def field(text: bytes) -> bytes:
     """A text as one field of a trace line."""
     if _TO_ESCAPE(text):
         for byte, escape in _ESCAPES:
@@ -41,12 +43,12 @@ def field(text):
     return text or b"\\0"
 
 
-def line(*parts):
+def line(*parts: bytes | int | str) -> bytes:
     """A trace line: bytes are fields, numbers are written in decimal, and words are words."""
     return b" ".join([field(it) if isinstance(it, bytes) else b"%d" % it if isinstance(it, int) else it.encode()
                       for it in parts])
 
 
-def shown(text):
+def shown(text: bytes) -> str:
     """Bytes as they are shown to a reader in a sentence."""
     return text.decode("utf-8", "backslashreplace")

@@ -1,12 +1,19 @@
 """Writes a recording: the manifest's files, the trace, its times, other names of outputs, what Ninja it was, the
 script, and a script that replays them."""
 
+from __future__ import annotations
+
 import os
 import stat
+from typing import Iterator, Sequence
 
 from .depslog import text_of
+from .events import WORDS, Abort, Clean, Event, Fail, Finish, Interrupt, Pass, Plan, Start, Touch, name_of
 from .fields import canonical, field, line, shown
 from .folders import OPTIONAL, is_name
+from .held import HeldFolder
+from .manifest import Manifest
+from .recording import Recording
 from .replaying import replay_text
 
 MOST_LANES = 63
@@ -16,7 +23,7 @@ WRITTEN = (b"trace", b"script", b"replay", b"times", b"names", b"ninja")
 _TAKEN = (b"", b".", b"..", b"outside", *WRITTEN, *OPTIONAL)
 
 
-def write_recording(it, folder, with_lanes, program, at):
+def write_recording(it: Recording, folder: HeldFolder, with_lanes: bool, program: str, at: bytes | str) -> list[bytes]:
     """Writes everything into the held folder, and gives the names of the manifest's files there.
 
     `at` is where the recording will stand, by which `replay` finds the program.
@@ -42,22 +49,22 @@ def write_recording(it, folder, with_lanes, program, at):
     return names
 
 
-def _beside(program, folder):
+def _beside(program: str, folder: bytes | str) -> str:
     """The program's path from the folder where both stand below the program's, so that they can be moved together."""
     top, folder = os.path.dirname(program), os.path.abspath(os.fsdecode(folder))
     return os.path.relpath(program, folder) if os.path.commonpath([top, folder]) == top else program
 
 
-def _write_replay(folder, text):
+def _write_replay(folder: HeldFolder, text: str) -> None:
     with folder.create(b"replay") as file:
         file.write(os.fsencode(text))
         os.fchmod(file.fileno(), stat.S_IMODE(os.fstat(file.fileno()).st_mode) | 0o111)
 
 
-def names_of_files(manifest):
+def names_of_files(manifest: Manifest) -> dict[bytes, bytes]:
     """The names in a recording of the manifest's files, by their canonical paths. One from outside of the build folder,
     or with a name that the recording needs, gets another."""
-    names = {}
+    names: dict[bytes, bytes] = {}
     for name, _, _ in manifest.files:
         path = canonical(name)
         is_inside = is_name(path) and path.split(b"/", 1)[0] not in _TAKEN
@@ -65,7 +72,7 @@ def names_of_files(manifest):
     return names
 
 
-def write_manifest(it, folder):
+def write_manifest(it: Recording, folder: HeldFolder) -> list[bytes]:
     """Copies the files. Where one has another name in the recording, the line that names it is changed."""
     names = names_of_files(it.manifest)
     for path, name in names.items():
@@ -82,7 +89,7 @@ def write_manifest(it, folder):
     return list(names.values())
 
 
-def opening(it):
+def opening(it: Recording) -> Iterator[bytes]:
     """The opening lines, in byte order within their kind."""
     yield line("jobs", it.jobs)
     for path in sorted(it.stamps):
@@ -95,20 +102,26 @@ def opening(it):
     yield from (line("target", path) for path in it.targets)
 
 
-def command(event):
-    """An event as its line."""
-    word, *rest = event
-    if word == "plan":
-        return b"plan"
-    if word == "finish" and len(rest) == 3:
-        listed = b"depfile " + field(rest[2]) if isinstance(rest[2], bytes) else b"list" + text_of(rest[2])
-        return b"finish %b %b %b" % (field(rest[0]), b",".join([b"%d" % it for it in rest[1]]), listed)
-    if word in ("finish", "fail", "abort"):
-        return line(word, rest[0], ",".join(map(str, rest[1])))
-    return line(word, *rest)
+def command(event: Event) -> bytes:
+    """An event as its line. That of a plan has no targets: they are opening lines of the trace."""
+    word = WORDS[type(event)]
+    if isinstance(event, Start):
+        return line(word, event.output, event.job, *(() if event.slot is None else (event.slot,)))
+    if isinstance(event, Finish) and event.listing is not None:
+        listing = event.listing
+        listed = b"depfile " + field(listing) if isinstance(listing, bytes) else b"list" + text_of(listing)
+        return b"finish %b %b %b" % (field(event.output), b",".join([b"%d" % it for it in event.stamps]), listed)
+    if isinstance(event, (Finish, Fail, Abort)):
+        return line(word, event.output, ",".join(map(str, event.stamps)))
+    if isinstance(event, Touch):
+        return line(word, event.path, event.stamp)
+    return line(word, event.output) if isinstance(event, (Clean, Pass)) else word.encode()
 
 
-def commands(events, lanes):
+Lanes = Sequence[Sequence[int]]
+
+
+def commands(events: Sequence[Event], lanes: Lanes) -> Iterator[bytes]:
     """The lines of the lanes, each command where it came: a lane is named again where its next commands come.
 
     A lane that is named for the first time has the next number, so those before it are opened first.
@@ -125,7 +138,7 @@ def commands(events, lanes):
     yield from (b"lane %d" % number for number in range(opened, len(lanes)))
 
 
-def times(known, lanes):
+def times(known: Sequence[int | None], lanes: Lanes) -> Iterator[bytes]:
     """A line for each event of the trace: its label, and the milliseconds since Ninja began (`-`: not known)."""
     for number, places in enumerate(lanes):
         for count, place in enumerate(places, 1):
@@ -133,27 +146,28 @@ def times(known, lanes):
             yield b"%d:%d -\n" % (number, count) if time is None else b"%d:%d %d\n" % (number, count, time)
 
 
-def _one_lane(it):
+def _one_lane(it: Recording) -> tuple[Lanes, list[bytes]]:
     """The places of the events of each lane, and the script."""
     return [range(len(it.found.events))], [b"run", b"kept", b"marks"]
 
 
-def _lanes(it):
+def _lanes(it: Recording) -> tuple[Lanes, list[bytes]]:
     """One lane for each job. The plan stands in the script, and so do an interrupt and what follows it."""
-    lanes, lane_of, behind = [[] for _ in range(max(1, it.found.jobs))], {}, []
-    is_over = False
-    last = 0
+    lanes: list[list[int]] = [[] for _ in range(max(1, it.found.jobs))]
+    lane_of: dict[bytes, int] = {}
+    behind: list[bytes] = []
+    plan, is_over, last = b"plan", False, 0
     for place, event in enumerate(it.found.events):
-        is_over = is_over or event[0] == "interrupt"
-        if event[0] == "plan":
+        is_over = is_over or isinstance(event, Interrupt)
+        if isinstance(event, Plan):
             plan = line("plan", *it.targets)
             continue
         if is_over:
             behind.append(command(event))
             continue
-        if event[0] == "start":
-            lane_of[event[1]] = event[2]
-        last = lane_of.get(event[1], last)
+        if isinstance(event, Start):
+            lane_of[event.output] = event.job
+        last = lane_of.get(name_of(event), last)
         lanes[last].append(place)
     if len(lanes) > MOST_LANES:
         it.notes.append(f"{len(lanes)} jobs ran side by side, and a trace has at most {MOST_LANES} lanes: rebug "

@@ -4,6 +4,8 @@ Where Ninja and rebug look names up differently (a variable of the file with the
 line without indented lines), an edge gives both commands: Ninja's log has the hash of Ninja's, rebug compares its own.
 """
 
+from __future__ import annotations
+
 import re
 from dataclasses import dataclass, field
 
@@ -135,14 +137,19 @@ class Manifest:
     """
 
     def __init__(self, name, read_file):
-        self.edges, self.files, self.pools, self.default_paths = [], [], {b"console": 1}, []
-        self.pool_names, self.read_file, self._known = [b"console"], read_file, {}
-        self.depths, self.deepest = {}, 0
+        self.edges: list[Edge] = []
+        self.files: list[tuple[bytes, bytes, list]] = []
+        self.pools: dict[bytes, int] = {b"console": 1}
+        self.default_paths: list[bytes] = []
+        self.pool_names, self.read_file = [b"console"], read_file
+        self._known: dict[bytes, tuple[bytes, bytes, list]] = {}
+        self.depths: dict[bytes, bytes] = {}
+        self.deepest = 0
         self.scope = Scope()
         self._read(name, self.scope, 0)
         for edge in self.edges:
             self._end(edge)
-        self.producer = {}
+        self.producer: dict[bytes, Edge] = {}
         for edge in self.edges:
             for path in edge.outputs:
                 self.producer.setdefault(path, edge)
@@ -220,7 +227,12 @@ class _Reader:
         return BadManifest(f"{shown(self.name)}:{line or self.line()}: {what}")
 
     def blanks(self):
-        self.at = _BLANKS.match(self.text, self.at).end()
+        self.skip(_BLANKS)
+
+    def skip(self, pattern):
+        """Goes behind what the pattern matches, which may be nothing."""
+        found = pattern.match(self.text, self.at)
+        self.at = found.end() if found else self.at
 
     def name_here(self, what):
         found = _NAME.match(self.text, self.at)
@@ -244,7 +256,7 @@ class _Reader:
         self.at = found.end()
 
     def piece_list(self, pattern):
-        pieces = []
+        pieces: list = []
         while True:
             found = pattern.match(self.text, self.at)
             if not found:
@@ -265,7 +277,7 @@ class _Reader:
 
     def paths(self):
         """Texts of paths up to the next token."""
-        found = []
+        found: list[list] = []
         while True:
             pieces = self.piece_list(_IN_PATH)
             if not pieces:
@@ -275,7 +287,7 @@ class _Reader:
 
     def read(self):
         while True:
-            self.at = _DROPPED.match(self.text, self.at).end()
+            self.skip(_DROPPED)
             if self.at >= len(self.text):
                 return
             begin = self.at
@@ -321,7 +333,7 @@ class _Reader:
     def pool(self):
         name = self.name_here("a pool's name")
         self.line_end()
-        values = {}
+        values: dict = {}
         while self.indented():
             self.binding(self.name_here("depth"), values)
         self.manifest.depths[name] = values.get(b"depth", b"")
@@ -357,7 +369,7 @@ class _Reader:
             is_it = not (token == b"|" and self.text.startswith((b"||", b"|@"), self.at)) and self.takes(token)
             lists.append(self.paths() if is_it else [])
         self.line_end()
-        block = {}
+        block: dict = {}
         while self.indented():
             self.binding(self.name_here("a variable"), block)
         texts = {} if name == b"phony" else self.scope.rule(name)

@@ -6,6 +6,8 @@ that of the output that was really built last, or from Ninja 1.12 on the time at
 which is older also than an input that was written while that command ran.
 """
 
+from __future__ import annotations
+
 from .fields import shown
 from .rules import Build
 
@@ -17,7 +19,9 @@ def stamps_of_what_was_built(it, before, ninja):
 
     Edges whose list is older than their output are left alone: Ninja and rebug both run them, for that reason.
     """
-    build, known, found = Build(it.manifest, 1, before.stamps, it.built, it.deps), {}, {}
+    build = Build(it.manifest, 1, before.stamps, it.built, it.deps)
+    known: dict[bytes, int] = {}
+    found: dict[bytes, int] = {}
     for edge in it.manifest.edges:
         changed = [path for path in edge.outputs if path in it.built and it.built[path][0] < build.stamps.get(path, 0)]
         if changed and not edge.phony and not _has_an_old_list(build, edge):

@@ -1,13 +1,18 @@
 """From what was there before and after a run of Ninja to the events of a trace."""
 
+from __future__ import annotations
+
 import os
 import statistics
 from dataclasses import dataclass, field, replace
 
 from .disk import built_records, deps_records, stamp_of
+from .events import WORDS, name_of
 from .fields import canonical, line, shown
 from .limits import place_of
+from .listed import DepsRecord
 from .logs import BuildLog, new_entries
+from .manifest import Manifest
 from .ninja import differing
 from .openings import stamps_of_what_was_built
 from .other_names import other_names
@@ -26,18 +31,18 @@ class Recording:
     """Everything that is written of one build. `runs` are the commands that ran, `names` has other names of outputs,
     `about_ninja` the lines of the file `ninja`, `remarks` are notes that ask for nothing."""
 
-    manifest: object
+    manifest: Manifest
     jobs: int
-    targets: list
-    stamps: dict
-    built: dict
-    deps: dict
-    found: Sequence = None
-    runs: list = field(default_factory=list)
-    names: dict = field(default_factory=dict)
-    about_ninja: list = field(default_factory=list)
-    notes: list = field(default_factory=list)
-    remarks: list = field(default_factory=list)
+    targets: list[bytes]
+    stamps: dict[bytes, int]
+    built: dict[bytes, tuple[int, bytes]]
+    deps: dict[bytes, DepsRecord]
+    found: Sequence = field(default_factory=Sequence)
+    runs: list[EdgeRun] = field(default_factory=list)
+    names: dict[bytes, bytes] = field(default_factory=dict)
+    about_ninja: list[bytes] = field(default_factory=list)
+    notes: list[str] = field(default_factory=list)
+    remarks: list[str] = field(default_factory=list)
 
 
 def record(ninja, folder, manifest, words, jobs, before, after, ran):
@@ -125,7 +130,7 @@ def _runs(it, ninja, before, after, ran):
     manifest, entries = it.manifest, new_entries(before.log, after.log)
     entries = _without_manifest_edges(it, entries)
     begin = _beginning(ninja, manifest, entries, ran)
-    runs = {}
+    runs: dict[int, EdgeRun] = {}
     for entry in entries:
         edge = manifest.producer.get(canonical(entry.output))
         if edge is None or edge.phony:
@@ -170,8 +175,9 @@ def _beginning(ninja, manifest, entries, ran):
         elif not edge.generator:
             times.append(entry.stamp - entry.start * _NANOSECONDS)
     near = [it for it in times if abs(it - ran.begin) < _LONGEST_BEGINNING]
-    found = max if ninja.stamps_are_of_outputs else statistics.median_low
-    return max(ran.begin, found(near)) if near else ran.begin
+    if not near:
+        return ran.begin
+    return max(ran.begin, max(near) if ninja.stamps_are_of_outputs else statistics.median_low(near))
 
 
 def _finished(it, ninja, edge, entry, after):
@@ -256,7 +262,7 @@ def _last_end_below(manifest, runs, edge):
 
 def _seen_commands(ran, begin):
     """When each command was first seen running, in milliseconds. A shell may have put the command in its own place."""
-    seen = {}
+    seen: dict[bytes, int] = {}
     for child in ran.children:
         is_shell = child.words[1:2] == [b"-c"] and len(child.words) == 3
         command = child.words[2] if is_shell else b" ".join(child.words)
@@ -305,7 +311,7 @@ def _note_order(it, runs):
 
 def _note_refusals(it, build):
     for event, refusal in it.found.refused[:1]:
-        words = " ".join([event[0], *(shown(part) for part in event[1:2] if isinstance(part, bytes))])
+        words = " ".join([WORDS[type(event)], *([shown(name_of(event))] if name_of(event) else [])])
         path = _refused_path(it, build, event, refusal)
         it.notes.append(f"rebug's rules differ here from what Ninja did: they refuse '{words}' "
                         f"({' '.join(map(str, refusal))}){f', for {shown(path)}' if path else ''}; "
@@ -317,11 +323,11 @@ def _refused_path(it, build, event, refusal):
     number, *rest = refusal
     edges = it.manifest.edges
     if number == 51:
-        return (event[1] or it.manifest.defaults())[rest[0]]
+        return (it.targets or it.manifest.defaults())[rest[0]]
     if number == 52:
         return edges[rest[1]].inputs[rest[0]]
     if number in (50, 53, 72, 74):
         return edges[rest[0]].name
     if number == 68:
-        return build.inputs(it.manifest.producer[event[1]])[rest[0]]
+        return build.inputs(it.manifest.producer[name_of(event)])[rest[0]]
     return None

@@ -204,7 +204,9 @@ def run_ninja(ninja, words, folder, signals):
     outer, inner = _channel(1)
     status_format = os.environb.get(b"NINJA_STATUS", b"[%f/%t] ")
     environment = {**os.environb, b"NINJA_STATUS": _BEGIN + b"%e" + _END + status_format}
-    ran, started, early = Ran(0, time.time_ns(), status_format=status_format), [], []
+    ran = Ran(0, time.time_ns(), status_format=status_format)
+    started: list[tuple[subprocess.Popen, _Watcher]] = []
+    early: list[int] = []
 
     def hand_on(number):
         if not started:

@@ -9,9 +9,11 @@ from __future__ import annotations
 
 import heapq
 from dataclasses import dataclass, field
+from typing import Collection, Iterable, Optional
 
+from .events import Abort, Clean, Event, Fail, Finish, Interrupt, Listed, Pass, Plan, Start, Touch
 from .manifest import Edge
-from .rules import SETTLED, THROUGH, WANTED
+from .rules import SETTLED, THROUGH, WANTED, Build, Refusal
 from .words import MOST_JOBS
 
 _PHONY_EDGES = 100
@@ -29,11 +31,17 @@ class EdgeRun:
     word: str
     start: int
     end: int
-    stamps: list
-    listing: object = None
+    stamps: list[int]
+    listing: Optional[Listed] = None
     is_start_known: bool = True
-    code: int | None = None
-    touched: list = field(default_factory=list)
+    code: Optional[int] = None
+    touched: list[tuple[bytes, int]] = field(default_factory=list)
+
+    def ended(self) -> Event:
+        """Its end."""
+        if self.word == "finish":
+            return Finish(self.edge.name, self.stamps, self.listing)
+        return Fail(self.edge.name, self.stamps) if self.word == "fail" else Abort(self.edge.name, self.stamps)
 
 
 @dataclass
@@ -43,10 +51,10 @@ class Sequence:
     `times` has the milliseconds of each event since Ninja began, None where they are not known.
     """
 
-    events: list = field(default_factory=list)
-    times: list = field(default_factory=list)
-    refused: list = field(default_factory=list)
-    tied: list = field(default_factory=list)
+    events: list[Event] = field(default_factory=list)
+    times: list[Optional[int]] = field(default_factory=list)
+    refused: list[tuple[Event, Refusal]] = field(default_factory=list)
+    tied: list[Edge] = field(default_factory=list)
     jobs: int = 0
 
 
@@ -58,11 +66,13 @@ class _Places:
     one of an edge that it stands on in any case.
     """
 
-    def __init__(self, count):
-        self.free, self.used, self.count, self.holder = [], 0, count, {}
+    def __init__(self, count: int) -> None:
+        self.used, self.count = 0, count
+        self.free: list[int] = []
+        self.holder: dict[int, int] = {}
 
-    def take(self, edge, below=()):
-        known = [it for it in self.free if self.holder[it] in below] if below else ()
+    def take(self, edge: Edge, below: Collection[int] = ()) -> int:
+        known = [it for it in self.free if self.holder[it] in below] if below else []
         if known:
             place = known[-1]
             self.free.remove(place)
@@ -74,21 +84,31 @@ class _Places:
         self.holder[place] = edge.number
         return place
 
-    def give_back(self, place):
+    def give_back(self, place: int) -> None:
         self.free.append(place)
 
 
 class Sequencer:
     """Hands events to the rules one by one, with the passes and cleans that become possible after each."""
 
-    def __init__(self, build, failures, most_jobs, as_run, longest_way_first=False):
-        self.longest_way_first, self.ways = longest_way_first, None
+    def __init__(self, build: Build, failures: int, most_jobs: int, as_run: bool,
+                 longest_way_first: bool = False) -> None:
+        self.longest_way_first = longest_way_first
+        self.ways: Optional[dict[int, int]] = None
         self.build, self.edges, self.producer = build, build.edges, build.producer
-        self.failures_left, self.found, self.now, self.as_run = failures, Sequence(), 0, as_run
-        self.jobs, self.pools, self.held = _Places(most_jobs), {}, {}
-        self.waits, self.users, self.ready, self.will_run = {}, {}, [], set()
+        self.failures_left, self.found, self.as_run = failures, Sequence(), as_run
+        self.now: Optional[int] = 0
+        self.targets: list[bytes] = []
+        self.jobs = _Places(most_jobs)
+        self.pools: dict[bytes, _Places] = {}
+        self.held: dict[int, tuple[int, Optional[int]]] = {}
+        self.waits: dict[int, int] = {}
+        self.users: dict[int, list[int]] = {}
+        self.ready: list[int] = []
+        self.will_run: set[int] = set()
 
-    def put(self, *event):
+    def put(self, event: Event) -> bool:
+        """Adds an event, and does it where it is not refused; whether that is so."""
         self.found.events.append(event)
         self.found.times.append(self.now)
         refusal = self.build.refusal(event)
@@ -98,9 +118,9 @@ class Sequencer:
             self.build.do(event)
         return not refusal
 
-    def plan(self, targets):
+    def plan(self, targets: list[bytes]) -> None:
         self.targets = targets
-        if not self.put("plan", targets):
+        if not self.put(Plan(targets)):
             return
         marks = self.build.marks
         for edge in self.edges:
@@ -113,53 +133,51 @@ class Sequencer:
                     heapq.heappush(self.ready, edge.number)
         self.go_on()
 
-    def go_on(self):
+    def go_on(self) -> None:
         """Passes and cleans what can be; a Ninja that has met its last allowed failure goes no further."""
         while self.ready and self.failures_left > 0:
             edge = self.edges[heapq.heappop(self.ready)]
             if edge.phony or self.build.marks[edge.number] == THROUGH:
-                word = "pass"
+                event: Event = Pass(edge.name)
             elif edge.number not in self.will_run and not self.build.reasons(edge):
-                word = "clean"
+                event = Clean(edge.name)
             else:
                 continue
-            if self.put(word, edge.name):
+            if self.put(event):
                 self.settled(edge)
 
-    def settled(self, edge):
+    def settled(self, edge: Edge) -> None:
         for user in self.users.get(edge.number, ()):
             self.waits[user] -= 1
             if not self.waits[user]:
                 heapq.heappush(self.ready, user)
 
-    def start(self, run):
+    def start(self, run: EdgeRun) -> None:
         edge = run.edge
-        below = self.below(edge) if self.as_run else ()
-        job, slot = self.jobs.take(edge, below), ()
-        depth = self.build.manifest.depth(edge)
-        if depth:
-            slot = (self.pools.setdefault(edge.pool, _Places(depth)).take(edge, below),)
+        below = self.below(edge) if self.as_run else set()
+        job, depth = self.jobs.take(edge, below), self.build.manifest.depth(edge)
+        slot = self.pools.setdefault(edge.pool, _Places(depth)).take(edge, below) if depth else None
         self.held[edge.number] = job, slot
-        self.put("start", edge.name, job, *slot)
+        self.put(Start(edge.name, job, slot))
 
-    def end(self, run):
+    def end(self, run: EdgeRun) -> None:
         edge = run.edge
         job, slot = self.held.pop(edge.number)
         self.jobs.give_back(job)
-        for it in slot:
-            self.pools[edge.pool].give_back(it)
+        if slot is not None:
+            self.pools[edge.pool].give_back(slot)
         self.failures_left -= run.word == "fail"
-        listing = () if run.listing is None else (run.listing,)
-        is_put = self.put(run.word, edge.name, run.stamps, *listing)
+        is_put = self.put(run.ended())
         for path, stamp in run.touched:
-            self.put("touch", path, stamp)
+            self.put(Touch(path, stamp))
         if is_put and run.word == "finish":
             self.settled(edge)
         self.go_on()
 
-    def below(self, edge):
+    def below(self, edge: Edge) -> set[int]:
         """The numbers of the edges that the edge stands on, seen through phony edges as far as is cheap."""
-        todo, found = [edge], set()
+        found: set[int] = set()
+        todo = [edge]
         for it in todo:
             makers = self.build.producers(it)
             todo += [maker for maker in makers if maker.phony and maker.number not in found
@@ -167,18 +185,32 @@ class Sequencer:
             found.update(maker.number for maker in makers)
         return found
 
-    def place_among_starts(self, run):
+    def place_among_starts(self, run: EdgeRun) -> tuple[int, int]:
         """By what Ninja orders edges that can start: the longest way first where it looks at that, then the number."""
         if self.longest_way_first and self.ways is None:
             self.ways = self.build.longest_ways(self.targets)
         return -(self.ways or {}).get(run.edge.number, 0), run.edge.number
 
-    def can_start(self, run):
+    def can_start(self, run: EdgeRun) -> bool:
         """Whether all that the edge stands on has settled."""
         return not self.waits.get(run.edge.number)
 
 
-def sequence(build, targets, runs, touches, failures, interrupted=False, as_run=False, longest_way_first=False):
+# A path that changed: the milliseconds since Ninja began, where its new stamp tells them, the path, and the stamp.
+Touched = tuple[Optional[int], bytes, int]
+
+
+@dataclass
+class _Moment:
+    """What came in one millisecond: the paths that were touched with their stamps, the ends, and the starts."""
+
+    touched: list[tuple[bytes, int]] = field(default_factory=list)
+    ends: list[EdgeRun] = field(default_factory=list)
+    starts: list[EdgeRun] = field(default_factory=list)
+
+
+def sequence(build: Build, targets: list[bytes], runs: list[EdgeRun], touches: Iterable[Touched], failures: int,
+             interrupted: bool = False, as_run: bool = False, longest_way_first: bool = False) -> Sequence:
     """The order of a whole run. `touches` has (milliseconds or None, path, stamp); those without a time come last.
 
     Each start takes a job of its own, as far as MOST_JOBS go; `as_run` takes as few as ran side by side. Of starts in
@@ -189,38 +221,39 @@ def sequence(build, targets, runs, touches, failures, interrupted=False, as_run=
     it.will_run = {run.edge.number for run in runs}
     build.job_count = max(build.job_count, len(runs))  # whatever the order asks for is given, and written as `jobs`
     it.plan(targets)
-    moments = {}
+    moments: dict[int, _Moment] = {}
     for run in runs:
-        moments.setdefault(run.start, ([], [], []))[2].append(run)
+        moments.setdefault(run.start, _Moment()).starts.append(run)
         if run.word != "abort":
-            moments.setdefault(run.end, ([], [], []))[1].append(run)
+            moments.setdefault(run.end, _Moment()).ends.append(run)
     for time, path, stamp in touches:
         if time is not None:
-            moments.setdefault(time, ([], [], []))[0].append((path, stamp))
-    for time in sorted(moments):
-        it.now = time
-        _moment(it, *moments[time])
+            moments.setdefault(time, _Moment()).touched.append((path, stamp))
+    for now in sorted(moments):
+        it.now = now
+        _take(it, moments[now])
     if interrupted:
         it.failures_left = 0
         it.now = max((run.end for run in runs), default=0)
-        it.put("interrupt")
+        it.put(Interrupt())
         for run in runs:
             if run.word == "abort":
                 it.end(run)
     it.now = None
     for time, path, stamp in touches:
         if time is None:
-            it.put("touch", path, stamp)
+            it.put(Touch(path, stamp))
     it.found.jobs = it.jobs.used
     return it.found
 
 
-def _moment(it, touched, ends, starts):
+def _take(it: Sequencer, moment: _Moment) -> None:
     """All of one millisecond: what was touched, the ends in the log's order, then the starts in Ninja's order."""
+    ends, starts = moment.ends, moment.starts
     if ends:
         it.found.tied += [run.edge for run in starts if it.can_start(run) and any(end is not run for end in ends)]
-    for path, stamp in touched:
-        it.put("touch", path, stamp)
+    for path, stamp in moment.touched:
+        it.put(Touch(path, stamp))
         it.go_on()
     for run in ends:
         if run in starts:

@@ -7,6 +7,7 @@ import sys
 
 from .depslog import BrokenLog
 from .disk import read_file, take_snapshot
+from .events import Start
 from .fields import canonical, shown
 from .files import WRITTEN, names_of_files, write_recording
 from .folders import OPTIONAL, BadFolder, NotInPlace, OutFolder
@@ -166,7 +167,7 @@ class Session:
 
 def _has_started(found, ran):
     """Whether Ninja started a command."""
-    return bool(ran.children or ran.failed) or any(event[0] == "start" for event in found.found.events)
+    return bool(ran.children or ran.failed) or any(isinstance(event, Start) for event in found.found.events)
 
 
 def _ninja():

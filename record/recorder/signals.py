@@ -4,11 +4,15 @@ Before Ninja runs one ends the recorder. While Ninja runs they are Ninja's. Afte
 is written; a second one within two seconds ends the recorder, and the recording that was there stays.
 """
 
+from __future__ import annotations
+
 import contextlib
 import os
 import signal
 import threading
 import time
+from types import FrameType
+from typing import Callable, Iterator
 
 NUMBERS = (signal.SIGINT, signal.SIGTERM, signal.SIGHUP)
 _SECOND_WITHIN = 2.0
@@ -17,12 +21,12 @@ _SECOND_WITHIN = 2.0
 class Ended(BaseException):
     """The recorder was told to end. No `except Exception` takes it."""
 
-    def __init__(self, number):
+    def __init__(self, number: int) -> None:
         super().__init__(number)
         self.number = number
 
 
-def name_of(number):
+def name_of(number: int) -> str:
     """A signal's name."""
     try:
         return signal.Signals(number).name
@@ -33,24 +37,27 @@ def name_of(number):
 class Signals:
     """Takes the three signals by which users and systems end a program."""
 
-    def __init__(self, say):
-        # `hand_on` says whether there is somebody to hand a signal on to
-        self.say, self.hand_on, self.held, self.last = say, None, [], None
+    def __init__(self, say: Callable[[object], None]) -> None:
+        self.say = say
+        # says whether there is somebody to hand a signal on to
+        self.hand_on: Callable[[int], bool] | None = None
+        self.held: list[int] = []
+        self.last: float | None = None
         self.has_run, self.is_switching = False, False
 
-    def install(self):
+    def install(self) -> None:
         """Takes them from now on. A hangup that the caller has told to be ignored stays so."""
         for number in NUMBERS:
             if number != signal.SIGHUP or signal.getsignal(number) != signal.SIG_IGN:
                 signal.signal(number, self._came)
 
-    def give_back(self):
+    def give_back(self) -> None:
         """From now on each ends the process, without a word."""
         for number in NUMBERS:
             if signal.getsignal(number) != signal.SIG_IGN:
                 signal.signal(number, signal.SIG_DFL)
 
-    def _came(self, number, _):
+    def _came(self, number: int, _: FrameType | None) -> None:
         if self.hand_on and self.hand_on(number):
             return
         if not self.has_run:
@@ -66,12 +73,12 @@ class Signals:
 
 
 @contextlib.contextmanager
-def held_back():
+def held_back() -> Iterator[None]:
     """Signals that come in between come once it is over."""
     if threading.current_thread() is not threading.main_thread():
         yield
         return
-    came = []
+    came: list[int] = []
     before = {number: signal.signal(number, lambda it, _: came.append(it)) for number in NUMBERS
               if signal.getsignal(number) not in (signal.SIG_IGN, None)}
     try:
@@ -79,11 +86,11 @@ def held_back():
     finally:
         for number, handler in before.items():
             signal.signal(number, handler)
-        for number in came:
-            signal.raise_signal(number)
+        for late in came:
+            signal.raise_signal(late)
 
 
-def write_all(descriptor, data):
+def write_all(descriptor: int, data: bytes) -> bool:
     """Writes the bytes; false where nobody can take them any more."""
     while data:
         try:

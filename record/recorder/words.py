@@ -1,5 +1,7 @@
 """Reads the words that are handed to Ninja, as Ninja's own getopt does, as far as a recording needs them."""
 
+from __future__ import annotations
+
 import os
 import re
 import subprocess
@@ -18,11 +20,11 @@ class BadWords(Exception):
 class NinjaWords:
     """The words for Ninja; `targets` as they were given."""
 
-    all: list
+    all: list[str]
     manifest: bytes = b"build.ninja"
-    jobs: int = None
+    jobs: int | None = None
     failures: int = 1
-    targets: list = field(default_factory=list)
+    targets: list[bytes] = field(default_factory=list)
 
 
 _REFUSED = {
@@ -36,13 +38,13 @@ _REFUSED = {
 }
 
 
-def read_words(words):
+def read_words(words: list[str]) -> NinjaWords:
     """Reads the words behind `--`, and refuses those with which Ninja runs no build or hides what failed."""
-    found, todo = NinjaWords(list(words)), list(words)
+    found, todo, targets = NinjaWords(list(words)), list(words), []
     while todo:
         word = todo.pop(0)
         if word == "--":
-            found.targets += todo
+            targets += todo
             break
         if word.startswith("--"):
             if word in _REFUSED:
@@ -50,12 +52,12 @@ def read_words(words):
         elif word.startswith("-") and len(word) > 1:
             _short(word[1:], todo, found)
         else:
-            found.targets.append(word)
-    found.targets = [os.fsencode(it) for it in found.targets]
+            targets.append(word)
+    found.targets = [os.fsencode(it) for it in targets]
     return found
 
 
-def _short(letters, todo, found):
+def _short(letters: str, todo: list[str], found: NinjaWords) -> None:
     while letters:
         letter, letters = letters[0], letters[1:]
         if letter in _REFUSED:
@@ -68,7 +70,7 @@ def _short(letters, todo, found):
             return
 
 
-def _take(letter, value, found):
+def _take(letter: str, value: str, found: NinjaWords) -> None:
     if letter == "f":
         found.manifest = os.fsencode(value)
     elif letter == "j" and value.isdigit():
@@ -77,7 +79,7 @@ def _take(letter, value, found):
         found.failures = int(value) if int(value) > 0 else 1 << 62
 
 
-def number_of_jobs(ninja, given):
+def number_of_jobs(ninja: str, given: int | None) -> int:
     """How many commands Ninja runs side by side, as a trace can say it."""
     if given is not None:
         return min(given, MOST_JOBS) if given else MOST_JOBS

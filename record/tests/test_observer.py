@@ -181,6 +181,7 @@ class Calls(unittest.TestCase):
                 (("in-root", "d", "/../a", "/out"), {b"d/a"}, {b"d/out"}),
                 (("path", "d", "a", "out"), {b"d/a"}, {b"d/out"}),
                 (("duplicate", "d", "a", "out"), {b"d", b"d/a"}, {b"d/out"}),
+                (("empty", "a", "out"), {b"a"}, {b"out"}),
                 (("thread", "d", "a", "out"), {b"d/a", b"a"}, {b"d/out", b"out"}),
                 (("trace", "a", "out"), {b"a"}, {b"out"})):
             with self.subTest(words[0]):
@@ -188,6 +189,16 @@ class Calls(unittest.TestCase):
                 self.assertEqual((self.opened(found), self.opened(found, False)), (reads, writes))
                 (self.folder / "out").unlink(missing_ok=True)
                 (self.folder / "d/out").unlink(missing_ok=True)
+
+    def test_a_file_that_gets_its_name_late(self):
+        found = self.run_calls("unnamed", "d", "a", "d/new")
+        self.assertEqual((self.opened(found), self.opened(found, False)), ({b"a"}, {b"d"}))
+        links = [call for _, call in found.events if call.kind is Kind.LINK]
+        self.assertEqual([(it.path, it.other, it.result) for it in links], [(b"", b"d/new", 0)])
+
+    def test_a_path_without_a_letter_is_none(self):
+        found = self.run_calls("empty", "a", "out")
+        self.assertEqual([call for _, call in found.events if whole(call) == self.here], [])
 
     def test_a_folder_that_was_renamed_has_its_other_name(self):
         found = self.run_calls("renamed", "d", "../d", "../e", "a", "out")

@@ -11,6 +11,7 @@ from builds import read_deps
 from recorder.checking import check
 from recorder.depfiles import read_depfile
 from recorder.disk import Snapshot, built_records
+from recorder.events import WORDS, Pass, Start
 from recorder.fields import canonical, field, line, quoted
 from recorder.files import command, commands, names_of_files, opening, write_recording
 from recorder.hashes import murmur_hash
@@ -246,7 +247,7 @@ class Orders(unittest.TestCase):
                 ((b"a", 0, 3), (b"c", 3, 5), (b"b", 1, 9))]
         for as_run, jobs in ((False, 3), (True, 3)):
             found = sequence(Build(self.manifest, 4), [], runs, [], 1, as_run=as_run)
-            starts = [it[1:] for it in found.events if it[0] == "start"]
+            starts = [(it.output, it.job, it.slot) for it in found.events if isinstance(it, Start)]
             self.assertEqual(starts, [(b"a", 0, 0), (b"b", 1, 1), (b"c", 2, 0)])
             self.assertEqual(found.jobs, jobs)
 
@@ -260,7 +261,7 @@ class Orders(unittest.TestCase):
         self.manifest = manifest(b"rule r\n  command = r\n" + b"".join(b"build o%d: r\n" % it for it in range(count)))
         runs = [EdgeRun(edge, "finish", 2 * edge.number, 2 * edge.number + 1, [5]) for edge in self.manifest.edges]
         found = sequence(Build(self.manifest), [], runs, [], 1)
-        self.assertEqual([it[2] for it in found.events if it[0] == "start"], [*range(MOST_JOBS), 0, 1, 2])
+        self.assertEqual([it.job for it in found.events if isinstance(it, Start)], [*range(MOST_JOBS), 0, 1, 2])
         self.assertEqual((found.jobs, found.refused), (MOST_JOBS, []))
 
     def test_a_slot_is_another_one_where_the_pool_was_not_full(self):
@@ -271,7 +272,7 @@ class Orders(unittest.TestCase):
         times = ((b"a", 0, 1), (b"b", 2, 9), (b"c", 3, 8), (b"d", 4, 7), (b"e", 7, 10), (b"f", 12, 13))
         runs = [EdgeRun(edge[out], "finish", start, end, [5]) for out, start, end in times]
         found = sequence(Build(self.manifest), [], runs, [], 1)
-        slots = {it[1]: it[3] for it in found.events if it[0] == "start"}
+        slots = {it.output: it.slot for it in found.events if isinstance(it, Start)}
         # d had to take the one free slot, and e that of d, which had just left a full pool; f takes the longest free
         self.assertEqual(slots, {b"a": 0, b"b": 1, b"c": 2, b"d": 0, b"e": 0, b"f": 2})
         self.assertEqual(found.refused, [])
@@ -279,7 +280,7 @@ class Orders(unittest.TestCase):
     def test_each_event_has_its_time(self):
         self.events(FOUR, [(b"a", 0, 5), (b"b", 0, 9, "abort"), (b"c", 6, 9)], touches=[(7, b"s", 90), (None, b"t", 3)],
                     interrupted=True)
-        self.assertEqual([it[0] for it in self.found.events],
+        self.assertEqual([WORDS[type(it)] for it in self.found.events],
                          "plan start start finish start touch finish interrupt abort touch".split())
         self.assertEqual(self.found.times, [0, 0, 0, 5, 6, 7, 9, 9, 9, None])
 
@@ -393,7 +394,7 @@ class Whole(unittest.TestCase):
             self.assertIn("--workers", (room / "replay").read_text())
 
     def test_lanes_are_opened_in_rising_number(self):
-        lines = commands([("start", b"a", 1), ("start", b"b", 3), ("pass", b"c")], [[], [0, 2], [], [1], []])
+        lines = commands([Start(b"a", 1), Start(b"b", 3), Pass(b"c")], [[], [0, 2], [], [1], []])
         self.assertEqual([it.decode() for it in lines], [
             "lane 0", "lane 1", "start a 1", "lane 2", "lane 3", "start b 3", "lane 1", "pass c", "lane 4"])
 

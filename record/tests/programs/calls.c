@@ -63,7 +63,8 @@ static int opened_by_ring(const char *path) {
     struct io_uring_params p = {0};
     int ring = must(syscall(URING_SETUP, 4, &p));
     size_t asked = p.sq_off.array + p.sq_entries * sizeof(unsigned);
-    size_t answered = p.cq_off.cqes + p.cq_entries * sizeof(struct io_uring_cqe), size = asked > answered ? asked : answered;
+    size_t answered = p.cq_off.cqes + p.cq_entries * sizeof(struct io_uring_cqe);
+    size_t size = asked > answered ? asked : answered;
     int both = PROT_READ | PROT_WRITE;
     char *rings = mmap(NULL, size, both, MAP_SHARED | MAP_POPULATE, ring, IORING_OFF_SQ_RING);
     struct io_uring_sqe *sqe = mmap(NULL, p.sq_entries * sizeof *sqe, both, MAP_SHARED, ring, IORING_OFF_SQES);
@@ -107,6 +108,15 @@ int main(int count, char **words) {
         folder = must(open(f[0], O_PATH | O_DIRECTORY));
         snprintf(name, sizeof name, "/proc/self/fd/%d", must(openat(folder, f[1], O_PATH)));
         copy_all(must(open(name, O_RDONLY)), must(openat(folder, f[2], O_WRONLY | O_CREAT | O_TRUNC, 0644)));
+    } else if (!strcmp(word, "unnamed")) { /* FOLDER FROM TO: writes a file that has no name, and then gives it one */
+        file = must(open(f[0], O_TMPFILE | O_WRONLY, 0644));
+        copy_all(must(open(f[1], O_RDONLY)), file);
+        snprintf(name, sizeof name, "/proc/self/fd/%d", file);
+        must(linkat(AT_FDCWD, name, AT_FDCWD, f[2], AT_SYMLINK_FOLLOW));
+    } else if (!strcmp(word, "empty")) { /* FROM TO: asks for a path without a letter, as shells do */
+        struct stat it;
+        if (!stat("", &it) || !access("", F_OK) || open("", O_RDONLY) >= 0) return 1;
+        copy_all(must(open(f[0], O_RDONLY)), must(creat(f[1], 0644)));
     } else if (!strcmp(word, "duplicate")) { /* FOLDER FROM TO: by a copy of the folder's descriptor */
         folder = must(open(f[0], O_RDONLY | O_DIRECTORY));
         file = must(fcntl(folder, F_DUPFD_CLOEXEC, 40));
