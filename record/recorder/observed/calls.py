@@ -45,7 +45,8 @@ changed, and what stands behind it works faster with calls that it has met befor
 from collections.abc import Iterator
 from dataclasses import dataclass
 from enum import IntEnum, auto
-from typing import BinaryIO, Protocol
+from io import BufferedReader
+from typing import Protocol
 
 CURRENT = -100
 """The folder of a relative path: that of the process (AT_FDCWD)."""
@@ -136,7 +137,7 @@ class Observer(Protocol):
         that it observes has ended, be that after Ninja.
         """
 
-    def events(self, log: BinaryIO) -> Iterator[Event]:
+    def events(self, log: BufferedReader) -> Iterator[Event]:
         """The events of a log, as they come. What cannot be read is left out and counted in `unread`."""
 
     unread: int

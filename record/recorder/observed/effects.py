@@ -4,7 +4,7 @@ from __future__ import annotations
 
 import errno
 import os
-from collections.abc import Container
+from collections.abc import Callable, Container, Iterator
 
 from .calls import CURRENT, Call, Event, Kind
 from .footprints import Footprint
@@ -29,7 +29,8 @@ class Build:
         self.places, self.present = places, present
         self.processes = Processes(texts, folder, places, present)
         self._running = self.processes.running
-        self._handlers = [None, *(getattr(self, f"_on_{it.name.lower()}") for it in Kind)]
+        named = {it: getattr(self, f"_on_{it.name.lower()}") for it in Kind}
+        self._handlers: list[Callable[[Process, Call], None]] = [named[Kind(max(it, 1))] for it in range(len(Kind) + 1)]
 
     @property
     def commands(self) -> list[Command]:
@@ -117,7 +118,7 @@ class Build:
             self.places.changed(place, may_be_link=False)
             footprint.write(place, is_made=True)
             return
-        changes = footprint.write if flags & os.O_TRUNC else footprint.edit
+        changes: Callable[[int], None] = footprint.write if flags & os.O_TRUNC else footprint.edit
         if not flags & (os.O_ACCMODE | os.O_TRUNC) and footprint.was_there(place):
             changes = footprint.read  # O_RDONLY | O_CREAT of what is there already
         for it in (place, *self.places.way(place)):
@@ -134,7 +135,7 @@ class Build:
         footprint, place = self._of_path(process, call)
         if footprint is not None and place is not None:
             by_import = process.imports is not None and place in process.imports.open
-            footprint.list((place, *self.places.way(place))[-1], by_import)
+            footprint.listed((place, *self.places.way(place))[-1], by_import)
 
     def _of_path(self, process: Process, call: Call) -> tuple[Footprint | None, int | None]:
         """The footprint that a call belongs to and the place of its path, where it went well; else it is noted."""
@@ -306,7 +307,7 @@ class Build:
             process.command.wanted_trace = True
 
 
-def _below(folder: bytes):
+def _below(folder: bytes) -> Iterator[tuple[bytes, bool]]:
     """The real paths below a folder, as the disk shows them, and whether each is a folder. Links are not followed."""
     todo = [folder]
     while todo:

@@ -79,7 +79,7 @@ class Footprint:
         if place not in self.touched:
             self.misses.add(place)
 
-    def list(self, place: int, by_import: bool) -> None:
+    def listed(self, place: int, by_import: bool) -> None:
         """The entries of a folder were read."""
         (self.imports if by_import else self.lists).add(place)
 
@@ -138,7 +138,12 @@ class Footprint:
 
     def pack(self) -> Packed:
         """The sets as the file has them."""
-        writes, edits, deletes, temps, folders, gone = [], [], [], [], [], set()
+        writes: list[int] = []
+        edits: list[int] = []
+        deletes: list[int] = []
+        temps: list[int] = []
+        folders: list[int] = []
+        gone: set[int] = set()
         for place, it in self.touched.items():
             if it.is_there:
                 (folders if it.is_folder else writes).append(place)

@@ -42,7 +42,9 @@ def _pairs(group: list[Command], edges: list[Any], ran: dict[int, Any]) -> tuple
     """Pairs the commands of one text with the edges that have it."""
     if len(edges) <= 1:
         return [(edge, group[-1]) for edge in edges], [] if edges else group
-    ended, failed, others = [], [], []
+    ended: list[Any] = []
+    failed: list[Any] = []
+    others: list[Any] = []
     for edge in edges:
         run = ran.get(edge.number)
         (others if run is None or run.word == "abort" else ended if run.word == "finish" else failed).append(edge)

@@ -45,7 +45,7 @@ def _of_inputs(build: bytes, manifest: Any) -> list[bytes]:
                 folders.add(os.path.dirname(path))
     folders = {os.path.realpath(os.path.join(build, it)) for it in folders}
     folders = {it for it in folders if not it.startswith((*_SYSTEM, build + b"/")) and it != build}
-    common = os.path.commonpath(folders) if folders else b"/"
+    common = os.path.commonpath(sorted(folders)) if folders else b"/"
     return [common] if common.count(b"/") > 1 else sorted(folders)
 
 

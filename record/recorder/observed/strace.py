@@ -8,7 +8,7 @@ import shutil
 import subprocess
 import tempfile
 from collections.abc import Iterator
-from typing import BinaryIO
+from io import BufferedReader
 
 from .calls import Event, Kind
 from .strace_text import CALLS, StraceText
@@ -80,7 +80,7 @@ class Strace:
                str(_LONGEST_ARGUMENT), "-e", "signal=!SIGCHLD", "-e", calls, "-o"]
         return [*map(os.fsencode, own), log, *ninja]
 
-    def events(self, log: BinaryIO) -> Iterator[Event]:
+    def events(self, log: BufferedReader) -> Iterator[Event]:
         """The calls of a log, as they come."""
         return self._reader.events(log)
 

@@ -12,7 +12,8 @@ import re
 import signal
 from collections.abc import Callable, Iterator
 from dataclasses import replace
-from typing import BinaryIO
+from io import BufferedReader
+from typing import Any
 
 from .calls import CURRENT, Call, Event, Kind
 
@@ -90,9 +91,10 @@ class StraceText:
         self._begun: dict[bytes, bytes] = {}
         self._threads: dict[bytes, int] = {}
 
-    def events(self, log: BinaryIO) -> Iterator[Event]:
+    def events(self, log: BufferedReader) -> Iterator[Event]:
         """The calls, each with its process, in the order in which they ended."""
-        known, unknown, begun, rest = self._known.get, self, self._begun, b""
+        known: Callable[[bytes, Any], Any] = self._known.get
+        unknown, begun, rest = object(), self._begun, b""
         while data := log.read1(_PART):
             data = rest + data
             end = data.rfind(b"\n") + 1
@@ -191,7 +193,7 @@ def _read_open(name: bytes, text: bytes, result: int) -> Call | None:
     found = (_AT_FOLDER if is_at else _AT).match(text)
     if not found:
         return None
-    path, folder = plain(found[found.lastindex]), _folder(found[1]) if is_at else CURRENT
+    path, folder = plain(found[found.lastindex or 1]), _folder(found[1]) if is_at else CURRENT
     if b"RESOLVE_IN_ROOT" in text:
         path = path.lstrip(b"/") or b"."
     creates = os.O_WRONLY | os.O_CREAT | os.O_TRUNC
@@ -206,7 +208,7 @@ def _reader_of_one(kind: Kind, is_at: bool) -> Callable[[bytes, bytes, int], Cal
         found = (_AT_FOLDER if is_at else _AT).match(text)
         if not found:
             return None
-        path, rest = plain(found[found.lastindex]), text[found.end() :]
+        path, rest = plain(found[found.lastindex or 1]), text[found.end() :]
         if not path and kind is not Kind.EXEC:
             return None
         flags = os.O_NOFOLLOW if name == b"lstat" else _no_follow(rest)
@@ -236,7 +238,9 @@ def _reader_of_two(kind: Kind, is_at: bool) -> Callable[[bytes, bytes, int], Cal
             flags = 0 if b"AT_SYMLINK_FOLLOW" in text else os.O_NOFOLLOW
             return Call(its, plain(found[2]), _folder(found[1]), plain(found[4]), _folder(found[3]), flags, result)
         found = _TWO.match(text)
-        return found and Call(its, plain(found[1]), CURRENT, plain(found[2]), CURRENT, os.O_NOFOLLOW, result)
+        if not found:
+            return None
+        return Call(its, plain(found[1]), CURRENT, plain(found[2]), CURRENT, os.O_NOFOLLOW, result)
 
     return reads
 
@@ -244,9 +248,11 @@ def _reader_of_two(kind: Kind, is_at: bool) -> Callable[[bytes, bytes, int], Cal
 def _read_symlink(name: bytes, text: bytes, result: int) -> Call | None:
     if name == b"symlinkat":
         found = _LINK_FOLDER.match(text)
-        return found and Call(Kind.SYMLINK, other=plain(found[3]), other_folder=_folder(found[2]), result=result)
+        if not found:
+            return None
+        return Call(Kind.SYMLINK, other=plain(found[3]), other_folder=_folder(found[2]), result=result)
     found = _TWO.match(text)
-    return found and Call(Kind.SYMLINK, other=plain(found[2]), result=result)
+    return None if not found else Call(Kind.SYMLINK, other=plain(found[2]), result=result)
 
 
 def _reader_of_descriptor(kind: Kind) -> Callable[[bytes, bytes, int], Call | None]:
