@@ -23,12 +23,14 @@ sys.path[:0] = [str(HERE.parent), str(HERE)]
 
 from builds import unescaped  # noqa: E402
 from recorder.depslog import paths_of  # noqa: E402
+from recorder.events import WORDS, Event  # noqa: E402
 from recorder.fields import line  # noqa: E402
 from recorder.files import command  # noqa: E402
 from recorder.manifest import Manifest  # noqa: E402
 from recorder.rules import DONE, IDLE, RUNNING, WANTED, Build  # noqa: E402
 
 BUILT = HERE.parents[1] / "crates/rebug/out/rebug"
+KINDS = {word: kind for kind, word in WORDS.items()}
 
 
 class Recorded:
@@ -57,7 +59,7 @@ class Recorded:
         self.events = [self.event(it) for it in lines[at + 1 :]]
 
     def event(self, text: bytes) -> tuple:
-        """An event as the recorder's rules take it."""
+        """An event as its word and the values of its fields."""
         word, *rest = map(unescaped, text.split(b" "))
         kind = word.decode()
         if kind == "plan":
@@ -75,7 +77,7 @@ class Recorded:
 def answers(it: Recorded, events: list[tuple]) -> list[bytes]:
     """What the program is to answer to the script of `script`, by the recorder's rules."""
     build, lines = it.build(), []
-    for number, event in enumerate(events, 1):
+    for number, event in enumerate(map(as_event, events), 1):
         refusal = build.refusal(event)
         lines.append(line(str(number), "0", *(["refused", *map(str, refusal)] if refusal else ["ok"])))
         if not refusal:
@@ -121,8 +123,8 @@ def replayed(it: Recorded, events: list[tuple], program: str) -> list[bytes]:
     first = it.build()
     plan = events[0]
     names = []
-    if not first.refusal(plan):
-        first.do(plan)
+    if not first.refusal(as_event(plan)):
+        first.do(as_event(plan))
         names = [edge.name for edge in asked(first)]
     script = [b"run 1", b"marks", *(line("why", it) for it in names), b"run", b"marks", b"stamps", b"logs"]
     with tempfile.TemporaryDirectory(prefix="rebug-held-") as room:
@@ -137,8 +139,14 @@ def replayed(it: Recorded, events: list[tuple], program: str) -> list[bytes]:
     return [text for text in done.stdout.split(b"\n")[:-1] if not text.startswith(b"depth ")]
 
 
+def as_event(event: tuple) -> Event:
+    """The event as the recorder's rules take it."""
+    word, *rest = event
+    return KINDS[word](*rest)
+
+
 def said(event: tuple) -> bytes:
-    return line("plan", *event[1]) if event[0] == "plan" else command(event)
+    return line("plan", *event[1]) if event[0] == "plan" else command(as_event(event))
 
 
 def disturbed(it: Recorded, chance: random.Random) -> list[tuple]:

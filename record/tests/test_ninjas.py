@@ -188,12 +188,16 @@ class Stamps(Recorded):
         late = self.room / "late"
         late.write_text(f"#!/bin/sh\n[ \"$1\" = --version ] || sleep .25\nexec '{shutil.which('ninja')}' \"$@\"\n")
         late.chmod(0o755)
-        self.write("rule slow\n  command = sleep .4; touch t; sleep .4; touch $out\nbuild o: slow s | t\n")
+        self.write("rule slow\n  command = touch begun; sleep .2; touch t; sleep .2; touch ended; touch $out\n"
+                   "build o: slow s | t\n")
         self.touch("t")
         self.record(env={**os.environ, "NINJA": str(late)})
         self.assertEqual(self.events("start", "touch", "finish"), ["start o", "touch t", "finish o"])
-        times = [int(it.split(" ")[1]) for it in (self.out / "times").read_text().split("\n")[2:5]]
-        self.assertTrue(times[0] + 350 < times[1] < times[2] - 350, times)
+        start, touch, finish = [int(it.split(" ")[1]) for it in (self.out / "times").read_text().split("\n")[2:5]]
+        # however busy the machine is: the command's own two moments lie between its start and its end
+        begun, t, ended = [(self.build / it).stat().st_mtime_ns // 1_000_000 for it in ("begun", "t", "ended")]
+        self.assertGreater(touch - start, t - begun - 100)
+        self.assertGreater(finish - touch, ended - t - 100)
 
     def test_what_is_said_of_the_opening_is_true(self):
         self.write("rule two\n  command = cat $in > $out && ! grep -q bad $in\nbuild o: two s\n")
