@@ -10,6 +10,7 @@ import unittest
 
 import builds
 from observing import Room, read_observed, refusal
+from versions import NINJA
 
 ONE = "rule c\n  command = {}\nbuild out: c\n"
 PYTHON = f"{os.path.realpath(sys.executable)} -B -E"
@@ -177,7 +178,8 @@ class Cases:
     def test_builds_that_go_on(self):
         found = self.room.build(self.observer, CHAIN + "build bad: fail s1\n",
                                 {"s1": "1", "s2": "2", "list.h": "h"}, words=("-k", "0", "-j", "2"))
-        self.assertEqual((found.status, set(found.commands)), (1, {b"one", b"kept", b"user", b"listed", b"bad"}))
+        self.assertEqual(found.status, NINJA.status_of_failure(3), found.said)
+        self.assertEqual(set(found.commands), {b"one", b"kept", b"user", b"listed", b"bad"})
         self.assertEqual((found.commands[b"bad"].reads, found.commands[b"bad"].writes), ({b"s1"}, {b"bad"}))
         self.assertEqual(found.commands[b"listed"].reads, {b"s2", b"list.h"})
         (found.folder / "build.ninja").write_text(CHAIN)
