@@ -107,7 +107,9 @@ def marks(build: Build) -> list[bytes]:
         if mark != IDLE:
             lines.append(line("mark", str(edge.number), edge.name, mark, *more))
     lines += [line("job", str(job), str(number)) for job, number in sorted(build.jobs.items())]
-    lines += [line("slot", pool, str(slot), str(number)) for (pool, slot), number in sorted(build.slots.items())]
+    pools = [*build.manifest.pools]  # rebug numbers them in the manifest's order, from `console`, which is 0
+    slots = sorted((pools.index(pool), slot, number) for (pool, slot), number in build.slots.items())
+    lines += [line("slot", *map(str, it)) for it in slots]
     return lines + ([b"halted"] if build.halted else [])
 
 
