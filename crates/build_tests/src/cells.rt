@@ -1,4 +1,6 @@
 // Cells, what they hold, and openings.
+ghost use Rattle.rev_cells.specs.Values.{Fits};
+
 use crate::shown::{push_number, push_value};
 use crate::small::{cells_of, named, names, opening_of};
 use rev_cells::{
@@ -8,80 +10,77 @@ use rev_cells::{
 use std::alloc::{AllocError, Global};
 use std::test::Fail;
 
-#[test]
-fn cells_are_told_apart(rt: HostRuntime) -> Result<(), Fail> {
-    let name = named(rt.alloc(), b"a.o")?;
+// Whether a cell of the build log is told from one of the deps log of the same path, and its copy is not.
+fn is_told_apart(alloc: Global) -> Result<bool, Fail> {
+    let name = named(alloc, b"a.o")?;
     let built = Cell::Built(name.copy()?);
-    assert!(rt; built.copy()? == built);
-    assert!(rt; built != Cell::Deps(name));
-    Ok(())
+    Ok(built.copy()? == built && built != Cell::Deps(name))
 }
 
 #[test]
-fn numbers_tell_cells_apart(rt: HostRuntime) {
+fn cells_are_told_apart(rt: HostRuntime) -> Result<(), Fail> {
+    assert!(rt; is_told_apart(rt.alloc())?);
     assert!(rt; Cell::Slot(1, 2) != Cell::Slot(2, 1));
     assert!(rt; Cell::Depth(1) != Cell::Depth(2));
     assert!(rt; Cell::Depth(1) != Cell::Job(1));
     assert!(rt; Cell::Halted.default_value() == Value::Halted(false));
+    Ok(())
 }
 
 fn is_copied(mark: &Mark) -> Result<bool, AllocError> {
     Ok(mark.copy()? == *mark)
 }
 
-#[test]
-fn marks_are_copied(rt: HostRuntime) -> Result<(), Fail> {
+// Whether marks are copied: one that runs, and one that is done.
+fn are_marks_copied(alloc: Global) -> Result<bool, AllocError> {
     let running = Mark::Running {
         job: 1,
         slot: Some(2),
         seen: 10,
     };
-    assert!(rt; is_copied(&running)?);
-    let done = Mark::Done(Positions::new(vec![in rt.alloc(); 0, 2]?)?);
-    assert!(rt; is_copied(&done)?);
-    assert!(rt; Mark::Clean != Mark::Idle.copy()?);
-    Ok(())
+    let done = Mark::Done(Positions::new(vec![in alloc; 0, 2]?)?);
+    Ok(is_copied(&running)? && is_copied(&done)? && Mark::Clean != Mark::Idle.copy()?)
 }
 
-#[test]
-fn positions_are_given_back(rt: HostRuntime) -> Result<(), Fail> {
-    let positions = Positions::new(vec![in rt.alloc(); 0, 2]?)?;
-    assert!(rt; positions.as_slice() == [0, 2].as_slice());
-    assert!(rt; positions.copy()? == positions);
-    Ok(())
+// Whether positions are given back as they were given, and copied.
+fn are_positions_given_back(alloc: Global) -> Result<bool, AllocError> {
+    let positions = Positions::new(vec![in alloc; 0, 2]?)?;
+    Ok(positions.as_slice() == [0, 2].as_slice() && positions.copy()? == positions)
 }
 
-#[test]
-fn a_text_is_given_back(rt: HostRuntime) -> Result<(), Fail> {
-    let text = Text::new(vec![in rt.alloc(); b'c', b'c']?)?;
-    assert!(rt; text.as_slice() == b"cc".as_slice());
-    assert!(rt; text.copy()? == text);
-    Ok(())
+fn is_text_given_back(alloc: Global) -> Result<bool, AllocError> {
+    let text = Text::new(vec![in alloc; b'c', b'c']?)?;
+    Ok(text.as_slice() == b"cc".as_slice() && text.copy()? == text)
 }
 
-#[test]
-fn repeated_names_are_given_back(rt: HostRuntime) -> Result<(), Fail> {
-    let names = Names::new(names(rt.alloc(), b"a.h a.h")?)?;
-    assert!(rt; names.as_slice().len() == 2);
-    assert!(rt; names.copy()? == names);
-    Ok(())
+// Names that repeat one.
+fn are_names_given_back(alloc: Global) -> Result<bool, Fail> {
+    let names = Names::new(names(alloc, b"a.h a.h")?)?;
+    Ok(names.as_slice().len() == 2 && names.copy()? == names)
 }
 
-#[test]
-fn a_built_record_is_copied(rt: HostRuntime) -> Result<(), Fail> {
-    let command = Text::new(vec![in rt.alloc(); b'c', b'c']?)?;
+fn is_built_record_copied(alloc: Global) -> Result<bool, AllocError> {
+    let command = Text::new(vec![in alloc; b'c', b'c']?)?;
     let built = BuiltRecord { command, stamp: 10 };
-    assert!(rt; built.copy()? == built);
-    Ok(())
+    Ok(built.copy()? == built)
+}
+
+fn is_record_of_deps_copied(alloc: Global) -> Result<bool, Fail> {
+    let paths = Names::new(names(alloc, b"a.h")?)?;
+    let deps = DepsRecord { stamp: 10, paths };
+    let is_copied = deps.copy()? == deps;
+    let value = Value::Deps(Some(deps));
+    Ok(is_copied && value.copy()? == value)
 }
 
 #[test]
-fn a_record_of_deps_is_copied(rt: HostRuntime) -> Result<(), Fail> {
-    let paths = Names::new(names(rt.alloc(), b"a.h")?)?;
-    let deps = DepsRecord { stamp: 10, paths };
-    assert!(rt; deps.copy()? == deps);
-    let value = Value::Deps(Some(deps));
-    assert!(rt; value.copy()? == value);
+fn what_is_given_comes_back(rt: HostRuntime) -> Result<(), Fail> {
+    assert!(rt; are_marks_copied(rt.alloc())?);
+    assert!(rt; are_positions_given_back(rt.alloc())?);
+    assert!(rt; is_text_given_back(rt.alloc())?);
+    assert!(rt; are_names_given_back(rt.alloc())?);
+    assert!(rt; is_built_record_copied(rt.alloc())?);
+    assert!(rt; is_record_of_deps_copied(rt.alloc())?);
     Ok(())
 }
 
@@ -159,22 +158,13 @@ fn a_path_has_one_record(rt: HostRuntime) -> Result<(), Fail> {
     assert!(rt; second(rt.alloc(), "stamp 0 a.c", b"x/../a.c", false)? == double);
     assert!(rt; second(rt.alloc(), "deps 10 a.o a.h a.h", b"a.o", true)? == double);
     assert!(rt; second(rt.alloc(), "stamp 10 a.c", b"b.c", false)? == Ok(()));
-    Ok(())
-}
-
-#[test]
-fn faults_of_openings_have_numbers(rt: HostRuntime) {
     assert!(rt; OpeningFault::DoubleRecord.code() == Some(103));
     assert!(rt; OpeningFault::BadJobs.code() == Some(90));
     assert!(rt; OpeningFault::Memory.code() == None);
-}
-
-#[test]
-fn jobs_are_from_1_to_1024(rt: HostRuntime) {
-    for jobs in [0, 1025] {
-        let fault = Opening::new(rt.alloc(), jobs).err();
-        assert!(rt; fault == Some(OpeningFault::BadJobs));
-    }
+    // Jobs are from 1 to 1,024.
+    assert!(rt; Opening::new(rt.alloc(), 0).err() == Some(OpeningFault::BadJobs));
+    assert!(rt; Opening::new(rt.alloc(), 1025).err() == Some(OpeningFault::BadJobs));
+    Ok(())
 }
 
 // What a cell held before it was written, how often cells were written, and what it holds.
@@ -191,34 +181,23 @@ fn swapped_text(
     Ok(text)
 }
 
-fn stamp_written(alloc: Global, path: &[u8], stamp: u64) -> Result<Vec<u8>, Fail> {
+// What a cell of new cells held before a value of its kind was written, and what is told then.
+fn written_text(alloc: Global, cell: &Cell, value: Value) -> Result<Vec<u8>, Fail>
+    requires { Fits cell.now value }
+{
     let mut cells = cells_of(alloc, 1, "")?;
-    let cell = Cell::Stamp(named(alloc, path)?);
-    cells.reserve(&cell)?;
-    let old = cells.swap(&cell, Value::Stamp(stamp));
-    Ok(swapped_text(alloc, &cells, &cell, &old)?)
+    cells.reserve(cell)?;
+    let old = cells.swap(cell, value);
+    Ok(swapped_text(alloc, &cells, cell, &old)?)
 }
 
-#[test]
-fn a_place_is_written(rt: HostRuntime) -> Result<(), Fail> {
-    let told = stamp_written(rt.alloc(), b"a.c", 7)?;
-    assert!(rt; told.as_slice() == b" 0 1 7".as_slice());
-    Ok(())
+fn stamp_written(alloc: Global, path: &[u8], stamp: u64) -> Result<Vec<u8>, Fail> {
+    let cell = Cell::Stamp(named(alloc, path)?);
+    written_text(alloc, &cell, Value::Stamp(stamp))
 }
 
 fn depth_written(alloc: Global, pool: u32, depth: u32) -> Result<Vec<u8>, Fail> {
-    let mut cells = cells_of(alloc, 1, "")?;
-    let cell = Cell::Depth(pool);
-    cells.reserve(&cell)?;
-    let old = cells.swap(&cell, Value::Depth(Some(depth)));
-    Ok(swapped_text(alloc, &cells, &cell, &old)?)
-}
-
-#[test]
-fn a_given_depth_is_another_value_than_none(rt: HostRuntime) -> Result<(), Fail> {
-    let told = depth_written(rt.alloc(), 1, 1)?;
-    assert!(rt; told.as_slice() == b" - 1 1".as_slice());
-    Ok(())
+    written_text(alloc, &Cell::Depth(pool), Value::Depth(Some(depth)))
 }
 
 // Whether a cell has a place before one is made, stands at the first place then, and whether there is a second one.
@@ -230,8 +209,13 @@ fn places(alloc: Global, cell: &Cell) -> Result<(bool, bool, bool), Fail> {
 }
 
 #[test]
-fn a_place_is_made(rt: HostRuntime) -> Result<(), Fail> {
+fn a_place_is_made_and_written(rt: HostRuntime) -> Result<(), Fail> {
     let cell = cell_of(rt.alloc(), "stamp", "a.c")?;
     assert!(rt; places(rt.alloc(), &cell)? == (false, true, false));
+    let told = stamp_written(rt.alloc(), b"a.c", 7)?;
+    assert!(rt; told.as_slice() == b" 0 1 7".as_slice());
+    // A given depth is another value than none.
+    let told = depth_written(rt.alloc(), 1, 1)?;
+    assert!(rt; told.as_slice() == b" - 1 1".as_slice());
     Ok(())
 }

@@ -4,7 +4,6 @@ use crate::small::{Build, build_of, cut, named, names, number};
 use rev_cells::{Names, Text};
 use rev_events::{Event, Fault, Listing, Refusal, Stamps, check, effect, effect_if_accepted};
 use std::alloc::{AllocError, Global};
-use std::process::Abort;
 use std::test::Fail;
 
 // Two objects and a program, a phony alias, a generator under restat, a pool of one place, a source that is not there.
@@ -198,15 +197,6 @@ fn told(alloc: Global, from: Begin, lines: &str) -> Result<Vec<u8>, Fail> {
     tell_all(alloc, &mut build, lines)
 }
 
-// Of each row's lines is told what stands beside them.
-fn agree(rt: &impl Abort, alloc: Global, from: Begin, rows: &[(&str, &str)]) -> Result<(), Fail> {
-    for (lines, wanted) in rows {
-        let told = told(alloc, from, lines)?;
-        assert!(rt; told.as_slice() == wanted.as_bytes(), "{lines}");
-    }
-    Ok(())
-}
-
 const PLANS_THAT_ARE_REFUSED: &[(&str, &str)] = &[
     (
         "plan nowhere; plan lone; plan b.o; start b.o 1; plan app",
@@ -218,11 +208,6 @@ const PLANS_THAT_ARE_REFUSED: &[(&str, &str)] = &[
         "ok; ok; ok; DepsCycle(1); ",
     ),
 ];
-
-#[test]
-fn plans_that_are_refused(rt: HostRuntime) -> Result<(), Fail> {
-    agree(&rt, rt.alloc(), Begin::Sources, PLANS_THAT_ARE_REFUSED)
-}
 
 const STARTS_THAT_ARE_REFUSED: &[(&str, &str)] = &[
     (
@@ -242,11 +227,6 @@ const STARTS_THAT_ARE_REFUSED: &[(&str, &str)] = &[
         "ok; ok; JobBusy(5); SlotBusy(5); ",
     ),
 ];
-
-#[test]
-fn starts_that_are_refused(rt: HostRuntime) -> Result<(), Fail> {
-    agree(&rt, rt.alloc(), Begin::Sources, STARTS_THAT_ARE_REFUSED)
-}
 
 const POOLS_GET_OTHER_DEPTHS: &[(&str, &str)] = &[
     // No such pool, one without slots, and one of too many.
@@ -271,11 +251,6 @@ const POOLS_GET_OTHER_DEPTHS: &[(&str, &str)] = &[
     ),
 ];
 
-#[test]
-fn pools_get_other_depths(rt: HostRuntime) -> Result<(), Fail> {
-    agree(&rt, rt.alloc(), Begin::Pooled, POOLS_GET_OTHER_DEPTHS)
-}
-
 const A_START_ASKS_THE_PRESENT_DEPTH: &[(&str, &str)] = &[
     (
         "plan; start x 0 1; resize 1 2; start x 0 2; start x 0 1; resize 3 1; start w 1 1",
@@ -290,16 +265,6 @@ const A_START_ASKS_THE_PRESENT_DEPTH: &[(&str, &str)] = &[
     ),
 ];
 
-#[test]
-fn a_start_asks_the_present_depth(rt: HostRuntime) -> Result<(), Fail> {
-    agree(
-        &rt,
-        rt.alloc(),
-        Begin::Pooled,
-        A_START_ASKS_THE_PRESENT_DEPTH,
-    )
-}
-
 const FINISHES_THAT_ARE_REFUSED: &[(&str, &str)] = &[
     (
         "finish x 40,41; plan x; start y 0 0; finish x 40; finish x 40,41 depfile x:",
@@ -312,11 +277,6 @@ const FINISHES_THAT_ARE_REFUSED: &[(&str, &str)] = &[
     ),
 ];
 
-#[test]
-fn finishes_that_are_refused(rt: HostRuntime) -> Result<(), Fail> {
-    agree(&rt, rt.alloc(), Begin::Sources, FINISHES_THAT_ARE_REFUSED)
-}
-
 const AN_INTERRUPT_COMES_ONCE: &[(&str, &str)] = &[
     (
         "plan b.o; start b.o 0; abort b.o 0; interrupt; interrupt",
@@ -326,25 +286,10 @@ const AN_INTERRUPT_COMES_ONCE: &[(&str, &str)] = &[
     ("plan b.o; interrupt; start b.o 0", "ok; ok; Halted; "),
 ];
 
-#[test]
-fn an_interrupt_comes_once(rt: HostRuntime) -> Result<(), Fail> {
-    agree(&rt, rt.alloc(), Begin::Sources, AN_INTERRUPT_COMES_ONCE)
-}
-
 const CLEANS_AND_PASSES_THAT_ARE_REFUSED: &[(&str, &str)] = &[(
     "pass b.o; plan all; clean b.o; pass b.o; pass all",
     "NotWanted; ok; Dirty(1); NotPhony; Blocked(0); ",
 )];
-
-#[test]
-fn cleans_and_passes_that_are_refused(rt: HostRuntime) -> Result<(), Fail> {
-    agree(
-        &rt,
-        rt.alloc(),
-        Begin::Sources,
-        CLEANS_AND_PASSES_THAT_ARE_REFUSED,
-    )
-}
 
 const A_GENERATED_HEADER_UNDER_RESTAT: &[(&str, &str)] = &[
     // What restat left alone makes nothing dirty.
@@ -363,16 +308,6 @@ const A_GENERATED_HEADER_UNDER_RESTAT: &[(&str, &str)] = &[
         "ok; ok; mark 4 done, job 0 -, stamp v.h 20, built v.h 30 gen, ; ",
     ),
 ];
-
-#[test]
-fn a_generated_header_under_restat(rt: HostRuntime) -> Result<(), Fail> {
-    agree(
-        &rt,
-        rt.alloc(),
-        Begin::Generated,
-        A_GENERATED_HEADER_UNDER_RESTAT,
-    )
-}
 
 const WHAT_COMMANDS_WRITE: &[(&str, &str)] = &[
     // A start holds its job and its slot.
@@ -397,11 +332,6 @@ const WHAT_COMMANDS_WRITE: &[(&str, &str)] = &[
     ),
 ];
 
-#[test]
-fn what_commands_write(rt: HostRuntime) -> Result<(), Fail> {
-    agree(&rt, rt.alloc(), Begin::Sources, WHAT_COMMANDS_WRITE)
-}
-
 const WHAT_OTHERS_WRITE: &[(&str, &str)] = &[
     // A touch and an interrupt write one cell.
     (
@@ -415,7 +345,27 @@ const WHAT_OTHERS_WRITE: &[(&str, &str)] = &[
     ),
 ];
 
+const TABLES: &[(Begin, &[(&str, &str)])] = &[
+    (Begin::Sources, PLANS_THAT_ARE_REFUSED),
+    (Begin::Sources, STARTS_THAT_ARE_REFUSED),
+    (Begin::Pooled, POOLS_GET_OTHER_DEPTHS),
+    (Begin::Pooled, A_START_ASKS_THE_PRESENT_DEPTH),
+    (Begin::Sources, FINISHES_THAT_ARE_REFUSED),
+    (Begin::Sources, AN_INTERRUPT_COMES_ONCE),
+    (Begin::Sources, CLEANS_AND_PASSES_THAT_ARE_REFUSED),
+    (Begin::Generated, A_GENERATED_HEADER_UNDER_RESTAT),
+    (Begin::Sources, WHAT_COMMANDS_WRITE),
+    (Begin::Sources, WHAT_OTHERS_WRITE),
+];
+
+// Of each row's lines is told what stands beside them.
 #[test]
-fn what_others_write(rt: HostRuntime) -> Result<(), Fail> {
-    agree(&rt, rt.alloc(), Begin::Sources, WHAT_OTHERS_WRITE)
+fn events_of_small_builds(rt: HostRuntime) -> Result<(), Fail> {
+    for (begin, rows) in TABLES {
+        for (lines, wanted) in *rows {
+            let told = told(rt.alloc(), *begin, lines)?;
+            assert!(rt; told.as_slice() == wanted.as_bytes(), "{lines}");
+        }
+    }
+    Ok(())
 }

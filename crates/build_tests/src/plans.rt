@@ -4,7 +4,6 @@ use crate::small::{Build, build_of, names};
 use rev_cells::{Cell, Mark, Value};
 use rev_plan::{Chain, PlanFault, plan, why};
 use std::alloc::{AllocError, Global};
-use std::process::Abort;
 use std::test::Fail;
 
 // Two objects and a program.
@@ -90,14 +89,6 @@ fn said_of(alloc: Global, content: &str, records: &str, targets: &str) -> Result
     said(alloc, &build, targets)
 }
 
-fn agree(rt: &impl Abort, alloc: Global, rows: &[Row<'_>]) -> Result<(), Fail> {
-    for (content, records, targets, wanted) in rows {
-        let told = said_of(alloc, content, records, targets)?;
-        assert!(rt; told.as_str() == *wanted, "{records} {targets} {told}");
-    }
-    Ok(())
-}
-
 // Marks the edges as a plan does.
 fn mark_by_plan(alloc: Global, build: &mut Build, target: &str) -> Result<(), Fail> {
     let targets = names(alloc, target.as_bytes())?;
@@ -155,37 +146,39 @@ const WHAT_A_PLAN_MARKS: &[Row<'static>] = &[
     (LISTED, "deps 1 a.o h.h", "app", "52 0 1"),
 ];
 
-#[test]
-fn what_a_plan_marks(rt: HostRuntime) -> Result<(), Fail> {
-    agree(&rt, rt.alloc(), WHAT_A_PLAN_MARKS)
-}
-
 const TARGETS_ARE_REFUSED_IN_ORDER: &[Row<'static>] = &[
     (PROGRAM, "stamp 10 a.c", "nothing.x", "51 0"),
     (PROGRAM, "stamp 10 a.c", "app", "52 0 1"),
     (PROGRAM, "stamp 10 a.c", "b.c", "---"),
 ];
 
-#[test]
-fn targets_are_refused_in_order(rt: HostRuntime) -> Result<(), Fail> {
-    agree(&rt, rt.alloc(), TARGETS_ARE_REFUSED_IN_ORDER)
-}
+const PLANS: &[&[Row<'static>]] = &[WHAT_A_PLAN_MARKS, TARGETS_ARE_REFUSED_IN_ORDER];
 
 #[test]
-fn a_running_command_is_refused_first(rt: HostRuntime) -> Result<(), Fail> {
+fn what_plans_say(rt: HostRuntime) -> Result<(), Fail> {
+    for rows in PLANS {
+        for (content, records, targets, wanted) in *rows {
+            let told = said_of(rt.alloc(), content, records, targets)?;
+            assert!(rt; told.as_str() == *wanted, "{records} {targets} {told}");
+        }
+    }
+    // A running command is refused first.
     let told = running_said(rt.alloc(), "nothing.x")?;
     assert!(rt; told.as_str() == "50 1");
     Ok(())
 }
 
+// Edges, and the chains from them.
+const CHAINS: &[(u32, &str)] = &[
+    (2, "2 by 0, 0 Missing(0) Older(0, 0) NoRecord(0)"),
+    (1, "1"),
+];
+
 #[test]
 fn the_chain_of_a_program_ends_at_the_object(rt: HostRuntime) -> Result<(), Fail> {
-    for (edge, wanted) in [
-        (2, "2 by 0, 0 Missing(0) Older(0, 0) NoRecord(0)"),
-        (1, "1"),
-    ] {
-        let told = program_chain(rt.alloc(), edge)?;
-        assert!(rt; told.as_str() == wanted);
+    for (edge, wanted) in CHAINS {
+        let told = program_chain(rt.alloc(), *edge)?;
+        assert!(rt; told.as_str() == *wanted);
     }
     Ok(())
 }

@@ -4,7 +4,6 @@ use rev_cells::{Cell, Cells, Mark, Positions, Value};
 use rev_dirty::{DependencyScan, Reason, producers_of, reasons};
 use rev_graph::Graph;
 use std::alloc::{AllocError, Global};
-use std::process::Abort;
 use std::test::Fail;
 
 // Two objects and a program.
@@ -63,17 +62,6 @@ fn explained(alloc: Global, content: &str, records: &str, edge: u32) -> Result<S
 // A manifest, what it opens with, an edge, and its reasons.
 type Row<'a> = (&'a str, &'a str, u32, &'a str);
 
-fn agree(rt: &impl Abort, alloc: Global, rows: &[Row<'_>]) -> Result<(), Fail> {
-    for (content, records, edge, wanted) in rows {
-        let told = explained(alloc, content, records, *edge)?;
-        assert!(rt;
-            told.as_str() == *wanted,
-            "{content} {records} {edge} {told}"
-        );
-    }
-    Ok(())
-}
-
 // Makes the first edge done, with its first output changed.
 fn finish(alloc: Global, cells: &mut Cells) -> Result<(), AllocError> {
     let cell = Cell::Mark(0);
@@ -114,13 +102,6 @@ fn explained_over_sources(alloc: Global, records: &str, edge: u32) -> Result<Str
     Ok(reasons_text(alloc, &reasons)?)
 }
 
-#[test]
-fn an_edge_over_sources_has_the_same_reasons(rt: HostRuntime) -> Result<(), Fail> {
-    let told = explained_over_sources(rt.alloc(), "stamp 10 a.c", 0)?;
-    assert!(rt; told.as_str() == "Missing(0) Older(0, 0) NoRecord(0) ");
-    Ok(())
-}
-
 // Whether an edge that has to be there lacks its first output.
 fn lacks_first(alloc: Global, build: &Build, edge: u32) -> Result<bool, Fail> {
     if edge >= build.graph.edges() {
@@ -146,13 +127,6 @@ fn producers_in_program(alloc: Global, paths: &str) -> Result<Vec<Option<u32>>, 
     Ok(producers)
 }
 
-#[test]
-fn outputs_alone_have_producers(rt: HostRuntime) -> Result<(), Fail> {
-    let producers = producers_in_program(rt.alloc(), "b.o b.c")?;
-    assert!(rt; producers.as_slice() == [Some(1), None].as_slice());
-    Ok(())
-}
-
 const RESPONSE_RECORDS: &str = "stamp 1 a b\nstamp 1 it's\nstamp 5 o\nbuilt 5 o r @o.rsp;rspfile=x";
 
 const COMMANDS_AND_OUTPUTS: &[Row<'static>] = &[
@@ -170,11 +144,6 @@ const COMMANDS_AND_OUTPUTS: &[Row<'static>] = &[
     (BARE, "stamp 3 y", 0, "Missing(0) "),
     (BARE, "stamp 3 y", 1, ""),
 ];
-
-#[test]
-fn commands_and_outputs(rt: HostRuntime) -> Result<(), Fail> {
-    agree(&rt, rt.alloc(), COMMANDS_AND_OUTPUTS)
-}
 
 const LISTED_INPUTS: &[Row<'static>] = &[
     // Deps without a record are unknown.
@@ -200,19 +169,6 @@ const LISTED_INPUTS: &[Row<'static>] = &[
     ),
 ];
 
-#[test]
-fn listed_inputs(rt: HostRuntime) -> Result<(), Fail> {
-    agree(&rt, rt.alloc(), LISTED_INPUTS)
-}
-
-#[test]
-fn an_input_that_stands_twice_is_rebuilt_twice(rt: HostRuntime) -> Result<(), Fail> {
-    let records = "stamp 1 a\nstamp 5 m\nstamp 9 x\nbuilt 9 x r m m";
-    let told = explained_after(rt.alloc(), TWICE, records, 1)?;
-    assert!(rt; told.as_str() == "Rebuilt(0) Rebuilt(1) ");
-    Ok(())
-}
-
 const OLDER_OUTPUTS: &[Row<'static>] = &[
     // An input that stands twice is newest once.
     (
@@ -233,11 +189,6 @@ const OLDER_OUTPUTS: &[Row<'static>] = &[
     // Order-only inputs are no reason.
     (ORDERED, "stamp 30 a\nstamp 20 x\nbuilt 20 x r ", 0, ""),
 ];
-
-#[test]
-fn older_outputs(rt: HostRuntime) -> Result<(), Fail> {
-    agree(&rt, rt.alloc(), OLDER_OUTPUTS)
-}
 
 const CHAIN_RECORDS: &str = "stamp 30 a\nstamp 20 x\nbuilt 20 x r s";
 
@@ -262,11 +213,6 @@ const STAMPS_BEHIND_PHONY_EDGES: &[Row<'static>] = &[
     ),
 ];
 
-#[test]
-fn stamps_behind_phony_edges(rt: HostRuntime) -> Result<(), Fail> {
-    agree(&rt, rt.alloc(), STAMPS_BEHIND_PHONY_EDGES)
-}
-
 // An edge that runs and a ladder of phony edges, each with two inputs that are the next.
 fn ladder(alloc: Global) -> Result<String, AllocError> {
     let mut content = String::new(alloc);
@@ -283,20 +229,44 @@ fn explained_on_a_ladder(alloc: Global) -> Result<String, Fail> {
     explained(alloc, &ladder, "stamp 30 p40\nstamp 20 x\nbuilt 20 x r", 0)
 }
 
+const TABLES: &[&[Row<'static>]] = &[
+    COMMANDS_AND_OUTPUTS,
+    LISTED_INPUTS,
+    OLDER_OUTPUTS,
+    STAMPS_BEHIND_PHONY_EDGES,
+];
+
 #[test]
-fn a_ladder_is_walked_rung_by_rung(rt: HostRuntime) -> Result<(), Fail> {
+fn reasons_of_edges(rt: HostRuntime) -> Result<(), Fail> {
+    for rows in TABLES {
+        for (content, records, edge, wanted) in *rows {
+            let told = explained(rt.alloc(), content, records, *edge)?;
+            assert!(rt;
+                told.as_str() == *wanted,
+                "{content} {records} {edge} {told}"
+            );
+        }
+    }
+    // A ladder is walked rung by rung.
     let told = explained_on_a_ladder(rt.alloc())?;
     assert!(rt; told.as_str() == "Older(0, 0) ");
+    // An input that stands twice is rebuilt twice.
+    let records = "stamp 1 a\nstamp 5 m\nstamp 9 x\nbuilt 9 x r m m";
+    let told = explained_after(rt.alloc(), TWICE, records, 1)?;
+    assert!(rt; told.as_str() == "Rebuilt(0) Rebuilt(1) ");
     Ok(())
 }
 
 #[test]
-fn kinds_have_numbers(rt: HostRuntime) {
-    for (reason, kind) in [
-        (Reason::Missing(7), 1),
-        (Reason::Older(0, 0), 6),
-        (Reason::Command(0), 8),
-    ] {
-        assert!(rt; reason.kind() == kind);
-    }
+fn producers_and_kinds_of_reasons(rt: HostRuntime) -> Result<(), Fail> {
+    // An edge over sources has the same reasons.
+    let told = explained_over_sources(rt.alloc(), "stamp 10 a.c", 0)?;
+    assert!(rt; told.as_str() == "Missing(0) Older(0, 0) NoRecord(0) ");
+    // Outputs alone have producers.
+    let producers = producers_in_program(rt.alloc(), "b.o b.c")?;
+    assert!(rt; producers.as_slice() == [Some(1), None].as_slice());
+    assert!(rt; Reason::Missing(7).kind() == 1);
+    assert!(rt; Reason::Older(0, 0).kind() == 6);
+    assert!(rt; Reason::Command(0).kind() == 8);
+    Ok(())
 }

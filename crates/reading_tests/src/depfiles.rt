@@ -2,7 +2,6 @@
 use rev_depfile::{DepfileFault, read};
 use rev_paths::Name;
 use std::alloc::Global;
-use std::process::Abort;
 use std::test::Fail;
 
 // What a text says for one output: its prerequisites with `|` between them, or its fault.
@@ -27,232 +26,180 @@ fn outcome(alloc: Global, text: &[u8], output: &[u8]) -> Result<Vec<u8>, Fail> {
     Ok(shown)
 }
 
-// Each text says for the output `a.o` what stands beside it.
-fn agree(rt: &impl Abort, alloc: Global, cases: &[(&[u8], &[u8])]) -> Result<(), Fail> {
-    for (text, said) in cases {
-        assert_eq!(rt; outcome(alloc, text, b"a.o")?.as_slice(), *said);
-    }
-    Ok(())
-}
+// Texts, each with what it says.
+type Table = &'static [(&'static str, &'static str)];
 
-const SEPARATING_COLONS: &[(&[u8], &[u8])] = &[
-    (b"a.o: b", b"b"),
-    (b"a.o : b : c:d", b"b|:|c:d"),
-    (b"a.o:", b""),
-    (b"a.o:\\\n b", b"b"),
+const SEPARATING_COLONS: Table = &[
+    ("a.o: b", "b"),
+    ("a.o : b : c:d", "b|:|c:d"),
+    ("a.o:", ""),
+    ("a.o:\\\n b", "b"),
 ];
 
-#[test]
-fn separating_colons(rt: HostRuntime) -> Result<(), Fail> {
-    agree(&rt, rt.alloc(), SEPARATING_COLONS)
-}
-
-const LATER_COLONS_ARE_BYTES: &[(&[u8], &[u8])] = &[
-    (b"a.o: b: c", b"b:|c"),
-    (b"a.o:b: c", b"OtherTarget(0)"),
-    (b"a.o: C:/k.h C\\:/k.h", b"C:/k.h"),
-    (b"a.o: b\\: c\\:d", b"b\\:|c:d"),
+const LATER_COLONS_ARE_BYTES: Table = &[
+    ("a.o: b: c", "b:|c"),
+    ("a.o:b: c", "OtherTarget(0)"),
+    ("a.o: C:/k.h C\\:/k.h", "C:/k.h"),
+    ("a.o: b\\: c\\:d", "b\\:|c:d"),
 ];
 
-#[test]
-fn later_colons_are_bytes(rt: HostRuntime) -> Result<(), Fail> {
-    agree(&rt, rt.alloc(), LATER_COLONS_ARE_BYTES)
-}
-
-const LINES: &[(&[u8], &[u8])] = &[
-    (b"\n \t\n\\\n\na.o: b\n\na.o: c\n", b"b|c"),
-    (b"a.o: b\r\na.o: c\r\n", b"b|c"),
-    (b"a.o: b\rc\n", b"b\rc"),
-    (b"a.o: b \\\r\n c \\\n d", b"b|c|d"),
+const LINES: Table = &[
+    ("\n \t\n\\\n\na.o: b\n\na.o: c\n", "b|c"),
+    ("a.o: b\r\na.o: c\r\n", "b|c"),
+    ("a.o: b\rc\n", "b\rc"),
+    ("a.o: b \\\r\n c \\\n d", "b|c|d"),
 ];
 
-#[test]
-fn lines(rt: HostRuntime) -> Result<(), Fail> {
-    agree(&rt, rt.alloc(), LINES)
-}
-
-const BACKSLASHES_BEFORE_LINE_ENDS: &[(&[u8], &[u8])] = &[
-    (b"a.o: b\\\\\n c", b"b\\|c"),
-    (b"a.o: b\\\\\\\r\n c", b"b\\\\|c"),
-    (b"a.o: b\\\r\r\n", b"b\\\r"),
+const BACKSLASHES_BEFORE_LINE_ENDS: Table = &[
+    ("a.o: b\\\\\n c", "b\\|c"),
+    ("a.o: b\\\\\\\r\n c", "b\\\\|c"),
+    ("a.o: b\\\r\r\n", "b\\\r"),
 ];
 
-#[test]
-fn backslashes_before_line_ends(rt: HostRuntime) -> Result<(), Fail> {
-    agree(&rt, rt.alloc(), BACKSLASHES_BEFORE_LINE_ENDS)
-}
-
-const BACKSLASHES_BEFORE_BLANKS: &[(&[u8], &[u8])] = &[
-    (b"a.o: b\\ c", b"b c"),
-    (b"a.o: b\\\\ c", b"b\\\\|c"),
-    (b"a.o: b\\\\\\ c", b"b\\ c"),
-    (b"a.o: b\\\tc", b"b\\|c"),
+const BACKSLASHES_BEFORE_BLANKS: Table = &[
+    ("a.o: b\\ c", "b c"),
+    ("a.o: b\\\\ c", "b\\\\|c"),
+    ("a.o: b\\\\\\ c", "b\\ c"),
+    ("a.o: b\\\tc", "b\\|c"),
 ];
 
-#[test]
-fn backslashes_before_blanks(rt: HostRuntime) -> Result<(), Fail> {
-    agree(&rt, rt.alloc(), BACKSLASHES_BEFORE_BLANKS)
-}
-
-const BACKSLASHES_BEFORE_SIGNS: &[(&[u8], &[u8])] = &[
-    (b"a.o: \\#b c\\\\#d #e", b"#b|c\\#d|#e"),
-    (b"a.o: b\\c d\\", b"b\\c|d\\"),
-    (b"a.o: $$b $x c$$$d", b"$b|$x|c$$d"),
+const BACKSLASHES_BEFORE_SIGNS: Table = &[
+    ("a.o: \\#b c\\\\#d #e", "#b|c\\#d|#e"),
+    ("a.o: b\\c d\\", "b\\c|d\\"),
+    ("a.o: $$b $x c$$$d", "$b|$x|c$$d"),
 ];
 
-#[test]
-fn backslashes_before_signs(rt: HostRuntime) -> Result<(), Fail> {
-    agree(&rt, rt.alloc(), BACKSLASHES_BEFORE_SIGNS)
-}
-
-const TARGETS: &[(&[u8], &[u8])] = &[
-    (b"b.o a.o c.o: d", b"d"),
-    (b"./x/../a.o: d", b"d"),
-    (b"a.o: b\nb.h:\nc.h: ", b"b"),
-    (b"\\a.o: b", b"OtherTarget(0)"),
+const TARGETS: Table = &[
+    ("b.o a.o c.o: d", "d"),
+    ("./x/../a.o: d", "d"),
+    ("a.o: b\nb.h:\nc.h: ", "b"),
+    ("\\a.o: b", "OtherTarget(0)"),
 ];
 
-#[test]
-fn targets(rt: HostRuntime) -> Result<(), Fail> {
-    agree(&rt, rt.alloc(), TARGETS)
-}
-
-const OTHER_TARGETS: &[(&[u8], &[u8])] = &[
-    (b"a.o: b\n b.o c.o: d", b"OtherTarget(8)"),
-    (b"a.o: b\n : d", b"OtherTarget(8)"),
-    (b":", b""),
+const OTHER_TARGETS: Table = &[
+    ("a.o: b\n b.o c.o: d", "OtherTarget(8)"),
+    ("a.o: b\n : d", "OtherTarget(8)"),
+    (":", ""),
 ];
 
-#[test]
-fn other_targets(rt: HostRuntime) -> Result<(), Fail> {
-    agree(&rt, rt.alloc(), OTHER_TARGETS)
-}
-
-const MISSING_COLONS: &[(&[u8], &[u8])] = &[
-    (b"a.o b", b"NoColon(0)"),
-    (b"a.o: b\n  \\#c d", b"NoColon(9)"),
-    (b"a.o: b\nb.o: c\nd", b"OtherTarget(7)"),
+const MISSING_COLONS: Table = &[
+    ("a.o b", "NoColon(0)"),
+    ("a.o: b\n  \\#c d", "NoColon(9)"),
+    ("a.o: b\nb.o: c\nd", "OtherTarget(7)"),
 ];
 
-#[test]
-fn missing_colons(rt: HostRuntime) -> Result<(), Fail> {
-    agree(&rt, rt.alloc(), MISSING_COLONS)
-}
-
-const FIRST_MENTIONS: &[(&[u8], &[u8])] = &[
-    (b"a.o: b ./b c b\na.o: x/../c d", b"b|c|d"),
-    (b"a.o: a.o ../b /..", b"a.o|../b|/"),
+const FIRST_MENTIONS: Table = &[
+    ("a.o: b ./b c b\na.o: x/../c d", "b|c|d"),
+    ("a.o: a.o ../b /..", "a.o|../b|/"),
 ];
 
-#[test]
-fn first_mentions(rt: HostRuntime) -> Result<(), Fail> {
-    agree(&rt, rt.alloc(), FIRST_MENTIONS)
-}
-
-const WORDS_OF_SEVERAL_KINDS: &[(&[u8], &[u8])] = &[
+const WORDS_OF_SEVERAL_KINDS: Table = &[
     (
-        b"a.o: a.c \\\n my\\ h.h $$x C:/k.h\nmy\\ h.h:\n",
-        b"a.c|my h.h|$x|C:/k.h",
+        "a.o: a.c \\\n my\\ h.h $$x C:/k.h\nmy\\ h.h:\n",
+        "a.c|my h.h|$x|C:/k.h",
     ),
-    (b"a.o: C\\:/k.h d\\\\ e\\\\\\ f", b"C:/k.h|d\\\\|e\\ f"),
+    ("a.o: C\\:/k.h d\\\\ e\\\\\\ f", "C:/k.h|d\\\\|e\\ f"),
 ];
 
-#[test]
-fn words_of_several_kinds(rt: HostRuntime) -> Result<(), Fail> {
-    agree(&rt, rt.alloc(), WORDS_OF_SEVERAL_KINDS)
-}
-
-const CUT_TEXTS: &[(&[u8], &[u8])] = &[
-    (b"", b""),
-    (b"a", b"NoColon(0)"),
-    (b"a.", b"NoColon(0)"),
-    (b"a.o", b"NoColon(0)"),
-    (b"a.o:", b""),
-    (b"a.o: ", b""),
-    (b"a.o: b", b"b"),
-    (b"a.o: b\\", b"b\\"),
-    (b"a.o: b\\\n", b"b"),
-    (b"a.o: b\\\n ", b"b"),
-    (b"a.o: b\\\n c", b"b|c"),
-    (b"a.o: b\\\n c\n", b"b|c"),
+const CUT_TEXTS: Table = &[
+    ("", ""),
+    ("a", "NoColon(0)"),
+    ("a.", "NoColon(0)"),
+    ("a.o", "NoColon(0)"),
+    ("a.o:", ""),
+    ("a.o: ", ""),
+    ("a.o: b", "b"),
+    ("a.o: b\\", "b\\"),
+    ("a.o: b\\\n", "b"),
+    ("a.o: b\\\n ", "b"),
+    ("a.o: b\\\n c", "b|c"),
+    ("a.o: b\\\n c\n", "b|c"),
 ];
 
-#[test]
-fn cut_texts(rt: HostRuntime) -> Result<(), Fail> {
-    agree(&rt, rt.alloc(), CUT_TEXTS)
+const OF_AN_OBJECT: &[Table] = &[
+    SEPARATING_COLONS,
+    LATER_COLONS_ARE_BYTES,
+    LINES,
+    BACKSLASHES_BEFORE_LINE_ENDS,
+    BACKSLASHES_BEFORE_BLANKS,
+    BACKSLASHES_BEFORE_SIGNS,
+    TARGETS,
+    OTHER_TARGETS,
+    MISSING_COLONS,
+    FIRST_MENTIONS,
+    WORDS_OF_SEVERAL_KINDS,
+    CUT_TEXTS,
+];
+
+// What compilers write with -MD for a file that includes files with such names.
+const WRITTEN: Table = &[
+    // gcc 12.2.
+    (
+        "m\\ n.o: m\\ n.c /usr/include/stdc-predef.h in\\ c/my\\ h.h x\\#y.h d$$e.h \\\n b\\e.h c:d.h end\\\\\\ .h q\\\\#r.h in\\ c/../x\\#y.h\n",
+        "m n.c|/usr/include/stdc-predef.h|in c/my h.h|x#y.h|d$e.h|b\\e.h|c:d.h|end\\ .h|q\\#r.h",
+    ),
+    // clang 14.0.
+    (
+        "m\\ n.o: m\\ n.c in\\ c/my\\ h.h x\\#y.h d$$e.h b/e.h c:d.h end/\\ .h q/\\#r.h \\\n  in\\ c/../x\\#y.h\n",
+        "m n.c|in c/my h.h|x#y.h|d$e.h|b/e.h|c:d.h|end/ .h|q/#r.h",
+    ),
+];
+
+// The first text of a table that says something else for an output, which is told.
+fn differs(alloc: Global, table: Table, output: &[u8]) -> Result<Option<&'static str>, Fail> {
+    for (text, said) in table {
+        if outcome(alloc, text.as_bytes(), output)?.as_slice() != said.as_bytes() {
+            return Ok(Some(text));
+        }
+    }
+    Ok(None)
 }
 
 #[test]
-fn longest_prerequisite(rt: HostRuntime) -> Result<(), Fail> {
-    let alloc = rt.alloc();
-    let word = vec![in alloc; b'a'; 4096]?;
-    let mut text = Vec::new(alloc);
-    text.extend_from_slice(b"a.o: ")?;
-    text.extend_from_slice(&word)?;
-    assert_eq!(rt; outcome(alloc, &text, b"a.o")?, word);
-    text.push(b'a')?;
-    assert_eq!(rt;
-        outcome(alloc, &text, b"a.o")?.as_slice(),
-        b"LongPath(5)".as_slice()
-    );
+fn what_depfiles_say(rt: HostRuntime) -> Result<(), Fail> {
+    for table in OF_AN_OBJECT {
+        let other = differs(rt.alloc(), table, b"a.o")?;
+        assert!(rt; other.is_none(), "{}", other.unwrap_or(""));
+    }
+    let other = differs(rt.alloc(), WRITTEN, b"m n.o")?;
+    assert!(rt; other.is_none(), "{}", other.unwrap_or(""));
     Ok(())
+}
+
+// What is said of a prerequisite of so many bytes.
+fn of_a_long_prerequisite(alloc: Global, bytes: usize) -> Result<Vec<u8>, Fail> {
+    let mut text = Vec::from_slice(alloc, b"a.o: ")?;
+    text.extend_from_slice(&vec![in alloc; b'a'; bytes]?)?;
+    outcome(alloc, &text, b"a.o")
+}
+
+// What is said of a target of so many bytes, whose canonical path is `/o`.
+fn of_a_long_target(alloc: Global, bytes: usize) -> Result<Vec<u8>, Fail> {
+    let mut text = vec![in alloc; b'/'; bytes.saturating_sub(1)]?;
+    text.extend_from_slice(b"o: b")?;
+    outcome(alloc, &text, b"/o")
 }
 
 // A target that is too long is no output, whatever its canonical path.
 #[test]
-fn longer_target(rt: HostRuntime) -> Result<(), Fail> {
-    let alloc = rt.alloc();
-    let mut text = vec![in alloc; b'/'; 4096]?;
-    text.extend_from_slice(b"o: b")?;
-    assert_eq!(rt;
-        outcome(alloc, &text[1..], b"/o")?.as_slice(),
-        b"b".as_slice()
-    );
-    assert_eq!(rt;
-        outcome(alloc, &text, b"/o")?.as_slice(),
-        b"OtherTarget(0)".as_slice()
-    );
+fn words_up_to_their_limit(rt: HostRuntime) -> Result<(), Fail> {
+    let longest = of_a_long_prerequisite(rt.alloc(), 4096)?;
+    assert!(rt; longest.len() == 4096 && longest.iter().all(|byte| *byte == b'a'));
+    assert!(rt; of_a_long_prerequisite(rt.alloc(), 4097)?.as_slice() == b"LongPath(5)".as_slice());
+    assert!(rt; of_a_long_target(rt.alloc(), 4096)?.as_slice() == b"b".as_slice());
+    assert!(rt; of_a_long_target(rt.alloc(), 4097)?.as_slice() == b"OtherTarget(0)".as_slice());
     Ok(())
 }
 
-// As gcc 12.2 writes it with -MD for a file that includes files with such names.
-#[test]
-fn written_by_gcc(rt: HostRuntime) -> Result<(), Fail> {
-    let alloc = rt.alloc();
-    let text =
-        b"m\\ n.o: m\\ n.c /usr/include/stdc-predef.h in\\ c/my\\ h.h x\\#y.h d$$e.h \\\n b\\e.h c:d.h end\\\\\\ .h q\\\\#r.h in\\ c/../x\\#y.h\n";
-    assert_eq!(rt;
-        outcome(alloc, text, b"m n.o")?.as_slice(),
-        b"m n.c|/usr/include/stdc-predef.h|in c/my h.h|x#y.h|d$e.h|b\\e.h|c:d.h|end\\ .h|q\\#r.h".as_slice()
-    );
-    Ok(())
-}
-
-// As clang 14.0 writes it with -MD for the same file.
-#[test]
-fn written_by_clang(rt: HostRuntime) -> Result<(), Fail> {
-    let alloc = rt.alloc();
-    let text =
-        b"m\\ n.o: m\\ n.c in\\ c/my\\ h.h x\\#y.h d$$e.h b/e.h c:d.h end/\\ .h q/\\#r.h \\\n  in\\ c/../x\\#y.h\n";
-    assert_eq!(rt;
-        outcome(alloc, text, b"m n.o")?.as_slice(),
-        b"m n.c|in c/my h.h|x#y.h|d$e.h|b/e.h|c:d.h|end/ .h|q/#r.h".as_slice()
-    );
-    Ok(())
+// A fault's number and offset.
+fn numbers_of(fault: DepfileFault) -> (Option<u16>, Option<u64>) {
+    (fault.code(), fault.offset())
 }
 
 #[test]
-fn numbers_of_faults(rt: HostRuntime) {
-    assert_eq!(rt; DepfileFault::NoColon(7).code(), Some(30));
-    assert_eq!(rt; DepfileFault::OtherTarget(7).code(), Some(31));
-    assert_eq!(rt; DepfileFault::LongPath(7).code(), Some(32));
-    assert_eq!(rt; DepfileFault::Memory.code(), None);
-}
-
-#[test]
-fn offsets_of_faults(rt: HostRuntime) {
-    assert_eq!(rt; DepfileFault::NoColon(7).offset(), Some(7));
-    assert_eq!(rt; DepfileFault::OtherTarget(8).offset(), Some(8));
-    assert_eq!(rt; DepfileFault::LongPath(9).offset(), Some(9));
-    assert_eq!(rt; DepfileFault::Memory.offset(), None);
+fn numbers_and_offsets_of_faults(rt: HostRuntime) {
+    assert!(rt; numbers_of(DepfileFault::NoColon(7)) == (Some(30), Some(7)));
+    assert!(rt; numbers_of(DepfileFault::OtherTarget(8)) == (Some(31), Some(8)));
+    assert!(rt; numbers_of(DepfileFault::LongPath(9)) == (Some(32), Some(9)));
+    assert!(rt; numbers_of(DepfileFault::Memory) == (None, None));
 }

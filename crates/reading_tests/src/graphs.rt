@@ -3,7 +3,6 @@ use rev_graph::{Graph, GraphFault};
 use rev_manifest::{Manifest, read};
 use rev_paths::Name;
 use std::alloc::{AllocError, Global};
-use std::process::Abort;
 use std::test::Fail;
 
 const CHAIN: &str = "rule cc\n  command = cc $in -o $out\nbuild b.o: cc b.c\nbuild b: cc b.o\n";
@@ -137,12 +136,25 @@ fn cut(text: &[u8]) -> (&[u8], &[u8]) {
     }
 }
 
+// Whether an edge's rank is below another's.
+fn is_below(graph: &Graph, edge: u32, other: u32) -> Result<&'static str, Fail> {
+    if edge >= graph.edges() || other >= graph.edges() {
+        return Err(Fail::from("no edge of that number"));
+    }
+    if graph.rank(edge) < graph.rank(other) {
+        Ok("true")
+    } else {
+        Ok("false")
+    }
+}
+
 fn push_told(alloc: Global, text: &mut Vec<u8>, graph: &Graph, line: &[u8]) -> Result<(), Fail> {
     let (word, said) = cut(line);
     match word {
         b"edges" => push_answer(text, &format!(in alloc; "{}", graph.edges())?)?,
         b"defaults" => push_paths(text, graph.defaults())?,
         b"producer" | b"known" => push_of_path(alloc, text, graph, word, said)?,
+        b"below" => push_answer(text, is_below(graph, edge_of(said), edge_of(cut(said).1))?)?,
         _ => push_of_edge(alloc, text, graph, word, edge_of(said))?,
     }
     text.extend_from_slice(b"; ")?;
@@ -176,14 +188,6 @@ fn told(alloc: Global, content: &str, lines: &str) -> Result<Vec<u8>, Fail> {
     }
 }
 
-fn agree(rt: &impl Abort, alloc: Global, rows: &[(&str, &str, &str)]) -> Result<(), Fail> {
-    for (content, lines, wanted) in rows {
-        let told = told(alloc, content, lines)?;
-        assert!(rt; told.as_slice() == wanted.as_bytes(), "{content} {lines}");
-    }
-    Ok(())
-}
-
 const OF_PATHS: &[(&str, &str, &str)] = &[
     (
         CHAIN,
@@ -201,11 +205,6 @@ const OF_PATHS: &[(&str, &str, &str)] = &[
     ),
 ];
 
-#[test]
-fn what_is_asked_of_paths(rt: HostRuntime) -> Result<(), Fail> {
-    agree(&rt, rt.alloc(), OF_PATHS)
-}
-
 const OF_EDGES: &[(&str, &str, &str)] = &[
     (CHAIN, "inputs 1", " b.o | | | [Some(0)] [Some(0)]; "),
     (CHAIN, "outputs 0", " b.o | |; "),
@@ -222,12 +221,9 @@ const OF_EDGES: &[(&str, &str, &str)] = &[
         "edges; pool 0; pool 1; validations 0",
         "2; None; Some((2, 2));  v; ",
     ),
+    // Ranks rise along a chain.
+    (CHAIN, "below 0 1; below 1 0", "true; false; "),
 ];
-
-#[test]
-fn what_is_asked_of_edges(rt: HostRuntime) -> Result<(), Fail> {
-    agree(&rt, rt.alloc(), OF_EDGES)
-}
 
 const FAULTS: &[(&str, &str, &str)] = &[
     // The first second producer is named.
@@ -239,30 +235,18 @@ const FAULTS: &[(&str, &str, &str)] = &[
     (ORDER_ONLY_CYCLE, "", "fault Some(41) x"),
 ];
 
-#[test]
-fn manifests_without_a_graph(rt: HostRuntime) -> Result<(), Fail> {
-    agree(&rt, rt.alloc(), FAULTS)
-}
+const TABLES: &[&[(&str, &str, &str)]] = &[OF_PATHS, OF_EDGES, FAULTS];
 
-// Whether an edge's rank is below another's.
-fn is_below(alloc: Global, content: &str, edge: u32, other: u32) -> Result<bool, Fail> {
-    let manifest = manifest_of(alloc, content)?;
-    let graph = Graph::build(alloc, &manifest)?;
-    if edge >= graph.edges() || other >= graph.edges() {
-        return Err(Fail::from("no edge of that number"));
+#[test]
+fn what_graphs_answer(rt: HostRuntime) -> Result<(), Fail> {
+    for rows in TABLES {
+        for (content, lines, wanted) in *rows {
+            let told = told(rt.alloc(), content, lines)?;
+            assert!(rt; told.as_slice() == wanted.as_bytes(), "{content} {lines}");
+        }
     }
-    Ok(graph.rank(edge) < graph.rank(other))
-}
-
-#[test]
-fn ranks_rise_along_a_chain(rt: HostRuntime) -> Result<(), Fail> {
-    assert!(rt; is_below(rt.alloc(), CHAIN, 0, 1)?);
-    Ok(())
-}
-
-#[test]
-fn faults_without_a_path(rt: HostRuntime) {
     assert!(rt; GraphFault::TooManyEdges.code() == Some(42));
     assert!(rt; GraphFault::Memory.code() == None);
     assert!(rt; GraphFault::TooManyEdges.path().is_none());
+    Ok(())
 }

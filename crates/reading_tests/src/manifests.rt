@@ -159,41 +159,28 @@ const FAULTS: &[(&[u8], Answer)] = &[
     ),
 ];
 
-#[test]
-fn faults_and_their_lines(rt: HostRuntime) -> Result<(), Fail> {
-    for (content, want) in FAULTS {
-        let answer = answer_to_one(rt.alloc(), content)?;
-        assert!(rt; answer == *want, "{answer:?} {want:?}");
-    }
-    Ok(())
-}
-
-#[test]
-fn files_and_their_scopes(rt: HostRuntime) -> Result<(), Fail> {
-    let main: &[u8] = b"f = 1\nrule r\n  command = r $f $in\nsubninja s.ninja\nbuild y: r b\n";
-    let nested: (&[u8], &[u8]) = (b"./s.ninja", b"f = 2\nbuild x: r a\n");
-    let command = first_command(rt.alloc(), &[(b"build.ninja", main), nested])?;
-    assert!(rt; command.as_deref() == Some(b"r 2 a".as_slice()));
-    Ok(())
-}
-
-#[test]
-fn an_included_file_is_in_the_same_scope(rt: HostRuntime) -> Result<(), Fail> {
-    let main: &[u8] = b"rule r\n  command = $f\ninclude i\nbuild y: r\n  unused = $\n";
-    let included: (&[u8], &[u8]) = (b"i", b"f = 3\npool p\n");
-    let answer = answer_to(rt.alloc(), &[(b"build.ninja", main), included])?;
-    assert!(rt; answer == Fault(19, 1, 2));
-    Ok(())
-}
-
-#[test]
-fn a_response_file_counts(rt: HostRuntime) -> Result<(), Fail> {
-    let main: &[u8] =
-        b"rule r\n  command = r @$out.rsp\n  rspfile = $out.rsp\n  rspfile_content = $in\nbuild o: r a$ b it's\n";
-    let command = first_command(rt.alloc(), &[(b"build.ninja", main)])?;
-    assert!(rt; command.as_deref() == Some(b"r @o.rsp;rspfile='a b' 'it'\\''s'".as_slice()));
-    Ok(())
-}
+// Files, and the command of their first edge.
+const COMMANDS: &[(&[(&[u8], &[u8])], &[u8])] = &[
+    // A file has a scope of its own.
+    (
+        &[
+            (
+                b"build.ninja",
+                b"f = 1\nrule r\n  command = r $f $in\nsubninja s.ninja\nbuild y: r b\n",
+            ),
+            (b"./s.ninja", b"f = 2\nbuild x: r a\n"),
+        ],
+        b"r 2 a",
+    ),
+    // A response file counts.
+    (
+        &[(
+            b"build.ninja",
+            b"rule r\n  command = r @$out.rsp\n  rspfile = $out.rsp\n  rspfile_content = $in\nbuild o: r a$ b it's\n",
+        )],
+        b"r @o.rsp;rspfile='a b' 'it'\\''s'",
+    ),
+];
 
 // What is read of the one edge of a file: the numbers of its explicit and implicit outputs, whether it leaves the
 // depfile o.d, has the response file o.rsp, keeps deps, has restat and is a generator, its pool, and its line.
@@ -223,15 +210,13 @@ const EDGE: &[u8] =
     b"pool p\n  depth = 0\nrule r\n  command = c\n  depfile = $out.d\n  deps = gcc\n  rspfile = $out.rsp\n  restat = $x\n  pool = $which\nbuild d/../o ./o | o q: r i | j || k |@ v\n  generator = 1\n  which = p\n";
 
 #[test]
-fn an_edge(rt: HostRuntime) -> Result<(), Fail> {
+fn edges_and_their_commands(rt: HostRuntime) -> Result<(), Fail> {
     let told = edge_text(rt.alloc(), EDGE)?;
     assert!(rt; told.as_str() == "1 1 true true true false true Some(1) 10; ");
-    Ok(())
-}
-
-#[test]
-fn no_file(rt: HostRuntime) -> Result<(), Fail> {
-    assert!(rt; answer_to(rt.alloc(), &[])? == Fault(20, 0, 0));
+    for (files, wanted) in COMMANDS {
+        let command = first_command(rt.alloc(), files)?;
+        assert!(rt; command.as_deref() == Some(*wanted));
+    }
     Ok(())
 }
 
@@ -256,15 +241,6 @@ const BEHIND_DOUBLES: &[(&[u8], Answer)] = &[
     ),
 ];
 
-#[test]
-fn values_up_to_their_limit(rt: HostRuntime) -> Result<(), Fail> {
-    for (more, want) in BEHIND_DOUBLES {
-        let answer = answer_behind_doubles(rt.alloc(), more)?;
-        assert!(rt; answer == *want, "{answer:?} {want:?}");
-    }
-    Ok(())
-}
-
 const NESTED: &[(&[u8], &[u8])] = &[
     (b"a", b"include b\n"),
     (b"b", b"subninja c\n"),
@@ -286,9 +262,36 @@ const NESTED: &[(&[u8], &[u8])] = &[
     (b"r", b"build x: phony\n"),
 ];
 
+const SEVERAL_FILES: &[(&[(&[u8], &[u8])], Answer)] = &[
+    (&[], Fault(20, 0, 0)),
+    // An included file is in the same scope.
+    (
+        &[
+            (
+                b"build.ninja",
+                b"rule r\n  command = $f\ninclude i\nbuild y: r\n  unused = $\n",
+            ),
+            (b"i", b"f = 3\npool p\n"),
+        ],
+        Fault(19, 1, 2),
+    ),
+    (NESTED, Fault(21, 16, 1)),
+];
+
 #[test]
-fn files_in_one_another(rt: HostRuntime) -> Result<(), Fail> {
-    assert!(rt; answer_to(rt.alloc(), NESTED)? == Fault(21, 16, 1));
+fn faults_and_their_lines(rt: HostRuntime) -> Result<(), Fail> {
+    for (content, want) in FAULTS {
+        let answer = answer_to_one(rt.alloc(), content)?;
+        assert!(rt; answer == *want, "{answer:?} {want:?}");
+    }
+    for (more, want) in BEHIND_DOUBLES {
+        let answer = answer_behind_doubles(rt.alloc(), more)?;
+        assert!(rt; answer == *want, "{answer:?} {want:?}");
+    }
+    for (files, want) in SEVERAL_FILES {
+        let answer = answer_to(rt.alloc(), files)?;
+        assert!(rt; answer == *want, "{answer:?} {want:?}");
+    }
     let (_, below) = NESTED.split_at(1);
     assert!(rt; answer_to(rt.alloc(), below)? == Read(1, 1, 1));
     Ok(())

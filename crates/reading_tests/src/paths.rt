@@ -20,20 +20,20 @@ const NAMES: &[(&[u8], &[u8])] = &[
     (b"/../a/", b"/a"),
 ];
 
+// Whether a path of so many letters keeps them all.
+fn is_kept(alloc: Global, letters: usize) -> Result<bool, Fail> {
+    let path = vec![in alloc; b'a'; letters]?;
+    let name = named(alloc, &path)?;
+    Ok(name.as_bytes() == path.as_slice())
+}
+
 #[test]
 fn parts_are_resolved(rt: HostRuntime) -> Result<(), Fail> {
     for (path, wanted) in NAMES {
         let name = named(rt.alloc(), path)?;
         assert!(rt; name.as_bytes() == *wanted);
     }
-    Ok(())
-}
-
-#[test]
-fn longest_path_is_kept(rt: HostRuntime) -> Result<(), Fail> {
-    let longest = vec![in rt.alloc(); b'a'; 4096]?;
-    let name = named(rt.alloc(), &longest)?;
-    assert!(rt; name.as_bytes() == longest.as_slice());
+    assert!(rt; is_kept(rt.alloc(), 4096)?);
     Ok(())
 }
 
@@ -50,18 +50,15 @@ fn empty_and_longer_paths_are_refused(rt: HostRuntime) -> Result<(), Fail> {
     let longer = vec![in rt.alloc(); b'a'; 4097]?;
     assert!(rt; code_of(rt.alloc(), &longer)? == Some(2));
     assert!(rt; code_of(rt.alloc(), b"")? == Some(1));
+    assert!(rt; PathFault::EmptyPath.code() == Some(1));
+    assert!(rt; PathFault::LongPath.code() == Some(2));
+    assert!(rt; PathFault::Memory.code() == None);
     Ok(())
 }
 
 fn same(alloc: Global, path: &[u8], other: &[u8]) -> Result<bool, Fail> {
     let name = named(alloc, path)?;
     Ok(name == named(alloc, other)? && name.copy()? == name)
-}
-
-#[test]
-fn names_of_one_file_are_equal(rt: HostRuntime) -> Result<(), Fail> {
-    assert!(rt; same(rt.alloc(), b"a/b", b"./a/b")?);
-    Ok(())
 }
 
 fn is_before(alloc: Global, path: &[u8], other: &[u8]) -> Result<bool, Fail> {
@@ -71,7 +68,8 @@ fn is_before(alloc: Global, path: &[u8], other: &[u8]) -> Result<bool, Fail> {
 }
 
 #[test]
-fn names_stand_in_order_of_bytes(rt: HostRuntime) -> Result<(), Fail> {
+fn names_are_compared(rt: HostRuntime) -> Result<(), Fail> {
+    assert!(rt; same(rt.alloc(), b"a/b", b"./a/b")?);
     assert!(rt; is_before(rt.alloc(), b"a-b", b"a/b")?);
     Ok(())
 }
@@ -97,13 +95,6 @@ fn all_but_safe_paths_stand_between_quotes(rt: HostRuntime) -> Result<(), Fail> 
     Ok(())
 }
 
-#[test]
-fn codes(rt: HostRuntime) {
-    assert!(rt; PathFault::EmptyPath.code() == Some(1));
-    assert!(rt; PathFault::LongPath.code() == Some(2));
-    assert!(rt; PathFault::Memory.code() == None);
-}
-
 // The number that a path gets.
 fn intern(alloc: Global, paths: &mut Paths, path: &[u8]) -> Result<u64, Fail> {
     let name = named(alloc, path)?;
@@ -119,20 +110,13 @@ fn find(alloc: Global, paths: &Paths, path: &[u8]) -> Result<Option<u64>, Fail> 
 #[test]
 fn a_name_keeps_its_number(rt: HostRuntime) -> Result<(), Fail> {
     let mut paths = Paths::new(rt.alloc());
+    assert!(rt; find(rt.alloc(), &paths, b"a")? == None);
     for (path, wanted) in [(b"a", 0), (b"b", 1), (b"a", 0)] {
         assert!(rt; intern(rt.alloc(), &mut paths, path)? == wanted);
     }
-    Ok(())
-}
-
-#[test]
-fn a_name_is_found_by_its_number(rt: HostRuntime) -> Result<(), Fail> {
-    let mut paths = Paths::new(rt.alloc());
-    assert!(rt; find(rt.alloc(), &paths, b"a")? == None);
-    intern(rt.alloc(), &mut paths, b"a")?;
     assert!(rt; find(rt.alloc(), &paths, b"a")? == Some(0));
-    assert!(rt; paths.len() == 1);
-    if paths.len() == 1 {
+    assert!(rt; paths.len() == 2);
+    if paths.len() == 2 {
         assert!(rt; paths.path(0).as_bytes() == b"a".as_slice());
     }
     Ok(())

@@ -72,7 +72,8 @@ fn rise(lists: &[Vec<u32>], ranks: &[u32]) -> bool {
 #[test]
 fn a_long_chain(rt: HostRuntime) -> Result<(), Fail> {
     let lists = chain(rt.alloc())?;
-    assert_eq!(rt; ranked(&rt, &lists)?.first(), Some(&262_143));
+    let ranks = ranked(&rt, &lists)?;
+    assert!(rt; ranks.first() == Some(&262_143));
     Ok(())
 }
 
@@ -95,7 +96,7 @@ fn one_cycle_among_scattered_steps(rt: HostRuntime) -> Result<(), Fail> {
         row.clear();
         row.push(131_072)?;
     }
-    assert_eq!(rt; ranked(&rt, &lists).err(), Some(RankFault::Cycle(131_072)));
+    assert!(rt; ranked(&rt, &lists).err() == Some(RankFault::Cycle(131_072)));
     Ok(())
 }
 
@@ -106,6 +107,6 @@ fn a_large_cycle(rt: HostRuntime) -> Result<(), Fail> {
     if let Some(row) = lists.get_mut(262_143) {
         row.push(131_072)?;
     }
-    assert_eq!(rt; ranked(&rt, &lists).err(), Some(RankFault::Cycle(131_072)));
+    assert!(rt; ranked(&rt, &lists).err() == Some(RankFault::Cycle(131_072)));
     Ok(())
 }

@@ -6,7 +6,6 @@ use rev_scopes::{
 };
 use rev_syntax::Text;
 use std::alloc::{AllocError, Global};
-use std::process::Abort;
 use std::test::Fail;
 
 // What stands before and behind the first byte of this value.
@@ -159,21 +158,10 @@ const SCOPES: &[(&str, &str)] = &[
     ("expand 1 ${f}; expand 0 $f; expand 1 $g", "2; 1; ; "),
 ];
 
-#[test]
-fn scopes_and_their_rules(rt: HostRuntime) -> Result<(), Fail> {
-    for (lines, wanted) in SCOPES {
-        let told = told(rt.alloc(), lines)?;
-        assert!(rt; told.as_slice() == wanted.as_bytes(), "{lines}");
-    }
-    Ok(())
-}
-
-#[test]
-fn the_later_of_two_bindings_counts(rt: HostRuntime) -> Result<(), Fail> {
-    let block = block_of(rt.alloc(), "a=1\na=2")?;
-    assert!(rt; block.value(b"a") == Some(b"2".as_slice()));
-    assert!(rt; block.value(b"b") == None);
-    Ok(())
+// Whether the later of two bindings counts, and a name without one has none.
+fn later_binding_counts(alloc: Global) -> Result<bool, Fail> {
+    let block = block_of(alloc, "a=1\na=2")?;
+    Ok(block.value(b"a") == Some(b"2".as_slice()) && block.value(b"b") == None)
 }
 
 // Whether a copy of a rule has a text for each of two variables.
@@ -184,13 +172,6 @@ fn texts_of_copy(alloc: Global, lines: &str) -> Result<(bool, bool), Fail> {
         copy.text(b"command").is_some(),
         copy.text(b"depfile").is_some(),
     ))
-}
-
-#[test]
-fn a_rule_has_one_text_for_each_variable(rt: HostRuntime) -> Result<(), Fail> {
-    let found = texts_of_copy(rt.alloc(), "command=one\ncommand=two")?;
-    assert!(rt; found == (true, false));
-    Ok(())
 }
 
 // The value of a text in the outer scope, behind a block.
@@ -206,12 +187,10 @@ fn expanded(
     Ok(expand_in_block(alloc, Text::new(text)?, block, &scopes, 0))
 }
 
-#[test]
-fn a_block_comes_before_the_scopes(rt: HostRuntime) -> Result<(), Fail> {
-    let block = block_of(rt.alloc(), "f=3")?;
-    let value = expanded(rt.alloc(), &block, b"$f")?;
-    assert!(rt; value?.as_slice() == b"3".as_slice());
-    Ok(())
+// The value of a name that a block binds, and the scopes too.
+fn value_in_block(alloc: Global) -> Result<Vec<u8>, Fail> {
+    let block = block_of(alloc, "f=3")?;
+    Ok(expanded(alloc, &block, b"$f")??)
 }
 
 // The length of a value that is twice that many bytes and these, or its fault.
@@ -222,13 +201,12 @@ fn doubled(alloc: Global, half: usize, more: &[u8]) -> Result<Result<usize, Valu
 }
 
 #[test]
-fn the_largest_value_is_accepted(rt: HostRuntime) -> Result<(), Fail> {
+fn values_of_blocks(rt: HostRuntime) -> Result<(), Fail> {
+    assert!(rt; later_binding_counts(rt.alloc())?);
+    // A block comes before the scopes.
+    assert!(rt; value_in_block(rt.alloc())?.as_slice() == b"3".as_slice());
+    // The largest value is accepted, and one byte more is too large.
     assert!(rt; doubled(rt.alloc(), 524_288, b"$a$a")? == Ok(1_048_576));
-    Ok(())
-}
-
-#[test]
-fn one_byte_more_is_too_large(rt: HostRuntime) -> Result<(), Fail> {
     let value = doubled(rt.alloc(), 524_288, b"$a.$a")?;
     assert!(rt; value.map_err(ValueFault::code) == Err(Some(23)));
     Ok(())
@@ -394,7 +372,11 @@ fn told_of_edge(alloc: Global, edge: &Edge) -> Result<Vec<u8>, Fail> {
 }
 
 #[test]
-fn variables_of_edges(rt: HostRuntime) -> Result<(), Fail> {
+fn scopes_and_variables_of_edges(rt: HostRuntime) -> Result<(), Fail> {
+    for (lines, wanted) in SCOPES {
+        let told = told(rt.alloc(), lines)?;
+        assert!(rt; told.as_slice() == wanted.as_bytes(), "{lines}");
+    }
     for edge in EDGES {
         let told = told_of_edge(rt.alloc(), edge)?;
         assert!(rt; told.as_slice() == edge.wanted.as_bytes(), "{}", edge.rule);
@@ -402,20 +384,20 @@ fn variables_of_edges(rt: HostRuntime) -> Result<(), Fail> {
     Ok(())
 }
 
-#[test]
-fn rule_variables_are_found_by_their_names(rt: HostRuntime) {
-    let found = RuleVariable::named(b"rspfile_content");
-    assert!(rt; found == Some(RuleVariable::RspfileContent));
-    assert!(rt; RuleVariable::named(b"dyndep") == None);
-    assert!(rt; RuleVariable::MsvcDepsPrefix.name() == b"msvc_deps_prefix".as_slice());
-}
-
 fn compared(alloc: Global, content: &[u8]) -> Result<Vec<u8>, AllocError> {
     compared_command(Vec::from_slice(alloc, b"cc")?, content)
 }
 
 #[test]
-fn content_of_a_response_file_is_compared(rt: HostRuntime) -> Result<(), Fail> {
+fn rules_and_their_variables(rt: HostRuntime) -> Result<(), Fail> {
+    // A rule has one text for each variable.
+    let found = texts_of_copy(rt.alloc(), "command=one\ncommand=two")?;
+    assert!(rt; found == (true, false));
+    let found = RuleVariable::named(b"rspfile_content");
+    assert!(rt; found == Some(RuleVariable::RspfileContent));
+    assert!(rt; RuleVariable::named(b"dyndep") == None);
+    assert!(rt; RuleVariable::MsvcDepsPrefix.name() == b"msvc_deps_prefix".as_slice());
+    // The content of a response file is compared.
     assert!(rt; compared(rt.alloc(), b"")?.as_slice() == b"cc".as_slice());
     assert!(rt; compared(rt.alloc(), b"a b")?.as_slice() == b"cc;rspfile=a b".as_slice());
     Ok(())

@@ -4,7 +4,6 @@ use rev_syntax::{
     lines_of,
 };
 use std::alloc::{AllocError, Global};
-use std::process::Abort;
 use std::test::Fail;
 
 // Writes a text: its bytes, and its variables between `<` and `>`.
@@ -145,14 +144,6 @@ fn outcome(alloc: Global, content: &[u8]) -> Result<Vec<u8>, AllocError> {
     Ok(shown)
 }
 
-// Each file says what stands beside it.
-fn agree(rt: &impl Abort, alloc: Global, cases: &[(&[u8], &[u8])]) -> Result<(), Fail> {
-    for (content, said) in cases {
-        assert_eq!(rt; outcome(alloc, content)?.as_slice(), *said);
-    }
-    Ok(())
-}
-
 const STATEMENTS: &[(&[u8], &[u8])] = &[
     (b"", b""),
     (
@@ -179,11 +170,6 @@ const STATEMENTS: &[(&[u8], &[u8])] = &[
     (b"a$\nb = 1\r\nc = $\n  #2\r\n", b"1: ab=1;3: c=#2;"),
 ];
 
-#[test]
-fn statements(rt: HostRuntime) -> Result<(), Fail> {
-    agree(&rt, rt.alloc(), STATEMENTS)
-}
-
 const TABS_AND_ESCAPES: &[(&[u8], &[u8])] = &[
     (b"rule r\n\tcommand = r\n", b"fault 2 11"),
     (b"rule r\n \t$%\n", b"fault 2 11"),
@@ -194,11 +180,6 @@ const TABS_AND_ESCAPES: &[(&[u8], &[u8])] = &[
     (b"a = ${b\n", b"fault 1 12"),
     (b"build $^: r\n", b"fault 1 12"),
 ];
-
-#[test]
-fn tabs_and_escapes(rt: HostRuntime) -> Result<(), Fail> {
-    agree(&rt, rt.alloc(), TABS_AND_ESCAPES)
-}
 
 const ENDS_OF_FILES: &[(&[u8], &[u8])] = &[
     (b"rule $", b"fault 1 12"),
@@ -216,11 +197,6 @@ const ENDS_OF_FILES: &[(&[u8], &[u8])] = &[
     (b"rule r\n  command", b"fault 2 10"),
 ];
 
-#[test]
-fn ends_of_files(rt: HostRuntime) -> Result<(), Fail> {
-    agree(&rt, rt.alloc(), ENDS_OF_FILES)
-}
-
 const PLACES_OF_FAULTS: &[(&[u8], &[u8])] = &[
     (b"rule $%\n", b"fault 1 10"),
     (b"foo $%\n", b"fault 1 10"),
@@ -232,20 +208,39 @@ const PLACES_OF_FAULTS: &[(&[u8], &[u8])] = &[
     (b"pool = p\n", b"fault 1 10"),
 ];
 
+const FILES: &[&[(&[u8], &[u8])]] = &[
+    STATEMENTS,
+    TABS_AND_ESCAPES,
+    ENDS_OF_FILES,
+    PLACES_OF_FAULTS,
+];
+
+// Each file says what stands beside it.
 #[test]
-fn places_of_faults(rt: HostRuntime) -> Result<(), Fail> {
-    agree(&rt, rt.alloc(), PLACES_OF_FAULTS)
+fn statements_of_files(rt: HostRuntime) -> Result<(), Fail> {
+    for cases in FILES {
+        for (content, said) in *cases {
+            assert!(rt; outcome(rt.alloc(), content)?.as_slice() == *said);
+        }
+    }
+    Ok(())
+}
+
+// What a text is once it was stored.
+fn stored_text(alloc: Global, bytes: &[u8]) -> Result<Vec<u8>, Fail> {
+    let text = Text::new(bytes)?;
+    let stored = text.to_stored(alloc)?;
+    let mut shown = Vec::new(alloc);
+    if !text.is_empty() {
+        write_text(&mut shown, &stored.text())?;
+    }
+    Ok(shown)
 }
 
 #[test]
 fn stored_texts(rt: HostRuntime) -> Result<(), Fail> {
-    let alloc = rt.alloc();
-    let text = Text::new(b"a$ b$c.d".as_slice())?;
-    assert!(rt; !text.is_empty());
-    let stored = text.to_stored(alloc)?;
-    let mut shown = Vec::new(alloc);
-    write_text(&mut shown, &stored.text())?;
-    assert_eq!(rt; shown.as_slice(), b"a b<c>.d".as_slice());
+    let shown = stored_text(rt.alloc(), b"a$ b$c.d")?;
+    assert!(rt; shown.as_slice() == b"a b<c>.d".as_slice());
     assert!(rt; matches!(Text::new(b"a$".as_slice()), Err(SyntaxKind::BadEscape)));
     Ok(())
 }

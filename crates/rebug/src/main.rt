@@ -1,27 +1,18 @@
 //! A reversible debugger for Ninja builds: it replays a recorded build, and undoes and redoes its events.
 #![tactic(auto)]
 
-mod fault;
-
-use clap::error::ErrorKind;
-use fault::{ProgramFault, Unread};
-use rev_input::{Reader, TakeFault, take_up_to};
 use rev_options::{Options, options};
 use rev_parallel::run_parallel_in;
-use rev_report::{RunFault, RunMemory, Status, run_serial_in, write_migrated};
+use rev_program::{ProgramFault, ReadFault, Unread, explain, fail, read_named, say, words};
+use rev_report::{RunMemory, Status, run_serial_in, write_migrated};
 use rev_sentences::{Inputs, sentence};
 use std::alloc::Global;
 use std::io::{BufWriter, Write};
 use std::process::ExitCode;
-use std::rt::{Env, Files};
+use std::rt::Files;
 use std::sync::Wait;
 use std::thread::Threads;
-use std::{fs, io, mem};
-
-// The status of a command line that asks for help or is wrong.
-const USAGE: u8 = 2;
-// The status of a run that could not read, write or get memory.
-const FAILURE: u8 = 3;
+use std::{io, mem};
 
 // The most bytes that the manifest and the files that it names may have together. With more the manifest is refused.
 const MANIFEST_BYTES: usize = 268_435_456;
@@ -34,25 +25,10 @@ fn read_file<'a, R: Files + AllocGlobal>(
     name: &'a str,
     most: usize,
 ) -> Result<Vec<u8>, ProgramFault<'a>> {
-    let mut file = match fs::open(rt, name) {
-        Ok(file) => Reader(file),
-        Err(error) => return Err(ProgramFault::Read(name, Unread::from(error.kind()))),
-    };
-    match take_up_to(rt.alloc(), &mut file, most) {
+    match read_named(rt, name, most) {
         Ok(bytes) => Ok(bytes),
-        Err(TakeFault::Memory) => Err(ProgramFault::Run(RunFault::Memory)),
-        Err(TakeFault::Read) if is_folder(rt, name) => {
-            Err(ProgramFault::Read(name, Unread::Folder))
-        }
-        Err(TakeFault::Read) => Err(ProgramFault::Read(name, Unread::Failed)),
-    }
-}
-
-// Whether a name is a folder's, which opens as a file does and fails at the first read.
-fn is_folder<R: Files>(rt: &R, name: &str) -> bool {
-    match rt.metadata(name) {
-        Ok(metadata) => metadata.is_dir(),
-        Err(_) => false,
+        Err(ReadFault::Memory) => Err(ProgramFault::Memory),
+        Err(ReadFault::Unread(why)) => Err(ProgramFault::File(name, why)),
     }
 }
 
@@ -63,7 +39,7 @@ fn read_lines<'a, R: Files + AllocGlobal>(
 ) -> Result<Vec<u8>, ProgramFault<'a>> {
     let bytes = read_file(rt, name, LINES_BYTES)?;
     if bytes.len() > LINES_BYTES {
-        return Err(ProgramFault::Read(name, Unread::Long));
+        return Err(ProgramFault::File(name, Unread::Long));
     }
     Ok(bytes)
 }
@@ -111,10 +87,10 @@ fn end<'a, R: Eprint + AllocGlobal, W: Write + Drop>(
     let said = sentence_beside(rt.alloc(), writer.buffer(), inputs, status);
     match writer.flush() {
         Ok(()) => {}
-        Err(_) => return Err(ProgramFault::Run(RunFault::Write)),
+        Err(_) => return Err(ProgramFault::Write),
     }
     if let Some(said) = said {
-        tell(rt, &said);
+        say(rt, &said);
     }
     Ok(status)
 }
@@ -127,7 +103,7 @@ fn migrate<'a, R: Files + Print + Eprint + AllocGlobal>(
     let alloc = rt.alloc();
     let trace = read_lines(rt, options.trace)?;
     let Ok(mut writer) = BufWriter::new(alloc, io::writer(rt)) else {
-        return Err(ProgramFault::Run(RunFault::Memory));
+        return Err(ProgramFault::Memory);
     };
     let status = write_migrated(alloc, &trace, &mut writer)?;
     let (files, script) = (Vec::new(alloc), Vec::new(alloc));
@@ -154,7 +130,7 @@ fn report<'a, R: Files + Print + Eprint + AllocGlobal + Threads + Wait + Sync>(
     let trace = read_lines(rt, options.trace)?;
     let script = read_lines(rt, options.script)?;
     let Ok(mut writer) = BufWriter::new(alloc, io::writer(rt)) else {
-        return Err(ProgramFault::Run(RunFault::Memory));
+        return Err(ProgramFault::Memory);
     };
     let mut memory = RunMemory::new();
     let ran = if options.workers {
@@ -172,44 +148,10 @@ fn report<'a, R: Files + Print + Eprint + AllocGlobal + Threads + Wait + Sync>(
     end(rt, &mut writer, inputs, status)
 }
 
-// Says a sentence on the standard error, its bytes that are no text as replacement characters.
-fn tell<R: Eprint + AllocGlobal>(rt: &R, sentence: &[u8]) {
-    if let Ok(text) = String::from_utf8_lossy(rt.alloc(), sentence) {
-        let _ = eprintln!(rt; "rebug: {text}");
-    }
-}
-
-// Ends with a line on the standard error.
-fn fail<R: Eprint>(rt: &R, fault: ProgramFault<'_>) -> ExitCode {
-    let _ = eprintln!(rt; "rebug: {fault}");
-    ExitCode::from(FAILURE)
-}
-
-// Ends with the text about the command line on the standard error.
-fn explain<R: Eprint>(rt: &R, error: &clap::Error) -> ExitCode {
-    if error.kind() == ErrorKind::OutOfMemory {
-        return fail(rt, ProgramFault::Run(RunFault::Memory));
-    }
-    let _ = rt.eprint(error);
-    ExitCode::from(USAGE)
-}
-
-// The words of the command line, and the program's name first.
-fn words<R: Env + Alloc<A = Global>>(rt: &R) -> io::Result<Vec<String>> {
-    let words: Vec<String> = std::env::args(rt)?.collect(rt.alloc())?;
-    Ok(words)
-}
-
 fn main(rt: HostRuntime) -> ExitCode {
     let words = match words(&rt) {
         Ok(words) => words,
-        Err(error) if error.kind() == io::ErrorKind::InvalidData => {
-            let _ = eprintln!(rt;
-                "rebug: a word of the command line is no UTF-8 text; rename that file, or give another name for it"
-            );
-            return ExitCode::from(USAGE);
-        }
-        Err(_) => return fail(&rt, ProgramFault::Run(RunFault::Memory)),
+        Err(status) => return status,
     };
     let options = match options(rt.alloc(), &words) {
         Ok(options) => options,

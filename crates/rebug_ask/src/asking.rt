@@ -1,12 +1,12 @@
 //! Questions about a recording, a line of standard input each.
 ghost use Rattle.std.specs.Prelude.{◌≤◌, length};
 
-use crate::fault::ProgramFault;
 use crate::files::{Recording, place_of, read_recording};
 use crate::told::{leave, manifest_of, refuse, trace_of, write};
 use rev_answers::{Told, answer_json, answer_words, fault_json, opening_json, opening_words};
 use rev_desk::Desk;
 use rev_manifest::Manifest;
+use rev_program::ProgramFault;
 use rev_prompt::{Answer, LineFault, Question, Session, answer_to, question_of, texts_of};
 use rev_recording::{RecordingFault, open};
 use rev_script::turns_of;
@@ -145,6 +145,7 @@ enum Typed {
     Line,
     End,
     NoText,
+    Memory,
     Failed,
 }
 
@@ -154,6 +155,7 @@ fn read_typed<R: Input>(rt: &R, line: &mut String) -> Typed {
         Ok(0) => Typed::End,
         Ok(_) => Typed::Line,
         Err(error) if error.kind() == ErrorKind::InvalidData => Typed::NoText,
+        Err(error) if error.kind() == ErrorKind::OutOfMemory => Typed::Memory,
         Err(_) => Typed::Failed,
     }
 }
@@ -195,6 +197,7 @@ fn turn<R: Input + Print + AllocGlobal>(
         Typed::Line => answer_line(rt, session, desk, line.trim().as_bytes(), json),
         Typed::End => Ok(false),
         Typed::NoText => answer_no_text(rt, session, json),
+        Typed::Memory => Err(Ended::from(AllocError)),
         Typed::Failed => Err(Ended::Read),
     }
 }

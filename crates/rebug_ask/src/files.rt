@@ -1,28 +1,22 @@
-//! The files of a recording.
-use crate::fault::{ProgramFault, Unread};
-use rev_input::{Reader, TakeFault, take_up_to};
-use rev_recording::named_files;
+//! The files of a recording, which are read from its folder alone.
+use rev_paths::{Name, PathFault};
+use rev_program::{
+    ProgramFault, ReadFault, Unread, is_folder, push_visible, read_below, read_short, real_folder,
+};
+use rev_recording::Includes;
 use std::alloc::{AllocError, Global};
-use std::fs;
 use std::rt::Files;
 
-// The most bytes that the manifest and the files that it names may have together. With more the manifest is refused.
+// The most bytes that the manifest and the files that it includes may have together. With more the manifest is refused.
 const MANIFEST_BYTES: usize = 268_435_456;
-// The most bytes of a trace.
+// The most bytes of a trace, and of each file beside it.
 const TRACE_BYTES: usize = 1_073_741_824;
-// The most files that a manifest may name.
+// The most files that a manifest may include.
 const MOST_FILES: usize = 16_384;
-
-// Why bytes are not there.
-#[derive(Clone, Copy)]
-enum ReadFault {
-    Memory,
-    Unread(Unread),
-}
 
 /// The bytes of a recording.
 pub struct Recording {
-    /// The manifest and the files that it names, each with its name.
+    /// The manifest and the files that it includes, each with its name.
     pub files: Vec<(Vec<u8>, Vec<u8>)>,
     /// The trace.
     pub trace: Vec<u8>,
@@ -70,14 +64,6 @@ pub fn place_of<'a, R: Files>(rt: &R, recording: &'a str) -> Place<'a> {
     }
 }
 
-// Whether a name is a folder's.
-fn is_folder<R: Files>(rt: &R, name: &str) -> bool {
-    match rt.metadata(name) {
-        Ok(metadata) => metadata.is_dir(),
-        Err(_) => false,
-    }
-}
-
 // The path of a file of a recording.
 fn path_of(alloc: Global, place: Place<'_>, name: &str) -> Result<String, AllocError> {
     let mut path = String::new(alloc);
@@ -89,39 +75,58 @@ fn path_of(alloc: Global, place: Place<'_>, name: &str) -> Result<String, AllocE
     Ok(path)
 }
 
-// The bytes of a file, where there are no more than `most`, and else more than `most`, from its start.
+// The text of the folder of a recording.
+fn folder_of<R: Files + AllocGlobal>(rt: &R, place: Place<'_>) -> Result<Vec<u8>, ReadFault> {
+    let mut path = String::new(rt.alloc());
+    path.push_str(place.folder)?;
+    path.push_str(place.between)?;
+    real_folder(rt, &path)
+}
+
+// The bytes of a file of a recording, where there are no more than `most`.
 fn read_file<R: Files + AllocGlobal>(
     rt: &R,
     place: Place<'_>,
     name: &str,
     most: usize,
 ) -> Result<Vec<u8>, ReadFault> {
-    let Ok(path) = path_of(rt.alloc(), place, name) else {
-        return Err(ReadFault::Memory);
-    };
-    let mut file = match fs::open(rt, path.as_str()) {
-        Ok(file) => Reader(file),
-        Err(error) => return Err(ReadFault::Unread(Unread::from(error.kind()))),
-    };
-    match take_up_to(rt.alloc(), &mut file, most) {
-        Ok(bytes) => Ok(bytes),
-        Err(TakeFault::Memory) => Err(ReadFault::Memory),
-        Err(TakeFault::Read) if is_folder(rt, path.as_str()) => {
-            Err(ReadFault::Unread(Unread::Folder))
-        }
-        Err(TakeFault::Read) => Err(ReadFault::Unread(Unread::Failed)),
-    }
+    let folder = folder_of(rt, place)?;
+    let path = path_of(rt.alloc(), place, name)?;
+    read_short(rt, &folder, &path, most)
 }
 
-/// All bytes of a recording but for other names and times.
+/// The manifest, the files that it includes, and the trace of a recording.
+///
+/// # Errors
+/// [`ProgramFault::BuildFolder`] where there is a manifest and no trace; [`ProgramFault::Manifest`],
+/// [`ProgramFault::Included`] and [`ProgramFault::Trace`] with the reason where such a file is not read; else
+/// [`ProgramFault::Memory`].
 pub fn read_recording<'a, R: Files + AllocGlobal>(
     rt: &R,
     recording: &'a str,
     place: Place<'_>,
 ) -> Result<Recording, ProgramFault<'a>> {
+    let trace = read_trace(rt, recording, place);
+    if let Err(ProgramFault::Trace(recording, Unread::Missing)) = trace {
+        return Err(without_trace(rt, recording, place)?);
+    }
+    let trace = trace?;
     let files = read_manifest(rt, recording, place)?;
-    let trace = read_trace(rt, recording, place)?;
     Ok(Recording { files, trace })
+}
+
+// Why a folder without a trace is not read.
+fn without_trace<'a, R: Files + AllocGlobal>(
+    rt: &R,
+    recording: &'a str,
+    place: Place<'_>,
+) -> Result<ProgramFault<'a>, AllocError> {
+    let path = path_of(rt.alloc(), place, place.manifest)?;
+    match rt.metadata(&path) {
+        Ok(metadata) if metadata.is_file() => Ok(ProgramFault::BuildFolder(recording)),
+        Ok(_) => Ok(ProgramFault::Trace(recording, Unread::Missing)),
+        Err(error) => Ok(ProgramFault::Manifest(recording, Unread::from(error.kind()))),
+    }
 }
 
 // All bytes of a recording's trace.
@@ -131,106 +136,187 @@ fn read_trace<'a, R: Files + AllocGlobal>(
     place: Place<'_>,
 ) -> Result<Vec<u8>, ProgramFault<'a>> {
     match read_file(rt, place, "trace", TRACE_BYTES) {
-        Ok(bytes) if bytes.len() > TRACE_BYTES => {
-            Err(ProgramFault::Trace(recording, Unread::Long))
-        }
         Ok(bytes) => Ok(bytes),
         Err(ReadFault::Memory) => Err(ProgramFault::Memory),
         Err(ReadFault::Unread(why)) => Err(ProgramFault::Trace(recording, why)),
     }
 }
 
-/// The bytes of the file that has the times of a recording, where it is there and can be read.
-pub fn read_times<R: Files + AllocGlobal>(
+/// The bytes of a file that may stand beside a trace, where there are no more than `most`; none where it is not there.
+///
+/// # Errors
+/// [`ProgramFault::Beside`] where it is there and is not read: it is no regular file of the recording's folder, it is
+/// too long, or the system refuses it; else [`ProgramFault::Memory`].
+pub fn read_beside<'a, R: Files + AllocGlobal>(
     rt: &R,
+    recording: &'a str,
     place: Place<'_>,
-) -> Result<Option<Vec<u8>>, AllocError> {
-    match read_file(rt, place, "times", TRACE_BYTES) {
-        Ok(bytes) if bytes.len() <= TRACE_BYTES => Ok(Some(bytes)),
-        Ok(_bytes) => Ok(None),
-        Err(ReadFault::Memory) => Err(AllocError),
-        Err(ReadFault::Unread(_why)) => Ok(None),
+    name: &'static str,
+    most: usize,
+) -> Result<Option<Vec<u8>>, ProgramFault<'a>> {
+    match read_file(rt, place, name, most) {
+        Ok(bytes) => Ok(Some(bytes)),
+        Err(ReadFault::Memory) => Err(ProgramFault::Memory),
+        Err(ReadFault::Unread(Unread::Missing)) => Ok(None),
+        Err(ReadFault::Unread(why)) => Err(ProgramFault::Beside(recording, name, why)),
     }
 }
 
-/// The file of other names that stands beside a trace; empty where it cannot be read, since no answer rests on it.
-pub fn read_names<'a, R: Files + AllocGlobal>(
+// The bytes of a file that may stand beside a trace; empty where it is not there.
+fn read_or_empty<'a, R: Files + AllocGlobal>(
     rt: &R,
+    recording: &'a str,
+    place: Place<'_>,
+    name: &'static str,
+) -> Result<Vec<u8>, ProgramFault<'a>> {
+    match read_beside(rt, recording, place, name, TRACE_BYTES)? {
+        Some(bytes) => Ok(bytes),
+        None => Ok(Vec::new(rt.alloc())),
+    }
+}
+
+/// The file that has the times of a recording; empty where it is not there.
+///
+/// # Errors
+/// As [`read_beside`].
+pub fn read_times<'a, R: Files + AllocGlobal>(
+    rt: &R,
+    recording: &'a str,
     place: Place<'_>,
 ) -> Result<Vec<u8>, ProgramFault<'a>> {
-    match read_file(rt, place, "names", TRACE_BYTES) {
-        Ok(bytes) => Ok(bytes),
-        Err(ReadFault::Memory) => Err(ProgramFault::Memory),
-        Err(ReadFault::Unread(_)) => Ok(Vec::new(rt.alloc())),
-    }
+    read_or_empty(rt, recording, place, "times")
 }
 
-// The files that a file names and that are not among these.
-fn new_names(
-    alloc: Global,
-    files: &[(Vec<u8>, Vec<u8>)],
-    bytes: &[u8],
-) -> Result<Vec<Vec<u8>>, AllocError> {
-    let mut names: Vec<Vec<u8>> = Vec::new(alloc);
-    for name in named_files(alloc, bytes)? {
-        let is_there = files.iter().any(|file| file.0.as_slice() == name);
-        if !is_there && !names.iter().any(|other| other.as_slice() == name) {
-            names.push(Vec::from_slice(alloc, name)?)?;
-        }
-    }
-    Ok(names)
-}
-
-// Reads the files that the last of these files names, where they are there. What is not there is not given, and the
-// manifest is then refused where it is named.
-fn add_named<'a, R: Files + AllocGlobal>(
+/// The file of other names that stands beside a trace; empty where it is not there.
+///
+/// # Errors
+/// As [`read_beside`].
+pub fn read_names<'a, R: Files + AllocGlobal>(
     rt: &R,
+    recording: &'a str,
     place: Place<'_>,
+) -> Result<Vec<u8>, ProgramFault<'a>> {
+    read_or_empty(rt, recording, place, "names")
+}
+
+// A manifest, and where the files that it includes are read from.
+#[derive(Clone, Copy)]
+struct Source<'a, 'b> {
+    recording: &'a str,
+    place: Place<'b>,
+    folder: &'b [u8],
+}
+
+// The fault of a file that the manifest includes.
+fn not_included<'a>(
+    alloc: Global,
+    source: Source<'a, '_>,
+    name: &[u8],
+    why: Unread,
+) -> Result<ProgramFault<'a>, AllocError> {
+    let mut visible = Vec::new(alloc);
+    push_visible(&mut visible, name)?;
+    let mut text = String::new(alloc);
+    text.push_str(str::from_utf8(&visible).unwrap_or(""))?;
+    Ok(ProgramFault::Included(source.recording, text, why))
+}
+
+// The bytes of a file that the manifest includes; none where it is not there. The manifest is then refused where it
+// names the file.
+fn read_included<'a, R: Files + AllocGlobal>(
+    rt: &R,
+    source: Source<'a, '_>,
+    name: &[u8],
+    most: usize,
+) -> Result<Option<Vec<u8>>, ProgramFault<'a>> {
+    let Ok(text) = str::from_utf8(name) else {
+        return Err(not_included(rt.alloc(), source, name, Unread::NoText)?);
+    };
+    let path = path_of(rt.alloc(), source.place, text)?;
+    match read_below(rt, source.folder, &path, most) {
+        Ok(bytes) => Ok(Some(bytes)),
+        Err(ReadFault::Memory) => Err(ProgramFault::Memory),
+        Err(ReadFault::Unread(Unread::Missing)) => Ok(None),
+        Err(ReadFault::Unread(why)) => Err(not_included(rt.alloc(), source, name, why)?),
+    }
+}
+
+// Adds the files that the manifest includes, of which no more than so many bytes are left.
+fn add_included<'a, R: Files + AllocGlobal>(
+    rt: &R,
+    source: Source<'a, '_>,
+    includes: &mut Includes,
     files: &mut Vec<(Vec<u8>, Vec<u8>)>,
-    at: usize,
-    left: &mut usize,
+    most: usize,
 ) -> Result<(), ProgramFault<'a>> {
     let alloc = rt.alloc();
-    let names = match files.get(at) {
-        Some((_, bytes)) => new_names(alloc, files, bytes)?,
-        None => return Ok(()),
-    };
-    for name in names {
-        let Ok(text) = str::from_utf8(&name) else {
-            continue;
+    let mut left = most;
+    for _ in 0..MOST_FILES {
+        let Some(name) = includes.next_missing(alloc)? else {
+            break;
         };
-        match read_file(rt, place, text, *left) {
-            Ok(bytes) => {
-                *left = left.saturating_sub(bytes.len());
-                files.push((name, bytes))?;
-            }
-            Err(ReadFault::Memory) => return Err(ProgramFault::Memory),
-            Err(ReadFault::Unread(_)) => {}
+        let Some(bytes) = read_included(rt, source, name.as_bytes(), left)? else {
+            break;
+        };
+        let is_more = bytes.len() > left;
+        left = left.saturating_sub(bytes.len());
+        let text = Vec::from_slice(alloc, name.as_bytes())?;
+        if !is_more {
+            includes.give(alloc, name, &bytes)?;
+        }
+        files.push((text, bytes))?;
+        if is_more {
+            break;
         }
     }
     Ok(())
 }
 
-// The manifest of a recording and the files that it names, each with its name.
+// The manifest of a recording and the files that it includes, each with its name.
 fn read_manifest<'a, R: Files + AllocGlobal>(
     rt: &R,
     recording: &'a str,
     place: Place<'_>,
 ) -> Result<Vec<(Vec<u8>, Vec<u8>)>, ProgramFault<'a>> {
-    let alloc = rt.alloc();
-    let bytes = match read_file(rt, place, place.manifest, MANIFEST_BYTES) {
+    let folder = match folder_of(rt, place) {
+        Ok(folder) => folder,
+        Err(ReadFault::Memory) => return Err(ProgramFault::Memory),
+        Err(ReadFault::Unread(why)) => return Err(ProgramFault::Manifest(recording, why)),
+    };
+    let path = path_of(rt.alloc(), place, place.manifest)?;
+    let bytes = match read_below(rt, &folder, &path, MANIFEST_BYTES) {
         Ok(bytes) => bytes,
         Err(ReadFault::Memory) => return Err(ProgramFault::Memory),
         Err(ReadFault::Unread(why)) => return Err(ProgramFault::Manifest(recording, why)),
     };
-    let mut left = MANIFEST_BYTES.saturating_sub(bytes.len());
+    let source = Source {
+        recording,
+        place,
+        folder: &folder,
+    };
+    with_included(rt, source, bytes)
+}
+
+// A manifest of these bytes and the files that it includes, each with its name.
+fn with_included<'a, R: Files + AllocGlobal>(
+    rt: &R,
+    source: Source<'a, '_>,
+    bytes: Vec<u8>,
+) -> Result<Vec<(Vec<u8>, Vec<u8>)>, ProgramFault<'a>> {
+    let alloc = rt.alloc();
     let mut files = Vec::new(alloc);
-    files.push((Vec::from_slice(alloc, place.manifest.as_bytes())?, bytes))?;
-    for at in 0..MOST_FILES {
-        if at >= files.len() {
-            break;
-        }
-        add_named(rt, place, &mut files, at, &mut left)?;
+    let left = MANIFEST_BYTES.saturating_sub(bytes.len());
+    let includes = match Name::new(alloc, source.place.manifest.as_bytes()) {
+        Ok(name) if bytes.len() <= MANIFEST_BYTES => Some(Includes::new(alloc, name, &bytes)?),
+        Err(PathFault::Memory) => return Err(ProgramFault::Memory),
+        _ => None,
+    };
+    files.push((
+        Vec::from_slice(alloc, source.place.manifest.as_bytes())?,
+        bytes,
+    ))?;
+    if let Some(mut includes) = includes {
+        add_included(rt, source, &mut includes, &mut files, left)?;
     }
     Ok(files)
 }

@@ -1,74 +1,56 @@
 //! What a recording shows of races, as it is told.
+ghost use Rattle.rev_named.specs.Named.{AreLastComponents};
+
+use crate::printed::Entry;
 use indexmap::IndexMap;
 use rev_clashes::{SideFile, clashes};
 use rev_graph::Graph;
 use rev_hints::{change_hints, listed_path};
 use rev_history::History;
 use rev_manifest::Build;
+use rev_named::{LastComponents, last_components, named_outputs};
 use rev_paths::Name;
-use rev_races::{Race, path_of, races, stories, unlisted, without_deps};
-use rev_races_text::{Change, Clash, Happened, Kind, Run, Story, Told};
-use rev_waits::mend;
+use rev_races::{Race, path_of, races, stories};
+use rev_races_text::{
+    Change, Clash, Edge, Evidence, Failure, Kind, Printed, Run, Shown, Sources, Story, Suspect,
+    Told,
+};
+use rev_runs::runs;
+use rev_shown::first_output;
+use rev_suspects::{failures, suspects};
 use rev_witness::{find_witness, witness_text};
 use std::alloc::{AllocError, Global};
 
-// The kind of a race.
-fn kind_of(race: &Race) -> Kind {
-    match race.kind {
-        rev_races::Kind::Race => Kind::Race,
-        rev_races::Kind::Cycle => Kind::Cycle,
-        rev_races::Kind::Own => Kind::Own,
-    }
-}
-
-// What happened.
-fn happened_of(happened: rev_races::Happened) -> Happened {
-    match happened {
-        rev_races::Happened::Apart => Happened::Apart,
-        rev_races::Happened::Before => Happened::Before,
-        rev_races::Happened::AtOnce => Happened::AtOnce,
-        rev_races::Happened::HeldRecord => Happened::HeldRecord,
-        rev_races::Happened::HeldPlace => Happened::HeldPlace,
-        rev_races::Happened::Free => Happened::Free,
-    }
-}
-
-// When a command ran, where it did.
-fn run_of(run: Option<rev_races::Run>) -> Option<Run> {
-    match run {
-        Some(run) => Some(Run {
-            began: run.began,
-            ended: run.ended,
-        }),
-        None => None,
-    }
-}
-
-// What happened of a race. A command that lists its own output has no story of two.
-fn story_of(race: &Race, story: Option<&rev_races::Story>) -> Option<Story> {
-    match story {
-        Some(story) if race.maker != race.user => Some(Story {
-            happened: happened_of(story.happened),
-            maker: run_of(story.maker),
-            user: run_of(story.user),
-        }),
-        _ => None,
-    }
-}
-
-// What mends a race, where an order does. Of several races of one pair the first alone is told with its mend.
-fn mend_of<'a>(
-    alloc: Global,
-    graph: &'a Graph,
-    race: &Race,
-    before: Option<&Race>,
-) -> Result<Option<&'a Name>, AllocError> {
-    if let Some(before) = before {
-        if before.maker == race.maker && before.user == race.user {
-            return Ok(None);
+/// For each edge the last run of its command, where it ran.
+pub fn last_runs(alloc: Global, history: &History) -> Result<Vec<Option<Run>>, AllocError> {
+    let mut last = vec![in alloc; None; history.graph().edges() as usize]?;
+    for run in &runs(alloc, history)? {
+        if run.kept {
+            if let Some(place) = last.get_mut(run.edge as usize) {
+                *place = Some(Run {
+                    began: run.began,
+                    ended: run.ended,
+                });
+            }
         }
     }
-    mend(alloc, graph, race.user, race.maker)
+    Ok(last)
+}
+
+// What a recording shows of a race. A command that lists its own output has no story of two.
+fn evidence_of(race: &Race, story: Option<&Story>) -> Evidence {
+    match story {
+        Some(story) if race.maker != race.user => Evidence::Story(*story),
+        _ => Evidence::Own,
+    }
+}
+
+// What mends a race: the first output of its maker, unless an order is there already or makes a cycle.
+fn mend_of<'a>(graph: &'a Graph, kind: Kind, maker: u32) -> Option<&'a Name> {
+    match kind {
+        Kind::Race => first_output(graph, maker),
+        Kind::Cycle | Kind::Own => None,
+    }
 }
 
 /// The races of a history, whose manifest was read from these files.
@@ -79,42 +61,150 @@ pub fn told_races<'a>(
 ) -> Result<Vec<Told<'a>>, AllocError> {
     let races = races(alloc, history, files)?;
     let stories = stories(alloc, history, &races)?;
-    told_of(alloc, history, &races, &stories)
-}
-
-// The same of races with their stories.
-fn told_of<'a>(
-    alloc: Global,
-    history: &'a History,
-    races: &[Race],
-    stories: &[rev_races::Story],
-) -> Result<Vec<Told<'a>>, AllocError> {
     let mut told = Vec::new(alloc);
-    let mut before = None;
     for (place, race) in races.iter().enumerate() {
-        let mend = mend_of(alloc, history.graph(), race, before)?;
-        before = Some(race);
         if let Some(path) = path_of(history, race) {
             told.push(Told {
-                kind: kind_of(race),
+                kind: race.kind,
                 maker: race.maker,
                 user: race.user,
                 path,
-                story: story_of(race, stories.get(place)),
-                mend,
+                evidence: evidence_of(race, stories.get(place)),
+                mend: mend_of(history.graph(), race.kind, race.maker),
             })?;
         }
     }
     Ok(told)
 }
 
-/// The edges whose commands have no list of what they read, in rising number.
-pub fn not_judged(alloc: Global, history: &History) -> Result<Vec<u32>, AllocError> {
-    let mut edges = unlisted(alloc, history)?;
-    let without = without_deps(alloc, history.graph())?;
-    edges.extend_from_slice(&without)?;
-    edges.sort_unstable();
-    Ok(edges)
+// What an entry has of what a command printed.
+fn printed_in(entry: &Entry) -> Printed<'_> {
+    Printed {
+        text: &entry.text,
+        left: entry.left,
+    }
+}
+
+// For each edge the places of its entries, the last one first.
+fn places_of(alloc: Global, entries: &[Entry]) -> Result<IndexMap<u32, Vec<usize>>, AllocError> {
+    let mut places: IndexMap<u32, Vec<usize>> = IndexMap::new(alloc);
+    for (place, entry) in entries.iter().enumerate().rev() {
+        if let Some(of) = places.get_mut(&entry.edge) {
+            of.push(place)?;
+        } else {
+            places.insert(entry.edge, vec![in alloc; place]?)?;
+        }
+    }
+    Ok(places)
+}
+
+// The next entry of an edge.
+fn next_entry<'a>(
+    entries: &'a [Entry],
+    places: &mut IndexMap<u32, Vec<usize>>,
+    edge: u32,
+) -> Option<&'a Entry> {
+    let place = places.get_mut(&edge)?.pop()?;
+    entries.get(place)
+}
+
+// The outputs of suspects that a text names.
+fn names_in<'a>(
+    alloc: Global,
+    graph: &'a Graph,
+    components: &LastComponents,
+    entry: Option<&Entry>,
+    suspects: &[rev_suspects::Suspect],
+) -> Result<Vec<Option<&'a Name>>, AllocError>
+    requires { AreLastComponents graph.now.manifest.builds components.now }
+{
+    let mut makers = Vec::new(alloc);
+    if let Some(entry) = entry {
+        for suspect in suspects {
+            makers.push(suspect.maker)?;
+        }
+        return named_outputs(alloc, graph, components, &entry.text, &makers);
+    }
+    Ok(Vec::new(alloc))
+}
+
+// Tells a command that failed: what its error names goes to the races.
+fn told_failure<'a>(
+    alloc: Global,
+    graph: &'a Graph,
+    failure: &rev_suspects::Failure,
+    suspects: &[rev_suspects::Suspect],
+    names: &[Option<&'a Name>],
+    entry: Option<&'a Entry>,
+    races: &mut Vec<Told<'a>>,
+) -> Result<Failure<'a>, AllocError> {
+    let before = races.len();
+    let mut others = Vec::new(alloc);
+    for (place, suspect) in suspects.iter().enumerate() {
+        match names.get(place) {
+            Some(Some(path)) => races.push(Told {
+                kind: Kind::Race,
+                maker: suspect.maker,
+                user: failure.edge,
+                path: *path,
+                evidence: Evidence::Error(suspect.progress),
+                mend: mend_of(graph, Kind::Race, suspect.maker),
+            })?,
+            _ => others.push(Suspect {
+                maker: suspect.maker,
+                progress: suspect.progress,
+            })?,
+        }
+    }
+    Ok(Failure {
+        edge: failure.edge,
+        number: failure.number,
+        command: command_of(graph, failure.edge),
+        printed: entry.map(printed_in),
+        named: races.len().saturating_sub(before),
+        others,
+    })
+}
+
+// The command of an edge; empty where there is no such edge.
+fn command_of<'a>(graph: &'a Graph, edge: u32) -> &'a [u8] {
+    if edge < graph.edges() {
+        return graph.command(edge);
+    }
+    b""
+}
+
+/// The commands that failed in a history, whose manifest was read from these files, with what they printed. What their
+/// errors name is added to the races.
+pub fn told_failures<'a>(
+    alloc: Global,
+    history: &'a History,
+    files: &[Name],
+    entries: &'a [Entry],
+    races: &mut Vec<Told<'a>>,
+) -> Result<Vec<Failure<'a>>, AllocError> {
+    let mut told = Vec::new(alloc);
+    let failures = failures(alloc, history)?;
+    if failures.is_empty() {
+        return Ok(told);
+    }
+    let graph = history.graph();
+    let all = suspects(alloc, history, files)?;
+    let components = last_components(alloc, graph)?;
+    let mut places = places_of(alloc, entries)?;
+    let mut rest = all.as_slice();
+    for failure in &failures {
+        let count = rest
+            .iter()
+            .take_while(|suspect| suspect.failed == failure.number)
+            .count();
+        let (of, later) = rest.split_at(count);
+        rest = later;
+        let entry = next_entry(entries, &mut places, failure.edge);
+        let names = names_in(alloc, graph, &components, entry, of)?;
+        told.push(told_failure(alloc, graph, failure, of, &names, entry, races)?)?;
+    }
+    Ok(told)
 }
 
 // An edge by its number.
@@ -146,45 +236,49 @@ pub fn told_clashes(alloc: Global, builds: &[Build]) -> Result<Vec<Clash>, Alloc
     Ok(told)
 }
 
+// The edges of the first of some numbers.
+fn edges_of<'a>(
+    alloc: Global,
+    sources: &Sources<'a>,
+    numbers: &[u32],
+) -> Result<Vec<Edge<'a>>, AllocError> {
+    let mut edges = Vec::new(alloc);
+    for number in numbers.iter().take(Change::MOST) {
+        edges.push(sources.edge(*number))?;
+    }
+    Ok(edges)
+}
+
 /// The changed files that give hints. `names` has the other names of outputs.
 pub fn told_changes<'a>(
     alloc: Global,
     history: &'a History,
+    sources: &Sources<'a>,
     names: &IndexMap<Name, Name>,
 ) -> Result<Vec<Change<'a>>, AllocError> {
     let mut told = Vec::new(alloc);
     for hint in &change_hints(alloc, history, names)? {
         if let Some(path) = listed_path(history, hint.user, hint.place) {
             told.push(Change {
-                user: hint.user,
-                path,
-                number: hint.number,
-                ran: hint.ran.clone()?,
+                at: hint.number,
+                commands: hint.ran.len() as u64,
+                path: Shown(path.as_bytes()),
+                ran: edges_of(alloc, sources, &hint.ran)?,
+                user: sources.edge(hint.user),
             })?;
         }
     }
     Ok(told)
 }
 
-/// The trace of a build from nothing in which the user of a race starts before its maker. Races are counted from 1. None
-/// where there is no race of that number, or a command that lists its own output.
+/// The trace of a build from nothing in which a user starts before a maker. None where the user waits for it.
 pub fn witness_of(
     alloc: Global,
     graph: &Graph,
-    races: &[Told<'_>],
-    number: u64,
+    user: u32,
+    maker: u32,
 ) -> Result<Option<Vec<u8>>, AllocError> {
-    let Some(place) = number.checked_sub(1) else {
-        return Ok(None);
-    };
-    if place >= races.len() as u64 {
-        return Ok(None);
-    }
-    let race = &races[place as usize];
-    if race.kind == Kind::Own {
-        return Ok(None);
-    }
-    match find_witness(alloc, graph, race.user, race.maker)? {
+    match find_witness(alloc, graph, user, maker)? {
         Some(found) => Ok(Some(witness_text(alloc, &found)?)),
         None => Ok(None),
     }

@@ -4,12 +4,14 @@ ghost use Rattle.rev_graph.specs.Graph.{successor_lists};
 ghost use Rattle.rev_ranks.specs.Graph.{graph_of};
 ghost use Rattle.rev_waits.specs.Waits.{phony_lists};
 
-use indexmap::IndexMap;
+use indexmap::{IndexMap, IndexSet};
 use rev_dirty::deps_record;
 use rev_fields::{LineFault, path, read_fields};
+use rev_graph::Graph;
 use rev_history::History;
 use rev_paths::Name;
-use rev_races_text::Hint;
+use rev_races::unlisted;
+use rev_races_text::{Hint, Shown, Sources};
 use rev_waits::{makers, phony_steps, steps, waited_for};
 use std::alloc::{AllocError, Global};
 
@@ -72,39 +74,85 @@ fn is_marked(marks: &[bool], edge: u32) -> bool {
     }
 }
 
+// The marks of some edges.
+fn marks_of(alloc: Global, count: u32, edges: &[u32]) -> Result<Vec<bool>, AllocError> {
+    let mut marks = vec![in alloc; false; count as usize]?;
+    for edge in edges {
+        if let Some(mark) = marks.get_mut(*edge as usize) {
+            *mark = true;
+        }
+    }
+    Ok(marks)
+}
+
+// The edges that make one of the files that a manifest was read from. They run before all else.
+fn makers_of_files(
+    alloc: Global,
+    graph: &Graph,
+    phony: &[Vec<u32>],
+    files: &[Name],
+) -> Result<Vec<bool>, AllocError>
+    requires { graph_of phony.now ≡ phony_lists graph.now.manifest.builds }
+{
+    let mut edges = Vec::new(alloc);
+    for file in files {
+        for maker in &makers(alloc, graph, phony, file)? {
+            edges.push(*maker)?;
+        }
+    }
+    marks_of(alloc, graph.edges(), &edges)
+}
+
+/// What hints by other names are looked for in.
+#[derive(Clone, Copy)]
+struct Search<'a, 'b> {
+    history: &'a History,
+    names: &'a IndexMap<Name, Name>,
+    sources: &'b Sources<'a>,
+    // The edges that make the manifest, and those without a list.
+    early: &'b [bool],
+    unlisted: &'b [bool],
+}
+
 // Adds the hints of an edge: each listed path that is another name of what an edge makes for which it does not wait.
 fn add_hints<'a>(
     alloc: Global,
-    history: &'a History,
-    names: &'a IndexMap<Name, Name>,
+    search: &Search<'a, '_>,
     steps: &[Vec<u32>],
     phony: &[Vec<u32>],
     user: u32,
     hints: &mut Vec<Hint<'a>>,
 ) -> Result<(), AllocError>
-    requires user { user < length history.now.timeline.manifest.builds }
-    requires steps { graph_of steps.now ≡ successor_lists history.now.timeline.manifest.builds }
-    requires phony { graph_of phony.now ≡ phony_lists history.now.timeline.manifest.builds }
+    requires user { user < length search.now.history.now.timeline.manifest.builds }
+    requires steps { graph_of steps.now ≡ successor_lists search.now.history.now.timeline.manifest.builds }
+    requires phony { graph_of phony.now ≡ phony_lists search.now.history.now.timeline.manifest.builds }
 {
-    let graph = history.graph();
-    let Some(record) = deps_record(graph, history.cells(), user) else {
+    let graph = search.history.graph();
+    let Some(record) = deps_record(graph, search.history.cells(), user) else {
         return Ok(());
     };
     let paths = record.paths.as_slice();
-    if !has_other(names, paths) {
+    if is_marked(search.unlisted, user) || !has_other(search.names, paths) {
         return Ok(());
     }
     let waited = waited_for(alloc, graph, steps, user)?;
+    let mut seen = IndexSet::new(alloc);
     for path in paths {
-        if let Some(output) = names.get(path) {
-            for maker in &makers(alloc, graph, phony, output)? {
-                if *maker != user && !is_marked(&waited, *maker) {
-                    hints.push(Hint {
-                        user,
-                        path,
-                        output,
-                        maker: *maker,
-                    })?;
+        if let Some(output) = search.names.get(path) {
+            if seen.insert(path.as_bytes())? {
+                for maker in &makers(alloc, graph, phony, output)? {
+                    let maker = *maker;
+                    if maker != user
+                        && !is_marked(&waited, maker)
+                        && !is_marked(search.early, maker)
+                    {
+                        hints.push(Hint {
+                            maker: search.sources.edge(maker),
+                            output: Shown(output.as_bytes()),
+                            path: Shown(path.as_bytes()),
+                            user: search.sources.edge(user),
+                        })?;
+                    }
                 }
             }
         }
@@ -112,11 +160,14 @@ fn add_hints<'a>(
     Ok(())
 }
 
-/// The hints of a history, in the order of their users and of the paths in what these list.
+/// The hints of a history, whose manifest was read from these files, in the order of their users and of the paths in
+/// what these list. What makes one of the files runs before all else. An edge lists nothing where races do not judge it.
 pub fn hints_in<'a>(
     alloc: Global,
     history: &'a History,
+    files: &[Name],
     names: &'a IndexMap<Name, Name>,
+    sources: &Sources<'a>,
 ) -> Result<Vec<Hint<'a>>, AllocError> {
     let mut hints = Vec::new(alloc);
     if names.is_empty() {
@@ -125,8 +176,17 @@ pub fn hints_in<'a>(
     let graph = history.graph();
     let steps = steps(alloc, graph)?;
     let phony = phony_steps(alloc, graph)?;
+    let early = makers_of_files(alloc, graph, &phony, files)?;
+    let unlisted = marks_of(alloc, graph.edges(), &unlisted(alloc, history)?)?;
+    let search = Search {
+        history,
+        names,
+        sources,
+        early: &early,
+        unlisted: &unlisted,
+    };
     for user in 0..graph.edges() {
-        add_hints(alloc, history, names, &steps, &phony, user, &mut hints)?;
+        add_hints(alloc, &search, &steps, &phony, user, &mut hints)?;
     }
     Ok(hints)
 }

@@ -1,143 +1,248 @@
 //! What mends the races of a recording: a patch of its manifest, or what to tell the generator that wrote it.
+use crate::statements::{Statement, patch_name, push_patches, statement_at, statements_of};
 use rev_clashes::SideFile;
-use rev_graph::{Graph, GraphFault};
+use rev_graph::Graph;
 use rev_manifest::Manifest;
-use rev_patch::{Addition, Author, Change, author_of, changed_text, changes_of, patch_text};
+use rev_patch::{Author, Change, author_of};
+use rev_patched::{Order, patch_for, writable_output};
+use rev_paths::Name;
 use rev_races_text::{Clash, Kind, Sources, Told, push_clash, push_edge, push_placed};
 use rev_shown::push_shown;
+use rev_waits::{steps, waited_for};
 use std::alloc::{AllocError, Global};
 
-// The races that an order mends in a file, as the line of the user's statement and the place among the races, in rising
-// order.
-fn places_in(
+// The most mends that are tried one after the other where all of them together make a cycle.
+const MOST_TRIED: usize = 64;
+
+// An order that mends races: the user's build statement by its file and line, a user, and the maker.
+#[derive(Clone, Copy, PartialEq, Eq, PartialOrd, Ord)]
+struct Mend {
+    file: u64,
+    line: u64,
+    maker: u32,
+    user: u32,
+}
+
+// Why a mend is not in the patch.
+#[derive(Clone, Copy)]
+enum Left {
+    // No output of the maker can be written on a build line.
+    Unwritable,
+    // The statement stands in a file that `patch` does not find.
+    Elsewhere,
+    // The statement makes another command too, for which the maker waits.
+    Shared,
+    // With the orders before it a command waits for itself.
+    Cycle,
+}
+
+// The mends of races, each statement and maker once, by file and line.
+fn mends_of(
     alloc: Global,
     sources: &Sources<'_>,
     races: &[Told<'_>],
-    file: u64,
-) -> Result<Vec<[u64; 2]>, AllocError> {
-    let mut places = Vec::new(alloc);
-    for (number, race) in races.iter().enumerate() {
+) -> Result<Vec<Mend>, AllocError> {
+    let mut all = Vec::new(alloc);
+    for race in races {
         if let (Some(_), Some(build)) = (race.mend, sources.builds.get(race.user as usize)) {
-            if build.file() == file {
-                places.push([build.line(), number as u64])?;
-            }
+            all.push(Mend {
+                file: build.file(),
+                line: build.line(),
+                maker: race.maker,
+                user: race.user,
+            })?;
         }
     }
-    places.sort_unstable();
-    Ok(places)
+    all.sort_unstable();
+    once(alloc, &all)
 }
 
-// What is added to a file, in the order of its lines.
-fn additions_to<'a>(
-    alloc: Global,
-    sources: &Sources<'a>,
-    races: &[Told<'a>],
-    file: u64,
-) -> Result<Vec<Addition<'a>>, AllocError> {
-    let mut additions = Vec::new(alloc);
-    for place in &places_in(alloc, sources, races, file)? {
-        let [line, number] = *place;
-        if let Some(race) = races.get(number as usize) {
-            if let Some(mend) = race.mend {
-                additions.push(Addition {
-                    line,
-                    path: mend.as_bytes(),
-                })?;
-            }
+// Of the mends of one statement and one maker, which stand beside each other, the first.
+fn once(alloc: Global, all: &[Mend]) -> Result<Vec<Mend>, AllocError> {
+    let mut mends: Vec<Mend> = Vec::new(alloc);
+    for mend in all {
+        let is_there = mends.last().is_some_and(|last| {
+            last.file == mend.file && last.line == mend.line && last.maker == mend.maker
+        });
+        if !is_there {
+            mends.push(*mend)?;
         }
     }
-    Ok(additions)
+    Ok(mends)
 }
 
-// The files with their changed lines.
-fn changed_files(
+// Whether an edge waits for one of those of a statement, or is one.
+fn waits_back(
     alloc: Global,
-    files: &[(Vec<u8>, Vec<u8>)],
-    changes: &[Vec<Change>],
-) -> Result<Vec<(Vec<u8>, Vec<u8>)>, AllocError> {
-    let mut changed = Vec::new(alloc);
-    for ((name, text), changes) in files.iter().zip(changes.iter()) {
-        changed.push((name.clone()?, changed_text(alloc, text, changes)?))?;
-    }
-    Ok(changed)
-}
-
-// Whether a manifest is read from files, and no edge of it waits for itself.
-fn is_sound(alloc: Global, files: &[(Vec<u8>, Vec<u8>)]) -> Result<bool, AllocError> {
-    let manifest: Manifest = match rev_manifest::read(alloc, files) {
-        Ok(manifest) => manifest,
-        Err(rev_manifest::ReadFault::Memory) => return Err(AllocError),
-        Err(rev_manifest::ReadFault::Manifest(_)) => return Ok(false),
-    };
-    has_graph(alloc, &manifest)
-}
-
-// Whether no edge of a manifest waits for itself.
-fn has_graph(alloc: Global, manifest: &Manifest) -> Result<bool, AllocError> {
-    match Graph::build(alloc, manifest) {
-        Ok(_) => Ok(true),
-        Err(fault) => match &fault {
-            GraphFault::Memory => Err(AllocError),
-            _ => Ok(false),
-        },
-    }
-}
-
-// What is changed in each file.
-fn all_changes(
-    alloc: Global,
-    sources: &Sources<'_>,
-    races: &[Told<'_>],
-) -> Result<Vec<Vec<Change>>, AllocError> {
-    let mut changes = Vec::new(alloc);
-    for (file, (_, bytes)) in sources.files.iter().enumerate() {
-        let additions = additions_to(alloc, sources, races, file as u64)?;
-        changes.push(changes_of(alloc, bytes, &additions)?)?;
-    }
-    Ok(changes)
-}
-
-// Whether the files are sound with their changed lines.
-fn are_sound(
-    alloc: Global,
-    files: &[(Vec<u8>, Vec<u8>)],
-    changes: &[Vec<Change>],
+    graph: &Graph,
+    maker: u32,
+    statement: &[Statement],
 ) -> Result<bool, AllocError> {
-    let changed = changed_files(alloc, files, changes)?;
-    is_sound(alloc, &changed)
+    if maker >= graph.edges() {
+        return Ok(false);
+    }
+    let steps = steps(alloc, graph)?;
+    let waited = waited_for(alloc, graph, &steps, maker)?;
+    for other in statement {
+        if other.edge == maker || waited.get(other.edge as usize).copied().unwrap_or(false) {
+            return Ok(true);
+        }
+    }
+    Ok(false)
 }
 
-// Adds the patch of the files.
-fn push_patch(
-    alloc: Global,
-    text: &mut Vec<u8>,
-    sources: &Sources<'_>,
-    races: &[Told<'_>],
-) -> Result<(), AllocError> {
-    let changes = all_changes(alloc, sources, races)?;
-    if !are_sound(alloc, sources.files, &changes)? {
-        return text.extend_from_slice(
-            b"# no patch: with all these orders together a command waits for itself; add them one by one\n",
-        );
-    }
-    for ((name, bytes), changes) in sources.files.iter().zip(changes.iter()) {
-        let patch = patch_text(alloc, name, bytes, changes)?;
-        text.extend_from_slice(&patch)?;
-    }
-    Ok(())
+// What a patch is made of: the files, the manifest that they say, its graph, and the statements of its edges.
+#[derive(Clone, Copy)]
+struct Patched<'a> {
+    sources: &'a Sources<'a>,
+    manifest: &'a Manifest,
+    graph: &'a Graph,
+    statements: &'a [Statement],
 }
 
-// Adds what a generator is to be told of one race.
+impl<'a> Patched<'a> {
+    // Why a mend is in no patch, whatever other mends there are.
+    fn left(self, alloc: Global, mend: Mend) -> Result<Option<Left>, AllocError> {
+        if self.output(mend.maker).is_none() {
+            return Ok(Some(Left::Unwritable));
+        }
+        if !self.is_found(alloc, mend.file)? {
+            return Ok(Some(Left::Elsewhere));
+        }
+        let statement = statement_at(self.statements, mend.file, mend.line);
+        if statement.len() > 1 && waits_back(alloc, self.graph, mend.maker, statement)? {
+            return Ok(Some(Left::Shared));
+        }
+        Ok(None)
+    }
+
+    // The output of an edge that a line of the patch names.
+    fn output(self, edge: u32) -> Option<&'a Name> {
+        writable_output(self.sources.builds.get(edge as usize)?)
+    }
+
+    // Whether `patch` finds a file.
+    fn is_found(self, alloc: Global, file: u64) -> Result<bool, AllocError> {
+        match self.sources.files.get(file as usize) {
+            Some((name, _)) => Ok(patch_name(alloc, name)?.is_some()),
+            None => Ok(false),
+        }
+    }
+
+    // Adds the orders of a mend, one for each edge that its statement makes.
+    fn push_orders(self, orders: &mut Vec<Order<'a>>, mend: Mend) -> Result<(), AllocError> {
+        let Some(path) = self.output(mend.maker) else {
+            return Ok(());
+        };
+        for statement in statement_at(self.statements, mend.file, mend.line) {
+            orders.push(Order {
+                edge: statement.edge,
+                path,
+            })?;
+        }
+        Ok(())
+    }
+
+    // The orders of some mends.
+    fn orders(self, alloc: Global, mends: &[Mend]) -> Result<Vec<Order<'a>>, AllocError> {
+        let mut orders = Vec::new(alloc);
+        for mend in mends {
+            self.push_orders(&mut orders, *mend)?;
+        }
+        Ok(orders)
+    }
+
+    // The changed lines for some mends; none where with all of them a command waits for itself.
+    fn changes(
+        self,
+        alloc: Global,
+        mends: &[Mend],
+    ) -> Result<Option<Vec<Vec<Change>>>, AllocError> {
+        let orders = self.orders(alloc, mends)?;
+        patch_for(alloc, self.sources.files, self.manifest, &orders)
+    }
+
+    // Adds why a mend is not in the patch.
+    fn push_left(self, text: &mut Vec<u8>, mend: Mend, left: Left) -> Result<(), AllocError> {
+        text.extend_from_slice(b"# not in this patch: ")?;
+        push_placed(text, self.sources, mend.user)?;
+        text.extend_from_slice(b" is to wait for ")?;
+        push_edge(text, self.sources, mend.maker)?;
+        text.extend_from_slice(match left {
+            Left::Unwritable => b", no output of which can be written on a build line\n",
+            Left::Elsewhere =>
+                b"; patch does not find that file, so add it to the statement there\n",
+            Left::Shared => b", which waits for another command of the same statement\n",
+            Left::Cycle => b"; with the orders below a command would wait for itself\n",
+        })
+    }
+
+    // The mends that a patch can have each by itself; adds why the others are in none.
+    fn takable(
+        self,
+        alloc: Global,
+        text: &mut Vec<u8>,
+        mends: &[Mend],
+    ) -> Result<Vec<Mend>, AllocError> {
+        let mut taken = Vec::new(alloc);
+        for mend in mends {
+            match self.left(alloc, *mend)? {
+                Some(left) => self.push_left(text, *mend, left)?,
+                None => taken.push(*mend)?,
+            }
+        }
+        Ok(taken)
+    }
+
+    // The mends that a patch can have together, each where it can stand beside those before it; adds why the others are
+    // not in it.
+    fn together(
+        self,
+        alloc: Global,
+        text: &mut Vec<u8>,
+        mends: &[Mend],
+    ) -> Result<Vec<Mend>, AllocError> {
+        let mut taken = Vec::new(alloc);
+        for mend in mends {
+            taken.push(*mend)?;
+            if self.changes(alloc, &taken)?.is_none() {
+                let _refused = taken.pop();
+                self.push_left(text, *mend, Left::Cycle)?;
+            }
+        }
+        Ok(taken)
+    }
+
+    // Adds the patch of the files.
+    fn push(self, alloc: Global, text: &mut Vec<u8>, mends: &[Mend]) -> Result<(), AllocError> {
+        let mends = self.takable(alloc, text, mends)?;
+        if let Some(changes) = self.changes(alloc, &mends)? {
+            return push_patches(alloc, text, self.sources.files, &changes);
+        }
+        if mends.len() > MOST_TRIED {
+            return text.extend_from_slice(
+                b"# no patch: with all these orders together a command waits for itself; add them one by one\n",
+            );
+        }
+        let mends = self.together(alloc, text, &mends)?;
+        match self.changes(alloc, &mends)? {
+            Some(changes) => push_patches(alloc, text, self.sources.files, &changes),
+            None => Ok(()),
+        }
+    }
+}
+
+// Adds what a generator is to be told of one mend.
 fn push_hint(
     text: &mut Vec<u8>,
     sources: &Sources<'_>,
-    race: &Told<'_>,
+    mend: Mend,
     author: Author,
 ) -> Result<(), AllocError> {
     text.extend_from_slice(b"# ")?;
-    push_placed(text, sources, race.user)?;
+    push_placed(text, sources, mend.user)?;
     text.extend_from_slice(b" is to wait for ")?;
-    push_edge(text, sources, race.maker)?;
+    push_edge(text, sources, mend.maker)?;
     match author {
         Author::CMake => text.extend_from_slice(
             b": add_dependencies(U M), where target U has the first and target M makes the second\n",
@@ -153,7 +258,7 @@ fn push_hint(
 fn push_hints(
     text: &mut Vec<u8>,
     sources: &Sources<'_>,
-    races: &[Told<'_>],
+    mends: &[Mend],
     author: Author,
 ) -> Result<(), AllocError> {
     text.extend_from_slice(b"# no patch: the manifest is generated by ")?;
@@ -162,10 +267,8 @@ fn push_hints(
         Author::Meson => b"Meson; in meson.build:\n",
         _ => b"what its first comment names; there:\n",
     })?;
-    for race in races {
-        if race.mend.is_some() {
-            push_hint(text, sources, race, author)?;
-        }
+    for mend in mends {
+        push_hint(text, sources, *mend, author)?;
     }
     Ok(())
 }
@@ -204,13 +307,35 @@ fn push_clashes(
     Ok(())
 }
 
+// Adds the patch of a manifest that nobody generated.
+fn push_patch(
+    alloc: Global,
+    text: &mut Vec<u8>,
+    sources: &Sources<'_>,
+    graph: &Graph,
+    manifest: &Manifest,
+    mends: &[Mend],
+) -> Result<(), AllocError> {
+    let statements = statements_of(alloc, sources.builds)?;
+    let patched = Patched {
+        sources,
+        manifest,
+        graph,
+        statements: &statements,
+    };
+    patched.push(alloc, text, mends)
+}
+
 /// What mends races, where an order does: a patch of the manifest's files, or, where a generator wrote them, what it is
-/// to be told. A line that is no part of the patch begins with `#`: what no order mends, clashes among it.
+/// to be told. A line that is no part of the patch begins with `#`: what no order mends, clashes among it, and which
+/// orders the patch cannot have. The patched files say the manifest with the orders of the patch and nothing else.
 ///
 /// # Errors
 /// [`AllocError`] only where an allocation was refused.
 pub fn mend_text(
     alloc: Global,
+    manifest: &Manifest,
+    graph: &Graph,
     sources: &Sources<'_>,
     races: &[Told<'_>],
     clashes: &[Clash],
@@ -218,7 +343,8 @@ pub fn mend_text(
     let mut text = Vec::new(alloc);
     push_others(&mut text, sources, races)?;
     push_clashes(&mut text, sources, clashes)?;
-    if !races.iter().any(|race| race.mend.is_some()) {
+    let mends = mends_of(alloc, sources, races)?;
+    if mends.is_empty() {
         return Ok(text);
     }
     let author = match sources.files.first() {
@@ -226,9 +352,9 @@ pub fn mend_text(
         None => Author::Hand,
     };
     if author == Author::Hand {
-        push_patch(alloc, &mut text, sources, races)?;
+        push_patch(alloc, &mut text, sources, graph, manifest, &mends)?;
     } else {
-        push_hints(&mut text, sources, races, author)?;
+        push_hints(&mut text, sources, &mends, author)?;
     }
     Ok(text)
 }

@@ -1,10 +1,9 @@
 //! The picture of a recording.
 ghost use Rattle.std.specs.Prelude.{◌≡◌, ◌+◌, ◌≤◌, length};
 
-use crate::fault::ProgramFault;
-use crate::files::{Place, Recording, place_of, read_recording};
+use crate::files::{Recording, place_of, read_recording, read_times};
 use crate::page::{HEAD, TAIL};
-use crate::times::times_of;
+use crate::times::times_in;
 use crate::told::{leave, manifest_of, names_of, refuse, say, trace_of, write};
 use rev_asking::Asked;
 use rev_bars::{Drawing, push_drawing};
@@ -12,15 +11,13 @@ use rev_desk::Desk;
 use rev_fields::number;
 use rev_history::History;
 use rev_manifest::Manifest;
+use rev_program::{ProgramFault, USAGE};
 use rev_races::{Race, Story, races, stories};
 use rev_recording::{RecordingFault, open, replay};
 use rev_trace::Trace;
 use std::alloc::{AllocError, Global};
 use std::fs;
 use std::rt::Files;
-
-// The status of a wish that was not understood.
-const USAGE: u8 = 2;
 
 // How a picture is wanted.
 #[derive(Clone, Copy)]
@@ -68,15 +65,15 @@ fn text_of(alloc: Global, drawing: &Drawing<'_>, html: bool) -> Result<Vec<u8>, 
 }
 
 // The picture of a history with its races.
-fn drawn_races<R: Files + AllocGlobal>(
-    rt: &R,
-    place: Place<'_>,
+fn drawn_races(
+    alloc: Global,
+    times: &[u8],
     desk: &Desk,
     races: &[Race],
     stories: &[Story],
     wish: Wish,
 ) -> Result<Vec<u8>, AllocError> {
-    let times = times_of(rt, place, desk)?;
+    let times = times_in(alloc, desk, times)?;
     let drawing = Drawing {
         history: desk.history(),
         races,
@@ -84,26 +81,26 @@ fn drawn_races<R: Files + AllocGlobal>(
         times: &times,
         event: wish.event,
     };
-    text_of(rt.alloc(), &drawing, wish.html)
+    text_of(alloc, &drawing, wish.html)
 }
 
 // The picture of the desk of a recording that was replayed.
-fn drawn_desk<R: Files + AllocGlobal>(
-    rt: &R,
-    place: Place<'_>,
+fn drawn_desk(
+    alloc: Global,
+    times: &[u8],
     files: &[(Vec<u8>, Vec<u8>)],
     desk: &Desk,
     wish: Wish,
 ) -> Result<Vec<u8>, AllocError> {
-    let races = races_of(rt.alloc(), desk.history(), files)?;
-    let stories = stories(rt.alloc(), desk.history(), &races)?;
-    drawn_races(rt, place, desk, &races, &stories, wish)
+    let races = races_of(alloc, desk.history(), files)?;
+    let stories = stories(alloc, desk.history(), &races)?;
+    drawn_races(alloc, times, desk, &races, &stories, wish)
 }
 
 // The picture of a trace, by the desk of its recording.
-fn drawn_from<R: Files + AllocGlobal>(
-    rt: &R,
-    place: Place<'_>,
+fn drawn_from(
+    alloc: Global,
+    times: &[u8],
     files: &[(Vec<u8>, Vec<u8>)],
     trace: &Trace,
     desk: &mut Desk,
@@ -112,20 +109,20 @@ fn drawn_from<R: Files + AllocGlobal>(
     requires few { length trace.now.lanes.items ≤ Trace.MAX_LANES }
     requires lanes { desk.old.lanes ≡ length trace.now.lanes.items + 1 }
 {
-    replay(rt.alloc(), desk, trace)?;
+    replay(alloc, desk, trace)?;
     if !is_there(desk.history(), wish.event) {
         return Ok(Made::NoEvent(desk.history().last()));
     }
-    match drawn_desk(rt, place, files, desk, wish) {
+    match drawn_desk(alloc, times, files, desk, wish) {
         Ok(text) => Ok(Made::Text(text)),
         Err(_) => Err(RecordingFault::Memory),
     }
 }
 
 // The picture of a trace that was read.
-fn drawn_trace<R: Files + AllocGlobal>(
-    rt: &R,
-    place: Place<'_>,
+fn drawn_trace(
+    alloc: Global,
+    times: &[u8],
     files: &[(Vec<u8>, Vec<u8>)],
     manifest: &Manifest,
     trace: &Trace,
@@ -133,22 +130,22 @@ fn drawn_trace<R: Files + AllocGlobal>(
 ) -> Result<Made, RecordingFault>
     requires { length trace.now.lanes.items ≤ Trace.MAX_LANES }
 {
-    let mut desk = open(rt.alloc(), manifest, trace)?;
-    let drawn = drawn_from(rt, place, files, trace, &mut desk, wish);
+    let mut desk = open(alloc, manifest, trace)?;
+    let drawn = drawn_from(alloc, times, files, trace, &mut desk, wish);
     leave(desk);
     drawn
 }
 
 // The picture of the bytes of a recording.
-fn picture_of_bytes<R: Files + AllocGlobal>(
-    rt: &R,
-    place: Place<'_>,
+fn picture_of_bytes(
+    alloc: Global,
+    times: &[u8],
     read: &Recording,
     wish: Wish,
 ) -> Result<Made, RecordingFault> {
-    let manifest = manifest_of(rt.alloc(), &read.files)?;
-    let trace = trace_of(rt.alloc(), &read.trace)?;
-    drawn_trace(rt, place, &read.files, &manifest, &trace, wish)
+    let manifest = manifest_of(alloc, &read.files)?;
+    let trace = trace_of(alloc, &read.trace)?;
+    drawn_trace(alloc, times, &read.files, &manifest, &trace, wish)
 }
 
 // What is wished for, or a sentence where it is not understood.
@@ -206,7 +203,8 @@ fn picture_wished<'a, R: Files + Print + Eprint + AllocGlobal>(
 ) -> Result<u8, ProgramFault<'a>> {
     let place = place_of(rt, asked.recording);
     let read = read_recording(rt, asked.recording, place)?;
-    match picture_of_bytes(rt, place, &read, wish) {
+    let times = read_times(rt, asked.recording, place)?;
+    match picture_of_bytes(rt.alloc(), &times, &read, wish) {
         Ok(Made::Text(text)) => {
             put(rt, asked.out, &text)?;
             Ok(0)

@@ -1,10 +1,8 @@
 //! When the events of a recording happened.
-use crate::files::{Place, read_times};
 use rev_commands::Which;
 use rev_desk::Desk;
 use rev_fields::number;
 use std::alloc::{AllocError, Global};
-use std::rt::Files;
 
 // The first line of the file.
 const HEAD: &[u8] = b"rebug-times 1";
@@ -31,8 +29,8 @@ fn time_of(desk: &Desk, line: &[u8]) -> Option<(u32, u32)> {
     }
 }
 
-// The times that the bytes of the file give, by the numbers of events; nothing where they give none.
-fn times_in(alloc: Global, desk: &Desk, bytes: &[u8]) -> Result<Vec<Option<u32>>, AllocError> {
+/// The times that the bytes of the file `times` give, by the numbers of events; nothing where they give none.
+pub fn times_in(alloc: Global, desk: &Desk, bytes: &[u8]) -> Result<Vec<Option<u32>>, AllocError> {
     let last = desk.history().last() as usize;
     let mut times = vec![in alloc; None; last.saturating_add(1)]?;
     let mut is_known = false;
@@ -52,16 +50,4 @@ fn times_in(alloc: Global, desk: &Desk, bytes: &[u8]) -> Result<Vec<Option<u32>>
         return Ok(times);
     }
     Ok(Vec::new(alloc))
-}
-
-/// The times of a recording's events, where the file `times` lies beside its trace.
-pub fn times_of<R: Files + AllocGlobal>(
-    rt: &R,
-    place: Place<'_>,
-    desk: &Desk,
-) -> Result<Vec<Option<u32>>, AllocError> {
-    match read_times(rt, place)? {
-        Some(bytes) => times_in(rt.alloc(), desk, &bytes),
-        None => Ok(Vec::new(rt.alloc())),
-    }
 }

@@ -1,21 +1,20 @@
 //! What is told of a recording.
 ghost use Rattle.std.specs.Prelude.{◌≡◌, ◌+◌, ◌≤◌, length, IfOk};
 
-use crate::fault::ProgramFault;
-use crate::files::{Recording, place_of, read_names, read_recording};
-use crate::found::{not_judged, told_changes, told_clashes, told_races, witness_of};
-use crate::hinted::{hints_in, names_in};
+use crate::files::{Place, Recording, place_of, read_beside, read_names, read_recording};
+use crate::found::{last_runs, witness_of};
+use crate::hinted::names_in;
 use crate::mended::mend_text;
+use crate::printed::entries_in;
+use crate::provoked::provoke_text;
+use crate::reporting::{Basis, add_hints, report_of};
 use rev_desk::Desk;
-use rev_history::History;
 use rev_manifest::Manifest;
 use rev_paths::{Name, PathFault};
-use rev_races_text::{
-    Clash, Sources, Told, changes_json, changes_text, clashes_json, clashes_text, hints_json,
-    hints_text, races_json, races_text, status,
-};
+use rev_program::ProgramFault;
+use rev_races_text::Sources;
 use rev_recording::{RecordingFault, fault_line, open, replay, replay_text};
-use rev_script::{RunFault, send};
+use rev_script::send;
 use rev_sentences::{Inputs, sentence};
 use rev_trace::Trace;
 use std::alloc::{AllocError, Global};
@@ -26,6 +25,9 @@ use std::{io, mem};
 const FAULT: u8 = 1;
 // The status of a question that was not understood.
 const USAGE: u8 = 2;
+
+// The most bytes of the file of what failed commands printed.
+const PRINTED_BYTES: usize = 268_435_456;
 
 /// What is asked, and how it is told.
 #[derive(Clone, Copy, PartialEq, Eq)]
@@ -40,19 +42,23 @@ pub enum How {
     Mend,
     /// A witness of the race of this number, from 1.
     Witness(u64),
+    /// A patch that has the race of this number, from 1, happen in each build.
+    Provoke(u64),
     /// How many commands there were, and the first that was refused.
     Replay,
 }
 
-// What is asked of the bytes of a recording, and the file of other names.
+// What is asked of the bytes of a recording, the file of other names, and that of what failed commands printed.
 #[derive(Clone, Copy)]
 struct Inquiry<'a> {
     read: &'a Recording,
     names: &'a [u8],
+    printed: &'a [u8],
     how: How,
 }
 
-/// An answer: what is written, and the status.
+/// An answer: what is written, and the status. With the status of a question that was not understood that is a sentence
+/// for the standard error.
 #[derive(Drop)]
 struct Answer {
     text: Vec<u8>,
@@ -72,167 +78,119 @@ pub fn names_of(alloc: Global, files: &[(Vec<u8>, Vec<u8>)]) -> Result<Vec<Name>
     Ok(names)
 }
 
-// The races of a history, whose manifest was read from these files.
-fn races_of<'a>(
-    alloc: Global,
-    history: &'a History,
-    files: &[(Vec<u8>, Vec<u8>)],
-) -> Result<Vec<Told<'a>>, AllocError> {
-    let names = names_of(alloc, files)?;
-    told_races(alloc, history, &names)
-}
-
-// The answer about the desk of a recording that was replayed.
+// The answer about the desk of a recording that was replayed, whose trace has so many commands.
 fn answer_of(
     alloc: Global,
     inquiry: Inquiry<'_>,
     manifest: &Manifest,
     desk: &Desk,
+    commands: u64,
 ) -> Result<Answer, AllocError> {
     if inquiry.how == How::Replay {
         let text = replay_text(alloc, desk)?;
         return Ok(Answer { text, status: 0 });
     }
-    let races = races_of(alloc, desk.history(), &inquiry.read.files)?;
-    if let How::Witness(number) = inquiry.how {
-        return witness_answer(alloc, desk, &races, number);
-    }
-    let sources = Sources {
-        builds: manifest.builds(),
-        files: &inquiry.read.files,
+    let files = names_of(alloc, &inquiry.read.files)?;
+    let runs = last_runs(alloc, desk.history())?;
+    let entries = entries_in(alloc, desk.history().graph(), inquiry.printed)?;
+    let names = names_in(alloc, inquiry.names)?;
+    let basis = Basis {
+        sources: Sources {
+            builds: manifest.builds(),
+            files: &inquiry.read.files,
+            runs: &runs,
+        },
+        files: &files,
+        entries: &entries,
+        names: &names,
+        commands,
     };
-    found_answer(alloc, inquiry, desk, &sources, &races)
+    found_answer(alloc, inquiry.how, manifest, desk, &basis)
+}
+
+// The answer that has a race of a user and a maker happen, or the sentence that says why there is none.
+fn provoke_answer(
+    alloc: Global,
+    manifest: &Manifest,
+    desk: &Desk,
+    sources: &Sources<'_>,
+    race: Option<(u32, u32)>,
+) -> Result<Answer, AllocError> {
+    match provoke_text(alloc, manifest, desk.history().graph(), sources, race)? {
+        Ok(text) => Ok(Answer { text, status: 0 }),
+        Err(why) => not_understood(alloc, why.sentence()),
+    }
+}
+
+// The answer to a question that was not understood.
+fn not_understood(alloc: Global, sentence: &str) -> Result<Answer, AllocError> {
+    Ok(Answer {
+        text: Vec::from_slice(alloc, sentence.as_bytes())?,
+        status: USAGE,
+    })
 }
 
 // The answer that tells what was found.
-fn found_answer(
+fn found_answer<'a>(
     alloc: Global,
-    inquiry: Inquiry<'_>,
-    desk: &Desk,
-    sources: &Sources<'_>,
-    races: &[Told<'_>],
+    how: How,
+    manifest: &Manifest,
+    desk: &'a Desk,
+    basis: &Basis<'a>,
 ) -> Result<Answer, AllocError> {
-    let clashes = told_clashes(alloc, sources.builds)?;
-    let mut text = races_answer(alloc, desk, sources, races, &clashes, inquiry.how)?;
-    add_hints(alloc, &mut text, inquiry, desk, sources)?;
-    let status = status(races, &clashes);
+    let mut report = report_of(alloc, desk, basis)?;
+    let status = report.status();
+    let text = match how {
+        How::Witness(number) => return witness_answer(alloc, desk, report.pair(number)),
+        How::Provoke(number) => {
+            return provoke_answer(alloc, manifest, desk, &basis.sources, report.pair(number));
+        }
+        How::Mend => mend_text(
+            alloc,
+            manifest,
+            desk.history().graph(),
+            &basis.sources,
+            &report.races,
+            &report.clashes,
+        )?,
+        How::Json => {
+            add_hints(alloc, desk, basis, &mut report)?;
+            report.json(alloc, &basis.sources)?
+        }
+        _ => {
+            add_hints(alloc, desk, basis, &mut report)?;
+            report.words(alloc, &basis.sources, how == How::All)?
+        }
+    };
     Ok(Answer { text, status })
 }
 
-// The answer that has a witness; without text where there is none.
+// The answer that has a witness of a user that starts before a maker.
 fn witness_answer(
     alloc: Global,
     desk: &Desk,
-    races: &[Told<'_>],
-    number: u64,
+    pair: Option<(u32, u32)>,
 ) -> Result<Answer, AllocError> {
-    match witness_of(alloc, desk.history().graph(), races, number)? {
+    let witness = match pair {
+        Some((user, maker)) => witness_of(alloc, desk.history().graph(), user, maker)?,
+        None => None,
+    };
+    match witness {
         Some(text) => Ok(Answer { text, status: 0 }),
-        None => Ok(Answer {
-            text: Vec::new(alloc),
-            status: USAGE,
-        }),
+        None => not_understood(
+            alloc,
+            "no race has that number; `races` tells the number of each, and own outputs have no witness",
+        ),
     }
 }
 
-// The text that tells races.
-fn races_told(
-    alloc: Global,
-    desk: &Desk,
-    sources: &Sources<'_>,
-    races: &[Told<'_>],
-    clashes: u64,
-    how: How,
-) -> Result<Vec<u8>, AllocError> {
-    let unjudged = not_judged(alloc, desk.history())?;
-    if how == How::Json {
-        races_json(alloc, sources, races, &unjudged)
-    } else {
-        races_text(alloc, sources, races, clashes, &unjudged, how == How::All)
+// How many commands the lanes of a trace have.
+fn command_count(trace: &Trace) -> u64 {
+    let mut count = 0;
+    for lane in &trace.lanes {
+        count = u64::saturating_add(count, lane.len() as u64);
     }
-}
-
-// The text that tells clashes.
-fn clashes_told(
-    alloc: Global,
-    sources: &Sources<'_>,
-    clashes: &[Clash],
-    how: How,
-) -> Result<Vec<u8>, AllocError> {
-    if how == How::Json {
-        clashes_json(alloc, sources, clashes)
-    } else {
-        clashes_text(alloc, sources, clashes, how == How::All)
-    }
-}
-
-// The text of an answer that tells races and clashes.
-fn races_answer(
-    alloc: Global,
-    desk: &Desk,
-    sources: &Sources<'_>,
-    races: &[Told<'_>],
-    clashes: &[Clash],
-    how: How,
-) -> Result<Vec<u8>, AllocError> {
-    if how == How::Mend {
-        return mend_text(alloc, sources, races, clashes);
-    }
-    let mut text = races_told(alloc, desk, sources, races, clashes.len() as u64, how)?;
-    let more = clashes_told(alloc, sources, clashes, how)?;
-    text.extend_from_slice(&more)?;
-    Ok(text)
-}
-
-// What other names of outputs give as hints.
-fn names_answer(
-    alloc: Global,
-    desk: &Desk,
-    sources: &Sources<'_>,
-    names: &[u8],
-    how: How,
-) -> Result<Vec<u8>, AllocError> {
-    let names = names_in(alloc, names)?;
-    let hints = hints_in(alloc, desk.history(), &names)?;
-    if how == How::Json {
-        hints_json(alloc, sources, &hints)
-    } else {
-        hints_text(alloc, sources, &hints)
-    }
-}
-
-// What changed files give as hints.
-fn changes_answer(
-    alloc: Global,
-    desk: &Desk,
-    sources: &Sources<'_>,
-    names: &[u8],
-    how: How,
-) -> Result<Vec<u8>, AllocError> {
-    let names = names_in(alloc, names)?;
-    let changes = told_changes(alloc, desk.history(), &names)?;
-    if how == How::Json {
-        changes_json(alloc, sources, &changes)
-    } else {
-        changes_text(alloc, sources, &changes)
-    }
-}
-
-// Adds the hints of an answer.
-fn add_hints(
-    alloc: Global,
-    text: &mut Vec<u8>,
-    inquiry: Inquiry<'_>,
-    desk: &Desk,
-    sources: &Sources<'_>,
-) -> Result<(), AllocError> {
-    if inquiry.how == How::Mend {
-        return Ok(());
-    }
-    let hints = names_answer(alloc, desk, sources, inquiry.names, inquiry.how)?;
-    text.extend_from_slice(&hints)?;
-    let changes = changes_answer(alloc, desk, sources, inquiry.names, inquiry.how)?;
-    text.extend_from_slice(&changes)
+    count
 }
 
 // The answer about a trace, by the desk of its recording.
@@ -247,7 +205,7 @@ fn answer_from(
     requires lanes { desk.old.lanes ≡ length trace.now.lanes.items + 1 }
 {
     replay(alloc, desk, trace)?;
-    match answer_of(alloc, inquiry, manifest, desk) {
+    match answer_of(alloc, inquiry, manifest, desk, command_count(trace)) {
         Ok(answer) => Ok(answer),
         Err(_) => Err(RecordingFault::Memory),
     }
@@ -332,32 +290,39 @@ pub fn refuse<'a, R: Eprint + AllocGlobal>(
     fault: &RecordingFault,
 ) -> Result<u8, ProgramFault<'a>> {
     if let Some(said) = reason_of(rt.alloc(), read, fault)? {
-        let text = String::from_utf8_lossy(rt.alloc(), &said)?;
-        say(rt, &text);
+        rev_program::say(rt, &said);
     }
     Ok(FAULT)
 }
 
 /// Writes bytes to the standard output.
 pub fn write<'a, R: Print>(rt: &R, bytes: &[u8]) -> Result<(), ProgramFault<'a>> {
-    match send(&mut io::writer(rt), bytes) {
-        Ok(()) => Ok(()),
-        Err(RunFault::Write) => Err(ProgramFault::Write),
-        Err(RunFault::Memory) => Err(ProgramFault::Memory),
-    }
+    Ok(send(&mut io::writer(rt), bytes)?)
 }
 
 // Writes an answer, and gives the program's status.
-fn put<'a, R: Print + Eprint>(rt: &R, answer: &Answer) -> Result<u8, ProgramFault<'a>> {
+fn put<'a, R: Print + Eprint + AllocGlobal>(
+    rt: &R,
+    answer: &Answer,
+) -> Result<u8, ProgramFault<'a>> {
     if answer.status == USAGE {
-        say(
-            rt,
-            "no race has that number; those that `races --json` tells are counted from 1, and own outputs have no witness",
-        );
+        rev_program::say(rt, &answer.text);
         return Ok(USAGE);
     }
     write(rt, &answer.text)?;
     Ok(answer.status)
+}
+
+// The file of what failed commands printed; empty where there is none.
+fn read_printed<'a, R: Files + AllocGlobal>(
+    rt: &R,
+    recording: &'a str,
+    place: Place<'_>,
+) -> Result<Vec<u8>, ProgramFault<'a>> {
+    match read_beside(rt, recording, place, "output", PRINTED_BYTES)? {
+        Some(bytes) => Ok(bytes),
+        None => Ok(Vec::new(rt.alloc())),
+    }
 }
 
 /// Writes what is asked of a recording to the standard output, and gives the program's status.
@@ -368,10 +333,12 @@ pub fn tell<'a, R: Files + Print + Eprint + AllocGlobal>(
 ) -> Result<u8, ProgramFault<'a>> {
     let place = place_of(rt, recording);
     let read = read_recording(rt, recording, place)?;
-    let names = read_names(rt, place)?;
+    let names = read_names(rt, recording, place)?;
+    let printed = read_printed(rt, recording, place)?;
     let inquiry = Inquiry {
         read: &read,
         names: &names,
+        printed: &printed,
         how,
     };
     match answer_about(rt.alloc(), inquiry) {

@@ -22,11 +22,12 @@ number_rule name = record (new_rule name) { long = Some name; value_names = 1; a
 abbrev pub shape_with : Text → List Rule → Shape
 shape_with name rules = record (new_shape name) { rules = rules }
 
--- `races [--all] [--json] [--mend] [--witness N] RECORDING`
+-- `races [--all] [--json] [--mend] [--witness N] [--provoke N] RECORDING`
 abbrev pub races_shape : Shape
 races_shape =
     shape_with (codes "races")
-    (flag_rule (codes "all") ∷ flag_rule (codes "json") ∷ flag_rule (codes "mend") ∷ number_rule (codes "witness") ∷ recording_rule ∷ [])
+    (flag_rule (codes "all") ∷ flag_rule (codes "json") ∷ flag_rule (codes "mend") ∷ number_rule (codes "witness")
+    ∷ number_rule (codes "provoke") ∷ recording_rule ∷ [])
 
 -- `replay RECORDING`
 abbrev pub replay_shape : Shape

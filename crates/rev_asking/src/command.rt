@@ -81,6 +81,12 @@ fn races<'a>(alloc: Global) -> Result<Command<'a>, AllocError>
             "N",
             "Writes a trace from nothing in which the user of race N, as --json counts, starts before its maker",
         ))?
+        .arg(number(
+            alloc,
+            "provoke",
+            "N",
+            "Writes a patch of the manifest with which race N happens in each build: its maker waits for its user",
+        ))?
         .arg(recording(alloc))
 }
 

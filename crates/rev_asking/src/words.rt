@@ -41,6 +41,8 @@ pub struct Asked<'a> {
     pub mend: bool,
     /// The number of the race of which a witness is written in place of all of them, as it was given.
     pub witness: Option<&'a str>,
+    /// The number of the race that a patch has happen in each build, as it was given.
+    pub provoke: Option<&'a str>,
 }
 
 /// What the words of a command line ask for, the first of which is the program's name.
@@ -66,6 +68,8 @@ pub fn read_words<'a>(alloc: Global, words: &'a [String]) -> Result<Asked<'a>, E
         ↔ value_in (map string_bytes words.entry.now) (codes "mend") ≡ Some (codes "true")) }
     ensures witness { IfOk result (λ a. option_map (λ s. s.now) a.witness
         ≡ value_in (map string_bytes words.entry.now) (codes "witness")) }
+    ensures provoke { IfOk result (λ a. option_map (λ s. s.now) a.provoke
+        ≡ value_in (map string_bytes words.entry.now) (codes "provoke")) }
     ensures fails { FailsBy (fault_of program (map string_bytes words.entry.now)) result }
 {
     let matches = matches_of(alloc, words)?;
@@ -96,6 +100,7 @@ fn asked_of<'a>(name: &str, given: &ArgMatches<'a>) -> Asked<'a>
     ensures json { IsTrue result.json ↔ first_value (found_of given.now) (codes "json") ≡ Some (codes "true") }
     ensures mend { IsTrue result.mend ↔ first_value (found_of given.now) (codes "mend") ≡ Some (codes "true") }
     ensures witness { option_map (λ s. s.now) result.witness ≡ first_value (found_of given.now) (codes "witness") }
+    ensures provoke { option_map (λ s. s.now) result.provoke ≡ first_value (found_of given.now) (codes "provoke") }
 {
     Asked {
         word: word_named(name),
@@ -107,6 +112,7 @@ fn asked_of<'a>(name: &str, given: &ArgMatches<'a>) -> Asked<'a>
         json: is_on(given, "json"),
         mend: is_on(given, "mend"),
         witness: given.get_str("witness"),
+        provoke: given.get_str("provoke"),
     }
 }
 
@@ -121,6 +127,7 @@ fn nothing_asked<'a>() -> Asked<'a>
     ensures json { result.json ≡ false }
     ensures mend { result.mend ≡ false }
     ensures witness { result.witness ≡ None }
+    ensures provoke { result.provoke ≡ None }
 {
     Asked {
         word: Word::Races,
@@ -132,6 +139,7 @@ fn nothing_asked<'a>() -> Asked<'a>
         json: false,
         mend: false,
         witness: None,
+        provoke: None,
     }
 }
 

@@ -57,7 +57,7 @@ pub(crate) fn push_slot(
     }
 }
 
-/// Adds that the job and the slot are free which an edge holds whose command runs.
+/// Adds the writes that free a running edge's job and slot.
 pub(crate) fn push_freed(
     writes: &mut Writes,
     graph: &Graph,

@@ -19,7 +19,7 @@ pub enum FaultKind {
     Lane,
     /// A second record of one kind for one path.
     DoubleRecord,
-    /// The first line of a trace is not `rebug-trace 1`.
+    /// The first line of a trace is that of no version.
     Header,
 }
 

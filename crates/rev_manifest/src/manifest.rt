@@ -112,7 +112,7 @@ impl Manifest {
     }
 }
 
-/// How many files deep files may lie in one another, the manifest among them.
+/// The greatest include depth, counting the manifest.
 const MOST_DEEP: u32 = 17;
 
 /// A place that is no line.
@@ -183,8 +183,8 @@ pub fn read(alloc: Global, files: &[(Vec<u8>, Vec<u8>)]) -> Result<Manifest, Rea
     Ok(manifest)
 }
 
-// Reads files of which there is one, and which are not too large. Their edges are ended on several threads, and once more
-// on one where an edge may have a fault.
+// Reads files of which there is one, and which are not too large. Their edges are expanded on several threads, and once
+// more on one thread where an edge may have a fault.
 fn read_all_by_threads<R: Threads + Sync>(
     rt: &R,
     alloc: Global,

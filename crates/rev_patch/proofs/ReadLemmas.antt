@@ -1,64 +1,64 @@
 -- A line by its first part and what is left, and what was seen of it.
-use Rattle.std.proofs.Common.{◌≡◌, ◌≤◌, ◌<◌, ℕ, zero, suc, zero-add, get_or, map, ◌+◌, ◌==◌, Bool, true, false, ◌&&◌, ◌||◌, if◌then◌else◌, List, [], ◌∷◌, length, drop, Option, Some, None, refl, ap, sym, ◌∙◌, arith}
+use Rattle.std.proofs.Common.{◌≡◌, ◌≤◌, ◌<◌, ℕ, zero, suc, zero-add, get_or, map, ◌+◌, ◌==◌, Bool, true, false, not, ◌&&◌, ◌||◌, if◌then◌else◌, List, [], ◌∷◌, length, drop, Option, Some, None, refl, ap, sym, ◌∙◌, arith}
 use Rattle.std.specs.List.{list_any}
-use Rattle.std.specs.Option.{option_map}
+use Rattle.std.specs.Option.{option_map, option_or}
 use Rattle.rev_patch.specs.declared.statement.Token.{Token}
-use Rattle.rev_patch.specs.declared.statement.Token.TheVariants.{Escaped, Dollar, Order, Validations, Plain}
+use Rattle.rev_patch.specs.declared.statement.Token.TheVariants.{Escaped, Dollar, Order, Validations, Blank, Plain}
 use Rattle.rev_patch.specs.declared.statement.Signs.{Signs}
 use Rattle.rev_patch.specs.declared.statement.Seen.{Seen}
 use Rattle.rev_patch.specs.declared.statement.Spot.{Spot}
-use Rattle.rev_patch.specs.Statement.{tokens, size, is_order, is_validations, goes_on, validations_at, statement, has_order, spot_or, validations_spot, end_spot, put_at, place_in}
-use Rattle.rev_patch.specs.Read.{first_token, sign_at, signs_with, signs_after, no_signs, first_spot, seen_with, seen_after, unseen}
+use Rattle.rev_patch.specs.Statement.{tokens, plain_token, size, is_order, is_solid, is_validations, goes_on, until_validations, solid_end, solid_in, solid_spot, statement, has_order, has_validations, spot_or, put_at, place_in}
+use Rattle.rev_patch.specs.Read.{first_token, signs_with, signs_after, no_signs, seen_with, seen_after, unseen}
 use Rattle.std.proofs.lemmas.List.{drop_more}
 use Rattle.rev_patch.specs.declared.lines.Row.{Row}
 use Rattle.rev_patch.specs.Lines.{line_of}
 use Rattle.rev_patch.specs.Additions.{texts_of}
 
-last_by : (b : ℕ) (p : Bool) → (if p then Dollar ∷ [] else Plain ∷ []) ≡ (if p then Dollar else Plain) ∷ tokens (drop (size (if p then Dollar else Plain)) (b ∷ []))
-last_by b true = refl
-last_by b false = refl
+plain-one : (b : ℕ) → size (plain_token b) ≡ 1
+plain-one b = elim (b == 32 || b == 13) as (λ p. size (if p then Blank else Plain) ≡ 1) [ true ↦ refl | false ↦ refl ]
 
-more_by : (b c : ℕ) (bs : List ℕ) (p q r : Bool)
-    → (if p then Escaped c ∷ tokens bs else (if q then Order ∷ tokens bs else (if r then Validations ∷ tokens bs else Plain ∷ tokens (c ∷ bs))))
-    ≡ (if p then Escaped c else (if q then Order else (if r then Validations else Plain)))
-    ∷ tokens (drop (size (if p then Escaped c else (if q then Order else (if r then Validations else Plain)))) (b ∷ c ∷ bs))
-more_by b c bs true q r = refl
-more_by b c bs false true r = refl
-more_by b c bs false false true = refl
-more_by b c bs false false false = refl
+module _ (t : Token) (one : size t ≡ 1) where
+  last_by : (b : ℕ) (p : Bool) → (if p then Dollar ∷ [] else t ∷ []) ≡ (if p then Dollar else t) ∷ tokens (drop (size (if p then Dollar else t)) (b ∷ []))
+  last_by b true = refl
+  last_by b false = ap (λ n. t ∷ tokens (drop n (b ∷ []))) (sym one)
+
+  more_by : (b c : ℕ) (bs : List ℕ) (p q r : Bool)
+      → (if p then Escaped c ∷ tokens bs else (if q then Order ∷ tokens bs else (if r then Validations ∷ tokens bs else t ∷ tokens (c ∷ bs))))
+      ≡ (if p then Escaped c else (if q then Order else (if r then Validations else t)))
+      ∷ tokens (drop (size (if p then Escaped c else (if q then Order else (if r then Validations else t)))) (b ∷ c ∷ bs))
+  more_by b c bs true q r = refl
+  more_by b c bs false true r = refl
+  more_by b c bs false false true = refl
+  more_by b c bs false false false = ap (λ n. t ∷ tokens (drop n (b ∷ c ∷ bs))) (sym one)
+
+  one_by : (p : Bool) → size (if p then Dollar else t) ≡ 1
+  one_by true = refl
+  one_by false = one
+
+  two_by : (c : ℕ) (p q r : Bool) → size (if p then Escaped c else (if q then Order else (if r then Validations else t))) ≤ 2
+  two_by c true q r = omega arith
+  two_by c false true r = omega arith
+  two_by c false false true = omega arith
+  two_by c false false false = omega (arith, one)
+
+  some_by : (c : ℕ) (p q r : Bool) → 0 < size (if p then Escaped c else (if q then Order else (if r then Validations else t)))
+  some_by c true q r = omega arith
+  some_by c false true r = omega arith
+  some_by c false false true = omega arith
+  some_by c false false false = omega (arith, one)
 
 pub tokens-first : (b : ℕ) (bs : List ℕ) → tokens (b ∷ bs) ≡ first_token b bs ∷ tokens (drop (size (first_token b bs)) (b ∷ bs))
-tokens-first b [] = last_by b (b == 36)
-tokens-first b (c ∷ bs) = more_by b c bs (b == 36) (b == 124 && c == 124) (b == 124 && c == 64)
-
-one_by : (p : Bool) → size (if p then Dollar else Plain) ≤ 1
-one_by true = omega arith
-one_by false = omega arith
-
-two_by : (c : ℕ) (p q r : Bool) → size (if p then Escaped c else (if q then Order else (if r then Validations else Plain))) ≤ 2
-two_by c true q r = omega arith
-two_by c false true r = omega arith
-two_by c false false true = omega arith
-two_by c false false false = omega arith
-
-some_by : (c : ℕ) (p q r : Bool) → 0 < size (if p then Escaped c else (if q then Order else (if r then Validations else Plain)))
-some_by c true q r = omega arith
-some_by c false true r = omega arith
-some_by c false false true = omega arith
-some_by c false false false = omega arith
-
-last_some : (p : Bool) → 0 < size (if p then Dollar else Plain)
-last_some true = omega arith
-last_some false = omega arith
+tokens-first b [] = last_by (plain_token b) (plain-one b) b (b == 36)
+tokens-first b (c ∷ bs) = more_by (plain_token b) (plain-one b) b c bs (b == 36) (b == 124 && c == 124) (b == 124 && c == 64)
 
 pub token-some : (b : ℕ) (bs : List ℕ) → 0 < size (first_token b bs)
-token-some b [] = last_some (b == 36)
-token-some b (c ∷ bs) = some_by c (b == 36) (b == 124 && c == 124) (b == 124 && c == 64)
+token-some b [] = let one = one_by (plain_token b) (plain-one b) (b == 36) in omega (arith, one)
+token-some b (c ∷ bs) = some_by (plain_token b) (plain-one b) c (b == 36) (b == 124 && c == 124) (b == 124 && c == 64)
 
 -- a part has no more bytes than are left
 pub token-fits : (b : ℕ) (bs : List ℕ) → size (first_token b bs) ≤ suc (length bs)
-token-fits b [] = one_by (b == 36)
-token-fits b (c ∷ bs) = let two = two_by c (b == 36) (b == 124 && c == 124) (b == 124 && c == 64) in omega (arith, two)
+token-fits b [] = let one = one_by (plain_token b) (plain-one b) (b == 36) in omega (arith, one)
+token-fits b (c ∷ bs) = let two = two_by (plain_token b) (plain-one b) c (b == 36) (b == 124 && c == 124) (b == 124 && c == 64) in omega (arith, two)
 
 or_assoc : (p q r : Bool) → ((p || q) || r) ≡ (p || (q || r))
 or_assoc true q r = refl
@@ -70,29 +70,41 @@ or_false false = refl
 
 pub after-order : (s : Signs) (at : ℕ) (ts : List Token) → (signs_after s at ts).has_order ≡ (s.has_order || list_any is_order ts)
 after-order s at [] = sym (or_false s.has_order)
-after-order s at (t ∷ ts) = after-order (signs_with s at t) (at + size t) ts ∙ or_assoc s.has_order (is_order t) (list_any is_order ts)
+after-order s at (t ∷ ts) = after-order (signs_with s (at + size t) t) (at + size t) ts ∙ or_assoc s.has_order (is_order t) (list_any is_order ts)
 
-abbrev pub or_else : Option ℕ → Option ℕ → Option ℕ
-or_else None other = other
-or_else (Some at) other = Some at
-
--- an earlier sign stays, and one at a further part is the first where there was none
-sign_by : (at : ℕ) (seen found : Option ℕ) (n : ℕ) (p : Bool)
-    → or_else (sign_at at p seen) (option_map (λ k. at + n + k) found) ≡ or_else seen (option_map (λ k. at + k) (if p then Some 0 else option_map (λ k. n + k) found))
-sign_by at (Some k) found n true = refl
-sign_by at (Some k) found n false = refl
-sign_by at None found n true = let e : at + 0 ≡ at = omega arith in ap (λ k. Some k) (sym e)
-sign_by at None None n false = refl
-sign_by at None (Some k) n false = let e : at + n + k ≡ at + (n + k) = omega arith in ap (λ k. Some k) e
-
-or_none : (seen : Option ℕ) → seen ≡ or_else seen None
-or_none None = refl
-or_none (Some at) = refl
-
-pub after-validations : (s : Signs) (at : ℕ) (ts : List Token) → (signs_after s at ts).validations ≡ or_else s.validations (option_map (λ n. at + n) (validations_at ts))
-after-validations s at [] = or_none s.validations
+pub after-validations : (s : Signs) (at : ℕ) (ts : List Token) → (signs_after s at ts).has_validations ≡ (s.has_validations || list_any is_validations ts)
+after-validations s at [] = sym (or_false s.has_validations)
 after-validations s at (t ∷ ts) =
-    after-validations (signs_with s at t) (at + size t) ts ∙ sign_by at s.validations (validations_at ts) (size t) (is_validations t)
+    after-validations (signs_with s (at + size t) t) (at + size t) ts ∙ or_assoc s.has_validations (is_validations t) (list_any is_validations ts)
+
+-- the last part that says something, by one more part and what is left
+abbrev pub last_of : ℕ → List Token → Bool → Option ℕ → Option ℕ
+last_of at ts ended seen = if ended then seen else option_or (option_map (λ n. at + n) (solid_end (until_validations ts))) seen
+
+solid_by : (at n : ℕ) (found seen : Option ℕ) (solid : Bool)
+    → option_or (option_map (λ k. at + n + k) found) (if not solid then seen else Some (at + n))
+    ≡ option_or (option_map (λ k. at + k) (option_or (option_map (λ k. n + k) found) (if solid then Some n else None))) seen
+solid_by at n None seen true = refl
+solid_by at n None seen false = refl
+solid_by at n (Some k) seen solid = let e : at + n + k ≡ at + (n + k) = omega arith in ap (λ k. Some k) e
+
+last-more : (s : Signs) (at : ℕ) (t : Token) (ts : List Token) (ended : Bool) → s.has_validations ≡ ended
+    → last_of (at + size t) ts (ended || is_validations t) (if ended || not (is_solid t) then s.last else Some (at + size t)) ≡ last_of at (t ∷ ts) ended s.last
+last-more s at t ts true e = refl
+last-more s at (Escaped b) ts false e = solid_by at 2 (solid_end (until_validations ts)) s.last (not (b == 13))
+last-more s at Dollar ts false e = solid_by at 1 (solid_end (until_validations ts)) s.last false
+last-more s at Order ts false e = solid_by at 2 (solid_end (until_validations ts)) s.last true
+last-more s at Validations ts false e = refl
+last-more s at Blank ts false e = solid_by at 1 (solid_end (until_validations ts)) s.last false
+last-more s at Plain ts false e = solid_by at 1 (solid_end (until_validations ts)) s.last true
+
+last-none : (ended : Bool) (seen : Option ℕ) → seen ≡ (if ended then seen else option_or None seen)
+last-none true seen = refl
+last-none false seen = refl
+
+pub after-last : (s : Signs) (at : ℕ) (ts : List Token) → (signs_after s at ts).last ≡ last_of at ts s.has_validations s.last
+after-last s at [] = last-none s.has_validations s.last
+after-last s at (t ∷ ts) = after-last (signs_with s (at + size t) t) (at + size t) ts ∙ last-more s at t ts s.has_validations refl
 
 abbrev pub goes_from : Bool → List Token → Bool
 goes_from g [] = g
@@ -101,19 +113,19 @@ goes_from g (t ∷ ts) = goes_on (t ∷ ts)
 pub after-goes : (s : Signs) (at : ℕ) (ts : List Token) → (signs_after s at ts).goes_on ≡ goes_from s.goes_on ts
 after-goes s at [] = refl
 after-goes s at (t ∷ []) = refl
-after-goes s at (t ∷ u ∷ ts) = after-goes (signs_with s at t) (at + size t) (u ∷ ts)
+after-goes s at (t ∷ u ∷ ts) = after-goes (signs_with s (at + size t) t) (at + size t) (u ∷ ts)
 
 -- what one more part shows of a line
 pub read-more : (s : Signs) (at : ℕ) (rest : List ℕ) (b : ℕ) (bs : List ℕ) (t : Token) → rest ≡ b ∷ bs → t ≡ first_token b bs
-    → signs_after s at (tokens rest) ≡ signs_after (signs_with s at t) (at + size t) (tokens (drop (size t) rest))
+    → signs_after s at (tokens rest) ≡ signs_after (signs_with s (at + size t) t) (at + size t) (tokens (drop (size t) rest))
 read-more s at rest b bs t is token =
     ap (λ xs. signs_after s at (tokens xs)) is ∙ ap (λ ts. signs_after s at ts) (tokens-first b bs)
-    ∙ ap (λ (u : Token). signs_after (signs_with s at u) (at + size u) (tokens (drop (size u) (b ∷ bs)))) (sym token)
-    ∙ ap (λ xs. signs_after (signs_with s at t) (at + size t) (tokens (drop (size t) xs))) (sym is)
+    ∙ ap (λ (u : Token). signs_after (signs_with s (at + size u) u) (at + size u) (tokens (drop (size u) (b ∷ bs)))) (sym token)
+    ∙ ap (λ xs. signs_after (signs_with s (at + size t) t) (at + size t) (tokens (drop (size t) xs))) (sym is)
 
-map_zero : (o : Option ℕ) → option_map (λ n. 0 + n) o ≡ o
-map_zero None = refl
-map_zero (Some n) = ap (λ k. Some k) (zero-add n)
+zero-last : (o : Option ℕ) → option_or (option_map (λ n. 0 + n) o) None ≡ o
+zero-last None = refl
+zero-last (Some n) = ap (λ k. Some k) (zero-add n)
 
 goes_from-none : (ts : List Token) → goes_from false ts ≡ goes_on ts
 goes_from-none [] = refl
@@ -123,8 +135,11 @@ goes_from-none (t ∷ ts) = refl
 pub read-order : (ts : List Token) (s : Signs) → s ≡ signs_after no_signs 0 ts → s.has_order ≡ list_any is_order ts
 read-order ts s is = ap (λ (x : Signs). x.has_order) is ∙ after-order no_signs 0 ts
 
-pub read-validations : (ts : List Token) (s : Signs) → s ≡ signs_after no_signs 0 ts → s.validations ≡ validations_at ts
-read-validations ts s is = ap (λ (x : Signs). x.validations) is ∙ after-validations no_signs 0 ts ∙ map_zero (validations_at ts)
+pub read-validations : (ts : List Token) (s : Signs) → s ≡ signs_after no_signs 0 ts → s.has_validations ≡ list_any is_validations ts
+read-validations ts s is = ap (λ (x : Signs). x.has_validations) is ∙ after-validations no_signs 0 ts
+
+pub read-last : (ts : List Token) (s : Signs) → s ≡ signs_after no_signs 0 ts → s.last ≡ solid_end (until_validations ts)
+read-last ts s is = ap (λ (x : Signs). x.last) is ∙ after-last no_signs 0 ts ∙ zero-last (solid_end (until_validations ts))
 
 pub read-goes : (ts : List Token) (s : Signs) → s ≡ signs_after no_signs 0 ts → s.goes_on ≡ goes_on ts
 read-goes ts s is = ap (λ (x : Signs). x.goes_on) is ∙ after-goes no_signs 0 ts ∙ goes_from-none ts
@@ -134,36 +149,43 @@ pub seen-order : (s : Seen) (k : ℕ) (ls : List (List ℕ)) → (seen_after s k
 seen-order s k [] = sym (or_false s.has_order)
 seen-order s k (l ∷ ls) = seen-order (seen_with s k l) (suc k) ls ∙ or_assoc s.has_order (list_any is_order (tokens l)) (has_order ls)
 
-spots : (k : ℕ) (seen : Option Spot) (at : Option ℕ) (other : Option Spot) → first_spot (first_spot seen (spot_or k at None)) other ≡ first_spot seen (spot_or k at other)
-spots k (Some s) at other = refl
-spots k None None other = refl
-spots k None (Some at) other = refl
+-- the last part that says something, by one more line and those that are left
+abbrev pub spot_of : ℕ → List (List ℕ) → Bool → Option Spot → Option Spot
+spot_of k ls ended seen = if ended then seen else option_or (solid_spot k ls) seen
 
-spot_none : (seen : Option Spot) → seen ≡ first_spot seen None
-spot_none None = refl
-spot_none (Some s) = refl
+spots : (k : ℕ) (behind : Option Spot) (at : Option ℕ) (seen : Option Spot) (ended : Bool)
+    → (if ended then spot_or k at seen else option_or behind (spot_or k at seen))
+    ≡ option_or (option_or (if ended then None else behind) (spot_or k at None)) seen
+spots k behind None seen true = refl
+spots k behind (Some at) seen true = refl
+spots k None None seen false = refl
+spots k None (Some at) seen false = refl
+spots k (Some s) at seen false = refl
 
-pub seen-validations : (s : Seen) (k : ℕ) (ls : List (List ℕ)) → (seen_after s k ls).validations ≡ first_spot s.validations (validations_spot k ls)
-seen-validations s k [] = spot_none s.validations
-seen-validations s k (l ∷ ls) =
-    seen-validations (seen_with s k l) (suc k) ls ∙ spots k s.validations (validations_at (tokens l)) (validations_spot (suc k) ls)
+spot-more : (s : Seen) (k : ℕ) (l : List ℕ) (ls : List (List ℕ)) (ended : Bool) → s.has_validations ≡ ended
+    → spot_of (suc k) ls (ended || has_validations l) (if ended then s.last else spot_or k (solid_in l) s.last) ≡ spot_of k (l ∷ ls) ended s.last
+spot-more s k l ls true e = refl
+spot-more s k l ls false e = spots k (solid_spot (suc k) ls) (solid_in l) s.last (has_validations l)
 
-pub seen-end : (s : Seen) (k : ℕ) (l : List ℕ) (ls : List (List ℕ)) → (seen_after s k (l ∷ ls)).end ≡ end_spot k (l ∷ ls)
-seen-end s k l [] = refl
-seen-end s k l (m ∷ ls) = seen-end (seen_with s k l) (suc k) m ls
+spot-none : (ended : Bool) (seen : Option Spot) → seen ≡ (if ended then seen else option_or None seen)
+spot-none true seen = refl
+spot-none false seen = refl
 
-unseen-end : (k : ℕ) (ls : List (List ℕ)) → (seen_after unseen k ls).end ≡ end_spot k ls
-unseen-end k [] = refl
-unseen-end k (l ∷ ls) = seen-end unseen k l ls
+pub seen-last : (s : Seen) (k : ℕ) (ls : List (List ℕ)) → (seen_after s k ls).last ≡ spot_of k ls s.has_validations s.last
+seen-last s k [] = spot-none s.has_validations s.last
+seen-last s k (l ∷ ls) = seen-last (seen_with s k l) (suc k) ls ∙ spot-more s k l ls s.has_validations refl
+
+or-none : (o : Option Spot) → option_or o None ≡ o
+or-none None = refl
+or-none (Some s) = refl
 
 -- what was seen of a whole statement says the place
-pub place-read : (k : ℕ) (ls : List (List ℕ)) (s : Seen) → s ≡ seen_after unseen k ls → put_at s.has_order s.validations s.end ≡ place_in k ls
+pub place-read : (k : ℕ) (ls : List (List ℕ)) (s : Seen) → s ≡ seen_after unseen k ls → put_at s.has_order s.last ≡ place_in k ls
 place-read k ls s is =
     let r = seen_after unseen k ls in
-    ap (λ (x : Seen). put_at x.has_order x.validations x.end) is
-    ∙ ap (λ o. put_at o r.validations r.end) (seen-order unseen k ls)
-    ∙ ap (λ v. put_at (has_order ls) v r.end) (seen-validations unseen k ls)
-    ∙ ap (λ e. put_at (has_order ls) (validations_spot k ls) e) (unseen-end k ls)
+    ap (λ (x : Seen). put_at x.has_order x.last) is
+    ∙ ap (λ o. put_at o r.last) (seen-order unseen k ls)
+    ∙ ap (λ o. put_at (has_order ls) o) (seen-last unseen k ls ∙ or-none (solid_spot k ls))
 
 -- one more line of a statement
 pub statement-more : (s : Seen) (k : ℕ) (l : List ℕ) (ls : List (List ℕ)) → goes_on (tokens l) ≡ true

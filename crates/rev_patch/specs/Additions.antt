@@ -30,12 +30,9 @@ abbrev pub unless : Bool → List ℕ → List ℕ
 unless true text = []
 unless false text = text
 
--- what is put at a place: the paths, behind `||` where that is not there, with a space before all or, where validations
--- follow, behind all
+-- what is put at a place: a space, `||` where that is not there, and the paths
 abbrev pub added : Place → List Addition → List ℕ
-added p adds =
-    unless p.is_before_validations (codes " ") ++ unless p.has_sign (codes "|| ") ++ paths_text adds
-    ++ unless (not p.is_before_validations) (codes " ")
+added p adds = codes " " ++ unless p.has_sign (codes "|| ") ++ paths_text adds
 
 abbrev pub edit_in : List Addition → Place → Option (List ℕ) → List Edit
 edit_in adds p None = []

@@ -27,8 +27,8 @@ pub struct Change {
     pub text: Vec<u8>,
 }
 
-// Whether a path can be written on a build line.
-fn is_written(path: &[u8]) -> bool
+/// Whether a path can be written on a build line: nothing takes the meaning of a `|` or of a line's end away there.
+pub fn is_written(path: &[u8]) -> bool
     ensures { result ≡ is_written path.now }
 {
     !path.contains(&b'|') && !path.contains(&b'\n') && !path.contains(&b'\r')
@@ -110,10 +110,9 @@ fn push_added(
 ) -> Result<(), AllocError>
     ensures { OnOk result (text.new.items ≡ text.old.items ++ added place additions.now) }
 {
-    push_unless(text, place.is_before_validations, b" ")?;
+    text.push(b' ')?;
     push_unless(text, place.has_sign, b"|| ")?;
     push_paths(text, additions)?;
-    push_unless(text, !place.is_before_validations, b" ")?;
     Ok(())
 }
 
@@ -214,9 +213,10 @@ fn first_statement(additions: &[Addition<'_>]) -> usize
 }
 
 /// The lines of a file that are others once these order-only inputs were added. `additions` stand in the order of their
-/// lines, those of one statement beside each other. What is added to one statement is put behind all that stands in it,
-/// or before its validations, behind `||`; a `$` stands before each `$`, space and `:` of a path. Left out is what
-/// would be added to a statement that begins at no line of the file, or beside a path that no build line can name.
+/// lines, those of one statement beside each other. What is added to one statement is put behind the last of its paths
+/// and signs before the validations, with `||` where that is not there; a `$` stands before each `$`, space and `:` of a
+/// path. Left out is what would be added to a statement that begins at no line of the file, or beside a path that no
+/// build line can name.
 ///
 /// # Errors
 /// [`AllocError`] only where an allocation was refused.

@@ -7,6 +7,6 @@ mod lines;
 mod made_by;
 mod statement;
 
-pub use changes::{Addition, Change, changed_text, changes_of};
+pub use changes::{Addition, Change, changed_text, changes_of, is_written};
 pub use hunks::patch_text;
 pub use made_by::{Author, author_of};

@@ -3,8 +3,8 @@ ghost use Rattle.std.specs.Prelude.{◌≡◌, ◌<◌, ◌≤◌, suc, None, dr
 ghost use Rattle.std.specs.List.{list_any};
 ghost use Rattle.rev_patch.specs.Additions.{texts_of};
 ghost use Rattle.rev_patch.specs.Lines.{line_of};
-ghost use Rattle.rev_patch.specs.Read.{first_spot, first_token, seen_with, signs_with};
-ghost use Rattle.rev_patch.specs.Statement.{goes_on, is_order, line_end, place_in, put_at, size, spot_or, statement, tokens, validations_at};
+ghost use Rattle.rev_patch.specs.Read.{first_token, seen_with, signs_with};
+ghost use Rattle.rev_patch.specs.Statement.{goes_on, has_validations, is_open, is_order, is_solid, is_validations, place_in, plain_token, put_at, size, solid_in, spot_or, statement, tokens};
 
 use crate::lines::Row;
 
@@ -19,6 +19,8 @@ pub(crate) enum Token {
     Order,
     /// The sign `|@` before validations.
     Validations,
+    /// A space, or a CR at the end of the line.
+    Blank,
     /// Any other byte.
     Plain,
 }
@@ -28,10 +30,23 @@ pub(crate) enum Token {
 pub(crate) struct Signs {
     /// Whether the sign of order-only inputs stands in it.
     pub(crate) has_order: bool,
-    /// The place of its first sign of validations.
-    pub(crate) validations: Option<usize>,
+    /// Whether the sign of validations does.
+    pub(crate) has_validations: bool,
+    /// How many bytes there are up to the end of the last part that says something before the validations.
+    pub(crate) last: Option<usize>,
     /// Whether the statement goes on behind it.
     pub(crate) goes_on: bool,
+}
+
+// The part that a byte is which belongs to no sign.
+fn plain_token(byte: u8) -> Token
+    ensures { result ≡ plain_token byte }
+{
+    if byte == b' ' || byte == b'\r' {
+        Token::Blank
+    } else {
+        Token::Plain
+    }
 }
 
 // The part that a line begins with, by its first byte and what stands behind it.
@@ -45,7 +60,7 @@ fn first_token(first: u8, behind: &[u8]) -> Token
             if first == b'$' {
                 Token::Dollar
             } else {
-                Token::Plain
+                plain_token(first)
             }
         }
         [next, ..] => {
@@ -56,7 +71,7 @@ fn first_token(first: u8, behind: &[u8]) -> Token
             } else if first == b'|' && *next == b'@' {
                 Token::Validations
             } else {
-                Token::Plain
+                plain_token(first)
             }
         }
     }
@@ -67,59 +82,88 @@ fn size(token: Token) -> usize
     ensures { result ≡ size token }
 {
     match token {
-        Token::Dollar | Token::Plain => 1,
+        Token::Dollar | Token::Blank | Token::Plain => 1,
         Token::Escaped(_) | Token::Order | Token::Validations => 2,
     }
 }
 
-// What was seen once one more part was read.
-fn signs_with(signs: Signs, at: usize, token: Token) -> Signs
-    ensures { result ≡ signs_with signs at token }
+fn is_order(token: Token) -> bool
+    ensures { result ≡ is_order token }
 {
     match token {
-        Token::Escaped(byte) => Signs {
-            goes_on: byte == b'\r',
-            ..signs
-        },
-        Token::Dollar => Signs {
-            goes_on: true,
-            ..signs
-        },
-        Token::Order => Signs {
-            has_order: true,
-            goes_on: false,
-            ..signs
-        },
-        Token::Validations => Signs {
-            validations: Some(signs.validations.unwrap_or(at)),
-            goes_on: false,
-            ..signs
-        },
-        Token::Plain => Signs {
-            goes_on: false,
-            ..signs
-        },
+        Token::Order => true,
+        _ => false,
+    }
+}
+
+fn is_validations(token: Token) -> bool
+    ensures { result ≡ is_validations token }
+{
+    match token {
+        Token::Validations => true,
+        _ => false,
+    }
+}
+
+// Whether a statement goes on behind a line that ends with this part.
+fn is_open(token: Token) -> bool
+    ensures { result ≡ is_open token }
+{
+    match token {
+        Token::Dollar => true,
+        Token::Escaped(byte) => byte == b'\r',
+        _ => false,
+    }
+}
+
+// Whether a part says something.
+fn is_solid(token: Token) -> bool
+    ensures { result ≡ is_solid token }
+{
+    match token {
+        Token::Escaped(byte) => byte != b'\r',
+        Token::Order | Token::Plain => true,
+        Token::Dollar | Token::Validations | Token::Blank => false,
+    }
+}
+
+// What was seen once one more part was read, which ends behind so many bytes.
+fn signs_with(signs: Signs, end: usize, token: Token) -> Signs
+    ensures { result ≡ signs_with signs end token }
+{
+    let last = if signs.has_validations || !is_solid(token) {
+        signs.last
+    } else {
+        Some(end)
+    };
+    Signs {
+        has_order: signs.has_order || is_order(token),
+        has_validations: signs.has_validations || is_validations(token),
+        last,
+        goes_on: is_open(token),
     }
 }
 
 /// What stands in a line of a statement.
 pub(crate) fn signs_of(line: &[u8]) -> Signs
     ensures order { result.has_order ≡ list_any is_order (tokens line.now) }
-    ensures validations { result.validations ≡ validations_at (tokens line.now) }
+    ensures validations { result.has_validations ≡ has_validations line.now }
+    ensures last { result.last ≡ solid_in line.now }
     ensures goes_on { result.goes_on ≡ goes_on (tokens line.now) }
 {
     let mut signs = Signs {
         has_order: false,
-        validations: None,
+        has_validations: false,
+        last: None,
         goes_on: false,
     };
     let mut at = 0;
     let mut rest = line;
     while let Some((first, behind)) = rest.split_first() {
         let token = first_token(*first, behind);
-        signs = signs_with(signs, at, token);
         let (read, left) = rest.split_at(size(token));
         at += read.len();
+        signs = signs_with(signs, at, token);
         rest = left;
     }
     signs
@@ -141,8 +185,6 @@ pub(crate) struct Place {
     pub(crate) line: usize,
     /// How many bytes of it stand before the place.
     pub(crate) at: usize,
-    /// Whether validations stand behind it.
-    pub(crate) is_before_validations: bool,
     /// Whether the sign of order-only inputs stands in the statement.
     pub(crate) has_sign: bool,
 }
@@ -152,32 +194,21 @@ pub(crate) struct Place {
 struct Seen {
     // Whether the sign of order-only inputs stands there.
     has_order: bool,
-    // The first sign of validations.
-    validations: Option<Spot>,
-    // The end of the last line.
-    end: Option<Spot>,
+    // Whether the sign of validations does.
+    has_validations: bool,
+    // The end of the last part that says something before the validations.
+    last: Option<Spot>,
     // Whether it goes on behind that.
     goes_on: bool,
 }
 
-// How many bytes a line has without a CR at its end.
-fn line_end(line: &[u8]) -> usize
-    ensures { result ≡ line_end line.now }
+// The spot of a line; another where there is none.
+fn spot_or(line: usize, at: Option<usize>, other: Option<Spot>) -> Option<Spot>
+    ensures { result ≡ spot_or line at other }
 {
-    if line.is_empty() || line[line.len() - 1] != b'\r' {
-        return line.len();
-    }
-    line.len() - 1
-}
-
-// The first sign of validations, once one more line was read.
-fn first_spot(seen: Option<Spot>, line: usize, at: Option<usize>) -> Option<Spot>
-    ensures { result ≡ first_spot seen (spot_or line at None) }
-{
-    match (seen, at) {
-        (Some(spot), _) => Some(spot),
-        (None, Some(at)) => Some(Spot { line, at }),
-        (None, None) => None,
+    match at {
+        Some(at) => Some(Spot { line, at }),
+        None => other,
     }
 }
 
@@ -186,39 +217,35 @@ fn seen_with(seen: Seen, number: usize, line: &[u8]) -> Seen
     ensures { result ≡ seen_with seen number line.now }
 {
     let signs = signs_of(line);
-    let at = line_end(line);
+    let last = if seen.has_validations {
+        seen.last
+    } else {
+        spot_or(number, signs.last, seen.last)
+    };
     Seen {
         has_order: seen.has_order || signs.has_order,
-        validations: first_spot(seen.validations, number, signs.validations),
-        end: Some(Spot { line: number, at }),
+        has_validations: seen.has_validations || signs.has_validations,
+        last,
         goes_on: signs.goes_on,
     }
 }
 
 // Where order-only inputs are added, by what was seen of the whole statement.
 fn put_at(seen: Seen) -> Option<Place>
-    ensures { result ≡ put_at seen.has_order seen.validations seen.end }
+    ensures { result ≡ put_at seen.has_order seen.last }
 {
-    let has_sign = seen.has_order;
-    match (seen.validations, seen.end) {
-        (Some(spot), _) => Some(Place {
+    match seen.last {
+        Some(spot) => Some(Place {
             line: spot.line,
             at: spot.at,
-            is_before_validations: true,
-            has_sign,
+            has_sign: seen.has_order,
         }),
-        (None, Some(spot)) => Some(Place {
-            line: spot.line,
-            at: spot.at,
-            is_before_validations: false,
-            has_sign,
-        }),
-        (None, None) => None,
+        None => None,
     }
 }
 
-/// Where order-only inputs are added to the statement that begins at a line: before its validations, or at its end.
-/// None where there is no such line.
+/// Where order-only inputs are added to the statement that begins at a line: behind all that says something before its
+/// validations. None where there is no such line, or it says nothing.
 pub(crate) fn place_of(rows: &[Row<'_>], first: usize) -> Option<Place>
     ensures { result ≡ place_in first (statement (drop first (texts_of (map line_of rows.now)))) }
 {
@@ -228,8 +255,8 @@ pub(crate) fn place_of(rows: &[Row<'_>], first: usize) -> Option<Place>
     let (_, rest) = rows.split_at(first);
     let mut seen = Seen {
         has_order: false,
-        validations: None,
-        end: None,
+        has_validations: false,
+        last: None,
         goes_on: true,
     };
     for (number, row) in rest.iter().enumerate() {

@@ -1,7 +1,7 @@
-pub mod Counts
+pub mod Names
+pub mod Edges
 pub mod Happened
 pub mod Lines
-pub mod Places
-pub mod Hints
-pub mod Clashes
-pub mod Changes
+pub mod Counts
+pub mod Failed
+pub mod Status

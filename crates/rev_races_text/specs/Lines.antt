@@ -1,48 +1,124 @@
--- The lines of one race.
-use Rattle.std.specs.Prelude.{ℕ, ◌==◌, ◌&&◌, Bool, if◌then◌else◌, List, [], ◌++◌, Option, Some, None, bytes_eq, codes, decimal}
-use Rattle.rev_manifest.specs.Manifest.{BuildValue}
-use Rattle.rev_races_text.specs.declared.told.Kind.{Kind}
-use Rattle.rev_races_text.specs.declared.told.Kind.TheVariants.{Race, Cycle, Own}
-use Rattle.rev_races_text.specs.Places.{edge_words, name_words, place_words, placed_words}
+-- The lines of races, clashes and hints.
+use Rattle.std.specs.Prelude.{ℕ, ◌-◌, ◌==◌, nat_le, if◌then◌else◌, List, [], ◌∷◌, ◌++◌, Option, Some, None, bytes_eq, codes, decimal}
+use Rattle.rev_clashes.specs.declared.side_file.SideFile.{SideFile}
+use Rattle.rev_clashes.specs.declared.side_file.SideFile.TheVariants.{Depfile, ResponseFile}
+use Rattle.rev_races.specs.declared.race.Kind.{Kind}
+use Rattle.rev_races.specs.declared.race.Kind.TheVariants.{Race, Cycle, Own}
+use Rattle.rev_races_text.specs.Edges.{line_if, placed}
+use Rattle.rev_races_text.specs.Happened.{here_line}
+use Rattle.rev_races_text.specs.Names.{name_if, written, written_if}
+use Rattle.rev_races_text.specs.declared.edges.Edge.{Edge}
+use Rattle.rev_races_text.specs.declared.others.Change.{Change}
+use Rattle.rev_races_text.specs.declared.others.ClashLine.{ClashLine}
+use Rattle.rev_races_text.specs.declared.others.Hint.{Hint}
+use Rattle.rev_races_text.specs.declared.names.Shown.{Shown}
+use Rattle.rev_races_text.specs.declared.race.Evidence.{Evidence}
+use Rattle.rev_races_text.specs.declared.race.Evidence.TheVariants as evidence
+use Rattle.rev_suspects.specs.declared.suspected.Progress.{Progress}
+use Rattle.rev_suspects.specs.declared.suspected.Progress.TheVariants as progress
 use Rattle.rev_shown.specs.Shown.{shown}
 
+-- RACES
 abbrev pub kind_word : Kind → List ℕ
-kind_word Race = codes "race "
-kind_word Cycle = codes "cycle "
-kind_word Own = codes "own "
+kind_word Race = codes "race"
+kind_word Cycle = codes "cycle"
+kind_word Own = codes "own"
 
 -- `race version.h made by version.h (build.ninja:14)`
-abbrev pub maker_line : List BuildValue → List (List ℕ × List ℕ) → Kind → List ℕ → ℕ → List ℕ
-maker_line builds files kind path maker =
-    kind_word kind ++ shown path ++ codes " made by " ++ placed_words builds files maker ++ codes "\n"
+abbrev pub maker_line : Kind → List ℕ → Edge → List ℕ
+maker_line kind path maker =
+    kind_word kind ++ codes " " ++ shown path ++ codes " made by " ++ placed maker ++ codes "\n"
 
 -- what is said behind a user
 abbrev pub user_ends : Kind → List ℕ
-user_ends Race = codes ", which does not wait for it\n"
-user_ends Cycle = codes ", for which the maker waits: no order mends that\n"
-user_ends Own = codes ", which makes it: no order mends that\n"
+user_ends Race = codes ", which does not wait for it"
+user_ends Cycle = codes ", for which the maker waits: no order mends that"
+user_ends Own = codes ", which makes it: no order mends that"
 
--- the path by which a user is in the race, and how many more
-abbrev pub through_words : List ℕ → ℕ → List ℕ
-through_words path more =
-    codes " through " ++ shown path ++ (if more == 0 then [] else codes " and " ++ decimal more ++ codes " more")
+-- the path by which a user is in the race, and how many more, where it is more than the path that the maker's line has
+unfoldable pub through_words : List ℕ → List ℕ → ℕ → List ℕ
+through_words told path more =
+    if more == 0 then (if bytes_eq path told then [] else codes " through " ++ shown path)
+    else codes " through " ++ shown path ++ codes " and " ++ decimal more ++ codes " more"
 
--- the same, where it is more than the path that the maker's line has
-abbrev pub through_if : List ℕ → List ℕ → ℕ → List ℕ
-through_if told path more = if bytes_eq path told && (more == 0) then [] else through_words path more
+-- `  used by main.o (build.ninja:19), which does not wait for it [1]`, with the number that `--witness` takes
+abbrev pub user_line : Kind → List ℕ → List ℕ → ℕ → Edge → ℕ → List ℕ
+user_line kind told path more user number =
+    codes "  used by " ++ placed user ++ through_words told path more ++ user_ends kind ++ codes " ["
+    ++ decimal number ++ codes "]\n"
 
--- `  used by main.o (build.ninja:19), which does not wait for it`
-abbrev pub user_line : List BuildValue → List (List ℕ × List ℕ) → Kind → List ℕ → List ℕ → ℕ → ℕ → List ℕ
-user_line builds files kind told path more user =
-    codes "  used by " ++ placed_words builds files user ++ through_if told path more ++ user_ends kind
+-- how far the maker was when a command began that failed
+abbrev pub progress_words : Progress → List ℕ
+progress_words progress.Running = codes "was running"
+progress_words progress.ToRun = codes "was still to run"
+
+-- what this recording shows: what happened with two runs, or of what it is known where the user failed
+abbrev pub evidence_line : Evidence → List ℕ → List ℕ
+evidence_line evidence.Own path = []
+evidence_line (evidence.Story story) path = here_line story
+evidence_line (evidence.Earlier number) path =
+    codes "    here: the user failed at " ++ decimal number
+    ++ codes "; it listed this when it was built before\n"
+evidence_line (evidence.Error progress) path =
+    codes "    here: the maker " ++ progress_words progress ++ codes " when the user began; its error names "
+    ++ shown path ++ codes "\n"
 
 -- `    mend: build.ninja:19: build main.o: ... || version.h`
-abbrev pub mend_line : List BuildValue → List (List ℕ × List ℕ) → ℕ → Option (List ℕ) → List ℕ
-mend_line builds files user None = []
-mend_line builds files user (Some output) =
-    codes "    mend: " ++ place_words builds files user ++ codes ": build " ++ edge_words builds user
-    ++ codes ": ... || " ++ shown output ++ codes "\n"
+abbrev pub mend_line : Edge → List ℕ → List ℕ
+mend_line user output =
+    codes "    mend: " ++ name_if user.file ++ line_if user.line ++ codes ": build " ++ written_if user.output ++ codes ": ... || "
+    ++ written output ++ codes "\n"
 
--- how many users are left out
-abbrev pub more_line : ℕ → List ℕ
-more_line more = if more == 0 then [] else codes "  and by " ++ decimal more ++ codes " more (--all tells them)\n"
+-- how many are left out
+abbrev pub more_line : List ℕ → ℕ → List ℕ → List ℕ
+more_line before more after = if more == 0 then [] else before ++ decimal more ++ after
+
+-- CLASHES
+-- whose file it is, by its kind
+abbrev pub whose : SideFile → List ℕ
+whose Depfile = codes "the depfile of "
+whose ResponseFile = codes "the response file of "
+
+-- what can come of it, by the kind of the file
+abbrev pub outcome : SideFile → List ℕ
+outcome Depfile = codes "one of them can lose its list"
+outcome ResponseFile = codes "one can read the other's"
+
+-- `clash deps.d: the depfile of a.o (build.ninja:14)`
+unfoldable pub first_words : Option Shown → SideFile → Edge → List ℕ
+first_words path file edge = codes "clash " ++ name_if path ++ codes ": " ++ whose file ++ placed edge
+
+-- ` and of b.o (build.ninja:19): one of them can lose its list`
+unfoldable pub other_words : Edge → SideFile → List ℕ
+other_words edge file = codes " and of " ++ placed edge ++ codes ": " ++ outcome file ++ codes "\n"
+
+abbrev pub clash_line : ClashLine → List ℕ
+clash_line c = first_words c.path c.file c.first ++ other_words c.other c.file
+
+-- HINTS
+-- `hint main.o (build.ninja:19) lists /b/version.h`
+unfoldable pub lists_words : Edge → List ℕ → List ℕ
+lists_words user path = codes "hint " ++ placed user ++ codes " lists " ++ shown path
+
+-- `, which is version.h, made by version.h (build.ninja:14), for which it does not wait`
+unfoldable pub made_words : List ℕ → Edge → List ℕ
+made_words output maker =
+    codes ", which is " ++ shown output ++ codes ", made by " ++ placed maker
+    ++ codes ", for which it does not wait\n"
+
+abbrev pub hint_line : Hint → List ℕ
+hint_line h = lists_words h.user h.path.0.now ++ made_words h.output.0.now h.maker
+
+-- which commands ran when a file changed: the first of so many
+unfoldable pub ran_words : List Edge → ℕ → List ℕ
+ran_words [] n = codes "nothing ran\n"
+ran_words (e ∷ es) n =
+    if nat_le n 1 then placed e ++ codes " ran: the user does not wait for it\n"
+    else placed e ++ codes " and " ++ decimal (n - 1) ++ codes " more ran: the user waits for none of them\n"
+
+-- `, which no edge makes`, and when it changed
+unfoldable pub changed_words : ℕ → List ℕ
+changed_words at = codes ", which no edge makes\n  it changed at " ++ decimal at ++ codes ", while "
+
+abbrev pub change_line : Change → List ℕ
+change_line c = lists_words c.user c.path.0.now ++ changed_words c.at ++ ran_words c.ran.items c.commands

@@ -1,41 +1,135 @@
-//! The last line: how many there are, and what was not judged.
-ghost use Rattle.std.specs.Prelude.{◌≡◌, ◌==◌, ◌&&◌, ◌++◌, codes, OnOk};
-ghost use Rattle.std.specs.List.{flat_map};
-ghost use Rattle.rev_races_text.specs.Counts.{bracketed, clashes_words, commands_words, counted, counts_words, listed_words, some_edges, some_words, three_words, unjudged_words};
-ghost use Rattle.rev_races_text.specs.Places.{edge_words};
+//! The line that counts: what was found, how many commands ran, and which of these were not judged.
+ghost use Rattle.std.specs.Prelude.{◌≡◌, ◌++◌, ◌==◌, ◌&&◌, Some, if◌then◌else◌, codes};
+ghost use Rattle.rev_races_text.specs.Counts.{collectors_words, counted, ends_words, found_words, more_words, names_some, names_words, plain_words, races_words, ran_words, some_words, tally_words, three_words, unjudged_words};
 
-use crate::places::{Sources, push_edge};
-use rev_fields::push_number;
-use std::alloc::AllocError;
+use crate::edges::Edge;
+use crate::names::NameIf;
+use std::fmt;
 
-// Adds a number of things.
-fn push_counted(text: &mut Vec<u8>, count: u64, one: &[u8], many: &[u8]) -> Result<(), AllocError>
-    ensures { OnOk result (text.new.items ≡ text.old.items ++ counted count one.now many.now) }
-{
-    push_number(text, count)?;
-    text.extend_from_slice(b" ")?;
-    text.extend_from_slice(if count == 1 { one } else { many })
+/// How many there are of what is told.
+#[derive(Clone, Copy)]
+pub struct Tally {
+    /// Commands that failed.
+    pub failed: u64,
+    /// Races, suspects that an error names among them.
+    pub races: u64,
+    /// Cycles.
+    pub cycles: u64,
+    /// Paths that their own commands list.
+    pub own: u64,
+    /// Clashes.
+    pub clashes: u64,
+    /// Commands that ran.
+    pub ran: u64,
 }
 
-// Adds a number of things behind a comma where something stands before it; nothing where there are none.
-#[tactic(auto, unfolding(crate::specs::Counts::some_words))]
-fn push_some(
-    text: &mut Vec<u8>,
+/// A number of things.
+#[derive(Clone, Copy)]
+pub(crate) struct Counted {
+    pub(crate) count: u64,
+    pub(crate) one: &'static str,
+    pub(crate) many: &'static str,
+}
+
+// The same behind a comma, unless it comes first; nothing where there are none.
+#[derive(Clone, Copy)]
+struct Listed {
     is_first: bool,
-    count: u64,
-    one: &[u8],
-    many: &[u8],
-) -> Result<(), AllocError>
-    ensures { OnOk result (text.new.items
-        ≡ text.old.items ++ some_words is_first count one.now many.now) }
-{
-    if count == 0 {
-        return Ok(());
+    counted: Counted,
+}
+
+// The same behind some words; nothing where there are none.
+#[derive(Clone, Copy)]
+struct Further {
+    before: &'static str,
+    counted: Counted,
+}
+
+// The three kinds of races, where there is one.
+#[derive(Clone, Copy)]
+struct Three(Tally);
+
+// The same where there may be none.
+#[derive(Clone, Copy)]
+struct Races(Tally);
+
+// How many commands ran.
+#[derive(Clone, Copy)]
+struct Ran(u64);
+
+// How many commands failed, and the races.
+#[derive(Clone, Copy)]
+struct FoundCounts(Tally);
+
+// How many clashes there are, and commands that ran.
+#[derive(Clone, Copy)]
+struct EndCounts(Tally);
+
+// Edges by their first outputs, with commas.
+#[derive(Clone, Copy)]
+struct Names<'a>(&'a [Edge<'a>]);
+
+// The same of the first, or of all.
+#[derive(Clone, Copy)]
+struct SomeNames<'a> {
+    all: bool,
+    edges: &'a [Edge<'a>],
+}
+
+// Commands that only collect outputs.
+#[derive(Clone, Copy)]
+struct Collectors<'a> {
+    all: bool,
+    edges: &'a [Edge<'a>],
+}
+
+/// Which commands ran and were not judged.
+#[derive(Clone, Copy)]
+pub(crate) struct NotJudged<'a> {
+    pub(crate) all: bool,
+    pub(crate) plain: &'a [Edge<'a>],
+    pub(crate) collectors: &'a [Edge<'a>],
+}
+
+impl fmt::Display for Counted {
+    ghost output = { λ c. Some (counted c.count c.one.now c.many.now) };
+
+    #[tactic(auto, unfolding(crate::specs::Counts::counted))]
+    fn fmt<W: fmt::Write>(&self, f: &mut fmt::Formatter<W>) -> fmt::Result {
+        let count = self.count;
+        let word = if count == 1 { self.one } else { self.many };
+        write!(f, "{count} {word}")
     }
-    if !is_first {
-        text.extend_from_slice(b", ")?;
+}
+
+impl fmt::Display for Listed {
+    ghost output = { λ l. Some (some_words l.is_first l.counted.count l.counted.one.now l.counted.many.now) };
+
+    #[tactic(auto, unfolding(crate::specs::Counts::some_words))]
+    fn fmt<W: fmt::Write>(&self, f: &mut fmt::Formatter<W>) -> fmt::Result {
+        let counted = self.counted;
+        if counted.count == 0 {
+            return Ok(());
+        }
+        if self.is_first {
+            write!(f, "{counted}")
+        } else {
+            write!(f, ", {counted}")
+        }
     }
-    push_counted(text, count, one, many)
+}
+
+impl fmt::Display for Further {
+    ghost output = { λ m. Some (more_words m.before.now m.counted.count m.counted.one.now m.counted.many.now) };
+
+    #[tactic(auto, unfolding(crate::specs::Counts::more_words))]
+    fn fmt<W: fmt::Write>(&self, f: &mut fmt::Formatter<W>) -> fmt::Result {
+        let (before, counted) = (self.before, self.counted);
+        if counted.count == 0 {
+            return Ok(());
+        }
+        write!(f, "{before}{counted}")
+    }
 }
 
 // Whether there is none of two kinds.
@@ -45,141 +139,193 @@ fn are_none(one: u64, other: u64) -> bool
     one == 0 && other == 0
 }
 
-// Adds how many there are of the three kinds, of which there is one.
-fn push_three(text: &mut Vec<u8>, races: u64, cycles: u64, own: u64) -> Result<(), AllocError>
-    ensures { OnOk result (text.new.items ≡ text.old.items ++ three_words races cycles own) }
+// Whether there is none of three kinds.
+fn is_empty(races: u64, cycles: u64, own: u64) -> bool
+    ensures { result ≡ (races == 0 && (cycles == 0 && own == 0)) }
 {
-    push_some(text, true, races, b"race", b"races")?;
-    push_some(text, races == 0, cycles, b"cycle", b"cycles")?;
-    push_some(
-        text,
-        are_none(races, cycles),
-        own,
-        b"path that its own command lists",
-        b"paths that their own commands list",
-    )?;
-    Ok(())
+    races == 0 && (cycles == 0 && own == 0)
 }
 
-/// Adds how many races, cycles and paths that their own commands list there are.
-pub(crate) fn push_counts(
-    text: &mut Vec<u8>,
-    races: u64,
-    cycles: u64,
-    own: u64,
-) -> Result<(), AllocError>
-    ensures { OnOk result (text.new.items ≡ text.old.items ++ counts_words races cycles own) }
-{
-    if races == 0 && cycles == 0 && own == 0 {
-        return text.extend_from_slice(b"no race");
+impl fmt::Display for Three {
+    ghost output = { λ t. Some (three_words t.0) };
+
+    #[tactic(auto, unfolding(crate::specs::Counts::three_words))]
+    fn fmt<W: fmt::Write>(&self, f: &mut fmt::Formatter<W>) -> fmt::Result {
+        let Tally {
+            races,
+            cycles,
+            own,
+            ..
+        } = self.0;
+        let one = Listed {
+            is_first: true,
+            counted: Counted {
+                count: races,
+                one: "race",
+                many: "races",
+            },
+        };
+        let two = Listed {
+            is_first: races == 0,
+            counted: Counted {
+                count: cycles,
+                one: "cycle",
+                many: "cycles",
+            },
+        };
+        let three = Listed {
+            is_first: are_none(races, cycles),
+            counted: Counted {
+                count: own,
+                one: "path that its own command lists",
+                many: "paths that their own commands list",
+            },
+        };
+        write!(f, "{one}{two}{three}")
     }
-    push_three(text, races, cycles, own)
 }
 
-/// Adds how many clashes there are, where there is one.
-pub(crate) fn push_clashes(text: &mut Vec<u8>, clashes: u64) -> Result<(), AllocError>
-    ensures { OnOk result (text.new.items ≡ text.old.items ++ clashes_words clashes) }
-{
-    if clashes == 0 {
-        return Ok(());
+impl fmt::Display for Races {
+    ghost output = { λ r. Some (races_words r.0) };
+
+    #[tactic(auto, unfolding(crate::specs::Counts::races_words))]
+    fn fmt<W: fmt::Write>(&self, f: &mut fmt::Formatter<W>) -> fmt::Result {
+        let three = Three(self.0);
+        if is_empty(self.0.races, self.0.cycles, self.0.own) {
+            write!(f, "no race")
+        } else {
+            write!(f, "{three}")
+        }
     }
-    text.extend_from_slice(b"; ")?;
-    push_counted(text, clashes, b"clash", b"clashes")
 }
 
-// Adds edges, each behind a space.
-fn push_spaced(text: &mut Vec<u8>, sources: &Sources<'_>, edges: &[u32]) -> Result<(), AllocError>
-    ensures { OnOk result (text.new.items
-        ≡ text.old.items ++ flat_map (λ edge. codes " " ++ edge_words sources.now.builds.now edge) edges.now) }
-{
-    for edge in edges {
-        text.extend_from_slice(b" ")?;
-        push_edge(text, sources, *edge)?;
+impl fmt::Display for Ran {
+    ghost output = { λ ran. Some (ran_words ran.0) };
+
+    #[tactic(auto, unfolding(crate::specs::Counts::ran_words))]
+    fn fmt<W: fmt::Write>(&self, f: &mut fmt::Formatter<W>) -> fmt::Result {
+        if self.0 == 0 {
+            return write!(f, "no command ran");
+        }
+        let commands = Counted {
+            count: self.0,
+            one: "command",
+            many: "commands",
+        };
+        write!(f, "{commands} ran")
     }
-    Ok(())
 }
 
-// Adds the first of some edges and three dots where there are more, or all of them.
-fn push_edges(
-    text: &mut Vec<u8>,
-    sources: &Sources<'_>,
-    edges: &[u32],
-    all: bool,
-) -> Result<(), AllocError>
-    ensures { OnOk result (text.new.items
-        ≡ text.old.items ++ some_edges sources.now.builds.now all edges.now) }
-{
-    let [first, rest @ ..] = edges else {
-        return Ok(());
-    };
-    push_edge(text, sources, *first)?;
-    if all {
-        return push_spaced(text, sources, rest);
+impl fmt::Display for FoundCounts {
+    ghost output = { λ t. Some (found_words t.0) };
+
+    #[tactic(auto, unfolding(crate::specs::Counts::found_words))]
+    fn fmt<W: fmt::Write>(&self, f: &mut fmt::Formatter<W>) -> fmt::Result {
+        let failed = Listed {
+            is_first: true,
+            counted: Counted {
+                count: self.0.failed,
+                one: "command failed; ",
+                many: "commands failed; ",
+            },
+        };
+        let races = Races(self.0);
+        write!(f, "{failed}{races}")
     }
-    if rest.is_empty() {
-        return Ok(());
+}
+
+impl fmt::Display for EndCounts {
+    ghost output = { λ t. Some (ends_words t.0) };
+
+    #[tactic(auto, unfolding(crate::specs::Counts::ends_words))]
+    fn fmt<W: fmt::Write>(&self, f: &mut fmt::Formatter<W>) -> fmt::Result {
+        let clashes = Further {
+            before: "; ",
+            counted: Counted {
+                count: self.0.clashes,
+                one: "clash",
+                many: "clashes",
+            },
+        };
+        let ran = Ran(self.0.ran);
+        write!(f, "{clashes}; {ran}")
     }
-    text.extend_from_slice(b" ...")
 }
 
-// Adds how many commands there are.
-#[tactic(auto, unfolding(crate::specs::Counts::commands_words))]
-fn push_commands(text: &mut Vec<u8>, count: u64) -> Result<(), AllocError>
-    ensures { OnOk result (text.new.items ≡ text.old.items ++ commands_words count) }
-{
-    push_counted(
-        text,
-        count,
-        b"command without a list of what it read",
-        b"commands without a list of what they read",
-    )
-}
+impl fmt::Display for Tally {
+    ghost output = { λ t. Some (tally_words t) };
 
-// Adds edges in brackets.
-#[tactic(auto, unfolding(crate::specs::Counts::bracketed))]
-fn push_bracketed(
-    text: &mut Vec<u8>,
-    sources: &Sources<'_>,
-    edges: &[u32],
-    all: bool,
-) -> Result<(), AllocError>
-    ensures { OnOk result (text.new.items
-        ≡ text.old.items ++ bracketed sources.now.builds.now all edges.now) }
-{
-    text.extend_from_slice(b" (")?;
-    push_edges(text, sources, edges, all)?;
-    text.extend_from_slice(b")")
-}
-
-// Adds how many commands have no list, and which.
-fn push_listed(
-    text: &mut Vec<u8>,
-    sources: &Sources<'_>,
-    edges: &[u32],
-    all: bool,
-) -> Result<(), AllocError>
-    ensures { OnOk result (text.new.items
-        ≡ text.old.items ++ listed_words sources.now.builds.now all edges.now) }
-{
-    text.extend_from_slice(b"; not judged: ")?;
-    push_commands(text, edges.len() as u64)?;
-    push_bracketed(text, sources, edges, all)?;
-    Ok(())
-}
-
-/// Adds how many commands have no list, and the first of them, or all.
-pub(crate) fn push_unjudged(
-    text: &mut Vec<u8>,
-    sources: &Sources<'_>,
-    edges: &[u32],
-    all: bool,
-) -> Result<(), AllocError>
-    ensures { OnOk result (text.new.items
-        ≡ text.old.items ++ unjudged_words sources.now.builds.now all edges.now) }
-{
-    let count = edges.len() as u64;
-    if count == 0 {
-        return Ok(());
+    fn fmt<W: fmt::Write>(&self, f: &mut fmt::Formatter<W>) -> fmt::Result {
+        let (found, ends) = (FoundCounts(*self), EndCounts(*self));
+        write!(f, "{found}{ends}")
     }
-    push_listed(text, sources, edges, all)
+}
+
+impl fmt::Display for Names<'_> {
+    ghost output = { λ n. Some (names_words n.0.now) };
+
+    fn fmt<W: fmt::Write>(&self, f: &mut fmt::Formatter<W>) -> fmt::Result {
+        let [first, rest @ ..] = self.0 else {
+            return Ok(());
+        };
+        write!(f, "{}", NameIf(first.output))?;
+        for edge in rest {
+            write!(f, ", {}", NameIf(edge.output))?;
+        }
+        Ok(())
+    }
+}
+
+impl fmt::Display for SomeNames<'_> {
+    ghost output = { λ n. Some (names_some n.all n.edges.now) };
+
+    #[tactic(auto, unfolding(crate::specs::Counts::names_some))]
+    fn fmt<W: fmt::Write>(&self, f: &mut fmt::Formatter<W>) -> fmt::Result {
+        let edges = self.edges;
+        if self.all || edges.len() <= 3 {
+            return write!(f, "{}", Names(edges));
+        }
+        write!(f, "{} ...", Names(&edges[..3]))
+    }
+}
+
+impl fmt::Display for Collectors<'_> {
+    ghost output = { λ c. Some (collectors_words c.all c.edges.now) };
+
+    #[tactic(auto, unfolding(crate::specs::Counts::collectors_words))]
+    fn fmt<W: fmt::Write>(&self, f: &mut fmt::Formatter<W>) -> fmt::Result {
+        let counted = Counted {
+            count: self.edges.len() as u64,
+            one: "that only collects outputs",
+            many: "that only collect outputs",
+        };
+        if self.all {
+            write!(f, "{counted} ({})", Names(self.edges))
+        } else {
+            write!(f, "{counted}")
+        }
+    }
+}
+
+impl fmt::Display for NotJudged<'_> {
+    ghost output = { λ n. Some (unjudged_words n.all n.plain.now n.collectors.now) };
+
+    fn fmt<W: fmt::Write>(&self, f: &mut fmt::Formatter<W>) -> fmt::Result {
+        let all = self.all;
+        let some = SomeNames {
+            all,
+            edges: self.plain,
+        };
+        let collectors = Collectors {
+            all,
+            edges: self.collectors,
+        };
+        let count = self.plain.len();
+        match (self.plain.is_empty(), self.collectors.is_empty()) {
+            (true, true) => Ok(()),
+            (false, true) => write!(f, "; not judged: {count} ({some})"),
+            (true, false) => write!(f, "; not judged: {collectors}"),
+            (false, false) => write!(f, "; not judged: {count} ({some}), and {collectors}"),
+        }
+    }
 }

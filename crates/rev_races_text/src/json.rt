@@ -1,74 +1,90 @@
-//! The same as JSON objects, one a line.
-use crate::places::{Sources, first_output};
-use crate::told::{Happened, Kind, Run, Told};
+//! What is told of a recording, as JSON objects, one a line.
+use crate::edges::{Edge, Sources};
+use crate::failed::{Failure, Suspect};
+use crate::names::{Shown, Text};
+use crate::others::Clash;
+use crate::race::{Evidence, Told};
+use crate::report::Report;
+use rev_clashes::SideFile;
 use rev_paths::Name;
-use rev_shown::push_shown;
-use serde_json::{Value, json};
+use rev_races::{Happened, Kind};
+use rev_suspects::Progress;
+use serde::{Described, Serialize, Serializer};
 use std::alloc::{AllocError, Global};
 
-/// A name as people read it.
-pub(crate) fn shown_text(alloc: Global, name: &[u8]) -> Result<String, AllocError> {
-    let mut text = Vec::new(alloc);
-    push_shown(&mut text, name)?;
-    String::from_utf8_lossy(alloc, &text)
+// An object: its kind, and the members of its value.
+#[derive(Clone, Copy)]
+struct Object<'a, T> {
+    kind: &'static str,
+    value: &'a T,
 }
 
-// The same, where there is a name.
-fn name_value(alloc: Global, name: Option<&Name>) -> Result<Value, AllocError> {
-    match name {
-        Some(name) => Ok(Value::from(shown_text(alloc, name.as_bytes())?)),
-        None => Ok(Value::Null),
+impl<T: Serialize> Described for Object<'_, T> {}
+
+impl<T: Serialize> Serialize for Object<'_, T> {
+    fn serialize<S: Serializer>(&self, out: &mut S) -> Result<(), S::Error> {
+        out.begin_map(None)?;
+        out.key("kind")?;
+        out.str(self.kind)?;
+        out.flatten_next()?;
+        self.value.serialize(out)?;
+        out.end_map()
     }
 }
 
-// The number of an event, where there is one.
-fn number_value(number: Option<u32>) -> Value {
-    match number {
-        Some(number) => Value::from(number),
-        None => Value::Null,
-    }
+// A race, a cycle, an own path or a suspect.
+#[derive(Clone, Copy, Serialize)]
+struct RaceObject<'a> {
+    number: u64,
+    path: Option<Shown<'a>>,
+    maker: Edge<'a>,
+    user: Edge<'a>,
+    here: Option<&'static str>,
+    mend: Option<Shown<'a>>,
 }
 
-// The file of a build statement.
-fn file_value(alloc: Global, sources: &Sources<'_>, edge: u32) -> Result<Value, AllocError> {
-    let Some(build) = sources.builds.get(edge as usize) else {
-        return Ok(Value::Null);
-    };
-    match sources.files.get(build.file() as usize) {
-        Some((name, _)) => Ok(Value::from(shown_text(alloc, name)?)),
-        None => Ok(Value::Null),
-    }
+// A command that failed.
+#[derive(Drop, Serialize)]
+struct FailedObject<'a> {
+    user: Edge<'a>,
+    at: u32,
+    command: Text<'a>,
+    lines: Vec<Text<'a>>,
+    left: u64,
 }
 
-// The line of a build statement.
-fn line_value(sources: &Sources<'_>, edge: u32) -> Value {
-    match sources.builds.get(edge as usize) {
-        Some(build) => Value::from(build.line()),
-        None => Value::Null,
-    }
+// A command that ran and was not judged.
+#[derive(Clone, Copy, Serialize)]
+struct UnjudgedObject<'a> {
+    user: Edge<'a>,
+    collects: bool,
 }
 
-/// An edge with its place, and when it ran.
-pub(crate) fn edge_value(
+// A clash.
+#[derive(Clone, Copy, Serialize)]
+struct ClashObject<'a> {
+    of: &'static str,
+    path: Option<Shown<'a>>,
+    first: Edge<'a>,
+    other: Edge<'a>,
+}
+
+// Adds an object and a line's end.
+fn push_object<T: Serialize>(
     alloc: Global,
-    sources: &Sources<'_>,
-    edge: u32,
-    run: Option<Run>,
-) -> Result<Value, AllocError> {
-    let output = name_value(alloc, first_output(sources.builds, edge))?;
-    let file = file_value(alloc, sources, edge)?;
-    let line = line_value(sources, edge);
-    let (began, ended) = match run {
-        Some(run) => (Some(run.began), run.ended),
-        None => (None, None),
+    text: &mut Vec<u8>,
+    kind: &'static str,
+    value: &T,
+) -> Result<(), AllocError> {
+    let Ok(line) = serde_json::to_vec(alloc, &Object { kind, value }) else {
+        return Err(AllocError);
     };
-    let began = number_value(began);
-    let ended = number_value(ended);
-    json!(in alloc; {"output": output, "file": file, "line": line, "began": began, "ended": ended})
+    text.extend_from_slice(&line)?;
+    text.extend_from_slice(b"\n")
 }
 
 // The word of a kind.
-fn kind_text(kind: Kind) -> &'static str {
+fn kind_word(kind: Kind) -> &'static str {
     match kind {
         Kind::Race => "race",
         Kind::Cycle => "cycle",
@@ -77,7 +93,7 @@ fn kind_text(kind: Kind) -> &'static str {
 }
 
 // The word of what happened.
-fn happened_text(happened: Happened) -> &'static str {
+fn happened_word(happened: Happened) -> &'static str {
     match happened {
         Happened::Apart => "apart",
         Happened::Before => "before",
@@ -88,60 +104,186 @@ fn happened_text(happened: Happened) -> &'static str {
     }
 }
 
-// One race.
-fn race_value(alloc: Global, sources: &Sources<'_>, told: &Told<'_>) -> Result<Value, AllocError> {
-    let (maker_run, user_run) = match told.story {
-        Some(story) => (story.maker, story.user),
-        None => (None, None),
-    };
-    let kind = kind_text(told.kind);
-    let path = shown_text(alloc, told.path.as_bytes())?;
-    let maker = edge_value(alloc, sources, told.maker, maker_run)?;
-    let user = edge_value(alloc, sources, told.user, user_run)?;
-    let mend = name_value(alloc, told.mend)?;
-    let here = match told.story {
-        Some(story) => Value::try_from_str(alloc, happened_text(story.happened))?,
-        None => Value::Null,
-    };
-    json!(in alloc; {"kind": kind, "path": path, "maker": maker, "user": user, "here": here, "mend": mend})
+// The word of how far a suspect was.
+fn progress_word(progress: Progress) -> &'static str {
+    match progress {
+        Progress::Running => "running",
+        Progress::ToRun => "to-run",
+    }
 }
 
-// An edge that was not judged.
-fn unjudged_value(alloc: Global, sources: &Sources<'_>, edge: u32) -> Result<Value, AllocError> {
-    let edge = edge_value(alloc, sources, edge, None)?;
-    json!(in alloc; {"kind": "not judged", "user": edge})
+// The word of what the recording shows of a race.
+fn here_word(evidence: Evidence) -> Option<&'static str> {
+    match evidence {
+        Evidence::Own => None,
+        Evidence::Story(story) => Some(happened_word(story.happened)),
+        Evidence::Earlier(_) => Some("failed"),
+        Evidence::Error(progress) => Some(progress_word(progress)),
+    }
 }
 
-/// Adds a value and a line's end.
-pub(crate) fn push_value(
+// A name, where there is one.
+fn shown_if<'a>(name: Option<&'a Name>) -> Option<Shown<'a>> {
+    match name {
+        Some(name) => Some(Shown(name.as_bytes())),
+        None => None,
+    }
+}
+
+// Adds a race with its number.
+fn push_race<'a>(
     alloc: Global,
     text: &mut Vec<u8>,
-    value: &Value,
+    sources: &Sources<'a>,
+    told: &Told<'a>,
+    number: u64,
 ) -> Result<(), AllocError> {
-    let line = value.to_string(alloc)?;
-    text.extend_from_slice(line.as_bytes())?;
-    text.extend_from_slice(b"\n")
+    let race = RaceObject {
+        number,
+        path: Some(Shown(told.path.as_bytes())),
+        maker: sources.maker(told),
+        user: sources.user(told),
+        here: here_word(told.evidence),
+        mend: shown_if(told.mend),
+    };
+    push_object(alloc, text, race_word(told), &race)
 }
 
-/// What was found, as JSON: an object a line for each race, in their order, and then one for each command that was not
-/// judged. Names stand as people read them, so that each is text whatever its bytes are.
-///
-/// # Errors
-/// [`AllocError`] only where an allocation was refused.
-pub fn races_json(
+// Adds a suspect that no error names, with its number. An order mends it, as each of two that do not wait for one
+// another.
+fn push_suspect<'a>(
     alloc: Global,
-    sources: &Sources<'_>,
-    races: &[Told<'_>],
-    unjudged: &[u32],
-) -> Result<Vec<u8>, AllocError> {
-    let mut text = Vec::new(alloc);
-    for told in races {
-        let value = race_value(alloc, sources, told)?;
-        push_value(alloc, &mut text, &value)?;
+    text: &mut Vec<u8>,
+    sources: &Sources<'a>,
+    failure: &Failure<'a>,
+    suspect: &Suspect,
+    number: u64,
+) -> Result<(), AllocError> {
+    let maker = sources.edge(suspect.maker);
+    let race = RaceObject {
+        number,
+        path: None,
+        maker,
+        user: sources.edge(failure.edge),
+        here: Some(progress_word(suspect.progress)),
+        mend: maker.output,
+    };
+    push_object(alloc, text, "suspect", &race)
+}
+
+// Adds a command that failed.
+fn push_failure<'a>(
+    alloc: Global,
+    text: &mut Vec<u8>,
+    sources: &Sources<'a>,
+    failure: &Failure<'a>,
+) -> Result<(), AllocError> {
+    let failed = FailedObject {
+        user: sources.edge(failure.edge),
+        at: failure.number,
+        command: Text(failure.command),
+        lines: failure.lines(alloc)?,
+        left: failure.left(),
+    };
+    push_object(alloc, text, "failed", &failed)
+}
+
+// The word of a race: a suspect where an error names the path.
+fn race_word<'a>(told: &Told<'a>) -> &'static str {
+    match told.evidence {
+        Evidence::Error(_) => "suspect",
+        _ => kind_word(told.kind),
     }
-    for edge in unjudged {
-        let value = unjudged_value(alloc, sources, *edge)?;
-        push_value(alloc, &mut text, &value)?;
+}
+
+// Adds the races and then the suspects that no error names, with their numbers.
+fn push_races<'a>(
+    alloc: Global,
+    text: &mut Vec<u8>,
+    sources: &Sources<'a>,
+    report: &Report<'a>,
+) -> Result<(), AllocError> {
+    let mut number = 1;
+    for told in &report.races {
+        push_race(alloc, text, sources, told, number)?;
+        number = u64::saturating_add(number, 1);
     }
-    Ok(text)
+    let mut number = report.first_other();
+    for failure in &report.failures {
+        for suspect in &failure.others {
+            push_suspect(alloc, text, sources, failure, suspect, number)?;
+            number = u64::saturating_add(number, 1);
+        }
+    }
+    Ok(())
+}
+
+// Adds the commands that were not judged.
+fn push_unjudged<'a>(
+    alloc: Global,
+    text: &mut Vec<u8>,
+    sources: &Sources<'a>,
+    edges: &[u32],
+    collects: bool,
+) -> Result<(), AllocError> {
+    for edge in edges {
+        let user = sources.edge(*edge);
+        push_object(
+            alloc,
+            text,
+            "not judged",
+            &UnjudgedObject { user, collects },
+        )?;
+    }
+    Ok(())
+}
+
+// Adds a clash.
+fn push_clash<'a>(
+    alloc: Global,
+    text: &mut Vec<u8>,
+    sources: &Sources<'a>,
+    clash: &Clash,
+) -> Result<(), AllocError> {
+    let line = sources.clash(clash);
+    let clash = ClashObject {
+        of: match line.file {
+            SideFile::Depfile => "depfile",
+            SideFile::ResponseFile => "rspfile",
+        },
+        path: line.path,
+        first: line.first,
+        other: line.other,
+    };
+    push_object(alloc, text, "clash", &clash)
+}
+
+impl<'a> Report<'a> {
+    /// What is told, as JSON: an object a line. Names stand as people read them, so that each is text whatever its bytes
+    /// are.
+    ///
+    /// # Errors
+    /// [`AllocError`] only where an allocation was refused.
+    pub fn json(&self, alloc: Global, sources: &Sources<'a>) -> Result<Vec<u8>, AllocError> {
+        let mut text = Vec::new(alloc);
+        if !self.replayed.is_whole() {
+            push_object(alloc, &mut text, "replayed", &self.replayed)?;
+        }
+        for failure in &self.failures {
+            push_failure(alloc, &mut text, sources, failure)?;
+        }
+        push_races(alloc, &mut text, sources, self)?;
+        push_unjudged(alloc, &mut text, sources, &self.unjudged, false)?;
+        push_unjudged(alloc, &mut text, sources, &self.collectors, true)?;
+        for clash in &self.clashes {
+            push_clash(alloc, &mut text, sources, clash)?;
+        }
+        for hint in &self.hints {
+            push_object(alloc, &mut text, "hint", hint)?;
+        }
+        for change in &self.changes {
+            push_object(alloc, &mut text, "change", change)?;
+        }
+        Ok(text)
+    }
 }

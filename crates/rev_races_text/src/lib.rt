@@ -1,21 +1,23 @@
 //! What people are told of a build's races.
 #![tactic(auto)]
 
-mod changes;
-mod clashes;
 mod counts;
-mod group;
-mod happened;
-mod hints;
+mod edges;
+mod failed;
+mod here;
 mod json;
-mod places;
-mod text;
-mod told;
+mod names;
+mod others;
+mod race;
+mod report;
+mod words;
 
-pub use changes::{Change, changes_json, changes_text};
-pub use clashes::{Clash, clashes_json, clashes_text, push_clash};
-pub use hints::{Hint, hints_json, hints_text};
-pub use json::races_json;
-pub use places::{Sources, push_edge, push_place, push_placed};
-pub use text::{SOMETHING, races_text, status};
-pub use told::{Happened, Kind, Run, Story, Told};
+pub use counts::Tally;
+pub use edges::{Edge, Sources, push_edge, push_placed};
+pub use failed::{Failure, Printed, Replayed, Suspect};
+pub use names::{Shown, Text};
+pub use others::{Change, Clash, ClashLine, Hint, push_clash};
+pub use race::{Evidence, Told};
+pub use report::{Report, SOMETHING, UNKNOWN};
+pub use rev_races::{Happened, Kind, Run, Story};
+pub use rev_suspects::Progress;

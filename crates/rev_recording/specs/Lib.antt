@@ -1,1 +1,2 @@
+pub mod Includes
 pub mod Replayed

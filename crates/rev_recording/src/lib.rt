@@ -1,10 +1,10 @@
-//! A recording: the files that its manifest names, and its build replayed over a desk.
+//! A recording: the files that its manifest includes, and its build replayed over a desk.
 #![tactic(auto)]
 
 mod fault;
-mod names;
+mod includes;
 mod replayed;
 
 pub use fault::{RecordingFault, fault_line};
-pub use names::named_files;
-pub use replayed::{open, replay, replay_text};
+pub use includes::Includes;
+pub use replayed::{open, refused_count, replay, replay_text};

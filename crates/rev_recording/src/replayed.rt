@@ -117,15 +117,21 @@ fn is_refused(entry: &Entry) -> bool {
     matches!(entry.reply, Reply::Refused(_))
 }
 
+/// How many commands of a desk's journal were refused.
+pub fn refused_count(desk: &Desk) -> u64 {
+    desk.journal()
+        .iter()
+        .filter(|entry| is_refused(entry))
+        .count() as u64
+}
+
 /// The line of a recording that was replayed: how many commands its desk's journal has, and how many of them were
 /// refused.
 ///
 /// # Errors
 /// [`AllocError`] only where an allocation was refused.
 pub fn replay_text(alloc: Global, desk: &Desk) -> Result<Vec<u8>, AllocError> {
-    let entries = desk.journal();
-    let refused = entries.iter().filter(|entry| is_refused(entry)).count() as u64;
     let mut text = Vec::new(alloc);
-    push_counts(&mut text, entries.len() as u64, refused)?;
+    push_counts(&mut text, desk.journal().len() as u64, refused_count(desk))?;
     Ok(text)
 }

@@ -16,7 +16,7 @@ pub enum RuleFault {
 }
 
 impl RuleFault {
-    /// The number of the fault, which Memory has not.
+    /// The number of the fault. `Memory` has none.
     pub fn code(self) -> Option<u16>
         ensures { result ≡ rule_code self }
     {
@@ -55,7 +55,7 @@ pub enum ValueFault {
 }
 
 impl ValueFault {
-    /// The number of the fault, which Memory has not.
+    /// The number of the fault. `Memory` has none.
     pub fn code(self) -> Option<u16>
         ensures { result ≡ value_code self }
     {

@@ -120,7 +120,7 @@ impl Lanes {
     }
 }
 
-// Has the commands of this lane come next, which is opened where it is not open yet.
+// Makes this the current lane, opening it if need be.
 fn open_lane(alloc: Global, lanes: &mut Lanes, number: u32) -> Result<(), AllocError>
     ensures { OnOk result (shown lanes.new ≡ with_lane (shown lanes.old) number) }
 {

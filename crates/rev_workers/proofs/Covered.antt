@@ -226,11 +226,6 @@ none-lesser (Some m) (Some k) is = by (nat_lt k m) is
     by true is = cc
     by false is = cc
 
--- what a thread promised of jobs, of the same jobs
-pub as_promised : {A : Type 0} (items : A → List DoneValue) (r : A × Option ℕ) (js ks : List (Track × List Command)) → js ≡ ks → Covers r.1 js (items r.0) × IfSome r.1 (λ n. Contains (numbers_in js) n) → Covers r.1 ks (items r.0) × IfSome r.1 (λ n. Contains (numbers_in ks) n)
-as_promised items r js ks same h =
-    subst (λ (xs : List (Track × List Command)). Covers r.1 xs (items r.0) × IfSome r.1 (λ n. Contains (numbers_in xs) n)) same h
-
 -- of one lane at most
 pub none-to_say : (o : Option ℕ) (js : List (Track × List Command)) (ds : List DoneValue) → js ≡ [] → ds ≡ [] → Covers o js ds
 none-to_say o js ds none empty = subst (λ (xs : List (Track × List Command)). Covers o xs ds) (sym none) (subst (λ (es : List DoneValue). Covers o [] es) (sym empty) tt)

@@ -8,4 +8,5 @@ pub mod Sets
 pub mod Stands
 pub mod Surveyed
 pub mod Together
+pub mod Told
 pub mod Touches

@@ -59,6 +59,11 @@ abbrev pub IsUnder : Option ℕ → ℕ → Type 0
 IsUnder None n = ⊤
 IsUnder (Some least) n = n < least
 
+-- the gate was told of each command of each job of a number below the least one, of all jobs where there is none
+abbrev pub HaveTold : {S : Type 0} → (S → ℕ → ℕ → Type 0) → (S → ℕ → ℕ → Type 0) → S → Option ℕ → List (Track × List Command) → Type 0
+HaveTold told answered gate least js =
+    AllByRecursion (λ (j : Track × List Command). IsUnder least j.0.number → AreTold told answered gate j.0.number (length j.1)) js
+
 -- the lesser of two numbers, where there is one
 abbrev pub lesser : Option ℕ → Option ℕ → Option ℕ
 lesser None o = o

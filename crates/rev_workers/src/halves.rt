@@ -4,7 +4,7 @@ ghost use Rattle.std.specs.List.{AllByRecursion};
 ghost use Rattle.std.specs.Thread.{IsSync};
 ghost use Rattle.rev_commands.specs.declared.command.Command.{Command};
 ghost use Rattle.rev_workers.specs.Tracks.{Track};
-ghost use Rattle.rev_workers.specs.Running.{AreBelow, Covers, numbers_in};
+ghost use Rattle.rev_workers.specs.Running.{AreBelow, Covers, HaveTold, IsUnder, numbers_in};
 
 use crate::closing::lesser;
 use crate::gate::Gate;
@@ -20,13 +20,24 @@ use std::thread::{Promise, Threads};
 // What lanes come to: those that said all that they had to say, and the least number of the others.
 type Ran<L> = (Vec<Done<L>>, Option<u32>);
 
-// What the thread of a half owes: each lane said its commands, or its number is not below the one that is told.
+// What the thread of a half owes: each lane said its commands, and the gate was told of them, or the lane's number is not
+// below the one that is told.
 #[derive(Drop)]
-struct AllSay<L: Ledger>(Snapshot<Vec<Job<L>>>);
+struct AllSay<L: Ledger, G: Gate>(Snapshot<Vec<Job<L>>>, Snapshot<G>);
 
-impl<L: Ledger> Promise<Ran<L>> for AllSay<L> {
+impl<L: Ledger, G: Gate> Promise<Ran<L>> for AllSay<L, G> {
     ghost kept_by = { λ p r. Covers r.1 p.0.value.items r.0.items
-        × IfSome r.1 (λ n. Contains (numbers_in p.0.value.items) n) };
+        × IfSome r.1 (λ n. Contains (numbers_in p.0.value.items) n)
+        × HaveTold G.told G.answered p.1.value r.1 p.0.value.items };
+}
+
+impl<L: Ledger, G: Gate> AllSay<L, G> {
+    // What is owed of these jobs and this gate.
+    fn of(jobs: &Vec<Job<L>>, gate: &G) -> AllSay<L, G>
+        ensures { (result.0.value ≡ jobs.now) × (result.1.value ≡ gate.now) }
+    {
+        AllSay(Snapshot::of(jobs), Snapshot::of(gate))
+    }
 }
 
 // The later half of some jobs, with room for the lanes that come back.
@@ -57,6 +68,7 @@ fn run_last<L: Ledger, R: Wait, G: Gate>(
     requires below { AreBelow shared.now jobs.items }
     requires room { room.items ≡ [] }
     ensures ran { Covers result.1 jobs.items result.0.items }
+    ensures told { HaveTold G.told G.answered gate.now result.1 jobs.items }
     ensures stopped { IfSome result.1 (λ n. Contains (numbers_in jobs.items) n) }
 {
     let mut jobs = jobs;
@@ -108,6 +120,7 @@ fn together<L: Ledger>(numbers: &[u32], earlier: Ran<L>, later: Ran<L>) -> Ran<L
     ensures ran { (js ks : List (Track × List Command)) → numbers.now ≡ numbers_in js ++ numbers_in ks
         → Covers earlier.1 js earlier.0.items → Covers later.1 ks later.0.items
         → Covers result.1 (js ++ ks) result.0.items }
+    ensures under { AllByRecursion (λ n. IsUnder result.1 n → IsUnder earlier.1 n × IsUnder later.1 n) numbers.now }
     ensures stopped { IfSome result.1 (λ n. Contains numbers.now n) }
 {
     let (mut done, first) = earlier;
@@ -136,6 +149,7 @@ pub(crate) fn run_halves<L: Ledger + Send + Sync, R: Threads + Wait + Sync, G: G
     requires numbers { numbers.now ≡ numbers_in jobs.items }
     requires room { room.items ≡ [] }
     ensures ran { Covers result.1 jobs.items result.0.items }
+    ensures told { HaveTold G.told G.answered gate.now result.1 jobs.items }
     ensures stopped { IfSome result.1 (λ n. Contains (numbers_in jobs.items) n) }
 {
     if jobs.len() < 2 {
@@ -179,6 +193,7 @@ fn run_both<L: Ledger + Send + Sync, R: Threads + Wait + Sync, G: Gate>(
     requires earlier_some { 0 < vec_len jobs }
     requires later_some { 0 < vec_len later }
     ensures ran { Covers result.1 (jobs.items ++ later.items) result.0.items }
+    ensures told { HaveTold G.told G.answered gate.now result.1 (jobs.items ++ later.items) }
     ensures stopped { IfSome result.1 (λ n. Contains (numbers_in jobs.items ++ numbers_in later.items) n) }
 {
     thread::scope(
@@ -192,9 +207,10 @@ fn run_both<L: Ledger + Send + Sync, R: Threads + Wait + Sync, G: Gate>(
                 × (all.now ≡ numbers_in jobs.items ++ numbers_in later.items) × (0 < vec_len jobs)
                 × (0 < vec_len later) × (0 < length all.now) }
             ensures { Covers result.1 (jobs.items ++ later.items) result.0.items
-                × IfSome result.1 (λ n. Contains (numbers_in jobs.items ++ numbers_in later.items) n) }
+                × IfSome result.1 (λ n. Contains (numbers_in jobs.items ++ numbers_in later.items) n)
+                × HaveTold G.told G.answered gate.entry.now result.1 (jobs.items ++ later.items) }
         {
-            let promise = AllSay(Snapshot::of(&later));
+            let promise = AllSay::of(&later, gate);
             let worker = scope.spawn_with(
                 promise,
                 move || -> Ran<L>
@@ -202,7 +218,8 @@ fn run_both<L: Ledger + Send + Sync, R: Threads + Wait + Sync, G: Gate>(
                         × (later_numbers.now ≡ numbers_in later.items)
                         × (later_room.items ≡ []) }
                     ensures { Covers result.1 later.items result.0.items
-                        × IfSome result.1 (λ n. Contains (numbers_in later.items) n) }
+                        × IfSome result.1 (λ n. Contains (numbers_in later.items) n)
+                        × HaveTold G.told G.answered gate.entry.now result.1 later.items }
                 { run_halves(rt, alloc, shared, gate, later_numbers, later, later_room) },
             );
             if worker.is_err() {

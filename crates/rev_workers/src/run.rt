@@ -4,8 +4,8 @@ ghost use Rattle.std.specs.List.{AllByRecursion};
 ghost use Rattle.rev_workers.specs.Tracks.{Track};
 ghost use Rattle.rev_workers.specs.Closing.{AreStated, IsMissing, IsOneOfEach, left_by};
 ghost use Rattle.rev_workers.specs.declared.fault.CloseCode.TheVariants as code;
-ghost use Rattle.rev_workers.specs.Running.{AreConfirmed, AreSaid, HasNumber, HaveSaid, HaveSaidBelow, IsLeastStopped};
-ghost use Rattle.rev_workers.specs.Running.{lanes_in};
+ghost use Rattle.rev_workers.specs.Running.{AreConfirmed, AreSaid, HasNumber, HaveSaid, HaveSaidBelow, HaveTold, IsLeastStopped};
+ghost use Rattle.rev_workers.specs.Running.{lanes_in, pair_up};
 
 use crate::closing::{lesser, survey_of};
 use crate::fault::CloseFault;
@@ -43,8 +43,9 @@ fn least_number<L: Ledger>(lanes: &[Lane<L>]) -> Option<u32>
 /// # Errors
 /// [`CloseCode::LaneStopped`](crate::CloseCode::LaneStopped) where lanes could not say all that they were to say:
 /// memory was refused, the journal was full, or a lane got no thread. It names the least of them: the desk's journal
-/// has of each given lane of a lesser number, since that was last answered, its commands and no others. Otherwise what
-/// [`close`] finds, and of each given lane the journal has its commands. The desk comes back in every case.
+/// has of each given lane of a lesser number, since that was last answered, its commands and no others, and the gate was
+/// called before and after each of these. Otherwise what [`close`] finds: of each given lane the journal has its
+/// commands, and the gate was called before and after each. The desk comes back in every case.
 pub fn run_workers<L: Ledger + Send + Sync, R: Threads + Wait + Sync, G: Gate>(
     rt: &R,
     alloc: Global,
@@ -68,6 +69,13 @@ pub fn run_workers<L: Ledger + Send + Sync, R: Threads + Wait + Sync, G: Gate>(
     ensures each { IfOk result (λ desk. IsOneOfEach desk.lanes lanes.items) }
     ensures said { IfOk result (λ desk.
         AreSaid lanes.items (map (λ v. v.items) trace.lanes.items) desk.journal) }
+    ensures told { IfOk result (λ desk. HaveTold G.told G.answered gate.now None
+        (pair_up lanes.items (map (λ v. v.items) trace.lanes.items))) }
+    ensures told_first { IfErr result (λ fault. fault.code ≢ code.LaneStopped
+        → HaveTold G.told G.answered gate.now None (pair_up lanes.items (map (λ v. v.items) trace.lanes.items))) }
+    ensures told_below { IfErr result (λ fault. fault.code ≡ code.LaneStopped
+        → HaveTold G.told G.answered gate.now (Some fault.lane)
+        (pair_up lanes.items (map (λ v. v.items) trace.lanes.items))) }
 {
     run_lists(rt, alloc, shared, lanes, trace.into_lanes(), gate)
 }
@@ -95,6 +103,13 @@ fn run_lists<L: Ledger + Send + Sync, R: Threads + Wait + Sync, G: Gate>(
         → IsOneOfEach fault.desk.lanes lanes.items) }
     ensures each { IfOk result (λ desk. IsOneOfEach desk.lanes lanes.items) }
     ensures said { IfOk result (λ desk. AreSaid lanes.items (map (λ v. v.items) lists.items) desk.journal) }
+    ensures told { IfOk result (λ desk. HaveTold G.told G.answered gate.now None
+        (pair_up lanes.items (map (λ v. v.items) lists.items))) }
+    ensures told_first { IfErr result (λ fault. fault.code ≢ code.LaneStopped
+        → HaveTold G.told G.answered gate.now None (pair_up lanes.items (map (λ v. v.items) lists.items))) }
+    ensures told_below { IfErr result (λ fault. fault.code ≡ code.LaneStopped
+        → HaveTold G.told G.answered gate.now (Some fault.lane)
+        (pair_up lanes.items (map (λ v. v.items) lists.items))) }
 {
     let Some(least) = least_number(&lanes) else {
         return close(shared, lanes);

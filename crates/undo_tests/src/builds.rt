@@ -26,7 +26,7 @@ fn manifest_of(alloc: Global, text: &[u8]) -> Result<Manifest, AllocError> {
     }
 }
 
-fn graph_of(alloc: Global, text: &[u8]) -> Result<Graph, AllocError> {
+pub(crate) fn graph_of(alloc: Global, text: &[u8]) -> Result<Graph, AllocError> {
     let manifest = manifest_of(alloc, text)?;
     match Graph::build(alloc, &manifest) {
         Ok(graph) => Ok(graph),
@@ -35,14 +35,14 @@ fn graph_of(alloc: Global, text: &[u8]) -> Result<Graph, AllocError> {
 }
 
 // What stands before and behind the first byte of this value.
-fn cut(text: &[u8], byte: u8) -> (&[u8], &[u8]) {
+pub(crate) fn cut(text: &[u8], byte: u8) -> (&[u8], &[u8]) {
     match text.iter().position(|it| *it == byte) {
         Some(at) => (&text[..at], &text[at + 1..]),
         None => (text, &[]),
     }
 }
 
-fn number(text: &[u8]) -> u32 {
+pub(crate) fn number(text: &[u8]) -> u32 {
     let mut number = 0_u32;
     for byte in text {
         let digit = u32::from(byte.wrapping_sub(b'0'));
@@ -51,7 +51,7 @@ fn number(text: &[u8]) -> u32 {
     number
 }
 
-fn path_of(alloc: Global, path: &[u8]) -> Result<Name, AllocError> {
+pub(crate) fn path_of(alloc: Global, path: &[u8]) -> Result<Name, AllocError> {
     match Name::new(alloc, path) {
         Ok(name) => Ok(name),
         Err(_) => Err(AllocError),
@@ -75,7 +75,7 @@ fn add_record(alloc: Global, opening: &mut Opening, line: &[u8]) -> Result<(), A
     }
 }
 
-fn opening_of(alloc: Global, records: &[&str]) -> Result<Opening, AllocError> {
+pub(crate) fn opening_of(alloc: Global, records: &[&str]) -> Result<Opening, AllocError> {
     let Ok(mut opening) = Opening::new(alloc, 2) else {
         return Err(AllocError);
     };
@@ -127,7 +127,7 @@ fn start_of(alloc: Global, out: &[u8], place: &[u8]) -> Result<Event, AllocError
     })
 }
 
-fn event_of(alloc: Global, word: &[u8], said: &[u8]) -> Result<Event, AllocError> {
+pub(crate) fn event_of(alloc: Global, word: &[u8], said: &[u8]) -> Result<Event, AllocError> {
     let (out, rest) = cut(said, b' ');
     match word {
         b"plan" => plan_of(alloc, out),

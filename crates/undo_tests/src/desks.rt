@@ -1,10 +1,6 @@
 // Small builds told line by line: what the journal says then, as reports have it.
-use rev_cells::{Names, Opening};
+use crate::builds::{cut, event_of, graph_of, number, opening_of, path_of};
 use rev_desk::{Command, Desk, Entry, Point, Reply, Which};
-use rev_events::{Event, Listing, Stamps};
-use rev_graph::Graph;
-use rev_manifest::{Manifest, read};
-use rev_paths::Name;
 use std::alloc::{AllocError, Global};
 use std::test::Fail;
 
@@ -12,58 +8,12 @@ use std::test::Fail;
 const BUILD: &[u8; 104] =
     b"rule cc\n  command = cc\nrule ld\n  command = ld\nbuild a.o: cc a.c\nbuild b.o: cc b.c\nbuild app: ld a.o b.o\n";
 
-fn manifest_of(alloc: Global) -> Result<Manifest, Fail> {
-    let name = Vec::from_slice(alloc, b"build.ninja")?;
-    let content = Vec::from_slice(alloc, BUILD)?;
-    let files = vec![in alloc; (name, content)]?;
-    let manifest = read(alloc, &files)?;
-    Ok(manifest)
-}
-
-fn graph_of(alloc: Global) -> Result<Graph, Fail> {
-    let manifest = manifest_of(alloc)?;
-    let graph = Graph::build(alloc, &manifest)?;
-    Ok(graph)
-}
-
-fn path_of(alloc: Global, path: &[u8]) -> Result<Name, Fail> {
-    let name = Name::new(alloc, path)?;
-    Ok(name)
-}
-
-// Two jobs, and the stamps of both sources.
-fn opening_of(alloc: Global) -> Result<Opening, Fail> {
-    let mut opening = Opening::new(alloc, 2)?;
-    let sources: [(&[u8], u64); 2] = [(b"a.c", 10), (b"b.c", 20)];
-    for (path, stamp) in sources {
-        opening.add_stamp(path_of(alloc, path)?, stamp)?;
-    }
-    Ok(opening)
-}
-
-// A desk of three lanes.
+// A desk of three lanes and two jobs, where the sources are there.
 fn desk_of(alloc: Global) -> Result<Desk, Fail> {
-    let graph = graph_of(alloc)?;
-    let opening = opening_of(alloc)?;
+    let graph = graph_of(alloc, BUILD)?;
+    let opening = opening_of(alloc, &["stamp a.c 10", "stamp b.c 20"])?;
     let desk = Desk::new(alloc, graph, &opening, 3)?;
     Ok(desk)
-}
-
-// What stands before and behind the first byte of this value.
-fn cut(text: &[u8], byte: u8) -> (&[u8], &[u8]) {
-    match text.iter().position(|it| *it == byte) {
-        Some(at) => (&text[..at], &text[at + 1..]),
-        None => (text, &[]),
-    }
-}
-
-fn number(text: &[u8]) -> u32 {
-    let mut number = 0_u32;
-    for byte in text {
-        let digit = u32::from(byte.wrapping_sub(b'0'));
-        number = number.wrapping_mul(10).wrapping_add(digit);
-    }
-    number
 }
 
 // A number, or a label: a lane, a colon and a place.
@@ -75,36 +25,6 @@ fn which(text: &[u8]) -> Which {
     Which::Label {
         lane: number(first),
         place: number(second),
-    }
-}
-
-fn plan_of(alloc: Global, target: &[u8]) -> Result<Event, Fail> {
-    let mut names = Vec::new(alloc);
-    names.push(path_of(alloc, target)?)?;
-    Ok(Event::Plan(Names::new(names)?))
-}
-
-fn finish_of(alloc: Global, out: &[u8], stamp: u32) -> Result<Event, Fail> {
-    let mut stamps = Vec::new(alloc);
-    stamps.push(u64::from(stamp))?;
-    Ok(Event::Finish {
-        out: path_of(alloc, out)?,
-        stamps: Stamps::new(stamps)?,
-        listing: Listing::Nothing,
-    })
-}
-
-fn event_of(alloc: Global, word: &[u8], said: &[u8]) -> Result<Event, Fail> {
-    let (out, rest) = cut(said, b' ');
-    match word {
-        b"plan" => plan_of(alloc, out),
-        b"start" => Ok(Event::Start {
-            out: path_of(alloc, out)?,
-            job: number(rest),
-            slot: None,
-        }),
-        b"finish" => finish_of(alloc, out, number(rest)),
-        _ => Ok(Event::Interrupt),
     }
 }
 

@@ -16,8 +16,8 @@ mod histories;
 #[cfg(test)]
 mod orders;
 #[cfg(test)]
-mod pools;
-#[cfg(test)]
 mod registers;
 #[cfg(test)]
 mod sentences;
+#[cfg(test)]
+mod told;

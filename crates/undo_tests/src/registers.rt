@@ -187,14 +187,6 @@ fn shifted(alloc: Global) -> Result<(String, bool), Fail> {
     Ok((text, footprint.accesses(Cell::Lock)))
 }
 
-#[test]
-fn a_shift_moves_each_register(rt: HostRuntime) -> Result<(), Fail> {
-    let (text, reads_lock) = shifted(rt.alloc())?;
-    assert!(rt; text.as_str() == "[(Register(0), Some(7)), (Register(1), None)]");
-    assert!(rt; reads_lock);
-    Ok(())
-}
-
 // Whether a set of a register conflicts with a load by register 2, which holds 8, and the other way round.
 fn conflicts(alloc: Global, register: u32) -> Result<(bool, bool), Fail> {
     let cells = Cells::new(alloc).written(alloc, &[(Cell::Register(2), Some(8))])?;
@@ -208,7 +200,12 @@ fn conflicts(alloc: Global, register: u32) -> Result<(bool, bool), Fail> {
 }
 
 #[test]
-fn a_loads_footprint_follows_the_pointer(rt: HostRuntime) -> Result<(), Fail> {
+fn what_events_write_and_read(rt: HostRuntime) -> Result<(), Fail> {
+    // A shift moves each register.
+    let (text, reads_lock) = shifted(rt.alloc())?;
+    assert!(rt; text.as_str() == "[(Register(0), Some(7)), (Register(1), None)]");
+    assert!(rt; reads_lock);
+    // A load's footprint follows the pointer.
     assert!(rt; conflicts(rt.alloc(), 8)? == (true, true));
     assert!(rt; conflicts(rt.alloc(), 0)? == (false, false));
     Ok(())

@@ -20,13 +20,6 @@ fn said(alloc: Global, manifest: &[u8], report: &[u8]) -> Result<Vec<u8>, AllocE
     }
 }
 
-#[test]
-fn meanings(rt: HostRuntime) {
-    assert!(rt; meaning(13) == Some("unknown rule"));
-    assert!(rt; meaning(112) == Some("a lane stopped before its end"));
-    assert!(rt; meaning(0) == None);
-}
-
 // A manifest, a report, and what is said of its last line.
 const SAID: &[(&[u8], &[u8], &[u8])] = &[
     (
@@ -72,5 +65,8 @@ fn what_is_said(rt: HostRuntime) -> Result<(), Fail> {
         let told = said(rt.alloc(), manifest, report)?;
         assert!(rt; told.as_slice() == *wanted);
     }
+    assert!(rt; meaning(13) == Some("unknown rule"));
+    assert!(rt; meaning(112) == Some("a lane stopped before its end"));
+    assert!(rt; meaning(0) == None);
     Ok(())
 }

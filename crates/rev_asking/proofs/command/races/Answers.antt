@@ -11,28 +11,31 @@ use Rattle.rev_asking.proofs.command.races.Goals as goal
 pub returns-clause-shape : goal.returns-clause-shape
 returns-clause-shape c =
     let bare = ap app_of_fields c.about.ensures ∙ c.new.ensures.app in
-    let four = c.in_ok-arg-4.ensures.shape c.number.ensures.alone
+    let five = c.in_ok-arg-5.ensures.shape c.number-2.ensures.alone
+    ∙ ap₂ with_rule (c.in_ok-arg-4.ensures.shape c.number.ensures.alone
     ∙ ap₂ with_rule (c.in_ok-arg-3.ensures.shape c.flag-3.ensures.alone
     ∙ ap₂ with_rule (c.in_ok-arg-2.ensures.shape c.flag-2.ensures.alone
     ∙ ap₂ with_rule (c.in_ok-arg.ensures.shape c.flag.ensures.alone
-    ∙ ap₂ with_rule bare c.flag.ensures.rule) c.flag-2.ensures.rule) c.flag-3.ensures.rule) c.number.ensures.rule in
-    IfOk-weaker c.arg-5.result (AddsArg c.in_ok-arg-4.field-0 c.recording.result) (λ (k : Command). shape_of k ≡ races_shape)
-    (λ k added. ap (λ (a : App). a.top) (added.shape c.recording.ensures.alone ∙ ap₂ with_rule four c.recording.ensures.rule)) c.arg-5.ensures
+    ∙ ap₂ with_rule bare c.flag.ensures.rule) c.flag-2.ensures.rule) c.flag-3.ensures.rule) c.number.ensures.rule) c.number-2.ensures.rule in
+    IfOk-weaker c.arg-6.result (AddsArg c.in_ok-arg-5.field-0 c.recording.result) (λ (k : Command). shape_of k ≡ races_shape)
+    (λ k added. ap (λ (a : App). a.top) (added.shape c.recording.ensures.alone ∙ ap₂ with_rule five c.recording.ensures.rule)) c.arg-6.ensures
 
 pub returns-clause-local : goal.returns-clause-local
 returns-clause-local c =
-    IfOk-weaker c.arg-5.result (AddsArg c.in_ok-arg-4.field-0 c.recording.result) (λ (k : Command). (out-Command k).has_globals ≡ false)
+    IfOk-weaker c.arg-6.result (AddsArg c.in_ok-arg-5.field-0 c.recording.result) (λ (k : Command). (out-Command k).has_globals ≡ false)
     (λ k added. rw (
       added.globals,
+      c.in_ok-arg-5.ensures.globals,
       c.in_ok-arg-4.ensures.globals,
       c.in_ok-arg-3.ensures.globals,
       c.in_ok-arg-2.ensures.globals,
       c.in_ok-arg.ensures.globals,
       c.recording.ensures.alone,
+      c.number-2.ensures.alone,
       c.number.ensures.alone,
       c.flag-3.ensures.alone,
       c.flag-2.ensures.alone,
       c.flag.ensures.alone,
       c.about.ensures,
       c.new.ensures.local,
-    ) refl) c.arg-5.ensures
+    ) refl) c.arg-6.ensures

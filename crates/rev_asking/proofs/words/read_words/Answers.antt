@@ -61,3 +61,9 @@ returns-in-Some-clause-witness c =
     let words = map string_bytes c.args.words.now in
     let rows = rows-given words c.in_ok-matches.matches (rows_of (found_of c.in-Some.given.now)) c.in_ok-matches.ensures.rows c.in-Some.ensures.rows in
     c.asked_of.ensures.witness ∙ same words c.in-Some.given.now (codes "witness") rows
+
+pub returns-in-Some-clause-provoke : goal.returns-in-Some-clause-provoke
+returns-in-Some-clause-provoke c =
+    let words = map string_bytes c.args.words.now in
+    let rows = rows-given words c.in_ok-matches.matches (rows_of (found_of c.in-Some.given.now)) c.in_ok-matches.ensures.rows c.in-Some.ensures.rows in
+    c.asked_of.ensures.provoke ∙ same words c.in-Some.given.now (codes "provoke") rows

@@ -2,7 +2,7 @@ use Rattle.std.proofs.Common.{◌≡◌, ◌+◌, ◌∷◌, length, drop, ap, s
 use Rattle.std.proofs.lemmas.List.{nil_from_length}
 use Rattle.rev_patch.specs.Statement.{size, tokens}
 use Rattle.rev_patch.specs.Read.{signs_after, signs_with}
-use Rattle.rev_patch.proofs.ReadLemmas.{read-more, read-order, read-validations, read-goes}
+use Rattle.rev_patch.proofs.ReadLemmas.{read-more, read-order, read-validations, read-last, read-goes}
 use Rattle.rev_patch.proofs.statement.signs_of.Goals as goal
 
 pub loop-first-preserved : goal.loop-first-preserved
@@ -18,8 +18,8 @@ loop-first-preserved c =
     let both = c.split_at.ensures.back_len in
     let front = c.split_at.ensures.front_len in (
       ap (λ s. signs_after s (l.at + length read) (tokens left)) c.signs_with-signs.ensures
-          ∙ ap (λ k. signs_after (signs_with l.signs l.at t) (l.at + k) (tokens left)) count
-          ∙ ap (λ xs. signs_after (signs_with l.signs l.at t) (l.at + size t) (tokens xs)) left-is
+          ∙ ap (λ k. signs_after (signs_with l.signs (l.at + k) t) (l.at + k) (tokens left)) count
+          ∙ ap (λ xs. signs_after (signs_with l.signs (l.at + size t) t) (l.at + size t) (tokens xs)) left-is
           ∙ sym (read-more l.signs l.at rest c.in-Some.first.now c.in-Some.behind.now t is c.first_token-token.ensures.value) ∙ l.invariant.0,
       omega arith,
     )
@@ -34,6 +34,12 @@ pub returns-clause-validations : goal.returns-clause-validations
 returns-clause-validations c =
     let l = c.loop-first in
     read-validations (tokens c.args.line.now) l.signs
+    (sym (ap (λ xs. signs_after l.signs l.at (tokens xs)) (nil_from_length l.rest.now c.in_default.ensures.cases)) ∙ l.invariant.0)
+
+pub returns-clause-last : goal.returns-clause-last
+returns-clause-last c =
+    let l = c.loop-first in
+    read-last (tokens c.args.line.now) l.signs
     (sym (ap (λ xs. signs_after l.signs l.at (tokens xs)) (nil_from_length l.rest.now c.in_default.ensures.cases)) ∙ l.invariant.0)
 
 pub returns-clause-goes_on : goal.returns-clause-goes_on

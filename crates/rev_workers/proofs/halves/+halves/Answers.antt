@@ -1,9 +1,10 @@
 use Rattle.std.proofs.Common.{◌≡◌, ◌≤◌, ◌∙◌, Contains, sym, subst, ℕ, List, Some}
 use Rattle.std.specs.List.{AllByRecursion}
 use Rattle.std.proofs.lemmas.List.Elements.{Contains-append_left, Contains-append_right}
-use Rattle.rev_workers.specs.Running.{Covers, numbers_in}
-use Rattle.rev_workers.proofs.Covered.{all-from, as_promised, covers-lost}
+use Rattle.rev_workers.specs.Running.{Covers, IsUnder, numbers_in}
+use Rattle.rev_workers.proofs.Covered.{all-from, covers-lost}
 use Rattle.rev_workers.proofs.Together.{below-numbers, if-weaker, numbers-earlier, numbers-halves, numbers-later}
+use Rattle.rev_workers.proofs.Told.{as_promised, told-joined, told-lost}
 use Rattle.rev_workers.proofs.halves.+halves.Goals as goal
 
 pub run_both-scope-end_all-requires : goal.run_both-scope-end_all-requires
@@ -47,8 +48,9 @@ run_both-scope-together-requires-in-Err g t c =
 pub run_both-scope-together-requires : goal.run_both-scope-together-requires
 run_both-scope-together-requires g t c =
     let started = rw c.in-Ok.is at c.spawn_with-worker.ensures.ok in
-    let same : c.in-Ok.handle.promise.0.value ≡ c.captures.later = (λ i. (started i).0.value) ∙ c.of.ensures in
-    let said = as_promised (λ v. v.items) c.join.result c.in-Ok.handle.promise.0.value.items c.captures.later.items (λ i. (same i).items) c.join.ensures in
+    let same : c.in-Ok.handle.promise.0.value ≡ c.captures.later = (λ i. (started i).0.value) ∙ c.of-promise.ensures.0 in
+    let gate : c.in-Ok.handle.promise.1.value ≡ c.captures.gate.now = (λ i. (started i).1.value) ∙ c.of-promise.ensures.1 in
+    let said = as_promised g.G.Gate.told g.G.Gate.answered (λ v. v.items) c.join.result c.in-Ok.handle.promise.0.value.items c.captures.later.items _ c.captures.gate.now (λ i. (same i).items) gate c.join.ensures in
     record {
       some = c.requires.10;
       earlier =
@@ -64,10 +66,14 @@ run_both-scope-together-requires g t c =
 pub run_both-scope-returns-in-Ok : goal.run_both-scope-returns-in-Ok
 run_both-scope-returns-in-Ok g t c =
     let started = rw c.in-Ok.is at c.spawn_with-worker.ensures.ok in
-    let same : c.in-Ok.handle.promise.0.value ≡ c.captures.later = (λ i. (started i).0.value) ∙ c.of.ensures in
-    let said = as_promised (λ v. v.items) c.join.result c.in-Ok.handle.promise.0.value.items c.captures.later.items (λ i. (same i).items) c.join.ensures in (
+    let same : c.in-Ok.handle.promise.0.value ≡ c.captures.later = (λ i. (started i).0.value) ∙ c.of-promise.ensures.0 in
+    let gate : c.in-Ok.handle.promise.1.value ≡ c.captures.gate.now = (λ i. (started i).1.value) ∙ c.of-promise.ensures.1 in
+    let said = as_promised g.G.Gate.told g.G.Gate.answered (λ v. v.items) c.join.result c.in-Ok.handle.promise.0.value.items c.captures.later.items _ c.captures.gate.now (λ i. (same i).items) gate c.join.ensures in (
       c.together.ensures.ran c.captures.jobs.items c.captures.later.items c.requires.7 c.run_halves-earlier.ensures.ran said.0,
       if-weaker c.together.result.1 _ _ (λ n h. subst (λ (xs : List ℕ). Contains xs n) c.requires.7 h) c.together.ensures.stopped,
+      told-joined g.G.Gate.told g.G.Gate.answered c.captures.gate.now c.run_halves-earlier.result.1 c.join.result.1 c.together.result.1 c.captures.jobs.items c.captures.later.items
+          (subst (AllByRecursion (λ n. IsUnder c.together.result.1 n → IsUnder c.run_halves-earlier.result.1 n × IsUnder c.join.result.1 n)) c.requires.7 c.together.ensures.under)
+          c.run_halves-earlier.ensures.told said.2,
     )
 
 pub run_both-scope-returns-in-Err : goal.run_both-scope-returns-in-Err
@@ -78,6 +84,9 @@ run_both-scope-returns-in-Err g t c =
     let lost : Covers (Some n) later c.new-none.result.items = subst (Covers (Some n) later) (sym c.new-none.ensures.items) (covers-lost n later least) in (
       c.together-in-Err.ensures.ran c.captures.jobs.items later c.requires.7 c.run_halves-earlier.ensures.ran lost,
       if-weaker c.together-in-Err.result.1 _ _ (λ n h. subst (λ (xs : List ℕ). Contains xs n) c.requires.7 h) c.together-in-Err.ensures.stopped,
+      told-joined g.G.Gate.told g.G.Gate.answered c.captures.gate.now c.run_halves-earlier.result.1 (Some n) c.together-in-Err.result.1 c.captures.jobs.items later
+          (subst (AllByRecursion (λ k. IsUnder c.together-in-Err.result.1 k → IsUnder c.run_halves-earlier.result.1 k × IsUnder (Some n) k)) c.requires.7 c.together-in-Err.ensures.under)
+          c.run_halves-earlier.ensures.told (told-lost g.G.Gate.told g.G.Gate.answered c.captures.gate.now n later least),
     )
 
 pub run_halves-returns-in_default-clause-ran : goal.run_halves-returns-in_default-clause-ran
@@ -85,3 +94,9 @@ run_halves-returns-in_default-clause-ran g t c =
     let n = c.least_of.result in
     let least : AllByRecursion (λ k. n ≤ k) (numbers_in c.args.jobs.items) = subst (AllByRecursion (λ k. n ≤ k)) c.requires.numbers (all-from n c.args.numbers.now c.least_of.ensures.least) in
     subst (Covers (Some n) c.args.jobs.items) (sym c.requires.room) (covers-lost n c.args.jobs.items least)
+
+pub run_halves-returns-in_default-clause-told : goal.run_halves-returns-in_default-clause-told
+run_halves-returns-in_default-clause-told g t c =
+    let n = c.least_of.result in
+    told-lost g.G.Gate.told g.G.Gate.answered c.args.gate.now n c.args.jobs.items
+    (subst (AllByRecursion (λ k. n ≤ k)) c.requires.numbers (all-from n c.args.numbers.now c.least_of.ensures.least))

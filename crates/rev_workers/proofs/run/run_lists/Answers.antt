@@ -1,9 +1,10 @@
-use Rattle.std.proofs.Common.{◌≡◌, ◌∙◌, ℕ, List, Contains, inl, inr, map, slice_get, sym, ap, subst}
+use Rattle.std.proofs.Common.{◌≡◌, ◌∙◌, ℕ, List, Contains, None, Some, inl, inr, map, slice_get, sym, ap, subst}
 use Rattle.std.proofs.lemmas.Result.{IfErr-weaker, IfOk-weaker}
-use Rattle.rev_workers.specs.Running.{Covers, HasNumber, HaveSaidBelow, lanes_in, numbers_in, pair_up}
+use Rattle.rev_workers.specs.Running.{Covers, HasNumber, HaveSaidBelow, HaveTold, lanes_in, numbers_in, pair_up}
 use Rattle.rev_workers.specs.Tracks.{Track}
 use Rattle.rev_workers.proofs.Covered.{all-ran, have-said, named-given, nobody-has-said, none-below, stopped-below}
 use Rattle.rev_workers.proofs.Said.{all_said, missing-ran, nobody_said, numbers-paired, one_of_each-ran, pair_up-all}
+use Rattle.rev_workers.proofs.Told.{told-least, told-no_lanes, told-under}
 use Rattle.rev_workers.proofs.run.run_lists.Goals as goal
 
 pub run_halves-done-requires-clause-below : goal.run_halves-done-requires-clause-below
@@ -127,3 +128,67 @@ returns-clause-said g c =
     IfOk-weaker c.close_done.result _ _
     (λ desk h. all_said desk.lanes desk.journal ts lists (lanes_in run.0.items) (all-ran run.1 (pair_up ts lists) run.0.items h.0 covers) h.1 h.2)
     c.close_done.ensures.ok
+
+-- WHAT THE GATE WAS TOLD
+pub returns-in_default-clause-told : goal.returns-in_default-clause-told
+returns-in_default-clause-told g c =
+    IfOk-weaker c.close.result _ _
+    (λ desk h. told-no_lanes g.G.Gate.told g.G.Gate.answered c.args.gate.now None c.args.lanes.items (map (λ v. v.items) c.args.lists.items) (sym c.deref.ensures.value ∙ c.in_default.ensures.none))
+    c.close.ensures.ok
+
+pub returns-in_default-clause-told_first : goal.returns-in_default-clause-told_first
+returns-in_default-clause-told_first g c =
+    IfErr-weaker c.close.result _ _
+    (λ fault h other. told-no_lanes g.G.Gate.told g.G.Gate.answered c.args.gate.now None c.args.lanes.items (map (λ v. v.items) c.args.lists.items) (sym c.deref.ensures.value ∙ c.in_default.ensures.none))
+    c.close.ensures.not_stopped
+
+pub returns-in_default-2-clause-told_below : goal.returns-in_default-2-clause-told_below
+returns-in_default-2-clause-told_below g c = λ is.
+    let ts = c.args.lanes.items in
+    let lists = map (λ v. v.items) c.args.lists.items in
+    subst (λ n. HaveTold g.G.Gate.told g.G.Gate.answered c.args.gate.now (Some n) (pair_up ts lists)) (sym c.stopped_at.ensures.lane)
+    (told-least g.G.Gate.told g.G.Gate.answered c.args.gate.now c.in-Some.least ts lists
+    (λ k t at. c.in-Some.ensures.least k t (ap (λ (xs : List Track). slice_get xs k) c.deref.ensures.value ∙ at)))
+
+pub returns-in_default-jobs_of-clause-told_below : goal.returns-in_default-jobs_of-clause-told_below
+returns-in_default-jobs_of-clause-told_below g c = λ is.
+    let ts = c.args.lanes.items in
+    let lists = map (λ v. v.items) c.args.lists.items in
+    subst (λ n. HaveTold g.G.Gate.told g.G.Gate.answered c.args.gate.now (Some n) (pair_up ts lists)) (sym c.stopped_at-in_default-jobs_of.ensures.lane)
+    (told-least g.G.Gate.told g.G.Gate.answered c.args.gate.now c.in-Some.least ts lists
+    (λ k t at. c.in-Some.ensures.least k t (ap (λ (xs : List Track). slice_get xs k) c.deref.ensures.value ∙ at)))
+
+pub returns-clause-told : goal.returns-clause-told
+returns-clause-told g c =
+    let ts = c.args.lanes.items in
+    let lists = map (λ v. v.items) c.args.lists.items in
+    let run = c.run_halves-done.result in
+    let told : HaveTold g.G.Gate.told g.G.Gate.answered c.args.gate.now run.1 (pair_up ts lists) = rw c.in-Ok.ensures at c.run_halves-done.ensures.told in
+    IfOk-weaker c.close_done.result _ _
+    (λ desk h. subst (λ o. HaveTold g.G.Gate.told g.G.Gate.answered c.args.gate.now o (pair_up ts lists)) h.0 told)
+    c.close_done.ensures.ok
+
+pub returns-clause-told_first : goal.returns-clause-told_first
+returns-clause-told_first g c =
+    let ts = c.args.lanes.items in
+    let lists = map (λ v. v.items) c.args.lists.items in
+    let run = c.run_halves-done.result in
+    let told : HaveTold g.G.Gate.told g.G.Gate.answered c.args.gate.now run.1 (pair_up ts lists) = rw c.in-Ok.ensures at c.run_halves-done.ensures.told in
+    IfErr-weaker c.close_done.result _ _
+    (λ fault h other. subst (λ o. HaveTold g.G.Gate.told g.G.Gate.answered c.args.gate.now o (pair_up ts lists)) (h other).0 told)
+    c.close_done.ensures.first
+
+pub returns-clause-told_below : goal.returns-clause-told_below
+returns-clause-told_below g c =
+    let ts = c.args.lanes.items in
+    let lists = map (λ v. v.items) c.args.lists.items in
+    let run = c.run_halves-done.result in
+    let told : HaveTold g.G.Gate.told g.G.Gate.answered c.args.gate.now run.1 (pair_up ts lists) = rw c.in-Ok.ensures at c.run_halves-done.ensures.told in
+    IfErr-weaker c.close_done.result _ _
+    (λ fault h is. elim (h is) [
+      | inl same ↦ subst (λ n. HaveTold g.G.Gate.told g.G.Gate.answered c.args.gate.now (Some n) (pair_up ts lists)) (sym same)
+          (told-least g.G.Gate.told g.G.Gate.answered c.args.gate.now c.in-Some.least ts lists
+          (λ k t at. c.in-Some.ensures.least k t (ap (λ (xs : List Track). slice_get xs k) c.deref.ensures.value ∙ at)))
+      | inr stopped ↦ told-under g.G.Gate.told g.G.Gate.answered c.args.gate.now run.1 fault.lane (pair_up ts lists) stopped.least told
+    ])
+    c.close_done.ensures.stopped

@@ -1,0 +1,104 @@
+//! What is reported of a recording that was replayed.
+use crate::found::{told_changes, told_clashes, told_failures, told_races};
+use crate::hinted::hints_in;
+use crate::printed::Entry;
+use indexmap::IndexMap;
+use rev_desk::Desk;
+use rev_judged::{Unjudged, not_judged};
+use rev_paths::Name;
+use rev_races_text::{Failure, Replayed, Report, Run, Sources, Told};
+use rev_recording::refused_count;
+use std::alloc::{AllocError, Global};
+
+/// What a report is made of, beside the desk of a recording that was replayed.
+#[derive(Clone, Copy)]
+pub struct Basis<'a> {
+    /// What is told of edges beside their numbers.
+    pub sources: Sources<'a>,
+    /// The names of the files that the manifest was read from.
+    pub files: &'a [Name],
+    /// What the commands printed that failed.
+    pub entries: &'a [Entry],
+    /// The other names of outputs.
+    pub names: &'a IndexMap<Name, Name>,
+    /// How many commands the trace has.
+    pub commands: u64,
+}
+
+// How many commands had not ended when the recording did.
+fn running_count(runs: &[Option<Run>]) -> u64 {
+    runs.iter()
+        .filter(|run| run.is_some_and(|run| run.ended.is_none()))
+        .count() as u64
+}
+
+// How much of a recording counts.
+fn replayed_of(desk: &Desk, basis: &Basis<'_>) -> Replayed {
+    let commands = desk.journal().len() as u64;
+    Replayed {
+        commands,
+        left: basis.commands.saturating_sub(commands),
+        refused: refused_count(desk),
+        running: running_count(basis.sources.runs),
+    }
+}
+
+// A report of what was found.
+fn report_with<'a>(
+    alloc: Global,
+    desk: &'a Desk,
+    basis: &Basis<'a>,
+    races: Vec<Told<'a>>,
+    failures: Vec<Failure<'a>>,
+    judged: Unjudged,
+) -> Result<Report<'a>, AllocError> {
+    let Unjudged { plain, collectors } = judged;
+    Ok(Report {
+        replayed: replayed_of(desk, basis),
+        failures,
+        races,
+        clashes: told_clashes(alloc, basis.sources.builds)?,
+        ran: basis
+            .sources
+            .runs
+            .iter()
+            .filter(|run| run.is_some())
+            .count() as u64,
+        unjudged: plain,
+        collectors,
+        hints: Vec::new(alloc),
+        changes: Vec::new(alloc),
+    })
+}
+
+/// What is reported of the desk of a recording that was replayed, but for hints.
+///
+/// # Errors
+/// [`AllocError`] only where an allocation was refused.
+pub fn report_of<'a>(
+    alloc: Global,
+    desk: &'a Desk,
+    basis: &Basis<'a>,
+) -> Result<Report<'a>, AllocError> {
+    let history = desk.history();
+    let mut races = told_races(alloc, history, basis.files)?;
+    let failures = told_failures(alloc, history, basis.files, basis.entries, &mut races)?;
+    let judged = not_judged(alloc, history)?;
+    report_with(alloc, desk, basis, races, failures, judged)
+}
+
+/// Adds the hints to a report.
+///
+/// # Errors
+/// [`AllocError`] only where an allocation was refused.
+pub fn add_hints<'a>(
+    alloc: Global,
+    desk: &'a Desk,
+    basis: &Basis<'a>,
+    report: &mut Report<'a>,
+) -> Result<(), AllocError> {
+    let history = desk.history();
+    report.hints = hints_in(alloc, history, basis.files, basis.names, &basis.sources)?;
+    report.changes = told_changes(alloc, history, &basis.sources, basis.names)?;
+    Ok(())
+}

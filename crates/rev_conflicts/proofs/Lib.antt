@@ -1,0 +1,12 @@
+pub mod Some
+pub mod NumberLemmas
+pub mod FolderLemmas
+pub mod TableLemmas
+pub mod QuietLemmas
+pub mod MeetLemmas
+pub mod EarlyLemmas
+pub mod FoundLemmas
+pub mod AnswerLemmas
+pub mod KindLemmas
+pub mod LastLemmas
+pub mod RaceLemmas

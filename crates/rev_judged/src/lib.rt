@@ -1,0 +1,8 @@
+//! Commands that left no list of what they read, and those among them that only collect outputs.
+#![tactic(auto)]
+
+mod collecting;
+mod judged;
+mod lists;
+
+pub use judged::{Unjudged, not_judged};

@@ -1,0 +1,7 @@
+pub mod AnswerLemmas
+pub mod CommandLemmas
+pub mod JoinLemmas
+pub mod LawLemmas
+pub mod SaysLemmas
+pub mod SetLemmas
+pub mod TextLemmas

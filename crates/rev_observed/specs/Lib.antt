@@ -1,0 +1,14 @@
+pub mod CommandValues
+pub mod Faults
+pub mod Flags
+pub mod Joins
+pub mod Kinds
+pub mod Laws
+pub mod Lines
+pub mod Observations
+pub mod PathSets
+pub mod Ranges
+pub mod Says
+pub mod Texts
+pub mod Within
+pub mod Words

@@ -1,0 +1,4 @@
+pub mod FileLemmas
+pub mod OrderLemmas
+pub mod PatchedLemmas
+pub mod SameLemmas

@@ -1,0 +1,5 @@
+pub mod Histories
+pub mod Laws
+pub mod Orders
+pub mod Provoked
+pub mod Same

@@ -1,0 +1,14 @@
+//! Manifests with order-only inputs that were added to them: what mends races, and what makes them happen.
+#![tactic(auto)]
+
+mod check;
+pub mod laws;
+mod orders;
+mod patching;
+mod provoking;
+mod same;
+
+pub use check::is_patched;
+pub use orders::{Order, writable_output};
+pub use patching::patch_for;
+pub use provoking::{Provoked, provoke};

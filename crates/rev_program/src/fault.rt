@@ -1,0 +1,102 @@
+//! Why a program ends early.
+use rev_script::RunFault;
+use std::alloc::{AllocError, AllocFailed};
+use std::io::ErrorKind;
+use thiserror::Error;
+
+/// Why a file is not read.
+#[derive(Clone, Copy, Debug, PartialEq, Eq, Error)]
+pub enum Unread {
+    /// No file has the name.
+    #[error("it is not there")]
+    Missing,
+    /// The name is a folder's.
+    #[error("it is a folder")]
+    Folder,
+    /// The name is a pipe's, a socket's or a device's.
+    #[error("it is not a regular file")]
+    Special,
+    /// The file lies outside of the recording's folder, or a link leads out of it.
+    #[error("it lies outside of the recording's folder")]
+    Outside,
+    /// The name, or the whole path, is not UTF-8 text, which is what the system is asked by.
+    #[error("its path is not UTF-8 text")]
+    NoText,
+    /// The system does not let this user read it.
+    #[error("this user may not read it")]
+    Forbidden,
+    /// It has more bytes than a trace or a script may have.
+    #[error("it has more than 1,073,741,824 bytes")]
+    Long,
+    /// It could not be opened, or a read of it failed.
+    #[error("the system failed to read it")]
+    Failed,
+}
+
+impl From<ErrorKind> for Unread {
+    fn from(kind: ErrorKind) -> Unread {
+        match kind {
+            ErrorKind::NotFound => Unread::Missing,
+            ErrorKind::IsADirectory => Unread::Folder,
+            ErrorKind::PermissionDenied => Unread::Forbidden,
+            ErrorKind::InvalidData => Unread::NoText,
+            _ => Unread::Failed,
+        }
+    }
+}
+
+/// Why a program ends with status 3. Where a sentence has a reason, the reason stands on a line of its own.
+#[derive(Debug, Drop, Error)]
+pub enum ProgramFault<'a> {
+    /// The system refused memory.
+    #[error("out of memory")]
+    Memory,
+    /// The answer was not written whole.
+    #[error("cannot write")]
+    Write,
+    /// A line of standard input was not read.
+    #[error("cannot read the questions")]
+    Read,
+    /// A file that the command line names could not be read.
+    #[error("cannot read {0}\nrebug: {1}")]
+    File(&'a str, Unread),
+    /// The manifest of a recording could not be read.
+    #[error("cannot read the manifest of {0}\nrebug: {1}")]
+    Manifest(&'a str, Unread),
+    /// A file that the manifest of a recording includes could not be read.
+    #[error("cannot read {1}, which the manifest of {0} includes\nrebug: {2}")]
+    Included(&'a str, String, Unread),
+    /// The trace of a recording could not be read.
+    #[error("cannot read the trace of {0}\nrebug: {1}")]
+    Trace(&'a str, Unread),
+    /// Another file of a recording could not be read.
+    #[error("cannot read the file {1} of {0}\nrebug: {2}")]
+    Beside(&'a str, &'static str, Unread),
+    /// A folder has a manifest and no trace.
+    #[error("{0} is a build folder, and not a recording: record it first\nrebug: for example: rebug record {0} RECORDING")]
+    BuildFolder(&'a str),
+    /// The file of a picture could not be written.
+    #[error("cannot write {0}")]
+    Out(&'a str),
+}
+
+impl From<AllocError> for ProgramFault<'_> {
+    fn from(_e: AllocError) -> Self {
+        ProgramFault::Memory
+    }
+}
+
+impl<T: Drop> From<AllocFailed<T>> for ProgramFault<'_> {
+    fn from(_e: AllocFailed<T>) -> Self {
+        ProgramFault::Memory
+    }
+}
+
+impl From<RunFault> for ProgramFault<'_> {
+    fn from(fault: RunFault) -> Self {
+        match fault {
+            RunFault::Memory => ProgramFault::Memory,
+            RunFault::Write => ProgramFault::Write,
+        }
+    }
+}

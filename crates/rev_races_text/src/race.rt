@@ -1,0 +1,228 @@
+//! Races, cycles and own paths.
+ghost use Rattle.std.specs.Prelude.{◌≡◌, Some, ◌==◌, bytes_eq};
+ghost use Rattle.rev_races_text.specs.Lines.{evidence_line, kind_word, maker_line, mend_line, more_line, progress_words, through_words, user_ends, user_line};
+
+use crate::edges::{Edge, LineIf, Sources};
+use crate::here::HereLine;
+use crate::names::{NameIf, Shown, Written, WrittenIf};
+use rev_paths::Name;
+use rev_races::{Kind, Story};
+use rev_suspects::Progress;
+use std::fmt;
+
+/// What this recording shows of a race.
+#[derive(Clone, Copy)]
+pub enum Evidence {
+    /// A command lists its own output: there are no two runs.
+    Own,
+    /// The list is of this recording, or of an earlier build that this one had not to do again. What happened here.
+    Story(Story),
+    /// The user failed, at the event of this number, and the list is that of an earlier build.
+    Earlier(u32),
+    /// The user failed, its error names the path, and the maker was not settled when the user began.
+    Error(Progress),
+}
+
+/// A race as it is told. Edges are named by their numbers.
+#[derive(Clone, Copy)]
+pub struct Told<'a> {
+    /// What it is.
+    pub kind: Kind,
+    /// The edge that makes the path.
+    pub maker: u32,
+    /// The edge that lists it, or whose error names it.
+    pub user: u32,
+    /// The path.
+    pub path: &'a Name,
+    /// What this recording shows of it.
+    pub evidence: Evidence,
+    /// The output that is to be added to the user's order-only inputs, where that mends it.
+    pub mend: Option<&'a Name>,
+}
+
+// The line of a maker.
+#[derive(Clone, Copy)]
+pub(crate) struct MakerLine<'a> {
+    pub(crate) kind: Kind,
+    pub(crate) path: Shown<'a>,
+    pub(crate) maker: Edge<'a>,
+}
+
+// The path by which a user is in the race, and how many more, where it is more than the path that was told.
+#[derive(Clone, Copy)]
+struct Through<'a> {
+    told: Shown<'a>,
+    path: Shown<'a>,
+    more: u64,
+}
+
+// The line of a user, which is in as many more races with the same maker.
+#[derive(Clone, Copy)]
+pub(crate) struct UserLine<'a> {
+    pub(crate) kind: Kind,
+    pub(crate) told: Shown<'a>,
+    pub(crate) path: Shown<'a>,
+    pub(crate) more: u64,
+    pub(crate) user: Edge<'a>,
+    pub(crate) number: u64,
+}
+
+// The line of what this recording shows.
+#[derive(Clone, Copy)]
+pub(crate) struct EvidenceLine<'a> {
+    pub(crate) evidence: Evidence,
+    pub(crate) path: Shown<'a>,
+}
+
+// The line of the mend.
+#[derive(Clone, Copy)]
+pub(crate) struct MendLine<'a> {
+    pub(crate) user: Edge<'a>,
+    pub(crate) output: Shown<'a>,
+}
+
+// How many are left out, between words; nothing where there are none.
+#[derive(Clone, Copy)]
+pub(crate) struct More {
+    pub(crate) before: &'static str,
+    pub(crate) more: u64,
+    pub(crate) after: &'static str,
+}
+
+impl<'a> Sources<'a> {
+    /// The edge that makes what a race is about, with the run that is told.
+    pub fn maker(&self, told: &Told<'_>) -> Edge<'a> {
+        match told.evidence {
+            Evidence::Story(story) => self.edge_in(told.maker, story.maker),
+            _ => self.edge(told.maker),
+        }
+    }
+
+    /// The edge that uses it, with the run that is told.
+    pub fn user(&self, told: &Told<'_>) -> Edge<'a> {
+        match told.evidence {
+            Evidence::Story(story) => self.edge_in(told.user, story.user),
+            _ => self.edge(told.user),
+        }
+    }
+}
+
+// The word for a race of a kind.
+fn kind_word(kind: Kind) -> &'static str
+    ensures { result.now ≡ kind_word kind }
+{
+    match kind {
+        Kind::Race => "race",
+        Kind::Cycle => "cycle",
+        Kind::Own => "own",
+    }
+}
+
+// What is said behind a user.
+fn user_ends(kind: Kind) -> &'static str
+    ensures { result.now ≡ user_ends kind }
+{
+    match kind {
+        Kind::Race => ", which does not wait for it",
+        Kind::Cycle => ", for which the maker waits: no order mends that",
+        Kind::Own => ", which makes it: no order mends that",
+    }
+}
+
+impl fmt::Display for MakerLine<'_> {
+    ghost output = { λ l. Some (maker_line l.kind l.path.0.now l.maker) };
+
+    fn fmt<W: fmt::Write>(&self, f: &mut fmt::Formatter<W>) -> fmt::Result {
+        let kind = kind_word(self.kind);
+        let (path, maker) = (self.path, self.maker);
+        write!(f, "{kind} {path} made by {maker}\n")
+    }
+}
+
+impl fmt::Display for Through<'_> {
+    ghost output = { λ t. Some (through_words t.told.0.now t.path.0.now t.more) };
+
+    #[tactic(auto, unfolding(crate::specs::Lines::through_words))]
+    fn fmt<W: fmt::Write>(&self, f: &mut fmt::Formatter<W>) -> fmt::Result {
+        let (path, more) = (self.path, self.more);
+        if more != 0 {
+            return write!(f, " through {path} and {more} more");
+        }
+        if path.0 == self.told.0 {
+            return Ok(());
+        }
+        write!(f, " through {path}")
+    }
+}
+
+impl fmt::Display for UserLine<'_> {
+    ghost output = { λ l. Some (user_line l.kind l.told.0.now l.path.0.now l.more l.user l.number) };
+
+    fn fmt<W: fmt::Write>(&self, f: &mut fmt::Formatter<W>) -> fmt::Result {
+        let through = Through {
+            told: self.told,
+            path: self.path,
+            more: self.more,
+        };
+        let (user, number) = (self.user, self.number);
+        let ends = user_ends(self.kind);
+        write!(f, "  used by {user}{through}{ends} [{number}]\n")
+    }
+}
+
+// How far the maker was.
+fn progress_words(progress: Progress) -> &'static str
+    ensures { result.now ≡ progress_words progress }
+{
+    match progress {
+        Progress::Running => "was running",
+        Progress::ToRun => "was still to run",
+    }
+}
+
+impl fmt::Display for EvidenceLine<'_> {
+    ghost output = { λ l. Some (evidence_line l.evidence l.path.0.now) };
+
+    fn fmt<W: fmt::Write>(&self, f: &mut fmt::Formatter<W>) -> fmt::Result {
+        let path = self.path;
+        match self.evidence {
+            Evidence::Own => Ok(()),
+            Evidence::Story(story) => write!(f, "{}", HereLine(story)),
+            Evidence::Earlier(number) => write!(
+                f,
+                "    here: the user failed at {number}; it listed this when it was built before\n"
+            ),
+            Evidence::Error(progress) => {
+                let words = progress_words(progress);
+                write!(
+                    f,
+                    "    here: the maker {words} when the user began; its error names {path}\n"
+                )
+            }
+        }
+    }
+}
+
+impl fmt::Display for MendLine<'_> {
+    ghost output = { λ l. Some (mend_line l.user l.output.0.now) };
+
+    fn fmt<W: fmt::Write>(&self, f: &mut fmt::Formatter<W>) -> fmt::Result {
+        let file = NameIf(self.user.file);
+        let line = LineIf(self.user.line);
+        let user = WrittenIf(self.user.output);
+        let output = Written(self.output.0);
+        write!(f, "    mend: {file}{line}: build {user}: ... || {output}\n")
+    }
+}
+
+impl fmt::Display for More {
+    ghost output = { λ m. Some (more_line m.before.now m.more m.after.now) };
+
+    fn fmt<W: fmt::Write>(&self, f: &mut fmt::Formatter<W>) -> fmt::Result {
+        let (before, more, after) = (self.before, self.more, self.after);
+        if more == 0 {
+            return Ok(());
+        }
+        write!(f, "{before}{more}{after}")
+    }
+}

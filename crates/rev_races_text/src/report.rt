@@ -1,0 +1,120 @@
+//! What is told of a recording.
+ghost use Rattle.std.specs.Prelude.{◌≡◌};
+ghost use Rattle.rev_races_text.specs.Status.{status_of};
+
+use crate::counts::Tally;
+use crate::failed::{Failure, Replayed};
+use crate::others::{Change, Clash, Hint};
+use crate::race::{Evidence, Told};
+use rev_races::Kind;
+
+/// The exit status where something was found.
+pub const SOMETHING: u8 = 4;
+/// The exit status where nothing was found, and the build failed or was not recorded whole.
+pub const UNKNOWN: u8 = 5;
+
+/// What is told of a recording. The races are numbered from 1; the numbers go on with the other suspects, in the order of
+/// the commands that failed.
+#[derive(Drop)]
+pub struct Report<'a> {
+    /// How much of it counts.
+    pub replayed: Replayed,
+    /// The commands that failed.
+    pub failures: Vec<Failure<'a>>,
+    /// The races by lists, in the order of their makers, and of one maker in that of their users; and then those by the
+    /// errors of the commands that failed, in their order.
+    pub races: Vec<Told<'a>>,
+    /// The clashes.
+    pub clashes: Vec<Clash>,
+    /// How many commands ran.
+    pub ran: u64,
+    /// The commands that ran, left no list of what they read, and are no collectors.
+    pub unjudged: Vec<u32>,
+    /// The commands that ran, left no list of what they read, and only collect outputs.
+    pub collectors: Vec<u32>,
+    /// Hints by other names of files.
+    pub hints: Vec<Hint<'a>>,
+    /// Hints by files that no edge makes.
+    pub changes: Vec<Change<'a>>,
+}
+
+// The edges of a race or a suspect, as user and maker; none of a command that lists its own output.
+fn pair_of(told: &Told<'_>) -> Option<(u32, u32)> {
+    match told.evidence {
+        Evidence::Own => None,
+        _ => Some((told.user, told.maker)),
+    }
+}
+
+// What stands at a place that is counted from 0.
+fn at<T>(items: &[T], place: u64) -> Option<&T> {
+    if place >= items.len() as u64 {
+        return None;
+    }
+    items.get(place as usize)
+}
+
+impl<'a> Report<'a> {
+    /// The exit status: 4 where there is a race, a cycle, a path that its own command lists, a clash or a suspect that an
+    /// error names; else 5 where the build failed or was not recorded whole, and else 0.
+    pub fn status(&self) -> u8
+        ensures { result ≡ status_of self.now }
+    {
+        if !self.races.is_empty() || !self.clashes.is_empty() {
+            return SOMETHING;
+        }
+        if self.failures.is_empty() && self.replayed.is_whole() {
+            return 0;
+        }
+        UNKNOWN
+    }
+
+    /// How many there are of what is told.
+    pub(crate) fn tally(&self) -> Tally {
+        Tally {
+            failed: self.failures.len() as u64,
+            races: self.count_of(Kind::Race),
+            cycles: self.count_of(Kind::Cycle),
+            own: self.count_of(Kind::Own),
+            clashes: self.clashes.len() as u64,
+            ran: self.ran,
+        }
+    }
+
+    // How many races are of a kind.
+    fn count_of(&self, kind: Kind) -> u64 {
+        self.races.iter().filter(|race| race.kind == kind).count() as u64
+    }
+
+    /// The races by lists, and those by the errors of commands.
+    pub(crate) fn parts(&self) -> (&[Told<'a>], &[Told<'a>]) {
+        let mut named = 0usize;
+        for failure in &self.failures {
+            named = usize::saturating_add(named, failure.named);
+        }
+        let count = self.races.len();
+        self.races.split_at(count.saturating_sub(named))
+    }
+
+    /// The number of the first suspect that no error names: those of the races come before.
+    pub(crate) fn first_other(&self) -> u64 {
+        (self.races.len() as u64).saturating_add(1)
+    }
+
+    /// The user and the maker of the race or suspect of a number, from 1; none where there is none of that number, or a
+    /// command lists its own output.
+    pub fn pair(&self, number: u64) -> Option<(u32, u32)> {
+        let place = number.checked_sub(1)?;
+        if let Some(told) = at(&self.races, place) {
+            return pair_of(told);
+        }
+        let mut place = place.saturating_sub(self.races.len() as u64);
+        for failure in &self.failures {
+            if let Some(other) = at(&failure.others, place) {
+                return Some((failure.edge, other.maker));
+            }
+            place = place.saturating_sub(failure.others.len() as u64);
+        }
+        None
+    }
+}

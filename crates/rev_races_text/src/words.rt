@@ -1,0 +1,361 @@
+//! What is told of a recording, in words.
+use crate::counts::{NotJudged, Tally};
+use crate::edges::{Edge, Sources};
+use crate::failed::{FailedLine, Failure, Numbered, PrintedLine, Suspect};
+use crate::names::{Shown, Text};
+use crate::race::{EvidenceLine, MakerLine, MendLine, More, Told, UserLine};
+use crate::report::Report;
+use rev_races::Kind;
+use rev_suspects::Progress;
+use std::alloc::{AllocError, Global};
+
+// How many users of a maker, clashes, failed commands or suspects are told, unless all are.
+const FEW: usize = 3;
+// How many lines of what a command printed are told, unless all are.
+const LINES: usize = 10;
+
+// How many are told.
+fn most_of(all: bool, few: usize) -> usize {
+    if all { usize::MAX } else { few }
+}
+
+// Adds how many are left out of so many.
+fn push_more(
+    text: &mut String,
+    before: &'static str,
+    count: usize,
+    most: usize,
+    after: &'static str,
+) -> Result<(), AllocError> {
+    let more = count.saturating_sub(most) as u64;
+    write!(
+        text,
+        "{}",
+        More {
+            before,
+            more,
+            after
+        }
+    )
+}
+
+// Adds the lines of one user behind a maker's, whose path is `told`: it is in these races, numbered from `number`.
+fn push_user<'a>(
+    text: &mut String,
+    sources: &Sources<'a>,
+    told: Shown<'a>,
+    races: &[Told<'a>],
+    number: u64,
+) -> Result<(), AllocError> {
+    let Some(first) = races.first() else {
+        return Ok(());
+    };
+    let user = sources.user(first);
+    let path = Shown(first.path.as_bytes());
+    let line = UserLine {
+        kind: first.kind,
+        told,
+        path,
+        more: (races.len() as u64).saturating_sub(1),
+        user,
+        number,
+    };
+    write!(text, "{line}")?;
+    let evidence = first.evidence;
+    write!(text, "{}", EvidenceLine { evidence, path })?;
+    match first.mend {
+        Some(mend) => {
+            let output = Shown(mend.as_bytes());
+            write!(text, "{}", MendLine { user, output })
+        }
+        None => Ok(()),
+    }
+}
+
+// Adds the line of a maker.
+fn push_maker<'a>(
+    text: &mut String,
+    sources: &Sources<'a>,
+    told: &Told<'a>,
+) -> Result<(), AllocError> {
+    let line = MakerLine {
+        kind: told.kind,
+        path: Shown(told.path.as_bytes()),
+        maker: sources.maker(told),
+    };
+    write!(text, "{line}")
+}
+
+// Adds the races of one maker that are of a kind, with at most so many users. Those of the maker are numbered from
+// `number`.
+fn push_kind<'a>(
+    text: &mut String,
+    sources: &Sources<'a>,
+    kind: Kind,
+    races: &[Told<'a>],
+    number: u64,
+    most: usize,
+) -> Result<(), AllocError> {
+    let mut number = number;
+    let mut users = 0usize;
+    let mut head = None;
+    for user in races.chunk_by(|one, other| one.user == other.user) {
+        if let Some(first) = user.first() {
+            if first.kind == kind {
+                if head.is_none() {
+                    push_maker(text, sources, first)?;
+                    head = Some(Shown(first.path.as_bytes()));
+                }
+                if let Some(told) = head {
+                    if users < most {
+                        push_user(text, sources, told, user, number)?;
+                    }
+                }
+                users = usize::saturating_add(users, 1);
+            }
+        }
+        number = u64::saturating_add(number, user.len() as u64);
+    }
+    push_more(text, "  and by ", users, most, " more (--all tells them)\n")
+}
+
+// Adds the races, of each maker in a group for each kind.
+fn push_races<'a>(
+    text: &mut String,
+    sources: &Sources<'a>,
+    races: &[Told<'a>],
+    most: usize,
+) -> Result<(), AllocError> {
+    let mut number = 1;
+    for maker in races.chunk_by(|one, other| one.maker == other.maker) {
+        for kind in [Kind::Race, Kind::Cycle, Kind::Own] {
+            push_kind(text, sources, kind, maker, number, most)?;
+        }
+        number = u64::saturating_add(number, maker.len() as u64);
+    }
+    Ok(())
+}
+
+// Adds what a command printed, with at most so many lines.
+fn push_printed<'a>(
+    alloc: Global,
+    text: &mut String,
+    failure: &Failure<'a>,
+    most: usize,
+) -> Result<(), AllocError> {
+    let lines = failure.lines(alloc)?;
+    for (place, line) in lines.iter().enumerate() {
+        if place < most {
+            write!(text, "{}", PrintedLine(*line))?;
+        }
+    }
+    push_more(
+        text,
+        "  and ",
+        lines.len(),
+        most,
+        " more of its lines (--all tells them)\n",
+    )
+}
+
+// Adds the suspects of a failed command that no error names and that were so far, numbered from `number`.
+fn push_suspects<'a>(
+    text: &mut String,
+    sources: &Sources<'a>,
+    suspects: &[Suspect],
+    progress: Progress,
+    number: u64,
+    most: usize,
+) -> Result<(), AllocError> {
+    let mut number = number;
+    let mut count = 0usize;
+    for suspect in suspects {
+        if suspect.progress == progress {
+            if count < most {
+                let maker = sources.edge(suspect.maker);
+                write!(
+                    text,
+                    "{}",
+                    if count == 0 {
+                        progress_head(progress)
+                    } else {
+                        ", "
+                    }
+                )?;
+                write!(text, "{}", Numbered { maker, number })?;
+            }
+            count = usize::saturating_add(count, 1);
+        }
+        number = u64::saturating_add(number, 1);
+    }
+    push_more(text, " and ", count, most, " more (--all tells them)")?;
+    if count == 0 {
+        return Ok(());
+    }
+    write!(text, "\n")
+}
+
+// What stands before suspects that were so far.
+fn progress_head(progress: Progress) -> &'static str {
+    match progress {
+        Progress::Running => "also running, and not waited for: ",
+        Progress::ToRun => "also still to run, and not waited for: ",
+    }
+}
+
+// Adds a command that failed, with what its error names and its other suspects. Each of the two is numbered from a
+// number.
+fn push_failure<'a>(
+    alloc: Global,
+    text: &mut String,
+    sources: &Sources<'a>,
+    failure: &Failure<'a>,
+    named: &[Told<'a>],
+    numbers: (u64, u64),
+    all: bool,
+) -> Result<(), AllocError> {
+    let line = FailedLine {
+        edge: sources.edge(failure.edge),
+        number: failure.number,
+        command: Text(failure.command),
+    };
+    write!(text, "{line}")?;
+    push_printed(alloc, text, failure, most_of(all, LINES))?;
+    let (mut number, other) = numbers;
+    for told in named {
+        let path = Shown(told.path.as_bytes());
+        push_maker(text, sources, told)?;
+        push_user(text, sources, path, &[*told], number)?;
+        number = u64::saturating_add(number, 1);
+    }
+    let few = most_of(all, FEW);
+    push_suspects(
+        text,
+        sources,
+        &failure.others,
+        Progress::Running,
+        other,
+        few,
+    )?;
+    push_suspects(text, sources, &failure.others, Progress::ToRun, other, few)
+}
+
+// The edges of some numbers.
+fn edges_of<'a>(
+    alloc: Global,
+    sources: &Sources<'a>,
+    numbers: &[u32],
+) -> Result<Vec<Edge<'a>>, AllocError> {
+    let mut edges = Vec::new(alloc);
+    for number in numbers {
+        edges.push(sources.edge(*number))?;
+    }
+    Ok(edges)
+}
+
+// Adds the line that counts.
+fn push_counts<'a>(
+    alloc: Global,
+    text: &mut String,
+    sources: &Sources<'a>,
+    report: &Report<'a>,
+    all: bool,
+) -> Result<(), AllocError> {
+    let plain = edges_of(alloc, sources, &report.unjudged)?;
+    let collectors = edges_of(alloc, sources, &report.collectors)?;
+    let tally = report.tally();
+    let unjudged = NotJudged {
+        all,
+        plain: &plain,
+        collectors: &collectors,
+    };
+    write!(text, "{tally}{unjudged}\n")
+}
+
+// Adds what failed.
+fn push_failures<'a>(
+    alloc: Global,
+    text: &mut String,
+    sources: &Sources<'a>,
+    report: &Report<'a>,
+    all: bool,
+) -> Result<(), AllocError> {
+    let few = most_of(all, FEW);
+    let (listed, named) = report.parts();
+    let mut named = named;
+    let mut numbers = (
+        (listed.len() as u64).saturating_add(1),
+        report.first_other(),
+    );
+    for (place, failure) in report.failures.iter().enumerate() {
+        let count = failure.named.min(named.len());
+        let (of, rest) = named.split_at(count);
+        if place < few {
+            push_failure(alloc, text, sources, failure, of, numbers, all)?;
+        }
+        named = rest;
+        let (number, other) = numbers;
+        numbers = (
+            u64::saturating_add(number, count as u64),
+            u64::saturating_add(other, failure.others.len() as u64),
+        );
+    }
+    push_more(
+        text,
+        "and ",
+        report.failures.len(),
+        few,
+        " more failed (--all tells them)\n",
+    )
+}
+
+// Adds the clashes.
+fn push_clashes<'a>(
+    text: &mut String,
+    sources: &Sources<'a>,
+    report: &Report<'a>,
+    most: usize,
+) -> Result<(), AllocError> {
+    for (place, clash) in report.clashes.iter().enumerate() {
+        if place < most {
+            write!(text, "{}", sources.clash(clash))?;
+        }
+    }
+    push_more(
+        text,
+        "and ",
+        report.clashes.len(),
+        most,
+        " more (--all tells them)\n",
+    )
+}
+
+impl<'a> Report<'a> {
+    /// What is told, in words: how much of the recording counts, what failed, the races of each maker, how many there
+    /// are and what was not judged, the clashes and the hints. Of much the first is told, or all of it.
+    ///
+    /// # Errors
+    /// [`AllocError`] only where an allocation was refused.
+    pub fn words(
+        &self,
+        alloc: Global,
+        sources: &Sources<'a>,
+        all: bool,
+    ) -> Result<Vec<u8>, AllocError> {
+        let mut text = String::new(alloc);
+        let few = most_of(all, FEW);
+        write!(text, "{}", self.replayed)?;
+        push_failures(alloc, &mut text, sources, self, all)?;
+        let (listed, _named) = self.parts();
+        push_races(&mut text, sources, listed, few)?;
+        push_counts(alloc, &mut text, sources, self, all)?;
+        push_clashes(&mut text, sources, self, few)?;
+        for hint in &self.hints {
+            write!(text, "{hint}")?;
+        }
+        for change in &self.changes {
+            write!(text, "{change}")?;
+        }
+        Ok(text.into_bytes())
+    }
+}

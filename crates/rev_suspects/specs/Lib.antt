@@ -1,0 +1,4 @@
+pub mod Failures
+pub mod Suspects
+pub mod Past
+pub mod Laws
