@@ -10,6 +10,7 @@ memory. At last one recording by each observer tells the bytes of `trace` and `o
 
 import argparse
 import ctypes
+import io
 import os
 import pathlib
 import resource
@@ -29,6 +30,7 @@ sys.path[:0] = [str(HERE.parents[1] / "record")]
 from recorder.manifest import Manifest  # noqa: E402
 from recorder.observed.calls import Observer  # noqa: E402
 from recorder.observed.effects import Build  # noqa: E402
+from recorder.observed.log_pipe import BUFFER, LogPipe  # noqa: E402
 from recorder.observed.matching import text_of  # noqa: E402
 from recorder.observed.observers import OBSERVERS  # noqa: E402
 from recorder.observed.places import Places  # noqa: E402
@@ -81,18 +83,20 @@ def run_all(words: list[bytes], folder: pathlib.Path) -> None:
             return
 
 
-def seconds_of_reading(observer: Observer, log: int, folder: pathlib.Path) -> float:
+def seconds_of_reading(observer: Observer, pipe: LogPipe, folder: pathlib.Path) -> float:
     """Works out the footprints of a log to its end, as the recorder does; gives the processor time of that."""
+    pipe.end()
     real = os.path.realpath(os.fsencode(folder))
     manifest = Manifest(b"build.ninja", lambda name: pathlib.Path(os.fsdecode(os.path.join(real, name))).read_bytes())
     began = time.process_time()
     build = Build({text_of(it) for it in manifest.edges if not it.phony}, real, Places(), {})
     poll = select.poll()
-    poll.register(log, select.POLLIN)
+    poll.register(pipe.reader, select.POLLIN)
     poll.poll()
-    with os.fdopen(log, "rb") as file:
-        for event in observer.events(file):
-            build.take(event)
+    events = observer.events(io.BufferedReader(pipe.log(), BUFFER))
+    build.take_all(events)
+    for _ in events:
+        pass
     build.processes.finish()
     return time.process_time() - began
 
@@ -107,20 +111,17 @@ def cost(folder: pathlib.Path, jobs: int, observer: Observer | None, room: pathl
     subprocess.run(["ninja", "-t", "clean"], cwd=folder, check=True, stdout=subprocess.DEVNULL)
     words, reader = [b"ninja", b"-j%d" % jobs], None
     if observer is not None:
-        path = os.fsencode(room / "log")
-        os.mkfifo(path)
-        log = os.open(path, os.O_RDONLY | os.O_NONBLOCK)
-        os.set_blocking(log, True)
-        reader = in_child(lambda: write(room / "took", seconds_of_reading(observer, log, folder)))
-        words = observer.words(path, words)
-        os.close(log)
+        pipe = LogPipe()
+        reader = in_child(lambda: write(room / "took", seconds_of_reading(observer, pipe, folder)))
+        words = observer.words(pipe.path, words)
+        os.close(pipe.reader)
     begin = time.monotonic()
     usage = ended(in_child(lambda: run_all(words, folder)))
     found = Cost(usage.ru_utime + usage.ru_stime, time.monotonic() - begin)
     if reader is not None:
+        pipe.close()
         found.memory = ended(reader).ru_maxrss // 1024
         found.reader = float((room / "took").read_text())
-        os.unlink(path)
     return found
 
 

@@ -1,6 +1,6 @@
 /* rebug's own observer: runs a command, and tells what its processes do to which paths.
 
-     observer LOG COMMAND...   this process becomes COMMAND; one beside it writes to LOG, a FIFO that is being read
+     observer LOG COMMAND...   this process becomes COMMAND; one beside it writes to LOG, a pipe that is being read
      observer --try            says on standard output why that cannot be done here, and ends with 1; else with 0
 
    The process beside is nobody's child and has a session of its own: no signal of the terminal reaches it, the caller's

@@ -3,6 +3,7 @@
 from __future__ import annotations
 
 import os
+import time
 from dataclasses import dataclass, field
 from typing import Callable, Container
 
@@ -25,7 +26,8 @@ def stamp_of(folder: bytes, path: bytes) -> int:
 
 @dataclass
 class Snapshot:
-    """The state of a build folder; paths are canonical. `deps` has output -> (stamp, Listing).
+    """The state of a build folder; paths are canonical. `deps` has output -> (stamp, Listing), `taken` is the time
+    (nanoseconds) at which the snapshot was begun.
 
     `changed` has the outputs whose command is another than the log's; it counts where the log's hash is not known.
     """
@@ -35,11 +37,13 @@ class Snapshot:
     deps: dict[bytes, tuple[int, Listing]]
     without_deps_log: dict[bytes, bytes]
     changed: set[bytes] = field(default_factory=set)
+    taken: int = 0
 
 
 def take_snapshot(folder: bytes, manifest: Manifest, ninja: Ninja) -> Snapshot:
     """Reads the logs as far as they go and as the Ninja takes them, the depfiles that Ninja keeps no record of, and the
     stamp of every path."""
+    taken = time.time_ns()
     log = ninja.as_read(open_build_log(os.path.join(folder, manifest.log_folder(), b".ninja_log")))
     deps = _deps_records(folder, manifest, ninja)
     texts = {}
@@ -50,7 +54,7 @@ def take_snapshot(folder: bytes, manifest: Manifest, ninja: Ninja) -> Snapshot:
     paths.update(dict.fromkeys(_listed_paths(deps)))
     for name, text in texts.items():
         paths.update(dict.fromkeys(read_depfile(text, manifest.producer[name].outputs) or ()))
-    return Snapshot({it: stamp_of(folder, it) for it in paths}, log, deps, texts)
+    return Snapshot({it: stamp_of(folder, it) for it in paths}, log, deps, texts, taken=taken)
 
 
 def read_file(path: bytes) -> bytes:

@@ -1,5 +1,5 @@
-"""Writes a recording: the manifest's files, the trace, its times, other names of outputs, what Ninja it was, the
-script, and a script that replays them."""
+"""Writes a recording: the manifest's files, the trace, its times, other names of outputs, what Ninja it was, what
+commands wrote, the script, and a script that replays them."""
 
 from __future__ import annotations
 
@@ -13,12 +13,13 @@ from .fields import canonical, field, line, shown
 from .folders import OPTIONAL, is_name
 from .held import HeldFolder
 from .manifest import Manifest
+from .outputs import output_lines
 from .recording import Recording
 from .replaying import replay_text
 
 MOST_LANES = 63
 # The files beside those of the manifest.
-WRITTEN = (b"trace", b"script", b"replay", b"times", b"names", b"ninja")
+WRITTEN = (b"trace", b"script", b"replay", b"times", b"names", b"ninja", b"output")
 # What no file of the manifest may have as the first part of its name; that of an absolute path is empty.
 _TAKEN = (b"", b".", b"..", b"outside", *WRITTEN, *OPTIONAL)
 
@@ -43,6 +44,9 @@ def write_recording(it: Recording, folder: HeldFolder, with_lanes: bool, program
     with folder.create(b"ninja") as file:
         file.write(b"rebug-ninja 1\n")
         file.writelines(text + b"\n" for text in it.about_ninja)
+    with folder.create(b"output") as file:
+        file.write(b"rebug-output 1\n")
+        file.writelines(text + b"\n" for text in outputs(it, lanes))
     with folder.create(b"script") as file:
         file.writelines(text + b"\n" for text in script)
     _write_replay(folder, replay_text([os.fsdecode(name) for name in names], script, with_lanes, _beside(program, at)))
@@ -72,19 +76,27 @@ def names_of_files(manifest: Manifest) -> dict[bytes, bytes]:
     return names
 
 
-def write_manifest(it: Recording, folder: HeldFolder) -> list[bytes]:
-    """Copies the files. Where one has another name in the recording, the line that names it is changed."""
-    names = names_of_files(it.manifest)
-    for path, name in names.items():
-        if name != path:
-            it.remarks.append(f"'{shown(path)}' is copied as {name.decode()}, and the line that names it is changed")
-    for name, content, includes in it.manifest.files:
+def copies_of_files(manifest: Manifest) -> Iterator[tuple[bytes, bytes]]:
+    """The manifest's files as a recording has them, name and content. Where one has another name there, the line that
+    names it is changed."""
+    names = names_of_files(manifest)
+    for name, content, includes in manifest.files:
         for place in reversed(includes):
             if names[canonical(place.path)] != canonical(place.path):
                 text = place.keyword + b" " + names[canonical(place.path)]
                 text += b"$\n" * content.count(b"\n", place.begin, place.end)
                 content = content[: place.begin] + text + content[place.end :]
-        with folder.create(names[canonical(name)]) as file:
+        yield names[canonical(name)], content
+
+
+def write_manifest(it: Recording, folder: HeldFolder) -> list[bytes]:
+    """Copies the files, and gives their names in the recording."""
+    names = names_of_files(it.manifest)
+    for path, name in names.items():
+        if name != path:
+            it.remarks.append(f"'{shown(path)}' is copied as {name.decode()}, and the line that names it is changed")
+    for name, content in copies_of_files(it.manifest):
+        with folder.create(name) as file:
             file.write(content)
     return list(names.values())
 
@@ -144,6 +156,12 @@ def times(known: Sequence[int | None], lanes: Lanes) -> Iterator[bytes]:
         for count, place in enumerate(places, 1):
             time = known[place]
             yield b"%d:%d -\n" % (number, count) if time is None else b"%d:%d %d\n" % (number, count, time)
+
+
+def outputs(it: Recording, lanes: Lanes) -> Iterator[bytes]:
+    """A line for each event of the trace whose command's output is kept. An edge runs once in a recording."""
+    written = {run.edge.name: run.written for run in it.runs if run.written is not None}
+    return output_lines(it.found.events, sorted(place for places in lanes for place in places), written)
 
 
 def _one_lane(it: Recording) -> tuple[Lanes, list[bytes]]:

@@ -87,6 +87,10 @@ class Edge:
     def name(self):
         return self.outputs[0]
 
+    def binding(self, name):
+        """The value of a binding as Ninja looks it up, and shows it (`command`, `description`)."""
+        return _Lookup(self, as_ninja=True).value(name)
+
 
 class _Lookup:
     """Expands the variables of an edge whose texts stand in its rule."""

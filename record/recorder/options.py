@@ -12,9 +12,11 @@ _NAME = "rebug record"
 _USAGE = """%(prog)s BUILD_DIR OUT_DIR [OPTIONS] [-- NINJA_WORDS...]
        %(prog)s --check OUT_DIR [--rebug PROGRAM]"""
 _ABOUT = """Runs Ninja in BUILD_DIR and writes to OUT_DIR what rebug needs to replay that build: the manifest and the
-files that it includes, trace, script, times, names, and replay, which runs rebug on them."""
+files that it includes, trace, script, times, names, output, and replay, which runs rebug on them."""
 ALWAYS, IF_POSSIBLE = "always", "if-possible"
 """The values of `observe`."""
+NONE, FAILED, ALL = "none", "failed", "all"
+"""The values of `output`."""
 
 _MORE = """What stands behind -- goes to Ninja: targets, -k N, -v, -f FILE, ...
 
@@ -51,6 +53,7 @@ class Options:
     anyway: bool = False
     force: bool = False
     verbose: bool = False
+    output: str = FAILED
     observe: str | None = None
     observer: str | None = None
     keep_log: bool = False
@@ -117,6 +120,9 @@ def _recording_words() -> argparse.ArgumentParser:
     words.add_argument("--force", action="store_true", help="replace a recording also where Ninja refused to build")
     words.add_argument("--verbose", action="store_true",
                        help="say also what comes with every build and asks for nothing")
+    words.add_argument("--output", metavar="WHAT", choices=[NONE, FAILED, ALL], default=FAILED,
+                       help="whose output is kept in the recording's file output: that of commands that failed "
+                            "(failed, where the word is left out), of all commands (all), or of none (none)")
     _add_observing_words(words)
     return words
 

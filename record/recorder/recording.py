@@ -16,6 +16,7 @@ from .manifest import Manifest
 from .ninja import differing
 from .openings import stamps_of_what_was_built
 from .other_names import other_names
+from .outputs import of_finished
 from .rules import Build
 from .sequence import EdgeRun, Sequence, sequence
 from .words import MOST_JOBS
@@ -25,6 +26,8 @@ _NAMED_EDGES = 10
 # Ninja's clock starts with its process, on a busy machine late; a stamp that asks for a later beginning was not set by
 # the clock.
 _LONGEST_BEGINNING = 3_000 * _NANOSECONDS
+# A stamp that is so much later than the end of its command, by a beginning that a coarse clock told, came after it.
+_LATEST_STAMP = 20 * _NANOSECONDS
 
 
 @dataclass
@@ -63,6 +66,8 @@ def record(ninja, folder, manifest, words, jobs, before, after, ran):
     _note_what_is_outside(it)
     it.stamps.update(stamps_of_what_was_built(it, before, ninja))
     runs, begin = _runs(it, ninja, before, after, ran)
+    if ran.said:
+        of_finished(ran.said, runs)
     it.runs = runs
     it.about_ninja = _about_ninja(ninja, words, ran, runs)
     touches = _touches(it, before, after, runs, begin, ran.begin, folder)
@@ -130,7 +135,8 @@ def _runs(it, ninja, before, after, ran):
     """The commands that ran, and when Ninja began (nanoseconds of the disk's clock)."""
     manifest, entries = it.manifest, new_entries(before.log, after.log)
     entries = _without_manifest_edges(it, entries)
-    begin = _beginning(ninja, manifest, entries, ran)
+    told_begin = _told_beginning(ninja, manifest, entries, ran)
+    begin = ran.begin if told_begin is None else told_begin
     runs: dict[int, EdgeRun] = {}
     for entry in entries:
         edge = manifest.producer.get(canonical(entry.output))
@@ -141,7 +147,9 @@ def _runs(it, ninja, before, after, ran):
             it.notes.append(f"{shown(edge.name)} ended twice in Ninja's log: its last end counts")
             del runs[edge.number]
         if edge.number not in runs:
-            runs[edge.number] = _left_alone(it, _finished(it, ninja, edge, entry, after), before, after)
+            run = _finished(it, ninja, edge, entry, after)
+            _look_at_later_changes(it, run, None if ninja.stamps_are_of_outputs else told_begin, after)
+            runs[edge.number] = _left_alone(it, run, before, after)
     seen = _seen_commands(ran, begin)
     _add_failed(it, runs, after, ran, begin, seen)
     if ran.interrupted:
@@ -160,8 +168,9 @@ def _without_manifest_edges(it, entries):
     return entries[places[-1] + 1 :]
 
 
-def _beginning(ninja, manifest, entries, ran):
-    """When Ninja began, in nanoseconds of the disk's clock: its log has times that count from there, and stamps.
+def _told_beginning(ninja, manifest, entries, ran):
+    """When Ninja began, in nanoseconds of the disk's clock: its log has times that count from there, and stamps. None
+    where the log does not tell it.
 
     Where the stamp is of the outputs, it is not later than the end. Where it is of the moment at which the command
     began, it is as early as the clock is coarse, and sometimes late, so the middle one of all counts.
@@ -177,7 +186,7 @@ def _beginning(ninja, manifest, entries, ran):
             times.append(entry.stamp - entry.start * _NANOSECONDS)
     near = [it for it in times if abs(it - ran.begin) < _LONGEST_BEGINNING]
     if not near:
-        return ran.begin
+        return None
     return max(ran.begin, max(near) if ninja.stamps_are_of_outputs else statistics.median_low(near))
 
 
@@ -185,12 +194,12 @@ def _finished(it, ninja, edge, entry, after):
     """A command that ended well.
 
     A log whose stamps are of the outputs has the greatest of them as the command ended; a later one came later. Others
-    have the time of its start, which says nothing of the outputs.
+    have the time of its start, which says nothing of the outputs; but of a generator the greater one of both.
     """
     stamps = [after.stamps.get(path, 0) for path in edge.outputs]
-    if ninja.stamps_are_of_outputs and not edge.restat:
+    if not edge.restat and (ninja.stamps_are_of_outputs or edge.generator):
         stamps = [min(stamp, entry.stamp) if entry.stamp else stamp for stamp in stamps]
-        if len(stamps) == 1:
+        if len(stamps) == 1 and ninja.stamps_are_of_outputs:
             stamps = [entry.stamp]
     listing = None
     if edge.depfile and not edge.deps:
@@ -201,6 +210,25 @@ def _finished(it, ninja, edge, entry, after):
     elif edge.keeps_deps:
         listing = after.deps.get(edge.name, (0, []))[1]
     return EdgeRun(edge, "finish", entry.start, entry.end, stamps, listing)
+
+
+def _look_at_later_changes(it, run, begin, after):
+    """Gives outputs that changed again after their command the stamp that they had at its end, as far as that is known.
+
+    The deps log has it of first outputs. Where the build log has no stamps of outputs it is the time of the end: a
+    stamp that is later came after it, unless the end is the less certain one of the two, or the command itself set a
+    stamp that is still to come. Of `restat` the stamp may be that of a much earlier command.
+    """
+    if run.edge.deps and run.edge.name in after.deps:
+        run.stamps[0] = after.deps[run.edge.name][0]
+    if begin is None or run.edge.restat or run.edge.generator:
+        return
+    end = begin + run.end * _NANOSECONDS
+    for place, stamp in enumerate(run.stamps):
+        if end + _LATEST_STAMP < stamp <= after.taken:
+            run.stamps[place] = end
+            it.remarks.append(f"{shown(run.edge.outputs[place])} changed again after its command, and no log has its "
+                              f"stamp at the end of that: it is taken to be the time of the end")
 
 
 def _left_alone(it, run, before, after):
@@ -215,14 +243,15 @@ def _left_alone(it, run, before, after):
 
 
 def _add_failed(it, runs, after, ran, begin, seen):
-    by_outputs = {b" ".join(edge.outputs): edge for edge in it.manifest.edges if not edge.phony}
+    if ran.said and ran.said.stopped.startswith(b"subcommand") and not ran.failed:
+        it.notes.append("Ninja says that a command failed, and its output does not tell which: the trace has none")
     for failed in ran.failed:
-        edge = by_outputs.get(failed.outputs)
-        if edge is None or edge.number in runs:
+        edge = failed.edge
+        if edge.number in runs:
             continue
         end = failed.time if failed.time is not None else max(0, (failed.came - begin) // _NANOSECONDS)
         _add_unlogged(it, runs, edge, "fail", end, after, seen)
-        runs[edge.number].code = failed.code
+        runs[edge.number].code, runs[edge.number].written = failed.code, failed.written
 
 
 def _add_interrupted(it, runs, before, after, seen):

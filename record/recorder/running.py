@@ -1,16 +1,17 @@
 """Runs Ninja with its output going through to the user, and keeps what the logs will not say.
 
-Ninja logs commands that ended well. Which ones failed stands in its output (`FAILED: OUTPUTS`); when, in a mark that
-this module puts before each status line by NINJA_STATUS and takes out again. Which ones were running when a build was
-interrupted stands nowhere: on Linux a thread looks at Ninja's children, in /proc.
+Ninja logs commands that ended well. Which ones failed stands in its output, and what they wrote; when, in a mark that
+this module has Ninja put before each status line, by NINJA_STATUS (`said` takes it out again). Which ones were running
+when a build was interrupted stands nowhere: on Linux a thread looks at Ninja's children, in /proc.
 """
 
 from __future__ import annotations
 
+import contextlib
 import fcntl
 import os
 import pty
-import re
+import select
 import signal
 import struct
 import subprocess
@@ -19,17 +20,12 @@ import threading
 import time
 from dataclasses import dataclass, field
 
+from .said import BEGIN, END, MARK_COLUMNS, Failed, Said
 from .signals import write_all
 
-_BEGIN, _END = b"\x1e", b"\x1f"
-_MARK = re.compile(_BEGIN + rb"(\d+)\.(\d{3})" + _END)
-_COLOUR = re.compile(rb"\x1b\[[0-9;]*[A-Za-z]")
-_FAILED = re.compile(rb"FAILED: (?:\[code=(-?\d+)\] )?(.*?) ?")
-_JOBSERVER, _NO_JOBSERVER = b"ninja: Jobserver mode detected: ", b"ninja: error: Could not initialize jobserver"
-_LONGEST_MARK = 32
-_MARK_COLUMNS = 7  # those of a mark of the first ten seconds
 _NARROWEST = 40  # Ninja cuts the middle out of lines that are too wide, and a mark must stand in the first half
 _POLL_SECONDS = 0.005
+_SILENCE_SECONDS = 1.0
 
 
 @dataclass
@@ -40,25 +36,15 @@ class Child:
     seen: int
 
 
-@dataclass(frozen=True)
-class Failed:
-    """A line of Ninja's that says which command failed: the outputs as one text, the command's exit status where this
-    Ninja tells it (from 1.13 on), Ninja's time of it in milliseconds or None, and when the line came (nanoseconds)."""
-
-    outputs: bytes
-    code: int | None
-    time: int | None
-    came: int
-
-
 @dataclass
 class Ran:
     """What a run of Ninja left behind."""
 
     status: int
     begin: int
-    failed: list = field(default_factory=list)
+    failed: list[Failed] = field(default_factory=list)
     children: list = field(default_factory=list)
+    said: Said | None = None
     status_format: bytes = b""
     jobserver: bytes | None = None  # MAKEFLAGS, where Ninja says that it asks the jobserver in it
     said_interrupted: bool = False
@@ -72,49 +58,6 @@ class Ran:
     @property
     def interrupted(self):
         return self.said_interrupted or self.status == 130 or self.died
-
-
-class _Output:
-    """Takes marks out of what Ninja writes, and notes the lines that say what failed."""
-
-    def __init__(self, ran, write):
-        self.ran, self.write, self.held, self.line, self.time = ran, write, b"", b"", None
-        self.has_begun = False  # before its first status line Ninja speaks of itself alone
-
-    def take(self, data):
-        data = self.held + data
-        at = data.rfind(_BEGIN)
-        is_cut = 0 <= len(data) - at < _LONGEST_MARK and at >= 0 and _END not in data[at:]
-        self.held, data = (data[at:], data[:at]) if is_cut else (b"", data)
-        for line in data.splitlines(keepends=True):
-            self.line += line
-            if self.line.endswith((b"\n", b"\r")):
-                self.look(self.line)
-                self.line = b""
-        self.write(_MARK.sub(b"", data))
-
-    def end(self):
-        data, self.held = self.held, b""
-        self.look(self.line + data)
-        self.write(data)
-
-    def look(self, line):
-        marks = _MARK.findall(line)
-        if marks:
-            self.has_begun = True
-            self.time = int(marks[-1][0]) * 1000 + int(marks[-1][1])
-        text = _COLOUR.sub(b"", _MARK.sub(b"", line)).rstrip(b"\r\n")
-        failed = _FAILED.fullmatch(text)
-        if failed:
-            code = int(failed[1]) if failed[1] else None
-            self.ran.failed.append(Failed(failed[2], code, self.time, time.time_ns()))
-        elif not marks:
-            self.time = None
-        if not self.has_begun and text.startswith((_JOBSERVER, _NO_JOBSERVER)):
-            self.ran.jobserver = text[len(_JOBSERVER) :].strip() if text.startswith(_JOBSERVER) else None
-        if text.startswith(b"ninja: build stopped: "):
-            self.ran.said_stopped = True
-            self.ran.said_interrupted = self.ran.said_interrupted or text[22:].startswith(b"interrupted")
 
 
 class _Watcher(threading.Thread):
@@ -173,7 +116,7 @@ def _channel(descriptor):
     if 0 < columns < _NARROWEST:
         return os.pipe()
     outer, inner = pty.openpty()
-    wider = columns + _MARK_COLUMNS if columns else 0
+    wider = columns + MARK_COLUMNS if columns else 0
     fcntl.ioctl(inner, termios.TIOCSWINSZ, struct.pack("HHHH", rows, wider, 0, 0))
     attributes = termios.tcgetattr(inner)
     attributes[1] &= ~termios.OPOST
@@ -195,16 +138,20 @@ def _has_the_terminal():
         os.close(terminal)
 
 
-def run_ninja(ninja, words, folder, signals):
+def run_ninja(ninja, words, folder, signals, manifest, keeps_all=False):
     """Runs the words, which run this Ninja, in the folder to their end, whatever signal comes in between.
+
+    What commands of the manifest wrote that failed is kept, and what all others wrote where `keeps_all`.
 
     Signals go on to Ninja, but for an interrupt from the terminal: Ninja has got that, and a second one would kill it.
     It may even have ended by it before this process, on a busy machine, looks at its own.
     """
     outer, inner = _channel(1)
     status_format = os.environb.get(b"NINJA_STATUS", b"[%f/%t] ")
-    environment = {**os.environb, b"NINJA_STATUS": _BEGIN + b"%e" + _END + status_format}
+    environment = {**os.environb, b"NINJA_STATUS": BEGIN + b"%e" + END + status_format}
     ran = Ran(0, time.time_ns(), status_format=status_format)
+    is_smart = os.isatty(inner) and os.environb.get(b"TERM", b"dumb") != b"dumb"
+    ran.said = said = Said(manifest, status_format, _Writer(), is_smart, keeps_all)
     started: list[tuple[subprocess.Popen, _Watcher]] = []
     early: list[int] = []
 
@@ -229,7 +176,10 @@ def run_ninja(ninja, words, folder, signals):
         started.append((process, watcher))
         for number in early:
             process.send_signal(number)
-        _pass_on(outer, _Output(ran, _Writer()))
+        _pass_on(outer, said, process)
+        ran.failed, ran.jobserver = said.failed, said.jobserver
+        ran.said_stopped = bool(said.stopped)
+        ran.said_interrupted = said.stopped.startswith(b"interrupted")
         ran.status = process.wait()
         watcher.is_over.set()
         watcher.join()
@@ -269,11 +219,43 @@ class _Writer:
         self.is_open = self.is_open and write_all(1, data)
 
 
-def _pass_on(descriptor, output):
-    while data := _read(descriptor):
-        output.take(data)
-    output.end()
+def _pass_on(descriptor, said, process):
+    """Takes all that is written until nobody can write any more. Where the process has ended and nothing comes, a
+    stopped copy of it would hold the output for ever, and is ended."""
+    while True:
+        if not select.select([descriptor], [], [], _SILENCE_SECONDS)[0]:
+            if process.poll() is not None:
+                _end_stopped(process.args)
+        elif data := _read(descriptor):
+            said.take(data)
+        else:
+            break
+    said.end()
     os.close(descriptor)
+
+
+def _end_stopped(words):
+    """Ends each stopped process that has exactly these words.
+
+    strace tries the kernel by a stopped child of its own before it runs Ninja. A signal that ends strace then leaves
+    that child. The words name the recorder's own pipe, so no other program has them.
+    """
+    line = b"".join(os.fsencode(it) + b"\0" for it in words)
+    for name in os.listdir(b"/proc"):
+        if name.isdigit():
+            with contextlib.suppress(OSError, ValueError):
+                if _contents(name, b"cmdline") == line and _state(name) in b"Tt":
+                    os.kill(int(name), signal.SIGKILL)
+
+
+def _contents(process, name):
+    with open(os.path.join(b"/proc", process, name), "rb") as file:
+        return file.read()
+
+
+def _state(process):
+    """The letter of a process's state. The name before it stands in brackets, and may have any bytes."""
+    return _contents(process, b"stat").rpartition(b")")[2].split()[0]
 
 
 def _read(descriptor):

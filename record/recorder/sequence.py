@@ -14,6 +14,7 @@ from typing import Collection, Iterable, Optional
 from .events import Abort, Clean, Event, Fail, Finish, Interrupt, Listed, Pass, Plan, Start, Touch
 from .manifest import Edge
 from .rules import SETTLED, THROUGH, WANTED, Build, Refusal
+from .said import Written
 from .words import MOST_JOBS
 
 _PHONY_EDGES = 100
@@ -23,8 +24,8 @@ _PHONY_EDGES = 100
 class EdgeRun:
     """A command that ran. Times are milliseconds since Ninja began; `word` is finish, fail or abort.
 
-    `code` is the exit status of one that failed, where Ninja tells it. `touched` has (path, stamp) of the outputs that
-    get another stamp right after the end.
+    `code` is the exit status of one that failed, where Ninja tells it, and `written` what it wrote, where that is known
+    and kept. `touched` has (path, stamp) of the outputs that get another stamp right after the end.
     """
 
     edge: Edge
@@ -35,6 +36,7 @@ class EdgeRun:
     listing: Optional[Listed] = None
     is_start_known: bool = True
     code: Optional[int] = None
+    written: Optional[Written] = None
     touched: list[tuple[bytes, int]] = field(default_factory=list)
 
     def ended(self) -> Event:

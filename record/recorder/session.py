@@ -16,7 +16,7 @@ from .manifest import Manifest
 from .ninja import NoNinja, changed_commands, found_ninja
 from .observed.observers import chosen
 from .observed.observing import LOG, Observation, Unobserved
-from .options import IF_POSSIBLE
+from .options import ALL, IF_POSSIBLE, NONE
 from .recording import record
 from .running import run_ninja, run_quietly
 from .signals import name_of, write_all
@@ -60,7 +60,7 @@ class Session:
             before = self.snapshot_before(manifest)
             with self.observation(observer, manifest, out) as observation:
                 words = observation.words([self.program, *self.words.all])
-                ran = run_ninja(self.ninja, words, self.build, self.signals)
+                ran = run_ninja(self.ninja, words, self.build, self.signals, manifest, self.options.output == ALL)
                 observation.end()
             status = ran.status if ran.status >= 0 else 128 - ran.status
             try:
@@ -110,6 +110,9 @@ class Session:
         except BrokenLog as why:
             raise Failure(f"{why}. Nothing was recorded", status or NOT_RECORDED) from why
         found = record(self.ninja, self.build, manifest, self.words, jobs, before, after, ran)
+        if self.options.output == NONE:
+            for run in found.runs:
+                run.written = None
         if status and not ran.interrupted and not _has_started(found, ran) and not self.options.force:
             if out.has_recording():
                 self.say(f"Ninja built nothing, so the recording in {self.options.out} stays (--force replaces it)")

@@ -29,7 +29,7 @@ class NinjaWords:
 
 _REFUSED = {
     "t": "-t runs a tool of Ninja's and no build",
-    "n": "-n runs no command, so there is nothing to record",
+    "n": "-n runs no command, so nothing is built",
     "C": "leave -C out and name the build folder as the first word",
     "h": "for help on Ninja call it itself",
     "--help": "for help on Ninja call it itself",

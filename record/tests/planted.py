@@ -57,7 +57,7 @@ PROJECTS = (
             changes=("a.txt writes common.txt", "b.txt writes common.txt")),
     Project("edit_of_a_source", "a command changes a source while another may read it",
             "build edited.stamp: shell\n  do = sed -i s/1/2/ version.txt; touch edited.stamp\n"
-            "build copy.txt: shell version.txt\n  do = cp version.txt copy.txt\n",
+            "build copy.txt: shell version.txt\n  do = cat version.txt > copy.txt\n",
             {"version.txt": "version 1\n"}, ("copy.txt reads version.txt",), ("edited.stamp writes version.txt",),
             ("sed",)),
     Project("listing_of_a_folder", "a command lists a folder into which others write",

@@ -199,6 +199,46 @@ class Stamps(Recorded):
         self.assertGreater(touch - start, t - begun - 100)
         self.assertGreater(finish - touch, ended - t - 100)
 
+    def changed_again(self, kind, change):
+        """Records `o` of this kind, which `change` changes while another command runs: the stamps of `o` at the end of
+        its own command, and of its touch where there is one."""
+        shutil.rmtree(self.build)
+        self.build.mkdir()
+        self.touch("s")
+        self.write(f"{TOUCH}rule dep\n  command = touch $out; echo $out: s > $out.d\n  deps = gcc\n  depfile = $out.d\n"
+                   "rule made\n  command = touch $out\n  generator = 1\n"
+                   f"rule strip\n  command = sleep .2; {change}; sleep .1; touch $out\n"
+                   f"build first: touch\nbuild o: {kind} s\nbuild p: strip o\n")
+        self.record(own=["--verbose"])
+        found = [it.split(" ") for it in self.trace if it.split(" ")[1:2] == ["o"]]
+        return {it[0]: int(it[2]) for it in found if it[0] in ("finish", "touch")}
+
+    def test_an_output_that_another_command_changes_is_touched_while_that_runs(self):
+        """The log of 1.11 has the stamp at the end; later ones have it of generators, and their deps log of lists."""
+        for kind in ("touch", "dep", "made"):
+            with self.subTest(kind=kind):
+                stamps = self.changed_again(kind, "echo >> o")
+                self.assertEqual([it for it in self.events("start", "touch", "finish") if not it.endswith("first")],
+                                 ["start o", "finish o", "start p", "touch o", "finish p"])
+                self.assertEqual(stamps["touch"], (self.build / "o").stat().st_mtime_ns)
+                self.assertLess(stamps["finish"], stamps["touch"] - 150_000_000)
+                self.assertEqual("no log has its stamp" in self.said, kind == "touch" and since((1, 12)), self.said)
+
+    def test_what_changed_again_is_built_again_where_ninja_does_that(self):
+        """The list of `o` is older than `o` then, which Ninja sees by its deps log."""
+        self.changed_again("dep", "echo >> o")
+        self.assertIn("[1/2] touch o", self.ninja("-n", "-v"))
+        self.record("o")
+        self.assertEqual(self.events("start"), ["start o"])
+
+    def test_a_stamp_that_is_still_to_come_is_no_later_change(self):
+        """A command may set the stamp of its own output."""
+        self.write(TOUCH + "rule set\n  command = touch -d 'next month' $out\nbuild first: touch\nbuild o: set s\n")
+        self.record()
+        self.assertEqual(self.events("touch"), [])
+        (finish,) = [it for it in self.trace if it.startswith("finish o ")]
+        self.assertEqual(int(finish.split(" ")[2]), (self.build / "o").stat().st_mtime_ns)
+
     def test_what_is_said_of_the_opening_is_true(self):
         self.write("rule two\n  command = cat $in > $out && ! grep -q bad $in\nbuild o: two s\n")
         self.ninja()

@@ -7,9 +7,11 @@ import re
 import subprocess
 import sys
 import unittest
+import unittest.mock
 
 import builds
-from observing import Room, read_observed, refusal
+from observing import Room, read_observed, refusal, wait_for
+from recorder.observed import log_pipe
 from versions import NINJA
 
 ONE = "rule c\n  command = {}\nbuild out: c\n"
@@ -231,6 +233,20 @@ class Cases:
         self.assertEqual((ran.returncode, {it.name for it in found.out.iterdir()}),
                          (0, names - {"observed", "observed-log"} | {"mine"}))
 
+    def test_a_recorder_that_is_killed_leaves_nothing_elsewhere(self):
+        folder, rest = self.room.path / "killed", self.room.path / "temporary"
+        for it in (folder, folder / "build", rest):
+            it.mkdir()
+        (folder / "build/build.ninja").write_text(ONE.format(": > begun; sleep 1; : > $out"))
+        words = [sys.executable, builds.RECORDER, folder / "build", folder / "out", "--observe", "--observer",
+                 self.observer]
+        process = subprocess.Popen(words, stdin=subprocess.DEVNULL, stdout=subprocess.DEVNULL,
+                                   stderr=subprocess.DEVNULL, env={**os.environ, "TMPDIR": str(rest)})
+        wait_for(folder / "build/begun")
+        process.kill()
+        process.wait()
+        self.assertEqual(os.listdir(rest), [])
+
     def test_paths_stand_once_and_rise(self):
         found = self.room.build(self.observer, MANY, {"a1": "1", "a2": "2", "a3": "3"})
         text = (found.out / "observed").read_bytes()
@@ -262,6 +278,33 @@ class OwnCases(Cases, unittest.TestCase):
 
 class StraceCases(Cases, unittest.TestCase):
     observer = "strace"
+
+
+class Pipes(unittest.TestCase):
+    """The pipe of the log, by its name in /proc, and as a FIFO where nobody else may open that name."""
+
+    def hold(self, pipe):
+        """What others write comes, and the log ends with the last of them."""
+        subprocess.run(["/bin/sh", "-c", 'echo one > "$1"; echo two > "$1"', "sh", pipe.path], check=True)
+        with open(pipe.path, "wb") as writer:
+            pipe.close()
+            writer.write(b"three\n")
+        with open(pipe.reader, "rb") as reader:
+            self.assertEqual(reader.read(), b"one\ntwo\nthree\n")
+
+    def test_by_the_name_in_proc(self):
+        pipe = log_pipe.LogPipe()
+        if not pipe.path.startswith(b"/proc/"):
+            self.skipTest("other processes may not open this one's descriptors here")
+        self.hold(pipe)
+
+    def test_a_fifo(self):
+        with unittest.mock.patch.object(log_pipe, "_can_be_opened", lambda path: False):
+            pipe = log_pipe.LogPipe()
+        folder = os.path.dirname(pipe.path)
+        self.assertEqual(os.listdir(folder), [b"log"])
+        self.hold(pipe)
+        self.assertFalse(os.path.exists(folder))
 
 
 class Words(unittest.TestCase):

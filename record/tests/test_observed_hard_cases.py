@@ -129,7 +129,8 @@ class Cases:
                 '  f = fopen("new", "w");\n  fputs(p, f);\n  fclose(f);\n  free(p);\n  return 0;\n}\n')
         built_it = subprocess.run(["cc", "-fsanitize=address", "-o", self.programs / "safe", "-x", "c", "-"],
                                   input=text.encode(), capture_output=True)
-        if built_it.returncode or subprocess.run([self.programs / "safe"], cwd="/").returncode != 1:
+        if built_it.returncode or subprocess.run([self.programs / "safe"], cwd="/",
+                                                 capture_output=True).returncode != 1:
             self.skipTest("no program with a sanitizer can be built or run here")
         it, found = self.one(f"{self.programs}/safe && : > $out", environment={"ASAN_OPTIONS": "detect_leaks=0"})
         self.assertEqual((found.status, it.reads, it.writes), (0, {b"a"}, {b"out", b"new"}), found.said)

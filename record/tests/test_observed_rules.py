@@ -5,8 +5,10 @@ paths from its folder, `/build`, where nothing is on the disk.
 """
 
 import errno
+import itertools
 import os
 import pathlib
+import random
 import tempfile
 import unittest
 from dataclasses import dataclass
@@ -35,6 +37,20 @@ def shell(text=b"c"):
     return Call(Kind.EXEC, b"/bin/sh", command=text)
 
 
+def some_calls():
+    """Calls that mostly ask for what is not there, and some that change where these lead, or what is theirs."""
+    asked = [opened(path, result=ABSENT) for path in (b"a", b"b", b"d/a", b"link/a", b"/none/a")]
+    asked += [call(Kind.STAT, path, result=ABSENT) for path in (b"a", b"d/b", b"link")]
+    asked += [call(Kind.UNLINK, b"a", result=ABSENT), opened(b"a", os.O_DIRECTORY, -errno.ENOTDIR)]
+    changes = [opened(b"a", WRITE), opened(b"d/a", WRITE), call(Kind.UNLINK, b"a"), call(Kind.SYMLINK, other=b"link"),
+               call(Kind.UNLINK, b"link"), call(Kind.CHDIR, b"d"), call(Kind.CHDIR, b".."), opened(b"b"),
+               call(Kind.RENAME, b"b", b"d/a"), call(Kind.NAMESPACE, b"d")]
+    return [*asked, *asked, *asked, *changes]
+
+
+SOME_CALLS = len(some_calls())
+
+
 class Rules(unittest.TestCase):
     def setUp(self):
         room = tempfile.TemporaryDirectory(prefix="rebug-rules-")
@@ -46,9 +62,7 @@ class Rules(unittest.TestCase):
         places = Places()
         known = {places.of(self.folder + b"/" + path): is_there for path, is_there in dict(present).items()}
         build = Build(set(texts), self.folder, places, known)
-        for event in [(NINJA, call(Kind.EXEC, b"/usr/bin/ninja")), *events]:
-            if not build.take(event):
-                break
+        build.take_all(itertools.chain([(NINJA, call(Kind.EXEC, b"/usr/bin/ninja"))], events))
         build.processes.finish()
         return build
 
@@ -91,6 +105,48 @@ class Rules(unittest.TestCase):
 
     def test_a_look_behind_the_commands_own_removal_is_none(self):
         self.assertEqual(self.one(call(Kind.UNLINK, b"a"), opened(b"a", result=ABSENT)), {"deletes": {b"a"}})
+
+    def test_equal_calls_that_are_one_object(self):
+        """Calls that come again and again are taken all at once as they are one by one, whatever came between them."""
+        for seed in range(100):
+            chance = random.Random(seed)
+            numbers = [chance.randrange(SOME_CALLS) for _ in range(chance.randint(20, 120))]
+            shells = sorted(chance.randrange(3) for _ in numbers)
+            found = []
+            for is_at_once in (True, False):
+                build = Build({b"c"}, self.folder, Places(), {})
+                calls = some_calls()
+                events = [(NINJA, call(Kind.EXEC, b"/usr/bin/ninja"))]
+                for it in range(3):
+                    events += [(NINJA, call(Kind.SPAWN, result=SHELL + it)), (SHELL + it, shell())]
+                events += [(SHELL + it, calls[number]) for it, number in zip(shells, numbers)]
+                events += [(NINJA, call(Kind.EXIT)), (SHELL, opened(b"behind"))]
+                if is_at_once:
+                    self.assertTrue(build.take_all(iter(events)))
+                else:
+                    for event in events:
+                        if not build.take(event):
+                            break
+                build.processes.finish()
+                found.append([(self.sets(build, it), it.flags) for it in build.commands])
+            self.assertEqual(*found)
+            self.assertEqual(len(found[0]), 3)
+
+    def test_an_equal_call_behind_a_link_that_leads_to_nothing(self):
+        """What an equal call asked for in vain is a link by then: that is looked at, and its end is missing."""
+        asks = call(Kind.STAT, b"link", result=ABSENT)
+
+        def events():
+            for it in range(2):
+                yield from ((NINJA, call(Kind.SPAWN, result=SHELL + it)), (SHELL + it, shell()), (SHELL + it, asks))
+                if not it:
+                    os.symlink(b"nothing", self.folder + b"/link")
+                    yield SHELL, call(Kind.SYMLINK, other=b"link")
+            yield NINJA, call(Kind.EXIT)
+
+        build = self.build(events())
+        self.assertEqual([self.sets(build, it) for it in build.commands],
+                         [{"misses": {b"link"}, "writes": {b"link"}}, {"stats": {b"link"}, "misses": {b"nothing"}}])
 
     # what is left
 

@@ -23,6 +23,12 @@ class Words(unittest.TestCase):
         self.assertEqual(read_words(["-j", "8", "b", "--jobs-as-run", "o", "--force", "--anyway"]),
                          Options("b", "o", ["-j", "8"], jobs_as_run=True, force=True, anyway=True))
 
+    def test_whose_output_is_kept(self):
+        self.assertEqual(read_words(["b", "o"]).output, "failed")
+        for what in ("none", "failed", "all"):
+            self.assertEqual(read_words(["b", "--output", what, "o"]), Options("b", "o", output=what))
+        self.assertIn("--output", self.refused("b", "o", "--output", "some"))
+
     def test_what_stands_behind_two_dashes_is_for_ninja(self):
         self.assertEqual(read_words(["b", "o", "-j1", "--", "--check", "-v", "--", "--help"]),
                          Options("b", "o", ["-j", "1", "--check", "-v", "--", "--help"]))

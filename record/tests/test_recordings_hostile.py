@@ -147,7 +147,8 @@ class Leftovers(FromOthers):
         (self.out / ".new/inc/r.ninja").write_text("half")
         self.assertEqual(self.record()[0], 0)
         self.assertEqual((sorted(os.listdir(self.out)), (self.out / "inc/r.ninja").read_text()),
-                         (["build.ninja", "inc", "names", "ninja", "replay", "script", "times", "trace"], "x = 1\n"))
+                         (["build.ninja", "inc", "names", "ninja", "output", "replay", "script", "times", "trace"],
+                          "x = 1\n"))
 
 
 class Links(FromOthers):

@@ -72,7 +72,7 @@ class Kept(unittest.TestCase):
     def assert_kept(self):
         self.assertEqual(self.content(), self.before)
         self.assertEqual(sorted(it.name for it in self.out.iterdir()),
-                         ["build.ninja", "names", "ninja", "questions", "replay", "script", "times", "trace"])
+                         ["build.ninja", "names", "ninja", "output", "questions", "replay", "script", "times", "trace"])
 
     def started(self, *words, own=()):
         process = subprocess.Popen(self.words(*words, own=own), stdin=subprocess.DEVNULL, stdout=subprocess.PIPE,

@@ -79,30 +79,48 @@ class Replays(unittest.TestCase):
         self.assertEqual([b"halted"] in lines, is_interrupted)
         self.assertNotIn(b"running", [line[3] for line in lines if line[0] == b"mark"])
         self.look_at_stamps(lines, expected["stamps"])
-        self.look_at_built(lines, expected, manifest)
+        self.look_at_built(lines, expected, manifest, self.ended_well(folder))
         self.look_at_deps(lines, expected["deps"], manifest)
+
+    def ended_well(self, recording):
+        """The names of the edges whose commands ended well, as the trace has it."""
+        lines = (recording / "trace").read_bytes().split(b"\n")
+        return {unescaped(it.split(b" ")[1]) for it in lines if it.startswith(b"finish ")}
 
     def look_at_stamps(self, lines, disk):
         shown = {unescaped(line[1]).decode("latin-1"): int(line[2]) for line in lines if line[0] == b"stamp"}
         for path in disk.keys() | shown.keys():
             self.assertEqual(shown.get(path, 0), disk.get(path, 0), path)
 
-    def look_at_built(self, lines, expected, manifest):
-        """Ninja writes one stamp into the records of all outputs of an edge, the greatest, and from 1.12 on that of the
-        moment at which the command began; rebug each output's own."""
+    def look_at_built(self, lines, expected, manifest, ran):
+        """Ninja writes one stamp into the records of all outputs of an edge; rebug each output's own. `ran` names the edges
+        that ended well in this recording: what another run left stands in rebug's log as in Ninja's."""
         shown = {unescaped(line[1]): (int(line[2]), unescaped(line[3])) for line in lines if line[0] == b"built"}
         logged = {path.encode("latin-1"): it for path, it in expected["built"].items()}
         self.assertEqual({it for it in logged if it in manifest.producer}, set(shown))
         for path, (stamp, command) in shown.items():
-            edge = manifest.producer[path]
-            if not NINJA.logs_stamps_of_outputs:
-                self.assertTrue(edge.restat or logged[path][0] <= stamp, path)
-            elif len(edge.outputs) == 1:
-                self.assertEqual(stamp, logged[path][0], path)
+            edge, stamp_of_ninja = manifest.producer[path], logged[path][0]
+            stamps = [shown[it][0] for it in edge.outputs]
+            if NINJA.logs_stamps_of_outputs:
+                self.assertEqual(stamp_of_ninja, max(stamps), path)
+            elif edge.name not in ran:
+                self.assertEqual(stamp, stamp_of_ninja, path)
             else:
-                self.assertEqual(logged[path][0], max(shown[it][0] for it in edge.outputs), path)
+                self.look_at_built_by_start(edge, stamp_of_ninja, stamps)
             if logged[path][1] is not None:
                 self.assertEqual(command == edge.command, logged[path][1], path)
+
+    def look_at_built_by_start(self, edge, stamp_of_ninja, stamps):
+        """From 1.12 on a record has the moment at which the command began, which is not later than what the command
+        wrote; a command may also leave no file. Under `generator` it has the newest output; under `restat` too, where
+        the command changed all outputs, and else rebug has for one that stayed the newest input."""
+        if edge.restat:
+            self.assertGreaterEqual(stamp_of_ninja, min(stamps), edge.name)
+        elif edge.generator:
+            self.assertEqual(stamp_of_ninja, max(stamps), edge.name)
+        else:
+            for stamp in filter(None, stamps):
+                self.assertLessEqual(stamp_of_ninja, stamp, edge.name)
 
     def look_at_deps(self, lines, expected, manifest):
         shown = {unescaped(line[1]): [int(line[2]), *map(unescaped, line[3:])] for line in lines if line[0] == b"deps"}

@@ -20,7 +20,7 @@ def program():
 
 class RacesOfProjects(unittest.TestCase):
     def races(self, recording, tools):
-        """The races of a recording, as (maker, user), and the status."""
+        """The races of a recording, as (maker, user), whether a command failed, and the status."""
         lacking = missing_tools(*tools)
         if not os.access(program(), os.X_OK):
             lacking = f"the program is not built: there is no {program()}"
@@ -30,8 +30,11 @@ class RacesOfProjects(unittest.TestCase):
         done = subprocess.run([program(), "races", "--json", builds.made(chain) / name], capture_output=True)
         found = [it for it in map(json.loads, done.stdout.splitlines()) if it["kind"] != "not judged"]
         self.assertEqual(done.stderr, b"")
-        self.assertEqual({it["kind"] for it in found} - {"race"}, set())
-        return sorted({(it["maker"]["output"], it["user"]["output"]) for it in found}), done.returncode
+        failed = sum(it["kind"] == "failed" for it in found)
+        allowed = {"race", "failed", "suspect"} if failed else {"race"}
+        self.assertEqual({it["kind"] for it in found} - allowed, set())
+        races = {(it["maker"]["output"], it["user"]["output"]) for it in found if it["kind"] == "race"}
+        return sorted(races), failed > 0, done.returncode
 
 
 def _shown(name):
@@ -43,13 +46,16 @@ def _shown(name):
 def _taken(chain, tools, due):
     def test(self):
         due_shown = sorted((_shown(maker), _shown(user)) for maker, user in due)
-        self.assertEqual(self.races((chain, "passed"), tools), (due_shown, 4 if due else 0))
+        self.assertEqual(self.races((chain, "passed"), tools), (due_shown, False, 4 if due else 0))
 
     return test
 
 
 def _whole(chain, name):
-    return lambda self: self.assertEqual(self.races((chain, name), projects.PROJECTS[chain][1]), ([], 0))
+    """A build with no race. The broken one failed by a fault of a source, so its status says that no cause is told."""
+    failed = name == "broken"
+    due = ([], failed, 5 if failed else 0)
+    return lambda self: self.assertEqual(self.races((chain, name), projects.PROJECTS[chain][1]), due)
 
 
 for _chain, (_, _tools, _due) in taken.RECORDED.items():

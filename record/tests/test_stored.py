@@ -5,13 +5,14 @@ import pathlib
 import re
 import subprocess
 import tempfile
+import time
 import unittest
 
 from builds import read_deps
 from recorder.checking import check
 from recorder.depfiles import read_depfile
 from recorder.disk import Snapshot, built_records
-from recorder.events import WORDS, Pass, Start
+from recorder.events import WORDS, Fail, Finish, Pass, Plan, Start
 from recorder.fields import canonical, field, line, quoted
 from recorder.files import command, commands, names_of_files, opening, write_recording
 from recorder.hashes import murmur_hash
@@ -19,10 +20,12 @@ from recorder.held import HeldFolder
 from recorder.logs import BuildLog, LogEntry, new_entries, read_build_log
 from recorder.manifest import BadManifest, Manifest
 from recorder.ninja import Ninja
+from recorder.outputs import of_finished, output_lines
 from recorder.recording import record
 from recorder.replaying import replay_text, words_of_replay
 from recorder.rules import Build
-from recorder.running import Child, Failed, Ran, _Output
+from recorder.running import Child, Ran
+from recorder.said import MOST_WRITTEN, Failed, Said, Written
 from recorder.sequence import EdgeRun, sequence
 from recorder.words import MOST_JOBS, BadWords, read_words
 
@@ -298,31 +301,124 @@ class Orders(unittest.TestCase):
 
 
 class Outputs(unittest.TestCase):
-    """What Ninja writes, read in pieces of every length."""
+    """What Ninja writes, read in parts of every length."""
 
-    SAID = (b"\x1e0.004\x1f[1/3] MAKE x\n\x1e1.250\x1f[2/3] MAKE y\nFAILED: y o/z \ncc y\nFAILED: [code=3] not me\n"
-            b"\x1e2.000\x1f[3/3] w\n\x1b[31mFAILED: [code=-9] \x1b[0mw \nninja: build stopped: interrupted by user.\n")
+    MANIFEST = (b"rule make\n  command = cc $out\n  description = MAKE $out\nrule plain\n  command = $out\n"
+                b"rule two\n  command = cc $in_newline\nrule talk\n  command = talk $out\n  pool = console\n"
+                b"build x: make\nbuild y | o/z: make\nbuild me: plain\nbuild w: plain\nbuild l: two x y\n"
+                b"build t: talk\n")
+    SAID = (b"\x1e0.004\x1f[1/3] MAKE x\n\x1e1.250\x1f[2/3] MAKE y\nFAILED: y o/z \ncc y\nFAILED: [code=3] me\nme\n"
+            b"\x1e2.000\x1f[3/3] w\n\x1b[31mFAILED: [code=-9] \x1b[0mw \nw\n"
+            b"ninja: build stopped: interrupted by user.\n")
+
+    def said(self, text, size=1000, is_smart=False, keeps_all=False):
+        """What was handed on, and what was found."""
+        shown = []
+        found = Said(manifest(self.MANIFEST), b"[%f/%t] ", shown.append, is_smart, keeps_all)
+        for at in range(0, len(text), size):
+            found.take(text[at : at + size])
+        found.end()
+        return b"".join(shown), found
+
+    def failed(self, text, **how):
+        """The failures, each as output, time and what was written, None where that is not known."""
+        return [(it.edge.name, it.time, it.written and it.written.text) for it in self.said(text, **how)[1].failed]
 
     def test_marks_go_and_failures_stay(self):
         for size in (1, 2, 3, 7, 1000):
-            ran, shown = Ran(2, 0), []
-            output = _Output(ran, shown.append)
-            for at in range(0, len(self.SAID), size):
-                output.take(self.SAID[at : at + size])
-            output.end()
-            text = b"".join(shown)
+            text, found = self.said(self.SAID, size)
             self.assertNotIn(b"\x1e", text)
             self.assertEqual(text, re.sub(b"\x1e.....\x1f", b"", self.SAID))
-            self.assertEqual([(it.outputs, it.code, it.time) for it in ran.failed],
-                             [(b"y o/z", None, 1250), (b"not me", 3, None), (b"w", -9, 2000)])
-            self.assertTrue(ran.interrupted)
+            self.assertEqual([(it.edge.name, it.code, it.time, it.written) for it in found.failed],
+                             [(b"y", None, 1250, Written(b"FAILED: [code=3] me\nme\n")),
+                              (b"w", -9, 2000, Written(b""))])
+            self.assertEqual(found.stopped, b"interrupted by user.")
 
     def test_other_control_bytes_stay(self):
-        shown = []
-        output = _Output(Ran(0, 0), shown.append)
-        output.take(b"a\x1eb\x1f\n\x1e")
-        output.end()
-        self.assertEqual(b"".join(shown), b"a\x1eb\x1f\n\x1e")
+        self.assertEqual(self.said(b"a\x1eb\x1f\n\x1e")[0], b"a\x1eb\x1f\n\x1e")
+
+    def test_a_line_that_a_command_writes_is_no_failure(self):
+        for status in (b"MAKE x\n", b"MAKE x\nx\n", b"talk t\n", b"no status of it\n"):
+            self.assertEqual(self.failed(b"\x1e0.001\x1f[1/3] " + status + b"FAILED: y o/z \ncc y\nx\n"), [])
+        self.assertEqual(self.failed(b"FAILED: w \nw\n\x1e0.001\x1f[1/3] w\n"), [])
+
+    def test_a_ninja_that_a_command_runs_ends_nothing(self):
+        text = (b"\x1e5.000\x1f[2/3] w\nFAILED: w \nw\n\x1e0.010\x1f[1/1] w\nFAILED: w \nw\ninner\n"
+                b"ninja: build stopped: subcommand failed.\nouter")
+        inner = (b"[1/1] w\nFAILED: w \nw\ninner\nninja: build stopped: subcommand failed.\nouter")
+        self.assertEqual(self.failed(text + b"\x1e5.000\x1f[3/3] MAKE x\n"), [(b"w", 5000, inner)])
+        self.assertEqual(self.failed(text + b"\nninja: build stopped: subcommand failed.\n"),
+                         [(b"w", 5000, inner + b"\n")])
+
+    def test_lines_of_a_command_of_several(self):
+        begin = b"\x1e0.001\x1f[1/3] cc x\ny\n"
+        self.assertEqual(self.failed(begin + b"FAILED: l \ncc x\ny\nit\n\x1e0.002\x1f[2/3] w\n"), [(b"l", 1, b"it\n")])
+        # the line before had no end, so Ninja writes one
+        self.assertEqual(self.failed(begin + b"\nFAILED: l \ncc x\ny\nit\n"), [(b"l", 1, b"it\n")])
+        self.assertEqual(self.failed(begin + b"\n\nFAILED: l \ncc x\ny\nit\n"), [])
+
+    def test_what_ninja_says_at_the_end_is_its_own(self):
+        metrics = b"metric       \tcount \tavg (us)  \ttotal (ms)\nStartEdge    \t1     \t8.0\n"
+        begin = b"\x1e0.001\x1f[1/1] w\nFAILED: w \nw\nit\n"
+        for end in (b"", b"ninja: build stopped: no.\n", metrics, b"ninja: build stopped: no.\n" + metrics):
+            self.assertEqual(self.failed(begin + end), [(b"w", 1, b"it\n")])
+
+    def test_on_a_terminal(self):
+        text = (b"\r\x1e0.001\x1f[1/3] MAKE y\x1b[K\n\x1b[31mFAILED: \x1b[0my o/z \ncc y\n\x1b[1mbold\x1b[0m"
+                b"\r\x1e0.002\x1f[2/3] w\x1b[K\r\x1e0.003\x1f[3/3] MA...w\x1b[K\nFAILED: w \nw\nit\n")
+        for size in (1, 5, 1000):
+            self.assertEqual(self.failed(text, size=size, is_smart=True),
+                             [(b"y", 1, b"\x1b[1mbold\x1b[0m"), (b"w", 3, b"it\n")])
+
+    def test_the_console(self):
+        """Ninja writes nothing while a command of the console pool runs, and no status line when it has ended."""
+        text = b"\x1e0.001\x1f[1/3] talk t\nmine\nFAILED: w \nw\nFAILED: [code=2] t \ntalk t\n"
+        self.assertEqual(self.failed(text), [(b"t", None, None)])
+        both = (b"\x1e0.001\x1f[1/3] talk t\nmine\n\x1e0.002\x1f[2/3] w\nFAILED: w \nw\nit\nFAILED: t \ntalk t\n"
+                b"ninja: build stopped: subcommand failed.\n")
+        self.assertEqual(self.failed(both), [(b"w", 2, b"it\n"), (b"t", None, None)])
+
+    def test_what_is_too_long_is_counted(self):
+        for more in (0, 1, 3_000_000):
+            text = b"x" * (MOST_WRITTEN + more)
+            said = b"\x1e0.000\x1f[0/3] talk t\n\x1e0.001\x1f[1/3] w\nFAILED: w \nw\n" + text
+            for behind in (b"", b"\x1e0.002\x1f[2/3] MAKE x\n"):
+                (found,) = self.said(said + behind, size=65_536)[1].failed
+                self.assertEqual((found.written.text, found.written.left_out), (text[:MOST_WRITTEN], more))
+            found = self.said(said + b"\nFAILED: t \ntalk t\nninja: build stopped: no.\n", size=65_536)[1].failed
+            self.assertEqual([(it.edge.name, it.written and it.written.left_out) for it in found],
+                             [(b"w", more + 1), (b"t", None)])
+
+    def test_a_line_with_another_command_is_no_failure(self):
+        self.assertEqual(self.failed(b"\x1e0.001\x1f[1/3] MAKE y\nFAILED: y o/z \ncc other\nit\n"), [])
+
+    def test_many_lines_that_look_like_failures_are_read_in_time(self):
+        text = b"\x1e0.001\x1f[1/3] MAKE y\nx\n" + b"FAILED: t \nFAILED: w \n" * 200_000
+        begun = time.process_time()
+        self.assertEqual(self.failed(text, size=65_536), [])
+        self.assertLess(time.process_time() - begun, 10)
+
+    def test_what_finished_commands_wrote(self):
+        text = (b"\x1e0.001\x1f[1/5] MAKE x\nof x\x1e0.002\x1f[2/5] MAKE y\n\nFAILED: y o/z \ncc y\nno\n"
+                b"\x1e0.002\x1f[3/5] me\n\x1e0.002\x1f[4/5] w\nno end\x1e0.004\x1f[5/5] cc x\ny\n\n\nof l\n")
+        found = self.said(text, keeps_all=True)[1]
+        edges = manifest(self.MANIFEST).producer
+        ends = ((b"x", 1), (b"me", 2), (b"w", 2), (b"l", 4))
+        runs = [EdgeRun(edges[name], "finish", 0, end, []) for name, end in ends]
+        of_finished(found, runs)
+        self.assertEqual([it.written and it.written.text for it in runs], [b"of x", None, b"no end", b"\nof l\n"])
+
+    def test_the_lines_of_the_file(self):
+        events = [Plan(), Start(b"a", 0), Fail(b"a", [0]), Start(b"b c", 0), Finish(b"b c", [1]), Fail(b"d", [0]),
+                  Fail(b"e", [0])]
+        written = {b"a": Written(b"x: no\n", 7), b"b c": Written(b""), b"e": Written(b"y" * 9)}
+        lines = list(output_lines(events, range(7), written))
+        self.assertEqual(lines, [b"failed a 3 7 x:\\sno\\n", b"finished b\\sc 5 0 \\0", b"failed e 7 0 yyyyyyyyy"])
+        events = [Fail(b"%d" % it, [0]) for it in range(400)]
+        written = {it.output: Written(b"z" * MOST_WRITTEN, it is events[0]) for it in events}
+        lines = [it.split(b" ") for it in output_lines(events, range(400), written)]
+        self.assertEqual([len(it[4]) for it in lines], [MOST_WRITTEN] * 256 + [2] * 144)
+        self.assertEqual([int(it[3]) for it in lines], [1] + [0] * 255 + [MOST_WRITTEN] * 144)
 
 
 class Words(unittest.TestCase):
@@ -357,7 +453,7 @@ class Whole(unittest.TestCase):
         before = {b"a.c": at(-5), b"b.c": 5, b"a.o": 7, b"b.o": 0, b"app": 0}
         after = {**before, b"a.o": at(59), b"b.o": at(39), b"x.h": 4, b"made.h": at(20), b"app": 0}
         deps = {b"a.o": (at(59), [b"a.c", b"x.h"]), b"b.o": (at(39), [b"b.c", b"made.h"])}
-        ran = Ran(1, self.begin, failed=[Failed(b"app", None, 90, 0)], said_stopped=True,
+        ran = Ran(1, self.begin, failed=[Failed(self.manifest.producer[b"app"], None, 90, 0)], said_stopped=True,
                   children=[Child([b"/bin/sh", b"-c", b"ld a.o b.o"], at(65))])
         self.found = record(NINJA_1_11, "nowhere", self.manifest, read_words([]), 2,
                             Snapshot(before, BuildLog(5, old), {b"a.o": (7, [b"a.c"])}, {}),

@@ -25,19 +25,24 @@ REPORT_LINE = re.compile(
     rb"(?:(?:\d+|-) \d+ (?:ok(?: break \d+)?|cone \d+|refused \d+(?: \d+){0,2})"
     rb"|(?:kept|mark|job|slot|depth|stamp|built|deps|why|dependents|order|fault) .+|halted|refused \d+)$"
 )
-KINDS_OF_RACES = {"race", "cycle", "own", "not judged", "clash", "hint", "change"}
+# What no terminal should get.
+RAW = re.compile(rb"[^\n -\x7e]")
+KINDS_OF_RACES = {"replayed", "failed", "race", "cycle", "own", "suspect", "not judged", "clash", "hint", "change"}
 # The words of the second program in front of the recording, and the statuses that it may end with there.
 ASKED: list[tuple[list[str], tuple[int, ...]]] = [
-    (["races"], (0, 1, 4)), (["races", "--all"], (0, 1, 4)), (["races", "--json"], (0, 1, 4)),
-    (["races", "--mend"], (0, 1, 4)), (["races", "--witness", "1"], (0, 1, 2)),
-    (["races", "--witness", "9"], (0, 1, 2)), (["replay"], (0, 1, 4)), (["ask"], (0, 1)), (["ask", "--json"], (0, 1)), (["picture"], (0, 1)),
-    (["picture", "--html"], (0, 1)), (["picture", "--event", "3"], (0, 1, 2))]
+    (["races"], (0, 1, 4, 5)), (["races", "--all"], (0, 1, 4, 5)), (["races", "--json"], (0, 1, 4, 5)),
+    (["races", "--mend"], (0, 1, 4, 5)), (["races", "--witness", "1"], (0, 1, 2)),
+    (["races", "--witness", "9"], (0, 1, 2)), (["races", "--provoke", "1"], (0, 1, 2)), (["replay"], (0, 1, 4)),
+    (["ask"], (0, 1)), (["ask", "--json"], (0, 1)), (["picture"], (0, 1)), (["picture", "--html"], (0, 1)),
+    (["picture", "--event", "3"], (0, 1, 2))]
 # What is asked at the prompt, with the name of an output or of another path.
 QUESTIONS = [b"run", b"next", b"next 3", b"kept", b"marks", b"stamps", b"logs", b"help", b"", b"nonsense", b"who %b",
              b"why %b", b"with %b", b"what finish %b", b"needs %b all", b"dependents %b", b"would cone %b",
              b"without %b", b"until %b", b"undo start %b", b"marks %b", b"stamps %b"]
 # How standard error names a fault of a recording.
 _FAULT = re.compile(rb"\(\d+, docs/CODES\.md\)")
+# How it names a file that the manifest includes and that is not read: a folder, say, or a file outside.
+_UNREAD = re.compile(rb"\Arebug: cannot read .*, which the manifest of .* includes\nrebug: its? .*\n\Z")
 
 
 @dataclass
@@ -91,6 +96,8 @@ def _bounds(case: Case, answer: Answer) -> Iterator[str]:
         yield "the last line has no end"
     if answer.err and not (answer.err.endswith(b"\n") and answer.err.startswith(b"rebug: ")):
         yield f"standard error has {answer.err[:200]!r}"
+    if RAW.search(answer.err):
+        yield f"standard error has a byte that no terminal should get: {answer.err[:200]!r}"
     if answer.seconds > SECONDS + SECONDS_A_BYTE * case.size():
         yield f"{answer.seconds:.2f} s of processor time for {case.size()} bytes"
     if answer.kilobytes > KILOBYTES + KILOBYTES_A_BYTE * case.size():
@@ -166,9 +173,10 @@ class RebugAsk:
             self.runs, self.faults = self.runs + 1, self.faults + (answer.status == 1)
             faults = [*_bounds(case, answer)]
             if answer.status is not None:
-                if answer.status not in statuses or (answer.status == 1) != bool(_FAULT.search(answer.err)):
+                is_unread = answer.status == 3 and _UNREAD.search(answer.err)
+                if (answer.status not in statuses and not is_unread) or (answer.status == 1) != bool(_FAULT.search(answer.err)):
                     faults.append(f"status {answer.status} and {answer.err[-200:]!r}")
-                if answer.status in (0, 4):
+                if answer.status in (0, 4, 5):
                     faults += self._form(words, answer.out, said)
                 if not ask(self.path, [*words, "."], folder, seconds, said).same_as(answer):
                     faults.append("a second run answers otherwise")
@@ -199,7 +207,7 @@ class RebugAsk:
             if words[0] == "ask" and len(lines) != 1 + said.count(b"\n") and b"quit" not in said:
                 yield f"{len(lines)} answers to {said.count(bytes([10]))} lines"
         elif words[0] in ("replay", "ask") or words[:2] in (["races"], ["races", "--all"]):
-            odd = re.search(rb"[^\n -\x7e]", out)
+            odd = RAW.search(out)
             if odd:
                 yield f"a byte that no terminal should get: {out[max(0, odd.start() - 40) : odd.end()]!r}"
         elif "--witness" in words and not out.startswith(b"rebug-trace "):

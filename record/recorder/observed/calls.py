@@ -130,7 +130,7 @@ class Observer(Protocol):
         """
 
     def words(self, log: bytes, ninja: list[bytes]) -> list[bytes]:
-        """The words that run Ninja observed, writing to `log`, a FIFO that is open for reading already.
+        """The words that run Ninja observed, writing to `log`, the path of a pipe that is open for reading already.
 
         The process that is started by them becomes Ninja: its number is Ninja's, signals sent to it come to Ninja, and
         its status is Ninja's. The observer opens the log itself and keeps it from Ninja. It ends where the last process

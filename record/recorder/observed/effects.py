@@ -4,7 +4,7 @@ from __future__ import annotations
 
 import errno
 import os
-from collections.abc import Callable, Container, Iterator
+from collections.abc import Callable, Container, Iterable, Iterator
 
 from .calls import CURRENT, Call, Event, Kind
 from .footprints import Footprint
@@ -43,6 +43,24 @@ class Build:
         if process is not None:
             self._handlers[call.kind](process, call)
         return not self.processes.is_over
+
+    def take_all(self, events: Iterable[Event]) -> bool:
+        """The events until Ninja has ended; whether it has. Most calls of a build ask in vain for what an equal call
+        asked for before: for these it does at once what `take` does."""
+        running, handlers, processes, places = self._running, self._handlers, self.processes, self.places
+        for number, call in events:
+            process = running.get(number) or processes.of(number, call)
+            if process is None:
+                continue
+            memo, folders, command = call.memo, process.folders, process.command
+            if memo is None or not memo[4] or memo[0] is not folders.current or memo[1] != places.era or \
+                    folders.root or memo[3] in places.links:
+                handlers[call.kind](process, call)
+                if processes.is_over:
+                    return True
+            elif command is not None and command.footprint is not None and memo[3] not in command.footprint.touched:
+                command.footprint.misses.add(memo[3])
+        return False
 
     # processes
 
@@ -118,11 +136,14 @@ class Build:
             self.places.changed(place, may_be_link=False)
             footprint.write(place, is_made=True)
             return
-        changes: Callable[[int], None] = footprint.write if flags & os.O_TRUNC else footprint.edit
-        if not flags & (os.O_ACCMODE | os.O_TRUNC) and footprint.was_there(place):
-            changes = footprint.read  # O_RDONLY | O_CREAT of what is there already
+        is_only_read = not flags & (os.O_ACCMODE | os.O_TRUNC) and footprint.was_there(place)
         for it in (place, *self.places.way(place)):
-            changes(it)
+            if is_only_read:
+                footprint.read(it)  # O_RDONLY | O_CREAT of what is there already
+            elif flags & os.O_TRUNC:
+                footprint.write(it)
+            else:
+                footprint.edit(it)
 
     def _on_stat(self, process: Process, call: Call) -> None:
         footprint, place = self._of_path(process, call)
@@ -149,7 +170,11 @@ class Build:
         return command.footprint, place
 
     def _resolved(self, process: Process, call: Call) -> tuple[bytes | None, int | None]:
-        """The path of a call, and its place. Equal calls from one folder lead to one place, until a link changes."""
+        """The path of a call, and its place. Equal calls from one folder lead to one place, until a link changes.
+
+        The memo is that folder, the era of the places, path and place, and whether the call looks for what is not there
+        and does nothing else.
+        """
         folders, memo = process.folders, call.memo
         if memo is not None and memo[0] is folders.current and memo[1] == self.places.era and not folders.root:
             return memo[2], memo[3]
@@ -158,7 +183,8 @@ class Build:
             return None, None
         place = self.places.of(path)
         if (call.folder == CURRENT or isinstance(call.folder, bytes)) and not path_is_own(call.path):
-            call.memo = folders.current, self.places.era, path, place
+            is_vain = call.result == -errno.ENOENT and call.kind in (Kind.OPEN, Kind.STAT)
+            call.memo = folders.current, self.places.era, path, place, is_vain
         return path, place
 
     def _failed(self, footprint: Footprint, place: int, call: Call) -> None:
@@ -254,7 +280,7 @@ class Build:
         for it in footprint.below(old):
             is_folder = footprint.touched[it].is_folder
             footprint.remove(it)
-            (footprint.make_folder if is_folder else footprint.write)(self.places.number(new + paths[it][len(old) :]))
+            _make(footprint, self.places.number(new + paths[it][len(old) :]), is_folder)
         for count, (real, is_folder) in enumerate(_below(paths[other])):
             it = self.places.number(real)
             if count >= _MOST_MOVED:
@@ -262,9 +288,12 @@ class Build:
                 break
             if it not in footprint.touched:
                 before = self.places.number(old + real[len(new) :])
-                (footprint.stat if is_folder else footprint.read)(before, follows=False)
+                if is_folder:
+                    footprint.stat(before, follows=False)
+                else:
+                    footprint.read(before, follows=False)
                 footprint.remove(before)
-                (footprint.make_folder if is_folder else footprint.write)(it)
+                _make(footprint, it, is_folder)
         footprint.stat(place, follows=False)
         footprint.remove(place)
         footprint.make_folder(other)
@@ -305,6 +334,14 @@ class Build:
     def _on_trace(self, process: Process, call: Call) -> None:
         if call.result < 0 and process.command is not None:
             process.command.wanted_trace = True
+
+
+def _make(footprint: Footprint, place: int, is_folder: bool) -> None:
+    """The command made a file there, or a folder."""
+    if is_folder:
+        footprint.make_folder(place)
+    else:
+        footprint.write(place)
 
 
 def _below(folder: bytes) -> Iterator[tuple[bytes, bool]]:

@@ -1,6 +1,6 @@
 """A recording's observation from before Ninja starts until its file is written.
 
-The observer writes its log into a FIFO, and a thread reads it as it comes, so it is kept nowhere. Where processes live
+The observer writes its log into a pipe, and a thread reads it as it comes, so it is kept nowhere. Where processes live
 on after Ninja, their observer does too: what it still writes is read by a process that is left behind, since an
 observer whose log cannot be written would end, and break the commands that it observes.
 """
@@ -8,13 +8,10 @@ observer whose log cannot be written would end, and break the commands that it o
 from __future__ import annotations
 
 import contextlib
-import fcntl
 import io
 import os
 import select
-import shutil
 import subprocess
-import tempfile
 import threading
 import time
 from collections.abc import Iterator
@@ -25,6 +22,7 @@ from ..folders import OPTIONAL
 from ..held import HeldFolder
 from .calls import Observer
 from .effects import Build
+from .log_pipe import BUFFER, LogPipe
 from .matching import match, text_of
 from .naming import Names, source_folders
 from .places import Places
@@ -34,39 +32,9 @@ from .writing import Observed
 OBSERVED, LOG = OPTIONAL
 """The names of the files in a recording: what was observed, and the observer's log where that is kept."""
 
-_BUFFER = 1 << 20
-_SET_PIPE_SIZE, _GET_PIPE_SIZE = 1031, 1032  # F_SETPIPE_SZ and F_GETPIPE_SZ
-_PAUSE_SECONDS = 0.02  # for a pipe of _BUFFER bytes
 _NAMED = 5
 _LOG_ENDS_WITHIN = 0.5
 _POLL_MILLISECONDS = 50
-
-
-class _Log(io.RawIOBase):
-    """A log that is read while it is written, and copied into a file where that is wanted.
-
-    Observers write line by line. So a read waits for some more of them first, as long as the pipe takes them. Where the
-    copy cannot be written, it ends there.
-    """
-
-    def __init__(self, descriptor: int, size: int, copy: BinaryIO | None) -> None:
-        super().__init__()
-        self.descriptor, self.copy, self.fault = descriptor, copy, ""
-        self.enough, self.pause, self.last = size // 4, size / _BUFFER * _PAUSE_SECONDS, size
-
-    def readable(self) -> bool:
-        return True
-
-    def readinto(self, room: Any) -> int:
-        if self.last < self.enough:
-            time.sleep(self.pause)
-        self.last = os.readv(self.descriptor, [room])
-        if self.copy is not None:
-            try:
-                self.copy.write(memoryview(room)[: self.last])
-            except OSError as why:
-                self.fault, self.copy = why.strerror or str(why), None
-        return self.last
 
 
 class Unobserved:
@@ -99,15 +67,8 @@ class Observation:
         self.build = Build(self.texts, self.folder, self.places, self._present())
         self.notes: list[str] = []
         self.seconds = 0.0
-        self._room = tempfile.mkdtemp(prefix="rebug-observe-")
-        self._log = os.path.join(os.fsencode(self._room), b"log")
-        os.mkfifo(self._log, 0o600)
-        self._reader = os.open(self._log, os.O_RDONLY | os.O_NONBLOCK)
-        self._writer: int | None = os.open(self._log, os.O_WRONLY)  # the log does not end before Ninja runs
-        os.set_blocking(self._reader, True)
-        with contextlib.suppress(OSError):
-            fcntl.fcntl(self._reader, _SET_PIPE_SIZE, _BUFFER)
-        self._size = fcntl.fcntl(self._reader, _GET_PIPE_SIZE)
+        self._pipe = LogPipe()
+        self._reader = self._pipe.reader
         self._copy = keep_log
         self._thread = threading.Thread(target=self._read, daemon=True)
 
@@ -116,8 +77,7 @@ class Observation:
         return self
 
     def __exit__(self, *_: Any) -> None:
-        self._close_writer()
-        shutil.rmtree(self._room, ignore_errors=True)
+        self._pipe.close()
         if self._copy is not None:
             with contextlib.suppress(OSError):
                 self._copy.close()
@@ -133,25 +93,17 @@ class Observation:
 
     def words(self, ninja: list[Any]) -> list[bytes]:
         """The words that run Ninja observed."""
-        return self.observer.words(self._log, [os.fsencode(it) for it in ninja])
+        return self.observer.words(self._pipe.path, [os.fsencode(it) for it in ninja])
 
     def end(self) -> None:
         """Waits until all that was written of Ninja's run is read."""
-        self._close_writer()
+        self._pipe.end()
         self._thread.join()
 
-    def _close_writer(self) -> None:
-        if self._writer is not None:
-            os.close(self._writer)
-            self._writer = None
-
     def _read(self) -> None:
-        log = _Log(self._reader, self._size, self._copy)
+        log = self._pipe.log(self._copy)
         try:
-            for event in self.observer.events(io.BufferedReader(log, _BUFFER)):
-                if not self.build.take(event):
-                    break
-            else:
+            if not self.build.take_all(self.observer.events(io.BufferedReader(log, BUFFER))):
                 self.notes.append("the observer ended before Ninja did: what came after that was not observed")
         except Exception as why:  # the build goes on; what was seen until then is told
             self.notes.append(f"a fault of the recorder while it read what was observed, {type(why).__name__}: {why}")
@@ -167,7 +119,7 @@ class Observation:
         poll.register(self._reader, select.POLLIN)
         while time.monotonic() < until:
             events = poll.poll(_POLL_MILLISECONDS)
-            if events and not os.read(self._reader, _BUFFER):
+            if events and not os.read(self._reader, BUFFER):
                 os.close(self._reader)
                 return
         with contextlib.suppress(OSError):

@@ -100,7 +100,7 @@ def _folder_of_this_process() -> pathlib.Path:
 
 def _compile(source: pathlib.Path, program: pathlib.Path) -> None:
     """Builds beside the program's place and moves it there, so that two recorders do not meet half of it."""
-    compiler = next(filter(None, map(shutil.which, COMPILERS)), None)
+    compiler = next((found for it in COMPILERS if (found := shutil.which(it))), None)
     if compiler is None:
         raise NotBuilt("there is no C compiler (cc), which rebug's own observer is built by")
     handle, staging = tempfile.mkstemp(prefix=".observer-", dir=program.parent)

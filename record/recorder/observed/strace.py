@@ -6,11 +6,11 @@ import os
 import re
 import shutil
 import subprocess
-import tempfile
 from collections.abc import Iterator
 from io import BufferedReader
 
 from .calls import Event, Kind
+from .log_pipe import LogPipe
 from .strace_text import CALLS, StraceText
 
 _OLDEST = (5, 3)  # the first with --seccomp-bpf
@@ -47,25 +47,23 @@ class Strace:
             return "there is no strace on the PATH"
         if self.version < _OLDEST:
             return f"{self.program} is older than strace 5.3, or tells no version"
-        with tempfile.TemporaryDirectory(prefix="rebug-strace-") as room:
-            log = os.path.join(os.fsencode(room), b"log")
-            os.mkfifo(log, 0o600)
-            reader = os.open(log, os.O_RDONLY | os.O_NONBLOCK)
-            try:
-                return self._try(log, reader)
-            finally:
-                os.close(reader)
+        log = LogPipe()
+        try:
+            return self._try(log)
+        finally:
+            log.close()
+            os.close(log.reader)
 
-    def _try(self, log: bytes, reader: int) -> str | None:
+    def _try(self, log: LogPipe) -> str | None:
         """Observes a shell that does nothing."""
-        words = self.words(log, [b"/bin/sh", b"-c", b":"])
+        words = self.words(log.path, [b"/bin/sh", b"-c", b":"])
         try:
             ran = subprocess.run(words, stdin=subprocess.DEVNULL, stdout=subprocess.DEVNULL, stderr=subprocess.PIPE,
                                  timeout=_PROBE_SECONDS)
         except (OSError, subprocess.TimeoutExpired) as why:
             return f"strace cannot be run: {why}"
-        os.set_blocking(reader, True)
-        with os.fdopen(os.dup(reader), "rb") as log_file:
+        log.end()
+        with os.fdopen(os.dup(log.reader), "rb") as log_file:
             seen = {call.kind for _, call in StraceText().events(log_file)}
         if ran.returncode == 0 and {Kind.EXEC, Kind.EXIT} <= seen:
             return None

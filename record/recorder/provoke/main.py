@@ -1,0 +1,138 @@
+"""The command line of `rebug provoke`. Whatever goes wrong is told in a sentence, and has a status."""
+
+from __future__ import annotations
+
+import os
+import signal
+from typing import Any, NoReturn, Sequence
+
+from .. import words as ninja_words
+from ..main import launcher
+from ..ninja import NoNinja, found_ninja
+from ..signals import NUMBERS, write_all
+from .answering import NO_ORDERS, REFUSED, STATUSES, UNKNOWN, Answer, Provoker, Unfit
+from .copies import Ended, Refused
+from .in_place import Blocked, put_back_above
+from .races import NotAsked, Race, Recording, shown_name
+from .words import NAME, BadWords, HelpWanted, Options, read_words
+
+
+class Voice:
+    """What is written: answers to standard output, sentences to standard error, and there, where it is a terminal, a
+    line that tells what is done now."""
+
+    def __init__(self) -> None:
+        self.is_shown, self.at, self.race = os.isatty(2), False, ""
+
+    def show(self, text: str) -> None:
+        self.clear()
+        write_all(1, f"{text}\n".encode("utf-8", "surrogateescape"))
+
+    def say(self, text: object) -> None:
+        self.clear()
+        write_all(2, f"{NAME}: {text}\n".encode("utf-8", "surrogateescape"))
+
+    def tell(self, what: str) -> None:
+        if self.is_shown:
+            self.clear()
+            self.at = True
+            write_all(2, f"{self.race}: {what.split(' (')[0]} ..".encode("utf-8", "surrogateescape"))
+
+    def clear(self) -> None:
+        if self.at:
+            write_all(2, b"\r\x1b[K")
+        self.at = False
+
+
+def main(words: Sequence[str]) -> int:
+    voice = Voice()
+    try:
+        for number in NUMBERS:
+            signal.signal(number, _end)
+        return _run(read_words(words), voice)
+    except HelpWanted as why:
+        voice.show(str(why))
+        return 0
+    except (BadWords, NoNinja, Unfit) as why:
+        voice.say(why)
+        return 2
+    except NotAsked as why:
+        if str(why):
+            voice.say(why)
+        return why.status
+    except Refused as why:
+        voice.say(f"this system makes no copy of a folder in which a build can be tried: {why}. Nothing was changed "
+                  f"(--in-place moves what is there aside and back)")
+        return 2
+    except Blocked as why:
+        voice.say(f"{why}. What stood there is there")
+        return 2
+    except Ended as why:
+        voice.say(f"ended by {signal.Signals(why.number).name}")
+        return 128 + why.number
+    except (OSError, RuntimeError) as why:
+        voice.say(why)
+        return 3
+    finally:
+        voice.clear()
+
+
+def _end(number: int, _: Any) -> NoReturn:
+    raise Ended(number)
+
+
+def _run(options: Options, voice: Voice) -> int:
+    put_back_above(os.path.abspath(os.fsencode(options.build)))
+    if not os.path.isdir(options.build):
+        raise Unfit(f"{options.build} is no folder")
+    if not os.path.exists(options.recording):
+        raise Unfit(f"there is no recording at {options.recording}")
+    try:
+        ninja_words.read_words(options.for_ninja)
+    except ninja_words.BadWords as why:
+        raise Unfit(f"{why} (behind --)") from why
+    recording = Recording(options.rebug or launcher(), options.recording)
+    races = recording.races()
+    chosen = [it for it in races if it.number == options.number or options.number is None and it.is_told]
+    if options.number is not None and not chosen:
+        raise Unfit(f"there is no race {options.number}: the recording has {len(races)}")
+    provoker = Provoker(options, recording, found_ninja().program, voice.say, voice.tell)
+    if options.number is not None and chosen[0].kind in NO_ORDERS:
+        raise Unfit(f"race {options.number} is no matter of order: {NO_ORDERS[chosen[0].kind]}")
+    answers = []
+    for count, race in enumerate(chosen, 1):
+        voice.race = f"{NAME}: race {count} of {len(chosen)}"
+        try:
+            answer = provoker.answer(race)
+        except (NotAsked, Unfit) as why:
+            if options.number is not None or isinstance(why, NotAsked) and why.status != 2:
+                raise
+            answer = Answer(UNKNOWN, [str(why) or "rebug writes no patch for this race"])
+        answers.append(answer)
+        _show(race, answer, voice, options.number is None)
+    if options.number is None:
+        _show_table(chosen, answers, voice)
+    return max((STATUSES[it.text] for it in answers), default=0)
+
+
+def _show(race: Race, answer: Answer, voice: Voice, with_number: bool) -> None:
+    voice.show(f"{race.number} {race.told()}" if with_number else race.told())
+    for line in answer.lines:
+        voice.show("  " + line)
+    if answer.text == REFUSED:
+        voice.show("it is mended: the user waits for the maker, so it cannot come in front")
+    else:
+        voice.show(answer.text)
+
+
+def _show_table(races: list[Race], answers: list[Answer], voice: Voice) -> None:
+    if not races:
+        voice.show("no race")
+        return
+    voice.show("")
+    widest = max(len(it.text) for it in answers)
+    for race, answer in zip(races, answers):
+        voice.show(f"{race.number:>4}  {answer.text:<{widest}}  {shown_name(race.path)} by {shown_name(race.maker)}, "
+                   f"used by {shown_name(race.user)}")
+    good = sum(STATUSES[it.text] == 4 for it in answers)
+    voice.show(f"{good} of {len(races)} races were made to happen")

@@ -1,0 +1,71 @@
+#!/usr/bin/env python3
+"""Stands in for a program that answers `races --json RECORDING` and `races --provoke N RECORDING`: by the rule of
+docs/RACES.md, read plainly, over lists of the trace alone."""
+
+import difflib
+import json
+import pathlib
+import sys
+
+top = pathlib.Path(__file__).resolve().parent.parent.parent
+sys.dont_write_bytecode = True
+sys.path[:0] = [str(top), str(top / "tests")]
+
+from builds import unescaped  # noqa: E402
+from recorder.fields import canonical  # noqa: E402
+from recorder.manifest import Manifest  # noqa: E402
+from recorder.provoke.orders import waits, with_order  # noqa: E402
+from recorder.provoke.races import shown_name  # noqa: E402
+
+
+def makers(manifest, path):
+    """The first commands that the path stands for."""
+    found = manifest.producer.get(path)
+    if found is None or not found.phony:
+        return [found] if found else []
+    return [it for below in found.inputs for it in makers(manifest, below)]
+
+
+def races(manifest, recording):
+    found, known = [], set()
+    for line in (recording / "trace").read_bytes().split(b"\n"):
+        fields = line.split(b" ")
+        if fields[0] != b"finish" or fields[3:4] not in ([b"list"], [b"depfile"]):
+            continue
+        user = manifest.producer[unescaped(fields[1])]
+        listed = fields[4:] if fields[3] == b"list" else unescaped(fields[4]).split(b":", 1)[1].split()
+        for path in (canonical(unescaped(it)) for it in listed):
+            for maker in makers(manifest, path):
+                kind = "own" if maker is user else "cycle" if waits(manifest, maker, user) else "race"
+                if not waits(manifest, user, maker) and (maker, user, path) not in known:
+                    known.add((maker, user, path))
+                    found.append((maker.number, user.number, kind, path))
+    return [(kind, path, manifest.edges[maker], manifest.edges[user]) for maker, user, kind, path in sorted(found)]
+
+
+def edge_told(edge):
+    return {"output": shown_name(edge.name), "file": shown_name(edge.file), "line": edge.line}
+
+
+def main(words):
+    recording = pathlib.Path(words[-1])
+    manifest = Manifest(b"build.ninja", lambda name: (recording / name.decode()).read_bytes())
+    found = races(manifest, recording)
+    if "--json" in words:
+        for kind, path, maker, user in found:
+            mend = shown_name(path if path in maker.outputs else maker.name) if kind == "race" else None
+            print(json.dumps({"kind": kind, "path": shown_name(path), "mend": mend, "here": None,
+                              "maker": edge_told(maker), "user": edge_told(user)}))
+        return 4 if found else 0
+    _, _, maker, user = found[int(words[words.index("--provoke") + 1]) - 1]
+    before = next(content for name, content, _ in manifest.files if name == maker.file)
+    after = with_order(before, maker.line, user.name)
+    name = canonical(maker.file).decode()
+    lines = (it.decode("latin-1").splitlines(keepends=True) for it in (before, after))
+    text = "".join(difflib.unified_diff(*lines, name, name)).encode("latin-1")
+    sys.stdout.buffer.write(text.replace(b"--- %b \n" % name.encode(), b"--- %b\n" % name.encode()))
+    return 4
+
+
+if __name__ == "__main__":
+    sys.exit(main(sys.argv[1:]))

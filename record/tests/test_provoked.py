@@ -1,0 +1,461 @@
+"""Races made to happen by real Ninja, with a stand-in for the program that tells them; and that nothing is left
+changed, also where a signal ends it at any moment."""
+
+import contextlib
+import fcntl
+import os
+import pathlib
+import pty
+import random
+import shutil
+import signal
+import subprocess
+import sys
+import tempfile
+import time
+import unittest
+
+from builds import missing_tools
+from provoked import FAINT, GEN, PLANTED, PROVOKE, STAND_IN, USE, Made, Planted
+from recorder.manifest import Manifest
+from recorder.provoke.copies import Refused, in_copy
+from recorder.provoke.orders import BadPatch, Patch, waits, with_order
+from recorder.provoke.races import NotAsked, Observed, Recording, name_of, shown_name
+from recorder.provoke.words import BadWords, HelpWanted, Options, read_words
+
+SEED = 7
+# The projects that leave files in another folder than those of build and sources.
+ELSEWHERE = ("behind_a_link", "logs_elsewhere", "statement_elsewhere")
+NOBODY = 65534
+
+
+def why_no_copy():
+    """Why this system makes no copies, or None."""
+    with tempfile.TemporaryDirectory() as folder:
+        try:
+            in_copy([os.fsencode(os.path.realpath(folder))], lambda: None)
+        except Refused as why:
+            return f"this system makes no copies: {why}"
+    return None
+
+
+LACKING = missing_tools("ninja") or why_no_copy()
+
+
+class Words(unittest.TestCase):
+    def refused(self, *words):
+        with self.assertRaises(BadWords) as caught:
+            read_words(words)
+        return str(caught.exception)
+
+    def test_what_each_word_asks_for(self):
+        self.assertEqual(read_words(["b", "r", "3"]), Options("b", "r", 3))
+        self.assertEqual(read_words(["b", "--stale", "r", "--all", "--", "-v", "--all"]),
+                         Options("b", "r", None, stale=True, for_ninja=["-v", "--all"]))
+        self.assertEqual(read_words(["b", "r", "1", "--in-place", "--rebug", "p"]),
+                         Options("b", "r", 1, in_place=True, rebug="p"))
+        with self.assertRaises(HelpWanted) as caught:
+            read_words(["-h"])
+        self.assertIn("exit status:", str(caught.exception))
+
+    def test_the_launcher_hands_its_words_on(self):
+        launcher = pathlib.Path(PROVOKE).parent.parent / "rebug"
+        done = [subprocess.run([*words, "--help"], capture_output=True, text=True) for words in
+                ([launcher, "provoke"], [sys.executable, PROVOKE])]
+        self.assertEqual(*((it.returncode, it.stdout, it.stderr) for it in done))
+        self.assertEqual((done[0].returncode, done[0].stdout[:26]), (0, "usage: rebug provoke BUILD"))
+
+    def test_words_that_are_not_taken_are_named(self):
+        for words, said in ((["b"], "wants a build folder and a recording"), ([], "wants a build folder"),
+                            (["b", "r"], "or --all"), (["b", "r", "1", "--all"], "or --all"),
+                            (["b", "r", "0"], "from 1"), (["b", "r", "x"], "from 1"),
+                            (["b", "r", "1", "--stal"], "--stal is not a word"),
+                            (["b", "r", "1", "2"], "2 is not a word")):
+            with self.subTest(words=words):
+                self.assertIn(said, self.refused(*words))
+
+
+class Orders(unittest.TestCase):
+    """Where an order goes in a statement, and what a patch changes."""
+
+    def test_an_order_stands_behind_the_statement(self):
+        for before, after in (
+                ("build a: r b\n", "build a: r b || x$ y\n"), ("build a: r b || c\n", "build a: r b || c x$ y\n"),
+                ("build a: r b |@ v\n", "build a: r b || x$ y |@ v\n"),
+                ("build a: r b || c |@ v\n", "build a: r b || c x$ y |@ v\n"),
+                ("build a: r b|@ v\n", "build a: r b || x$ y |@ v\n"),
+                ("build a: r b  \n  k = v\n", "build a: r b || x$ y  \n  k = v\n"),
+                ("build a: r b\r\n", "build a: r b || x$ y\r\n"),
+                ("build a: r $\n  b $\n\n", "build a: r $\n  b || x$ y $\n\n"),
+                ("build a: r b$$\n", "build a: r b$$ || x$ y\n"),
+                ("build a: r b||c\n", "build a: r b||c x$ y\n"), ("build a: r\n", "build a: r || x$ y\n")):
+            with self.subTest(before=before):
+                got = with_order(b"# first\n" + before.encode() + b"z = |@\n", 2, b"x y")
+                self.assertEqual(got, b"# first\n" + after.encode() + b"z = |@\n")
+        self.assertEqual(with_order(b"build a: r b | c", 1, b"x"), b"build a: r b | c || x")
+
+    def test_a_patch_is_applied_or_does_not_fit(self):
+        text = (b"# told\n--- a.ninja\n+++ a.ninja\n@@ -2,3 +2,3 @@\n b\n-c\n+C\n d\n@@ -7 +7,2 @@\n-g\n+G\n+H\n"
+                b"\\ No newline at end of file\n")
+        (patch,) = Patch.read(text)
+        self.assertEqual((patch.name, patch.applied(b"a\nb\nc\nd\ne\nf\ng\n")), (b"a.ninja", b"a\nb\nC\nd\ne\nf\nG\nH"))
+        for other in (b"a\nb\nx\nd\ne\nf\ng\n", b"b\nc\nd\n", b""):
+            with self.assertRaises(BadPatch):
+                patch.applied(other)
+        for bad in (b"", b"# no\n", b"--- a\n+++ a\n", b"--- a\n+++ a\n@@ -1 +1 @@\nx\n"):
+            with self.assertRaises(BadPatch):
+                Patch.read(bad)
+
+    def test_who_waits(self):
+        text = b"rule r\n  command = r\nbuild a: r |@ d\nbuild b: phony a\nbuild c: r || b\nbuild d: r\n"
+        manifest = Manifest(b"build.ninja", lambda _: text)
+        edge = manifest.producer.__getitem__
+        self.assertTrue(waits(manifest, edge(b"c"), edge(b"a")))
+        self.assertFalse(waits(manifest, edge(b"a"), edge(b"c")))
+        self.assertFalse(waits(manifest, edge(b"a"), edge(b"d")))
+
+    def test_names_and_observations(self):
+        for name in (b"a b", b"\xff\\\t\x01$", b"plain"):
+            self.assertEqual(name_of(shown_name(name)), name)
+        found = Observed.read(b"rebug-observed 1\nby x\npath a\\sb\npath c\npath d\npath e\nedge a\\sb cut\nreads 1\n"
+                              b"writes 0-3\nedits 2\nedge c\nwrites 9\n")
+        self.assertEqual(found.left_by(b"a b"), [b"a b", b"e"])
+        self.assertEqual(found.written_by(b"a b"), [b"a b", b"c", b"d", b"e"])
+        self.assertEqual(found.left_by(b"c"), [])
+
+
+class Told(unittest.TestCase):
+    """What a program that tells races may write."""
+
+    EDGES = ('"maker": {"output": "v\\\\s.h", "file": "build.ninja", "line": 3}, '
+             '"user": {"output": "m.o", "file": "sub/x.ninja", "line": 4}')
+
+    def asked(self, text, status=4, words=()):
+        with tempfile.TemporaryDirectory() as folder:
+            program = pathlib.Path(folder) / "program"
+            program.write_text(f"#!/bin/sh\ncat <<'END'\n{text}\nEND\nexit {status}\n")
+            program.chmod(0o755)
+            recording = Recording(str(program), folder)
+            return recording.adverse_patch(*words) if words else recording.races()
+
+    def test_races_of_a_build_that_passed_are_counted(self):
+        lines = [f'{{"kind": "{kind}", "path": "v\\\\s.h", {self.EDGES}, "mend": "v\\\\s.h"}}' for kind in
+                 ("race", "cycle", "own")]
+        hints = [f'{{"kind": "hint", "path": "x", "output": "y", {self.EDGES}}}', '{"kind": "not judged", "user": {}}']
+        found = self.asked("\n".join([lines[0], hints[0], lines[1], hints[1], lines[2]]))
+        self.assertEqual([(it.number, it.kind) for it in found], [(1, "race"), (2, "cycle"), (3, "own")])
+        it = found[0]
+        self.assertEqual((it.path, it.maker, it.user, it.mend), (b"v .h", b"v .h", b"m.o", b"v .h"))
+        self.assertEqual((it.maker_place, it.user_place), ("build.ninja:3", "sub/x.ninja:4"))
+
+    def test_suspects_of_a_build_that_failed_have_numbers(self):
+        lines = ['{"kind": "replayed", "refused": 0}', '{"kind": "failed", "user": {"output": "m.o"}, "at": 9}',
+                 f'{{"kind": "race", "number": 1, "path": "w.h", {self.EDGES}, "mend": "w.h"}}',
+                 f'{{"kind": "suspect", "number": 2, "path": "v.h", {self.EDGES}, "mend": "v.h"}}',
+                 f'{{"kind": "suspect", "number": 3, "path": null, {self.EDGES}, "mend": null}}']
+        for status in (4, 5):
+            found = self.asked("\n".join(lines), status)
+            self.assertEqual([(it.number, it.path, it.mend, it.is_told) for it in found],
+                             [(1, b"w.h", b"w.h", True), (2, b"v.h", b"v.h", True), (3, b"v .h", None, False)])
+
+    def test_what_is_no_answer_is_a_sentence(self):
+        for text, status, due in (("", 1, (1, "")), ("", 2, (2, "")), ("", 9, (3, "it ended with 9")),
+                                  ("no json", 0, (3, "is not understood"))):
+            with self.assertRaises(NotAsked) as caught:
+                self.asked(text, status)
+            self.assertEqual((caught.exception.status, due[1] in str(caught.exception)), (due[0], True))
+            self.assertEqual(not due[1], not str(caught.exception))  # what rebug has said is not said again
+        with self.assertRaises(NotAsked):
+            self.asked("--- a\n+++ a\nnothing", 0, words=(1,))
+
+
+@unittest.skipIf(LACKING, LACKING)
+class Provoked(unittest.TestCase):
+    def made(self, name, planted=None):
+        found = Made(name, planted or PLANTED[name])
+        self.addCleanup(found.remove)
+        return found
+
+    def test_each_planted_race(self):
+        for place, (name, planted) in enumerate(PLANTED.items()):
+            for more in ([], ["--in-place"]) if place % 4 == 1 and name not in ELSEWHERE else ([],):
+                with self.subTest(name=name, more=more):
+                    it = self.made(name)
+                    if name == "fails_in_any_order":
+                        (it.build / "no").write_text("")
+                    before = it.everything()
+                    status, said = it.provoke(*more)
+                    self.assertEqual((status, said.splitlines()[-1:]), (FAINT.get(name, 4), [planted.due]), said)
+                    self.assertEqual(it.everything(), before)
+                    if name not in FAINT:
+                        self.assertIn("both: refused as a cycle, ", said)
+                        self.assertRegex(said, r"(?m)^  mended \(.*\): built$")
+
+    def test_in_place_nothing_elsewhere_is_moved(self):
+        for name in ELSEWHERE:
+            it = self.made(name)
+            before = it.everything()
+            status, said = it.provoke("--in-place")
+            self.assertEqual((status, said.count("\n")), (2, 1), said)
+            self.assertRegex(said, r"the build leaves files in .*/elsewhere(/logs)?, of which no copy is made")
+            self.assertEqual(it.everything(), before)
+
+    def test_with_the_mend_it_cannot_come_in_front(self):
+        for name in ("order_only_missing", "maker_in_a_subninja", "odd_names", "statement_of_three_lines",
+                     "maker_with_orders"):
+            with self.subTest(name=name):
+                it = self.made(name)
+                user = next(e for e in self.manifest(it).edges if e.rule in (b"use", b"odd"))
+                path = it.build / os.fsdecode(user.file)
+                maker = b"v $v.h" if name == "odd_names" else b"v.h"
+                path.write_bytes(with_order(path.read_bytes(), user.line, maker))
+                before = it.everything()
+                status, said = it.provoke()
+                self.assertEqual(status, 0, said)
+                self.assertIn("is another than the one that was recorded", said)
+                self.assertIn("refused as a cycle, ", said)
+                self.assertRegex(said, r"it is mended: the user waits for the maker, so it cannot come in front\n\Z")
+                self.assertEqual(it.everything(), before)
+
+    def manifest(self, it):
+        return Manifest(b"build.ninja", lambda name: (it.build / os.fsdecode(name)).read_bytes())
+
+    def test_a_stale_file_is_last_times(self):
+        it = self.made("order_only_missing")
+        self.assertEqual(it.provoke("--stale")[0], 0)  # last time's is this time's
+        (it.build / "v.in").write_text("#define V 2\n")
+        before = it.everything()
+        for more in ([], ["--in-place"]):
+            status, said = it.provoke("--stale", *more)
+            self.assertEqual((status, said.splitlines()[-1]), (4, "it gives other bytes so"), said)
+            self.assertIn("other bytes: m.o\n", said)
+        self.assertEqual(it.everything(), before)
+
+    def test_a_header_that_no_line_declares_needs_the_observation(self):
+        """What the maker leaves beside its outputs goes, too, where it was observed."""
+        text = ("rule both\n  command = cp v.in v.h && cp n.c x.h\nbuild v.h: both v.in\nbuild m.o: use m.c\n"
+                "  reads = v.h x.h\n")
+        observed = (b"rebug-observed 1\nby test\npath v.in\npath v.h\npath x.h\npath n.c\nedge v.h\nreads 0 3\n"
+                    b"writes 1-2\n")
+        it = self.made("beside", Planted(text, ["v.h"]))
+        it.provoke()
+        (it.build / "v.h").chmod(0o444)
+        (it.recording / "observed").write_bytes(observed)
+        status, said = it.provoke()
+        self.assertEqual((status, "x.h: No such file" in said, "v.h: No such file" in said), (4, True, True), said)
+
+    def test_all_of_them_and_a_table(self):
+        text = (PLANTED["order_only_missing"].text + "build n.o: soft n.c\n  reads = v.h\n"
+                "build o.o: soft n.c\n  reads = o.o\nbuild w.h: gen v.in | p.o\nbuild p.o: soft n.c\n  reads = w.h\n")
+        it = self.made("several", Planted(text, ["v.h"]))
+        before = it.everything()
+        status, said = it.provoke("--all")
+        lines = said.splitlines()
+        self.assertEqual((status, lines[-1]), (4, "2 of 4 races were made to happen"), said)
+        for line in ("   1  it fails so              v.h by v.h, used by m.o",
+                     "   2  it gives other bytes so  v.h by v.h, used by n.o",
+                     "   3  no order mends it        o.o by o.o, used by o.o",
+                     "   4  no order mends it        w.h by w.h, used by p.o"):
+            self.assertIn(line, lines)
+        for number, why in (("3", "lists its own output"), ("4", "the maker waits for the user")):
+            status, said = it.provoke(number)
+            self.assertEqual((status, said.count("\n"), why in said), (2, 1, True), said)
+        self.assertEqual(it.everything(), before)
+
+    def test_a_race_that_cannot_be_tried_ends_not_the_others(self):
+        """A file that is read twice has two edges at one line, so no line there puts one of them behind the user."""
+        text = ("at = a\nsubninja sub/twice.ninja\nat = b\nsubninja sub/twice.ninja\n" + GEN + USE
+                + "build n.o: use n.c\n  reads = a.h\n")
+        it = self.made("twice", Planted(text, ["v.h", "a.h"], files={"sub/twice.ninja": "build $at.h: gen v.in\n"}))
+        before = it.everything()
+        status, said = it.provoke("--all")
+        self.assertRegex(said, r"(?m)^ +1  nothing can be told +a.h by a.h, used by n.o$")
+        self.assertRegex(said, r"(?m)^ +2  it fails so +v.h by v.h, used by m.o$")
+        self.assertEqual((status, it.everything()), (4, before), said)
+        status, said = it.provoke("1")
+        self.assertEqual((status, said.count("\n")), (2, 1), said)
+
+    def test_what_the_maker_waits_for_is_built_before(self):
+        """A maker behind the true one is not it: with the true one there, the user does not fail."""
+        text = ("rule list\n  command = cat $in w.h > $out && echo \"$out: $in v.h w.h\" > $out.d\n  depfile = $out.d\n"
+                "  deps = gcc\nbuild w.h: gen v.in\nbuild v.h: gen w.h\nbuild n.o: list m.c\n")
+        it = self.made("behind", Planted(text, ["v.h"]))
+        for path in ("v.h", "w.h", "n.o"):
+            (it.build / path).unlink()
+        before = it.everything()
+        status, said = it.provoke("--all")
+        self.assertRegex(said, r"(?m)^ +\d  it fails so +w.h by w.h, used by n.o$")
+        self.assertRegex(said, r"(?m)^ +\d  no difference seen +v.h by v.h, used by n.o$")
+        self.assertEqual((status, it.everything()), (4, before))
+
+    def test_at_a_terminal_a_line_tells_what_is_done(self):
+        it = self.made("order_only_missing")
+        outer, inner = pty.openpty()
+        done = subprocess.run(it.words("--all"), stdin=subprocess.DEVNULL, stdout=subprocess.PIPE, stderr=inner,
+                              text=True)
+        os.close(inner)
+        said = os.read(outer, 65536).decode()
+        os.close(outer)
+        self.assertEqual(said, "".join(f"rebug provoke: race 1 of 1: {what} ..\r\x1b[K" for what in
+                                       ("the user first", "mended", "both")))
+        self.assertNotIn("\r", done.stdout)
+        self.assertEqual(done.returncode, 4)
+
+    def test_sound_projects(self):
+        """A build without races stays as it is."""
+        for name in ("order_only_missing", "group_lacks_it", "maker_in_a_subninja", "restat", "into_the_sources"):
+            with self.subTest(name=name):
+                planted = PLANTED[name]
+                header = "../src/v.h" if planted.sources else "v.h"
+                text = planted.text.replace("m.c\n", f"m.c | {header}\n").replace("m.c ||", f"m.c | {header} ||")
+                it = self.made(name, Planted(text, planted.first, files=planted.files, sources=planted.sources))
+                before = it.everything()
+                self.assertEqual(it.provoke("--all"), (0, "no race\n"))
+                status, said = it.provoke("1")
+                self.assertEqual((status, said), (2, "rebug provoke: there is no race 1: the recording has 0\n"))
+                self.assertEqual(it.everything(), before)
+
+    def test_faults_are_one_sentence(self):
+        it = self.made("order_only_missing")
+        before = it.everything()
+        self.assertEqual(it.provoke("2")[0], 2)
+        for words, status, said in (
+                ([it.room / "no", it.recording, "1"], 2, "is no folder"),
+                ([it.build, it.room / "no", "1"], 2, "there is no recording"),
+                ([it.source, it.recording, "1"], 2, "cannot read"),
+                ([it.build, it.recording, "1", "--rebug", "/no/program"], 2, "cannot be run"),
+                ([it.build, it.recording, "1", "--", "-n"], 2, "-n runs no command")):
+            program = [] if "--rebug" in words else ["--rebug", STAND_IN]
+            done = subprocess.run([sys.executable, PROVOKE, *program, *words], stdin=subprocess.DEVNULL,
+                                  capture_output=True, text=True)
+            self.assertEqual((done.returncode, done.stdout, done.stderr.count("\n")), (status, "", 1), done.stderr)
+            self.assertIn(said, done.stderr)
+        self.assertEqual(it.everything(), before)
+
+    def test_where_copies_are_refused_a_sentence_says_so(self):
+        it = self.made("order_only_missing")
+        before = it.everything()
+        lines = ["import os, sys", "sys.dont_write_bytecode = True", f"sys.path.insert(0, {str(PROVOKE.parent)!r})",
+                 "from recorder.provoke import copies",
+                 "def refuse(): raise copies.Refused('it allows no user namespaces')",
+                 "copies._unshare = refuse", "from recorder.provoke.main import main", "sys.exit(main(sys.argv[1:]))"]
+        words = [sys.executable, "-c", "\n".join(lines), *it.words()[2:]]
+        done = subprocess.run(words, stdin=subprocess.DEVNULL, capture_output=True, text=True)
+        self.assertEqual((done.returncode, done.stdout, done.stderr.count("\n")), (2, "", 1), done.stderr)
+        self.assertIn("in which a build can be tried: it allows no user namespaces. Nothing was changed", done.stderr)
+        self.assertIn("--in-place", done.stderr)
+        self.assertEqual(it.everything(), before)
+        self.assertEqual(subprocess.run([*words, "--in-place"], capture_output=True).returncode, 4)
+        self.assertEqual(it.everything(), before)
+
+    @unittest.skipIf(os.geteuid(), "only root can become nobody")
+    def test_as_nobody(self):
+        if not os.access("/proc/self", os.X_OK) or not self.may_nobody_run():
+            self.skipTest("nobody cannot run Python here")
+        for more in ([], ["--in-place"]):
+            it = self.made("order_only_missing")
+            subprocess.run(["chown", "-R", f"{NOBODY}:{NOBODY}", it.room], check=True)
+            before = it.everything()
+            status, said = it.provoke(*more, user=NOBODY, group=NOBODY, extra_groups=[])
+            if "makes no copy" in said:
+                self.skipTest(said)
+            self.assertEqual((status, said.splitlines()[-1]), (4, "it fails so"), said)
+            self.assertEqual(it.everything(), before)
+
+    def may_nobody_run(self):
+        try:
+            return not subprocess.run([sys.executable, PROVOKE, "-h"], user=NOBODY, group=NOBODY, extra_groups=[],
+                                      capture_output=True).returncode
+        except OSError:
+            return False
+
+
+@unittest.skipIf(LACKING, LACKING)
+@unittest.skipIf(os.environ.get("REBUG_TESTS_WITH_ONE_NINJA") == "other", "done with the first Ninja")
+class UnderSignals(unittest.TestCase):
+    """Ended at random moments, twenty by each signal: what stands in the folders is what stood there."""
+
+    def ended(self, number, *more):
+        slow = PLANTED["order_only_missing"].text.replace("build m.o", "build slow: link v.in\nbuild m.o")
+        it = Made("slow", Planted(slow, ["v.h"]))
+        self.addCleanup(it.remove)
+        with contextlib.suppress(FileNotFoundError):
+            (it.build / "sub").mkdir()
+            (it.build / "sub/link").symlink_to("../m.c")
+        before, dice = it.everything(), random.Random(SEED)
+        begun = time.monotonic()
+        it.provoke(*more)
+        longest, statuses = time.monotonic() - begun, []
+        self.assertEqual(it.everything(), before)
+        for _ in range(20):
+            process = subprocess.Popen(it.words(*more), stdin=subprocess.DEVNULL, stdout=subprocess.DEVNULL,
+                                       stderr=subprocess.DEVNULL, start_new_session=True)
+            time.sleep(dice.uniform(0.05, longest))
+            process.send_signal(number)
+            statuses.append(process.wait(timeout=60))
+            self.wait_until_put_back(it)
+            self.assertEqual(it.everything(), before, f"{more} {statuses}")
+        return statuses
+
+    def wait_until_put_back(self, it):
+        """Waits until no process is at work there any more: the one that puts things back has ended."""
+        room = str(it.room).encode()
+        for _ in range(600):
+            if not any(room in self.words_of(process) for process in pathlib.Path("/proc").glob("[0-9]*")):
+                return
+            time.sleep(0.02)
+        self.fail("a process goes on")
+
+    def words_of(self, process):
+        try:
+            return (process / "cmdline").read_bytes()
+        except OSError:
+            return b""
+
+    def test_interrupts(self):
+        for more in ([], ["--in-place"]):
+            statuses = self.ended(signal.SIGINT, *more)
+            self.assertLessEqual(set(statuses), {130, 4, -2, 1}, more)  # 1 is that of a Python which is starting
+            self.assertIn(130, statuses)
+
+    def test_kills(self):
+        for more in ([], ["--in-place"]):
+            statuses = self.ended(signal.SIGKILL, *more)
+            self.assertLessEqual(set(statuses), {-9, 4}, more)
+            self.assertIn(-9, statuses)
+
+    def test_what_was_left_by_a_kill_of_all_is_put_back_by_the_next_call(self):
+        """Also where the process that puts things back was killed."""
+        it = Made("left", PLANTED["order_only_missing"])
+        self.addCleanup(it.remove)
+        before = it.everything()
+        for aside in (".rebug-aside", ".rebug-moving"):
+            stamp = it.build.stat().st_mtime_ns
+            names = sorted(os.listdir(it.build))
+            (it.build / aside).mkdir()
+            moved = names if aside == ".rebug-aside" else names[:5]
+            self.assertIn("build.ninja", moved)
+            for name in moved:
+                os.rename(it.build / name, it.build / aside / name)
+            if aside == ".rebug-aside":
+                shutil.copytree(it.build / aside, it.build, dirs_exist_ok=True)
+                (it.build / "m.o").write_text("of the copy")
+            os.utime(it.build / aside, ns=(stamp, stamp))
+            status, said = it.provoke(*(["--in-place"] if aside == ".rebug-aside" else []))
+            self.assertEqual(status, 4, said)
+            self.assertEqual(it.everything(), before)
+
+    def test_two_do_not_work_in_one_place(self):
+        it = Made("two", PLANTED["order_only_missing"])
+        self.addCleanup(it.remove)
+        before = it.everything()
+        held = os.open(it.build, os.O_RDONLY)
+        self.addCleanup(os.close, held)
+        fcntl.flock(held, fcntl.LOCK_EX)
+        status, said = it.provoke("--in-place")
+        self.assertEqual((status, said.count("\n"), "another call works in" in said), (2, 1, True), said)
+        self.assertEqual(it.everything(), before)
+
+
+if __name__ == "__main__":
+    unittest.main()
