@@ -214,7 +214,7 @@ class Cases:
         ran = subprocess.run([sys.executable, builds.RECORDER, with_it.folder, with_it.out, "--", "-j1", "-k0"],
                              stdin=subprocess.DEVNULL, stdout=subprocess.PIPE, stderr=subprocess.STDOUT)
         without = {it.name: it.read_bytes() for it in with_it.out.iterdir() if it.is_file()}
-        self.assertEqual(set(recording) - set(without), {"observed"})
+        self.assertEqual(set(recording) - set(without), {"observed", "filters"})
         self.assertEqual((with_it.status, plain(with_it.said.encode())), (ran.returncode, plain(ran.stdout)))
         for name in without:
             self.assertEqual(plain(recording[name]), plain(without[name]), name)
@@ -222,7 +222,7 @@ class Cases:
     def test_files_of_an_earlier_recording(self):
         found = self.room.build(self.observer, ONE.format("cat a > $out"), {"a": "1"}, own=("--keep-log",))
         names = {it.name for it in found.out.iterdir()}
-        self.assertLessEqual({"observed", "observed-log"}, names)
+        self.assertLessEqual({"observed", "observed-log", "filters"}, names)
         self.assertGreater((found.out / "observed-log").stat().st_size, 0)
         (found.out / "mine").write_text("kept")
         (found.folder / "out").unlink()
@@ -231,7 +231,7 @@ class Cases:
         (found.folder / "out").unlink()
         ran = subprocess.run([sys.executable, builds.RECORDER, found.folder, found.out], capture_output=True)
         self.assertEqual((ran.returncode, {it.name for it in found.out.iterdir()}),
-                         (0, names - {"observed", "observed-log"} | {"mine"}))
+                         (0, names - {"observed", "observed-log", "filters"} | {"mine"}))
 
     def test_a_recorder_that_is_killed_leaves_nothing_elsewhere(self):
         folder, rest = self.room.path / "killed", self.room.path / "temporary"

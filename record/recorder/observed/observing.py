@@ -22,6 +22,7 @@ from ..folders import OPTIONAL
 from ..held import HeldFolder
 from .calls import Observer
 from .effects import Build
+from .filters import default_filters
 from .log_pipe import BUFFER, LogPipe
 from .matching import match, text_of
 from .naming import Names, source_folders
@@ -29,8 +30,9 @@ from .places import Places
 from .processes import Command
 from .writing import Observed
 
-OBSERVED, LOG = OPTIONAL
-"""The names of the files in a recording: what was observed, and the observer's log where that is kept."""
+OBSERVED, LOG, FILTERS = OPTIONAL
+"""The names of the files in a recording: what was observed, the observer's log where that is kept, and the places of
+which no observed conflict is to be told."""
 
 _NAMED = 5
 _LOG_ENDS_WITHIN = 0.5
@@ -132,9 +134,12 @@ class Observation:
         edges = self.manifest.edges
         pairs, left = match(self.build.commands, edges, recording.runs)
         outputs = [path for edge in edges for path in edge.outputs]
-        names = Names(self.places, self.folder, source_folders(self.folder, self.manifest), after.stamps, outputs)
+        sources = source_folders(self.folder, self.manifest)
+        names = Names(self.places, self.folder, sources, after.stamps, outputs)
         with folder.create(OBSERVED) as file:
             Observed(pairs, self.places, names).write(file, self.observer.name)
+        with folder.create(FILTERS) as file:
+            file.write(default_filters(self.folder, sources))
         recording.notes += [*self.notes, *self._notes(pairs, recording.runs)]
         recording.remarks.append(f"{len(pairs)} commands were observed, with {self.build.processes.count:,} processes; "
                                  f"reading that took {self.seconds:.2f} s of processor time")
