@@ -6,6 +6,7 @@ mod files;
 mod found;
 mod hinted;
 mod mended;
+mod observed;
 mod page;
 mod picturing;
 mod printed;

@@ -5,10 +5,12 @@ use crate::files::{Place, Recording, place_of, read_beside, read_names, read_rec
 use crate::found::{last_runs, witness_of};
 use crate::hinted::names_in;
 use crate::mended::mend_text;
+use crate::observed::{Observed, observed_in, observed_sentence, read_observed};
 use crate::printed::entries_in;
 use crate::provoked::provoke_text;
 use crate::reporting::{Basis, add_hints, report_of};
 use rev_desk::Desk;
+use rev_graph::Graph;
 use rev_manifest::Manifest;
 use rev_paths::{Name, PathFault};
 use rev_program::ProgramFault;
@@ -48,12 +50,14 @@ pub enum How {
     Replay,
 }
 
-// What is asked of the bytes of a recording, the file of other names, and that of what failed commands printed.
+// What is asked of the bytes of a recording, the file of other names, that of what failed commands printed, and that of
+// what commands were seen to do, where there is one.
 #[derive(Clone, Copy)]
 struct Inquiry<'a> {
     read: &'a Recording,
     names: &'a [u8],
     printed: &'a [u8],
+    observed: Option<&'a [u8]>,
     how: How,
 }
 
@@ -193,6 +197,18 @@ fn command_count(trace: &Trace) -> u64 {
     count
 }
 
+// What the commands of a graph were seen to do, where the recording has that.
+fn observed_of(
+    alloc: Global,
+    inquiry: Inquiry<'_>,
+    graph: &Graph,
+) -> Result<Option<Observed>, RecordingFault> {
+    match inquiry.observed {
+        Some(bytes) if inquiry.how != How::Replay => Ok(Some(observed_in(alloc, graph, bytes)?)),
+        _ => Ok(None),
+    }
+}
+
 // The answer about a trace, by the desk of its recording.
 fn answer_from(
     alloc: Global,
@@ -205,6 +221,7 @@ fn answer_from(
     requires lanes { desk.old.lanes ≡ length trace.now.lanes.items + 1 }
 {
     replay(alloc, desk, trace)?;
+    let _observed = observed_of(alloc, inquiry, desk.history().graph())?;
     match answer_of(alloc, inquiry, manifest, desk, command_count(trace)) {
         Ok(answer) => Ok(answer),
         Err(_) => Err(RecordingFault::Memory),
@@ -272,6 +289,9 @@ fn reason_of(
     read: &Recording,
     fault: &RecordingFault,
 ) -> Result<Option<Vec<u8>>, AllocError> {
+    if let RecordingFault::Observed(fault) = fault {
+        return Ok(Some(observed_sentence(alloc, *fault)?));
+    }
     let Ok(line) = fault_line(alloc, &read.files, fault) else {
         return Err(AllocError);
     };
@@ -335,10 +355,12 @@ pub fn tell<'a, R: Files + Print + Eprint + AllocGlobal>(
     let read = read_recording(rt, recording, place)?;
     let names = read_names(rt, recording, place)?;
     let printed = read_printed(rt, recording, place)?;
+    let observed = read_observed(rt, recording, place)?;
     let inquiry = Inquiry {
         read: &read,
         names: &names,
         printed: &printed,
+        observed: observed.as_deref(),
         how,
     };
     match answer_about(rt.alloc(), inquiry) {

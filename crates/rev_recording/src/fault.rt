@@ -1,9 +1,44 @@
 //! Why a recording is not replayed.
-use rev_fields::TextFault;
+use rev_fields::{TextFault, push_number};
 use rev_graph::GraphFault;
 use rev_manifest::ManifestFault;
 use rev_script::{RunFault, report_fault, report_graph_fault, report_manifest_fault};
 use std::alloc::{AllocError, AllocFailed, Global};
+use std::fmt;
+
+/// The first fault of the file `observed` that stands beside a trace.
+#[derive(Clone, Copy, Debug, PartialEq, Eq)]
+pub struct ObservedFault {
+    /// The line, from 1.
+    pub line: u64,
+    /// The number of the fault (docs/CODES.md).
+    pub code: u16,
+}
+
+impl ObservedFault {
+    /// The number of a line that names no edge's first output.
+    pub const NO_SUCH_EDGE: u16 = 60;
+
+    // What the number means.
+    fn words(self) -> &'static str {
+        match self.code {
+            Self::NO_SUCH_EDGE => "no edge has this as its first output",
+            100 => "no line that may stand there",
+            101 => "no number of that form or size",
+            103 => "a second line for one path or one edge",
+            104 => "no observation of this version",
+            _ => "a number that is no path's, or ranges that do not rise",
+        }
+    }
+}
+
+impl fmt::Display for ObservedFault {
+    fn fmt<W: fmt::Write>(&self, f: &mut fmt::Formatter<W>) -> fmt::Result {
+        let words = self.words();
+        let (line, code) = (self.line, self.code);
+        write!(f, "observed:{line}: {words} ({code}, docs/CODES.md)")
+    }
+}
 
 /// Why a recording is not replayed.
 #[derive(Debug, Drop)]
@@ -16,6 +51,8 @@ pub enum RecordingFault {
     Graph(GraphFault),
     /// The trace is not read.
     Trace(TextFault),
+    /// What its commands were seen to do is not read, or is of another manifest's commands.
+    Observed(ObservedFault),
 }
 
 impl From<AllocError> for RecordingFault {
@@ -51,6 +88,13 @@ pub fn fault_line(
         }
         RecordingFault::Trace(fault) => {
             report_fault(alloc, b"trace", *fault, &mut line)?;
+        }
+        RecordingFault::Observed(fault) => {
+            line.extend_from_slice(b"fault observed ")?;
+            push_number(&mut line, fault.line)?;
+            line.extend_from_slice(b" ")?;
+            push_number(&mut line, u64::from(fault.code))?;
+            line.extend_from_slice(b"\n")?;
         }
     }
     Ok(line)

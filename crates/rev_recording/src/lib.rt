@@ -5,6 +5,6 @@ mod fault;
 mod includes;
 mod replayed;
 
-pub use fault::{RecordingFault, fault_line};
+pub use fault::{ObservedFault, RecordingFault, fault_line};
 pub use includes::Includes;
 pub use replayed::{open, refused_count, replay, replay_text};

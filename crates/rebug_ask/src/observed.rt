@@ -1,0 +1,120 @@
+//! What the commands of a recording were seen to do: the file `observed` beside its trace.
+ghost use Rattle.std.specs.Prelude.{◌≡◌, ◌<◌, Some, length, map, IfOk};
+ghost use Rattle.std.specs.List.{AllByRecursion};
+ghost use Rattle.rev_observed.specs.Joins.{edge_of};
+ghost use Rattle.rev_observed.specs.Observations.{outputs_of};
+
+use crate::files::{Place, read_beside};
+use rev_graph::Graph;
+use rev_observed::{JoinFault, Observation, ReadFault, edges, read};
+use rev_program::ProgramFault;
+use rev_recording::{ObservedFault, RecordingFault};
+use std::alloc::{AllocError, Global};
+use std::rt::Files;
+
+// The most bytes of the file.
+const OBSERVED_BYTES: usize = 1_073_741_824;
+
+/// What the commands of a recording were seen to do, and the edge of each of them.
+pub struct Observed {
+    /// What they did with files.
+    pub observation: Observation,
+    /// For each command of it its edge, as [`rev_observed::edges`] gives them.
+    pub edges: Vec<u32>,
+}
+
+// Written, since a derived drop is proved again at each exit of each caller.
+impl Drop for Observed {
+    fn drop(self) {
+        let Observed {
+            observation: _observation,
+            edges: _edges,
+        } = self;
+    }
+}
+
+/// The bytes of the file; none where the build was recorded without `--observe`.
+///
+/// # Errors
+/// As [`read_beside`].
+pub fn read_observed<'a, R: Files + AllocGlobal>(
+    rt: &R,
+    recording: &'a str,
+    place: Place<'_>,
+) -> Result<Option<Vec<u8>>, ProgramFault<'a>> {
+    read_beside(rt, recording, place, "observed", OBSERVED_BYTES)
+}
+
+// The line of a command of the file by its place among the commands, which counts from 0; lines count from 1.
+fn line_of(bytes: &[u8], place: usize) -> u64 {
+    let mut left = place;
+    let mut number = 0u64;
+    for line in bytes.split(|byte| *byte == b'\n') {
+        number = u64::saturating_add(number, 1);
+        if line.starts_with(b"edge ") {
+            if left == 0 {
+                return number;
+            }
+            left -= 1;
+        }
+    }
+    number
+}
+
+// What the bytes of the file say.
+fn observation_of(alloc: Global, bytes: &[u8]) -> Result<Observation, RecordingFault> {
+    match read(alloc, bytes) {
+        Ok(observation) => Ok(observation),
+        Err(ReadFault::Memory) => Err(RecordingFault::Memory),
+        Err(ReadFault::Numbered(fault)) => Err(RecordingFault::Observed(ObservedFault {
+            line: fault.line,
+            code: fault.kind.code(),
+        })),
+    }
+}
+
+// The edges of the commands of an observation, which the bytes say.
+fn edges_in(
+    alloc: Global,
+    graph: &Graph,
+    observation: &Observation,
+    bytes: &[u8],
+) -> Result<Vec<u32>, RecordingFault>
+    ensures edges { IfOk result (λ edges. map Some edges.items
+        ≡ map (edge_of graph.now.manifest.builds) (outputs_of observation.now.commands)) }
+    ensures within { IfOk result (λ edges. AllByRecursion (λ edge. edge < length graph.now.manifest.builds) edges.items) }
+{
+    match edges(alloc, graph, observation) {
+        Ok(edges) => Ok(edges),
+        Err(JoinFault::Memory) => Err(RecordingFault::Memory),
+        Err(JoinFault::NoSuchEdge(place)) => Err(RecordingFault::Observed(ObservedFault {
+            line: line_of(bytes, place),
+            code: ObservedFault::NO_SUCH_EDGE,
+        })),
+    }
+}
+
+/// What the bytes of the file say of the commands of a graph.
+///
+/// # Errors
+/// [`RecordingFault::Observed`] with the first line that does not read, or the first that names no edge's first output;
+/// [`RecordingFault::Memory`] only where an allocation was refused.
+pub fn observed_in(alloc: Global, graph: &Graph, bytes: &[u8]) -> Result<Observed, RecordingFault>
+    ensures edges { IfOk result (λ observed. map Some observed.edges.items
+        ≡ map (edge_of graph.now.manifest.builds) (outputs_of observed.observation.commands)) }
+    ensures within { IfOk result (λ observed.
+        AllByRecursion (λ edge. edge < length graph.now.manifest.builds) observed.edges.items) }
+{
+    let observation = observation_of(alloc, bytes)?;
+    let edges = edges_in(alloc, graph, &observation, bytes)?;
+    Ok(Observed { observation, edges })
+}
+
+/// The sentence about a fault of the file, as `observed:7: no number of that form or size (101, docs/CODES.md)`.
+///
+/// # Errors
+/// [`AllocError`] only where an allocation was refused.
+pub fn observed_sentence(alloc: Global, fault: ObservedFault) -> Result<Vec<u8>, AllocError> {
+    let text = format!(in alloc; "{fault}")?;
+    Ok(text.into_bytes())
+}
