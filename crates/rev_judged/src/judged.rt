@@ -6,11 +6,12 @@ ghost use Rattle.rev_races.specs.Judged.{edges_of};
 ghost use Rattle.rev_ranks.specs.Sets.{IsSetOf};
 
 use crate::collecting::taking_others;
-use crate::lists::{listed_edges, noted_edges};
+use crate::lists::listed_edges;
 use rev_history::History;
+use rev_races::started_edges;
 use std::alloc::{AllocError, Global};
 
-/// The edges whose commands began here and left no list of what they read, in rising order.
+/// The edges whose commands began here and that have no list of what they read, in rising order.
 #[derive(Drop)]
 pub struct Unjudged {
     /// Those that take something else than outputs, or have from such a one what they take.
@@ -75,8 +76,8 @@ fn edges_with(
     Ok(edges)
 }
 
-/// The commands of a history that were not judged: they began, and left no list of what they read, since they keep none
-/// or failed. It takes time linear in the kept events, the edges and their inputs, up to hashing.
+/// The commands of a history that were not judged: they began, and have no list of what they read, since they keep none,
+/// or failed and had none before. It takes time linear in the kept events, the edges and their inputs, up to hashing.
 ///
 /// # Errors
 /// [`AllocError`] only where an allocation was refused.
@@ -86,8 +87,8 @@ pub fn not_judged(alloc: Global, history: &History) -> Result<Unjudged, AllocErr
     ensures collectors { IfOk result (λ edges. edges.collectors.items ≡ filter (is_unjudged_as history.now.timeline false)
         (edges_of history.now.timeline.manifest.builds)) }
 {
-    let began = noted_edges(alloc, history, false)?;
-    let listed = listed_edges(alloc, history, &began)?;
+    let began = started_edges(alloc, history)?;
+    let listed = listed_edges(alloc, history)?;
     let others = taking_others(alloc, history, &listed)?;
     let plain = edges_with(alloc, history, &began, &listed, &others, true)?;
     let collectors = edges_with(alloc, history, &began, &listed, &others, false)?;

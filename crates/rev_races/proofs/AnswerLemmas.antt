@@ -1,12 +1,11 @@
 -- What the kept events note of edges, and which places are first.
 use Rattle.std.proofs.Common.{◌≡◌, ℕ, ◌<◌, ◌==◌, Bool, true, false, ◌||◌, List, [], ◌∷◌, ◌++◌, length, get_or, set, take, Option, Some, None, inl, inr, refl, sym, ap, subst, ◌∙◌, arith}
-use Rattle.std.proofs.Common.{not, if◌then◌else◌}
 use Rattle.std.specs.List.{list_any}
 use Rattle.rev_causal.specs.Machine.{run}
 use Rattle.rev_footprint.specs.Machine.{machine}
 use Rattle.rev_graph.specs.Graph.{GraphValue, IsGraph, build_at}
 use Rattle.rev_manifest.specs.Manifest.{ManifestValue}
-use Rattle.rev_races.specs.Races.{finished, started, recorded, lists}
+use Rattle.rev_races.specs.Races.{recorded, lists}
 use Rattle.rev_races.proofs.ListLemmas.{lists-are-recorded}
 use Rattle.std.proofs.Math.Seq.{take-length}
 use Rattle.std.proofs.lemmas.Bool.{eq-eqb, ne_eqb, cases_eq}
@@ -108,35 +107,9 @@ noted-all t ended i marks all by =
 pub mark-at : (marks : List Bool) (n : ℕ) (d b : Bool) → n < length marks → get_or marks n d ≡ b → get_or marks n false ≡ b
 mark-at marks n d b within h = get_or_default marks n false d within ∙ h
 
--- WHAT AN EDGE LISTS, BY ITS MARKS
-abbrev no-list : Option (List (List ℕ))
-no-list = None
-
-module _ (t : Timeline) (graph : GraphValue) (edge : ℕ) (is : IsGraph graph) (same : graph.manifest ≡ t.manifest) (within : edge < length t.manifest.builds) where
-  listed-is : lists t.manifest t.opening (kept_events t) edge
-      ≡ (if finished t.manifest edge (kept_events t) || not (started t.manifest edge (kept_events t)) then recorded (state_at t) (build_at t.manifest.builds edge) else None)
-  listed-is =
-      subst (λ (m : ManifestValue). lists m t.opening (kept_events t) edge
-      ≡ (if finished m edge (kept_events t) || not (started m edge (kept_events t)) then recorded (run (machine m t.jobs) t.opening (kept_events t)) (build_at m.builds edge) else None)) same
-      (lists-are-recorded graph t.jobs t.opening (kept_events t) edge is (subst (λ (m : ManifestValue). edge < length m.builds) (sym same) within))
-
-  pub lists-none : started t.manifest edge (kept_events t) ≡ true → finished t.manifest edge (kept_events t) ≡ false → no-list ≡ lists t.manifest t.opening (kept_events t) edge
-  lists-none began ended =
-      sym (listed-is ∙ (λ i. if ended i || not (began i) then recorded (state_at t) (build_at t.manifest.builds edge) else None))
-
-  pub lists-by-end : finished t.manifest edge (kept_events t) ≡ true → recorded (state_at t) (build_at t.manifest.builds edge) ≡ lists t.manifest t.opening (kept_events t) edge
-  lists-by-end ended =
-      sym (listed-is ∙ (λ i. if ended i || not (started t.manifest edge (kept_events t)) then recorded (state_at t) (build_at t.manifest.builds edge) else None))
-
-  pub lists-unstarted : started t.manifest edge (kept_events t) ≡ false → recorded (state_at t) (build_at t.manifest.builds edge) ≡ lists t.manifest t.opening (kept_events t) edge
-  lists-unstarted began =
-      sym (listed-is
-      ∙ (λ i. if finished t.manifest edge (kept_events t) || not (began i) then recorded (state_at t) (build_at t.manifest.builds edge) else None)
-      ∙ ap (λ b. if b then recorded (state_at t) (build_at t.manifest.builds edge) else None) (or-true (finished t.manifest edge (kept_events t))))
-
-  pub lists-recorded : (all : List (List ℕ)) → lists t.manifest t.opening (kept_events t) edge ≡ Some all → recorded (state_at t) (build_at t.manifest.builds edge) ≡ Some all
-  lists-recorded all h = by (finished t.manifest edge (kept_events t) || not (started t.manifest edge (kept_events t))) (sym listed-is ∙ h)
-    where
-      by : (b : Bool) → (if b then recorded (state_at t) (build_at t.manifest.builds edge) else None) ≡ Some all → recorded (state_at t) (build_at t.manifest.builds edge) ≡ Some all
-      by true e = e
-      by false e = let no : no-list ≡ Some all = e in cc
+-- WHAT AN EDGE LISTS
+pub lists-recorded : (t : Timeline) (graph : GraphValue) (edge : ℕ) → IsGraph graph → graph.manifest ≡ t.manifest → edge < length t.manifest.builds
+    → recorded (state_at t) (build_at t.manifest.builds edge) ≡ lists t.manifest t.opening (kept_events t) edge
+lists-recorded t graph edge is same within =
+    sym (subst (λ (m : ManifestValue). lists m t.opening (kept_events t) edge ≡ recorded (run (machine m t.jobs) t.opening (kept_events t)) (build_at m.builds edge)) same
+    (lists-are-recorded graph t.jobs t.opening (kept_events t) edge is (subst (λ (m : ManifestValue). edge < length m.builds) (sym same) within)))

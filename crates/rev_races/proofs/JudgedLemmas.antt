@@ -6,7 +6,7 @@ use Rattle.std.proofs.lemmas.List.FromFn.{filter_of_map_range_with_len_more}
 use Rattle.rev_graph.specs.Graph.{build_at, no_build}
 use Rattle.rev_races.specs.Judged.{NotJudgedIsEither}
 use Rattle.std.specs.Option.{option_or}
-use Rattle.rev_races.specs.Races.{last_list, lists, recorded, started}
+use Rattle.rev_races.specs.Races.{last_list, lists, recorded}
 use Rattle.rev_races.proofs.Waiting.{decide}
 
 and-both : (a b : Bool) → a ≡ true → b ≡ true → (a && b) ≡ true
@@ -52,7 +52,7 @@ not-judged-is-either graph opening events edge is within = (
         record {
           command = not-true (build_at graph.manifest.builds edge).phony (first-of (not (build_at graph.manifest.builds edge).phony) (not (build_at graph.manifest.builds edge).keeps_deps) k);
           unlisted =
-              ap (λ b. if b then option_or (last_list graph.manifest edge events) (if started graph.manifest edge events then None else recorded opening (build_at graph.manifest.builds edge)) else None)
+              ap (λ b. if b then option_or (last_list graph.manifest edge events) (recorded opening (build_at graph.manifest.builds edge)) else None)
               none;
         }
   ],

@@ -1,6 +1,5 @@
 -- What an edge lists is what its deps record has at the end.
-use Rattle.std.proofs.Common.{◌≡◌, ℕ, ◌<◌, ◌==◌, Bool, true, false, not, ◌||◌, List, [], ◌∷◌, ◌++◌, length, map, Contains, Option, Some, None, inl, inr, refl, sym, ap, subst, ◌∙◌, arith, true≢false, if◌then◌else◌}
-use Rattle.std.specs.Prelude.{is_some}
+use Rattle.std.proofs.Common.{◌≡◌, ℕ, ◌<◌, ◌==◌, Bool, true, false, List, [], ◌∷◌, ◌++◌, length, map, Contains, Option, Some, None, inl, inr, refl, sym, ap, subst, ◌∙◌, arith, true≢false, if◌then◌else◌}
 use Rattle.std.specs.FinMap.{get}
 use Rattle.std.specs.Option.{option_map, option_or}
 use Rattle.std.specs.Cmp.{eq_by_cmp_equiv}
@@ -40,7 +39,7 @@ use Rattle.rev_footprint.specs.Machine.{machine}
 use Rattle.rev_history.specs.Timeline.{Numbered}
 use Rattle.rev_races.proofs.Waiting.{decide}
 use Rattle.rev_races.specs.Laws.{ListsAreRecorded}
-use Rattle.rev_races.specs.Races.{started, finished, list_of, last_list, recorded, lists}
+use Rattle.rev_races.specs.Races.{list_of, last_list, recorded, lists}
 
 -- CELLS THAT ARE NOT ONE DEPS RECORD
 module _ (o : List ℕ) where
@@ -137,7 +136,7 @@ ends-with c v ys h s (x ∷ xs) = ends-with c v ys h (set_cell cell_cmp s x.0 x.
 -- ONE EVENT
 module _ (manifest : ManifestValue) (single : first_double manifest.builds ≡ None) (edge : ℕ)
     (keeps : (build_at manifest.builds edge).keeps_deps ≡ true) (o : List ℕ) (os : List (List ℕ)) (outs : outputs_of (build_at manifest.builds edge) ≡ o ∷ os) where
-  abbrev listing_in : Option DepsRecord → Option (List (List ℕ))
+  abbrev pub listing_in : Option DepsRecord → Option (List (List ℕ))
   listing_in deps = option_map (λ (d : DepsRecord). d.paths) deps
 
   recorded-is : (s : State) → recorded s (build_at manifest.builds edge) ≡ listing_in (deps_of s o)
@@ -281,36 +280,12 @@ module _ (manifest : ManifestValue) (single : first_double manifest.builds ≡ N
   or-assoc None b c = refl
   or-assoc (Some x) b c = refl
 
-  along : (jobs : ℕ) (s : State) (es : Numbered) → listing_in (deps_of (run (machine manifest jobs) s es) o) ≡ option_or (last_list manifest edge es) (listing_in (deps_of s o))
+  -- what the record lists at the end: what the last finish lists, and else what it listed before
+  pub along : (jobs : ℕ) (s : State) (es : Numbered) → listing_in (deps_of (run (machine manifest jobs) s es) o) ≡ option_or (last_list manifest edge es) (listing_in (deps_of s o))
   along jobs s [] = refl
   along jobs s (e ∷ es) =
       along jobs (after manifest s e.1) es ∙ ap (option_or (last_list manifest edge es)) (step s e.1)
       ∙ or-assoc (last_list manifest edge es) (list_of manifest edge e.1) (listing_in (deps_of s o))
-
--- it ended well where some finish of it is the last
-finished-is : (manifest : ManifestValue) (edge : ℕ) (es : Numbered) → finished manifest edge es ≡ is_some (last_list manifest edge es)
-finished-is manifest edge [] = refl
-finished-is manifest edge (e ∷ es) = ap (λ b. is_some (list_of manifest edge e.1) || b) (finished-is manifest edge es) ∙ by (list_of manifest edge e.1) (last_list manifest edge es)
-  where
-    by : (a b : Option (List (List ℕ))) → (is_some a || is_some b) ≡ is_some (option_or b a)
-    by None None = refl
-    by None (Some y) = refl
-    by (Some x) None = refl
-    by (Some x) (Some y) = refl
-
-same-cases : (last now : Option (List (List ℕ))) (starts : Bool)
-    → option_or last (if starts then None else now) ≡ (if is_some last || not starts then option_or last now else None)
-same-cases None now true = refl
-same-cases None now false = refl
-same-cases (Some l) now starts = refl
-
--- no list, whatever is asked
-abbrev nothing : Option (List (List ℕ))
-nothing = None
-
-no-choice : (b : Bool) → nothing ≡ (if b then nothing else nothing)
-no-choice true = refl
-no-choice false = refl
 
 first-of-some : (outs : List (List ℕ)) → 0 < length outs → (o : List ℕ) × (os : List (List ℕ)) × (outs ≡ o ∷ os)
 first-of-some [] some = absurd (omega (arith, some))
@@ -319,30 +294,20 @@ first-of-some (o ∷ os) some = (o, os, refl)
 pub lists-are-recorded : ListsAreRecorded
 lists-are-recorded graph jobs opening events edge is within = elim (decide (build_at graph.manifest.builds edge).keeps_deps) [ inl keeps ↦ kept keeps | inr none ↦ unkept none ]
   where
-    manifest : ManifestValue
-    manifest = graph.manifest
-
     kept : (build_at graph.manifest.builds edge).keeps_deps ≡ true
-        → lists graph.manifest opening events edge
-        ≡ (if finished graph.manifest edge events || not (started graph.manifest edge events)
-        then recorded (run (machine graph.manifest jobs) opening events) (build_at graph.manifest.builds edge) else None)
+        → lists graph.manifest opening events edge ≡ recorded (run (machine graph.manifest jobs) opening events) (build_at graph.manifest.builds edge)
     kept keeps =
         let some = (is.kept.builds edge no_build within).outputs.some in
         let f = first-of-some (outputs_of (build_at graph.manifest.builds edge)) some in
         let was = recorded-is graph.manifest is.single edge keeps f.0 f.1 f.2 opening in
         let now = recorded-is graph.manifest is.single edge keeps f.0 f.1 f.2 (run (machine graph.manifest jobs) opening events) in
         let ran = along graph.manifest is.single edge keeps f.0 f.1 f.2 jobs opening events in
-        ap (λ b. if b then option_or (last_list graph.manifest edge events) (if started graph.manifest edge events then None else recorded opening (build_at graph.manifest.builds edge)) else None) keeps
-        ∙ same-cases (last_list graph.manifest edge events) (recorded opening (build_at graph.manifest.builds edge)) (started graph.manifest edge events)
-        ∙ (λ i. if sym (finished-is graph.manifest edge events) i || not (started graph.manifest edge events)
-        then (ap (option_or (last_list graph.manifest edge events)) was ∙ sym ran ∙ sym now) i else None)
+        ap (λ b. if b then option_or (last_list graph.manifest edge events) (recorded opening (build_at graph.manifest.builds edge)) else None) keeps
+        ∙ ap (option_or (last_list graph.manifest edge events)) was ∙ sym ran ∙ sym now
 
     unkept : (build_at graph.manifest.builds edge).keeps_deps ≡ false
-        → lists graph.manifest opening events edge
-        ≡ (if finished graph.manifest edge events || not (started graph.manifest edge events)
-        then recorded (run (machine graph.manifest jobs) opening events) (build_at graph.manifest.builds edge) else None)
+        → lists graph.manifest opening events edge ≡ recorded (run (machine graph.manifest jobs) opening events) (build_at graph.manifest.builds edge)
     unkept none =
-        ap (λ b. if b then option_or (last_list graph.manifest edge events) (if started graph.manifest edge events then None else recorded opening (build_at graph.manifest.builds edge)) else None) none
-        ∙ no-choice (finished graph.manifest edge events || not (started graph.manifest edge events))
-        ∙ ap (λ b. if finished graph.manifest edge events || not (started graph.manifest edge events)
-        then option_map (λ (d : DepsRecord). d.paths) (if b then first_deps (run (machine graph.manifest jobs) opening events) (outputs_of (build_at graph.manifest.builds edge)) else None) else None) (sym none)
+        ap (λ b. if b then option_or (last_list graph.manifest edge events) (recorded opening (build_at graph.manifest.builds edge)) else None) none
+        ∙ ap (λ b. option_map (λ (d : DepsRecord). d.paths) (if b then first_deps (run (machine graph.manifest jobs) opening events) (outputs_of (build_at graph.manifest.builds edge)) else None))
+        (sym none)

@@ -7,12 +7,13 @@ use Rattle.std.proofs.lemmas.List.Elements.{Contains-get_or}
 use Rattle.rev_manifest.specs.Manifest.{BuildValue, ManifestValue}
 use Rattle.rev_graph.specs.Graph.{no_build}
 use Rattle.rev_ranks.specs.Leads.{leads_to}
+use Rattle.rev_cells.specs.State.{State}
 use Rattle.rev_events.specs.declared.event.Event.TheVariants.{Start, Finish, Fail}
 use Rattle.rev_events.specs.declared.event.Listing.TheVariants.{Paths}
 use Rattle.rev_history.specs.Timeline.{Numbered}
 use Rattle.rev_waits.specs.Waits.{waits, Makes, Makes.itself, Makes.behind}
 use Rattle.rev_races.specs.AtOnce.{MayOverlap, ShareOneSlot}
-use Rattle.rev_races.specs.Races.{IsRace, lists}
+use Rattle.rev_races.specs.Races.{IsRace, lists, recorded}
 use Rattle.rev_races.proofs.RaceLemmas.{waits-is-decided}
 
 abbrev file : List ℕ
@@ -71,12 +72,12 @@ build = record { builds = maker ∷ user ∷ []; pools = []; defaults = [] }
 abbrev listing : Numbered
 listing = (1, Start (98 ∷ []) 0 None) ∷ (2, Finish (98 ∷ []) (1 ∷ []) (Paths ((97 ∷ []) ∷ []))) ∷ []
 
--- it lists what its finish lists; a command that began and failed leaves no list
+-- it lists what its finish lists; one whose command failed lists what it listed before
 listed-by-finish : lists build empty listing 1 ≡ Some ((97 ∷ []) ∷ [])
 listed-by-finish = refl
 
-nothing-of-a-failure : lists build empty ((1, Start (98 ∷ []) 0 None) ∷ (2, Fail (98 ∷ []) (1 ∷ [])) ∷ []) 1 ≡ None
-nothing-of-a-failure = refl
+listed-before-a-failure : (opening : State) → lists build opening ((1, Start (98 ∷ []) 0 None) ∷ (2, Fail (98 ∷ []) (1 ∷ [])) ∷ []) 1 ≡ recorded opening user
+listed-before-a-failure opening = refl
 
 none-is-no-pool : (own : ℕ × ℕ) → None ≡ Some own → ⊥
 none-is-no-pool own h = cc

@@ -1,5 +1,5 @@
 -- What holds of waiting in every history.
-use Rattle.std.specs.Prelude.{◌≡◌, ◌≢◌, ◌↔◌, ℕ, ◌<◌, Bool, true, false, not, ◌||◌, List, [], ◌∷◌, ◌++◌, length, Option, Some, None, is_none, if◌then◌else◌}
+use Rattle.std.specs.Prelude.{◌≡◌, ◌≢◌, ◌↔◌, ℕ, ◌<◌, Bool, true, false, ◌||◌, List, [], ◌∷◌, ◌++◌, length, Option, Some, None, is_none, if◌then◌else◌}
 use Rattle.std.specs.FinMap.{get}
 use Rattle.rev_cells.specs.declared.cell.Cell.{Cell}
 use Rattle.rev_cells.specs.declared.cell.Cell.TheVariants as cell
@@ -18,7 +18,7 @@ use Rattle.rev_events.specs.Refusal.{is_settled, is_wanted_mark, is_through_mark
 use Rattle.rev_footprint.specs.Machine.{machine}
 use Rattle.rev_history.specs.Timeline.{Numbered, Timeline, IsHistory, machine_at, kept_events}
 use Rattle.rev_waits.specs.Waits.{Waits, waits}
-use Rattle.rev_races.specs.Races.{IsRace, starts, is_plan, started, finished, lists, recorded}
+use Rattle.rev_races.specs.Races.{IsRace, starts, is_plan, lists, recorded}
 
 -- the test of waiting is exact
 abbrev pub WaitsIsDecided : Type 0
@@ -47,14 +47,12 @@ StartsWait =
     → (is_settled (mark_of (run (machine_at t) t.opening before) a) ≡ true)
     × AllByRecursion (λ (l : ℕ × Event). starts t.manifest a l.1 ≡ false) (until_plan later)
 
--- What an edge lists is what its deps record has at the end, but where it began and never ended well: there it lists
--- nothing.
+-- what an edge lists is what the deps record of its first output has at the end
 abbrev pub ListsAreRecorded : Type 0
 ListsAreRecorded =
     (graph : GraphValue) (jobs : ℕ) (opening : State) (events : Numbered) (edge : ℕ) → IsGraph graph
     → edge < length graph.manifest.builds → lists graph.manifest opening events edge
-    ≡ (if finished graph.manifest edge events || not (started graph.manifest edge events)
-    then recorded (run (machine graph.manifest jobs) opening events) (build_at graph.manifest.builds edge) else None)
+    ≡ recorded (run (machine graph.manifest jobs) opening events) (build_at graph.manifest.builds edge)
 
 -- What may stand between an edge and its end: nothing, where it is settled; a pass, where it is phony; and its own run,
 -- where it is wanted and its first output is missing.

@@ -1,10 +1,10 @@
 //! What is told of a history.
-ghost use Rattle.std.specs.Prelude.{◌≡◌, ◌<◌, ◌↔◌, ◌⊎◌, ℕ, List, false, true, length, All, Contains, IfOk, OnOk};
+ghost use Rattle.std.specs.Prelude.{◌≡◌, ◌<◌, ◌↔◌, ◌⊎◌, ℕ, List, length, All, Contains, IfOk, OnOk};
 ghost use Rattle.rev_graph.specs.Graph.{successor_lists};
 ghost use Rattle.rev_history.specs.Timeline.{kept_events};
 ghost use Rattle.rev_ranks.specs.Graph.{graph_of};
 ghost use Rattle.rev_waits.specs.Waits.{AreWaitedFor, phony_lists};
-ghost use Rattle.rev_races.specs.Answer.{AreNoted, AreRaces};
+ghost use Rattle.rev_races.specs.Answer.{AreRaces};
 ghost use Rattle.rev_races.specs.Keys.{AreTold, IsKeyAmong, IsKeyAt, IsKeyOf};
 ghost use Rattle.rev_races.specs.Kinds.{IsBetween};
 ghost use Rattle.rev_races.specs.Searches.{AreDirect, IsKept};
@@ -12,7 +12,7 @@ ghost use Rattle.rev_races.specs.Searches.{AreDirect, IsKept};
 use crate::direct::{mark_direct, suspects};
 use crate::found::Found;
 use crate::kinds::with_kinds;
-use crate::listing::{listed, noted_edges};
+use crate::listing::listed;
 use crate::order::{is_first, is_to_tell};
 use crate::race::Race;
 use crate::search::{Search, no_search, search_for};
@@ -82,8 +82,6 @@ fn add_among(
 fn add_of(
     alloc: Global,
     history: &History,
-    began: &[bool],
-    ended: &[bool],
     steps: &[Vec<u32>],
     phony: &[Vec<u32>],
     files: &[Name],
@@ -93,8 +91,6 @@ fn add_of(
     found: &mut Found,
 ) -> Result<(), AllocError>
     requires user { user < length history.now.timeline.manifest.builds }
-    requires began { AreNoted history.now.timeline false began.now }
-    requires ended { AreNoted history.now.timeline true ended.now }
     requires steps { graph_of steps.now ≡ successor_lists history.now.timeline.manifest.builds }
     requires phony { graph_of phony.now ≡ phony_lists history.now.timeline.manifest.builds }
     requires direct { AreDirect (graph_of steps.now) direct.old.items }
@@ -104,7 +100,7 @@ fn add_of(
     ensures found { OnOk result ((k : List ℕ) → Contains found.new k
         ↔ (Contains found.old k ⊎ IsKeyOf history.now.timeline files.now user k)) }
 {
-    let Some(paths) = listed(history, began, ended, user)? else {
+    let Some(paths) = listed(history, user) else {
         return Ok(());
     };
     let graph = history.graph();
@@ -142,8 +138,6 @@ fn found_in(
 {
     let graph = history.graph();
     let phony = phony_steps(alloc, graph)?;
-    let began = noted_edges(alloc, history, false)?;
-    let ended = noted_edges(alloc, history, true)?;
     let mut direct = vec![in alloc; None; graph.edges() as usize]?;
     let mut search = no_search(alloc);
     let mut found = Found::new(alloc);
@@ -151,8 +145,6 @@ fn found_in(
         add_of(
             alloc,
             history,
-            &began,
-            &ended,
             steps,
             &phony,
             files,

@@ -11,7 +11,7 @@ use rev_paths::Name;
 use std::alloc::{AllocError, Global};
 
 /// Marks the edges that an edge steps to with its number. Marks are not cleared: a mark with another number is none.
-pub(crate) fn mark_direct(steps: &[Vec<u32>], edge: u32, direct: &mut Vec<Option<u32>>)
+pub fn mark_direct(steps: &[Vec<u32>], edge: u32, direct: &mut Vec<Option<u32>>)
     requires edge { edge < length steps.now }
     requires inside { All (λ v. All (λ s. s < length steps.now) v.items) steps.now }
     requires direct { AreDirect (graph_of steps.now) direct.old.items }
@@ -23,8 +23,8 @@ pub(crate) fn mark_direct(steps: &[Vec<u32>], edge: u32, direct: &mut Vec<Option
     }
 }
 
-// Whether a mark says that an edge steps to another.
-fn is_marked(direct: &[Option<u32>], node: u32, edge: u32) -> bool
+/// Whether a mark says that an edge steps to a node: the last edge whose marks were made.
+pub fn is_marked(direct: &[Option<u32>], node: u32, edge: u32) -> bool
     ensures { IsTrue result → slice_index_or direct.now node None ≡ Some edge }
 {
     match at(direct, node) {

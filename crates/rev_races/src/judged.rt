@@ -1,36 +1,28 @@
 //! Edges that are not judged.
-ghost use Rattle.std.specs.Prelude.{◌≡◌, ◌<◌, false, true, length, filter, IfOk};
+ghost use Rattle.std.specs.Prelude.{◌≡◌, ◌<◌, length, filter, IfOk};
 ghost use Rattle.rev_history.specs.Timeline.{kept_events};
-ghost use Rattle.rev_races.specs.Answer.{AreNoted};
 ghost use Rattle.rev_races.specs.Judged.{edges_of, is_unlisted as is_unlisted_in, keeps_none};
 
-use crate::listing::{listed, noted_edges};
+use crate::listing::listed;
 use rev_graph::Graph;
 use rev_history::History;
 use std::alloc::{AllocError, Global};
 
 // Whether an edge keeps deps and has no list.
-fn is_unlisted(
-    history: &History,
-    began: &[bool],
-    ended: &[bool],
-    edge: u32,
-) -> Result<bool, AllocError>
-    requires edge { edge < length history.now.timeline.manifest.builds }
-    requires began { AreNoted history.now.timeline false began.now }
-    requires ended { AreNoted history.now.timeline true ended.now }
-    ensures { IfOk result (λ unlisted. unlisted ≡ is_unlisted_in history.now.timeline.manifest
-        history.now.timeline.opening (kept_events history.now.timeline) edge) }
+fn is_unlisted(history: &History, edge: u32) -> bool
+    requires { edge < length history.now.timeline.manifest.builds }
+    ensures { result ≡ is_unlisted_in history.now.timeline.manifest
+        history.now.timeline.opening (kept_events history.now.timeline) edge }
 {
     if !history.graph().keeps_deps(edge) {
-        return Ok(false);
+        return false;
     }
-    let paths = listed(history, began, ended, edge)?;
-    Ok(paths.is_none())
+    let paths = listed(history, edge);
+    paths.is_none()
 }
 
-/// The edges that keep deps, by a depfile or `deps`, and have no list in a history, in rising order: their command
-/// failed, or did not run and has no record. What they read is not known, and so nothing is told of it.
+/// The edges that keep deps, by a depfile or `deps`, and have no list in a history, in rising order: their command did
+/// not end well here, and has no record of before. What they read is not known, and so nothing is told of it.
 ///
 /// # Errors
 /// [`AllocError`] only where an allocation was refused.
@@ -39,12 +31,10 @@ pub fn unlisted(alloc: Global, history: &History) -> Result<Vec<u32>, AllocError
         history.now.timeline.opening (kept_events history.now.timeline))
         (edges_of history.now.timeline.manifest.builds)) }
 {
-    let began = noted_edges(alloc, history, false)?;
-    let ended = noted_edges(alloc, history, true)?;
     let count = history.graph().edges();
     let mut edges = Vec::new(alloc);
     for edge in 0..count {
-        if is_unlisted(history, &began, &ended, edge)? {
+        if is_unlisted(history, edge) {
             edges.push(edge)?;
         }
     }

@@ -28,12 +28,8 @@ fn noted(graph: &Graph, event: &Event, ended: bool) -> Option<u32>
     }
 }
 
-/// For each edge whether its command began in the kept events, or, where that is asked, ended well in them.
-pub(crate) fn noted_edges(
-    alloc: Global,
-    history: &History,
-    ended: bool,
-) -> Result<Vec<bool>, AllocError>
+// For each edge whether its command began in the kept events, or, where that is asked, ended well in them.
+fn noted_edges(alloc: Global, history: &History, ended: bool) -> Result<Vec<bool>, AllocError>
     ensures { IfOk result (λ marks. AreNoted history.now.timeline ended marks.items) }
 {
     let graph = history.graph();
@@ -48,6 +44,26 @@ pub(crate) fn noted_edges(
     Ok(marks)
 }
 
+/// For each edge whether its command began in the kept events.
+///
+/// # Errors
+/// [`AllocError`] only where an allocation was refused.
+pub fn started_edges(alloc: Global, history: &History) -> Result<Vec<bool>, AllocError>
+    ensures { IfOk result (λ marks. AreNoted history.now.timeline false marks.items) }
+{
+    noted_edges(alloc, history, false)
+}
+
+/// For each edge whether its command ended well in the kept events.
+///
+/// # Errors
+/// [`AllocError`] only where an allocation was refused.
+pub fn finished_edges(alloc: Global, history: &History) -> Result<Vec<bool>, AllocError>
+    ensures { IfOk result (λ marks. AreNoted history.now.timeline true marks.items) }
+{
+    noted_edges(alloc, history, true)
+}
+
 // What a deps record lists.
 fn paths_of(deps: Option<&DepsRecord>) -> Option<&[Name]>
     ensures { option_copied result ≡ option_map (λ (deps : DepsRecord). deps.paths) (option_copied deps.entry) }
@@ -58,29 +74,16 @@ fn paths_of(deps: Option<&DepsRecord>) -> Option<&[Name]>
     }
 }
 
-/// What an edge lists, where it keeps deps and has a list, in constant time up to hashing. `began` and `ended` have the
-/// edges whose command began in the kept events, and ended well in them.
-///
-/// # Errors
-/// [`AllocError`] only where an allocation was refused.
-pub(crate) fn listed<'a>(
-    history: &'a History,
-    began: &[bool],
-    ended: &[bool],
-    edge: u32,
-) -> Result<Option<&'a [Name]>, AllocError>
-    requires edge { edge < length history.now.timeline.manifest.builds }
-    requires began { AreNoted history.now.timeline false began.now }
-    requires ended { AreNoted history.now.timeline true ended.now }
-    ensures { IfOk result (λ listed. option_copied listed
-        ≡ lists history.now.timeline.manifest history.now.timeline.opening (kept_events history.now.timeline) edge) }
+/// What an edge lists, where it keeps deps and has a list, in constant time up to hashing: what its last kept finish
+/// lists, and, where no finish of it is kept, what the deps record of its first output had before.
+pub fn listed(history: &History, edge: u32) -> Option<&[Name]>
+    requires { edge < length history.now.timeline.manifest.builds }
+    ensures { option_copied result
+        ≡ lists history.now.timeline.manifest history.now.timeline.opening (kept_events history.now.timeline) edge }
 {
     let _edges = history.graph().edges();
-    if began[edge as usize] && !ended[edge as usize] {
-        return Ok(None);
-    }
     let deps = deps_record(history.graph(), history.cells(), edge);
-    Ok(paths_of(deps))
+    paths_of(deps)
 }
 
 // The path at a place of a list.

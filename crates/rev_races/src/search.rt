@@ -12,13 +12,15 @@ use std::alloc::{AllocError, Global};
 /// The edges that an edge waits for, as a mark for each edge, and that edge, where there is one. All that step to the
 /// same edges wait for the same ones.
 #[derive(Drop)]
-pub(crate) struct Search {
-    pub(crate) edge: Option<u32>,
-    pub(crate) waited: Vec<bool>,
+pub struct Search {
+    /// The edge that was searched last, where there was a search.
+    pub edge: Option<u32>,
+    /// A mark for each edge: whether that edge waits for it.
+    pub waited: Vec<bool>,
 }
 
-/// None yet.
-pub(crate) fn no_search(alloc: Global) -> Search
+/// No search yet.
+pub fn no_search(alloc: Global) -> Search
     ensures { result.edge ≡ None }
 {
     Search {
@@ -27,8 +29,12 @@ pub(crate) fn no_search(alloc: Global) -> Search
     }
 }
 
-/// Searches for what an edge waits for, unless the last search was for one that steps to the same edges.
-pub(crate) fn search_for(
+/// Searches for what an edge waits for, unless the last search was for one that steps to the same edges: `waited` has it
+/// afterwards. `steps` are those of the graph, as [`rev_waits::steps`] gives them.
+///
+/// # Errors
+/// [`AllocError`] only where an allocation was refused.
+pub fn search_for(
     alloc: Global,
     graph: &Graph,
     steps: &[Vec<u32>],

@@ -1,6 +1,5 @@
-use Rattle.std.proofs.Common.{◌≡◌, ◌<◌, ◌⊎◌, ℕ, List, [], Some, Contains, length, get_or, inl, inr, sym, ap, subst, ◌∙◌}
+use Rattle.std.proofs.Common.{◌≡◌, ◌<◌, ◌⊎◌, ℕ, List, [], Some, Contains, length, get_or, inl, inr, sym, subst, ◌∙◌}
 use Rattle.std.proofs.lemmas.Bool.{eqb-true}
-use Rattle.std.specs.Option.{option_copied}
 use Rattle.rev_graph.proofs.StepLemmas.{all-within}
 use Rattle.rev_history.specs.Timeline.{kept_events}
 use Rattle.rev_races.specs.Races.{lists}
@@ -23,7 +22,7 @@ pub returns-then-is_empty-clause-found : goal.returns-then-is_empty-clause-found
 returns-then-is_empty-clause-found c = λ k.
     let t = c.args.history.now.timeline in
     let are : lists c.args.history.now.timeline.manifest c.args.history.now.timeline.opening (kept_events c.args.history.now.timeline) c.args.user ≡ Some c.in-Some.paths.now =
-    sym c.in_ok-paths.ensures ∙ ap option_copied c.in-Some.is in (
+    sym c.in-Some.ensures in (
       λ h. inl h,
       λ e. elim e [
         | inl h ↦ h
@@ -37,5 +36,5 @@ pub returns-clause-found : goal.returns-clause-found
 returns-clause-found c = λ k.
     let t = c.args.history.now.timeline in
     let are : lists c.args.history.now.timeline.manifest c.args.history.now.timeline.opening (kept_events c.args.history.now.timeline) c.args.user ≡ Some c.in-Some.paths.now =
-    sym c.in_ok-paths.ensures ∙ ap option_copied c.in-Some.is in
+    sym c.in-Some.ensures in
     either-more (c.in_ok-add_among.ensures k) (keys-of t c.args.files.now c.args.user c.in-Some.paths.now c.graph-graph.result.now.manifest c.graph-graph.ensures are k)

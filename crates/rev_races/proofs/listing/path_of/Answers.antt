@@ -20,4 +20,4 @@ returns c = λ all h.
     c.paths_of.ensures ∙ ap (λ o. option_map (λ (deps : DepsRecord). deps.paths) o) c.deps_record-deps.ensures
     ∙ (λ i. recorded (c.cells.ensures.state i) (build_at (c.graph-2.ensures i).builds user)) in
     c.path_at.ensures
-    ∙ ap (option_and_then (λ (paths : List (List ℕ)). slice_get paths place)) (found ∙ lists-recorded t c.graph.result.now user c.edges.ensures.graph c.graph.ensures within all h)
+    ∙ ap (option_and_then (λ (paths : List (List ℕ)). slice_get paths place)) (found ∙ lists-recorded t c.graph.result.now user c.edges.ensures.graph c.graph.ensures within ∙ h)
