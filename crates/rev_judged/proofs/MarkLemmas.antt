@@ -4,20 +4,15 @@ use Rattle.std.specs.Global.{Vec}
 use Rattle.std.specs.List.{All, AllByRecursion, cons_option, filter_map, range_with_len}
 use Rattle.std.proofs.lemmas.List.{get_or-map as at-map, length-map}
 use Rattle.std.proofs.lemmas.List.Elements.{All-from_recursion}
-use Rattle.std.proofs.lemmas.List.FromFn.{get_or-map-range_with_len, length-map-range_with_len, map-range_with_len_more}
+use Rattle.std.proofs.lemmas.List.FromFn.{get_or-map-range_with_len, length-map-range_with_len}
 use Rattle.rev_graph.proofs.GraphLemmas.{producer_of-within}
 use Rattle.rev_graph.specs.Graph.{build_at, input_producers, inputs_of, producer_of}
 use Rattle.rev_history.specs.Timeline.{Timeline}
 use Rattle.rev_judged.specs.Judged.{has_list, sources_of}
 use Rattle.rev_manifest.specs.Manifest.{BuildValue}
+use Rattle.rev_races.proofs.JudgedLemmas.{mapped-more}
 use Rattle.rev_races.specs.Judged.{edges_of}
 use Rattle.rev_ranks.specs.Graph.{graph_of}
-
--- one value more
-pub mapped-more : {X : Type 0} (f : ℕ → X) (n : ℕ) (xs all : List X) (x : X) → xs ≡ map f (range_with_len 0 n) → all ≡ xs ++ x ∷ [] → x ≡ f n → all ≡ map f (range_with_len 0 (n + 1))
-mapped-more f n xs all x before pushed is =
-    pushed ∙ ap (λ ys. ys ++ x ∷ []) before ∙ ap (λ y. map f (range_with_len 0 n) ++ y ∷ []) is
-    ∙ sym (map-range_with_len_more f 0 n n (omega arith))
 
 -- the mark of an edge
 pub mark-at : (f : ℕ → Bool) (n i : ℕ) (marks : List Bool) (d : Bool) → marks ≡ map f (range_with_len 0 n) → i < n → get_or marks i d ≡ f i

@@ -2,7 +2,7 @@
 use Rattle.std.proofs.Common.{◌≡◌, ℕ, ◌+◌, map, arith, Bool, true, false, not, ◌&&◌, List, [], ◌∷◌, ◌++◌, cond, Option, Some, None, inl, inr, refl, sym, ap, ◌∙◌, true≢false, if◌then◌else◌}
 use Rattle.std.specs.Prelude.{is_none, filter}
 use Rattle.std.specs.List.{range_with_len}
-use Rattle.std.proofs.lemmas.List.FromFn.{filter_of_map_range_with_len_more}
+use Rattle.std.proofs.lemmas.List.FromFn.{filter_of_map_range_with_len_more, map-range_with_len_more}
 use Rattle.rev_graph.specs.Graph.{build_at, no_build}
 use Rattle.rev_races.specs.Judged.{NotJudgedIsEither}
 use Rattle.std.specs.Option.{option_or}
@@ -83,3 +83,10 @@ edge-fails p n xs before fails =
 
 pub edges-all : (p : ℕ → Bool) (n count : ℕ) (xs : List ℕ) → n ≡ count → xs ≡ filter p (range_with_len 0 n) → xs ≡ filter p (range_with_len 0 count)
 edges-all p n count xs all is = is ∙ ap (λ m. filter p (range_with_len 0 m)) all
+
+-- VALUES OF EDGES
+-- one value more
+pub mapped-more : {X : Type 0} (f : ℕ → X) (n : ℕ) (xs all : List X) (x : X) → xs ≡ map f (range_with_len 0 n) → all ≡ xs ++ x ∷ [] → x ≡ f n → all ≡ map f (range_with_len 0 (n + 1))
+mapped-more f n xs all x before pushed is =
+    pushed ∙ ap (λ ys. ys ++ x ∷ []) before ∙ ap (λ y. map f (range_with_len 0 n) ++ y ∷ []) is
+    ∙ sym (map-range_with_len_more f 0 n n (omega arith))

@@ -1,5 +1,6 @@
 -- What an edge lists is what its deps record has at the end.
-use Rattle.std.proofs.Common.{◌≡◌, ℕ, ◌<◌, ◌==◌, Bool, true, false, List, [], ◌∷◌, ◌++◌, length, map, Contains, Option, Some, None, inl, inr, refl, sym, ap, subst, ◌∙◌, arith, true≢false, if◌then◌else◌}
+use Rattle.std.proofs.Common.{◌≡◌, ℕ, ◌<◌, ◌==◌, Bool, true, false, ◌||◌, List, [], ◌∷◌, ◌++◌, length, map, Contains, Option, Some, None, inl, inr, refl, sym, ap, subst, ◌∙◌, arith, true≢false, if◌then◌else◌}
+use Rattle.std.specs.Prelude.{is_some}
 use Rattle.std.specs.FinMap.{get}
 use Rattle.std.specs.Option.{option_map, option_or}
 use Rattle.std.specs.Cmp.{eq_by_cmp_equiv}
@@ -39,7 +40,7 @@ use Rattle.rev_footprint.specs.Machine.{machine}
 use Rattle.rev_history.specs.Timeline.{Numbered}
 use Rattle.rev_races.proofs.Waiting.{decide}
 use Rattle.rev_races.specs.Laws.{ListsAreRecorded}
-use Rattle.rev_races.specs.Races.{list_of, last_list, recorded, lists}
+use Rattle.rev_races.specs.Races.{finished, list_of, last_list, recorded, lists}
 
 -- CELLS THAT ARE NOT ONE DEPS RECORD
 module _ (o : List ℕ) where
@@ -286,6 +287,17 @@ module _ (manifest : ManifestValue) (single : first_double manifest.builds ≡ N
   along jobs s (e ∷ es) =
       along jobs (after manifest s e.1) es ∙ ap (option_or (last_list manifest edge es)) (step s e.1)
       ∙ or-assoc (last_list manifest edge es) (list_of manifest edge e.1) (listing_in (deps_of s o))
+
+-- an edge's command ended well where some finish of it is the last
+pub finished-is : (manifest : ManifestValue) (edge : ℕ) (es : Numbered) → finished manifest edge es ≡ is_some (last_list manifest edge es)
+finished-is manifest edge [] = refl
+finished-is manifest edge (e ∷ es) = ap (λ b. is_some (list_of manifest edge e.1) || b) (finished-is manifest edge es) ∙ by (list_of manifest edge e.1) (last_list manifest edge es)
+  where
+    by : (a b : Option (List (List ℕ))) → (is_some a || is_some b) ≡ is_some (option_or b a)
+    by None None = refl
+    by None (Some y) = refl
+    by (Some x) None = refl
+    by (Some x) (Some y) = refl
 
 first-of-some : (outs : List (List ℕ)) → 0 < length outs → (o : List ℕ) × (os : List (List ℕ)) × (outs ≡ o ∷ os)
 first-of-some [] some = absurd (omega (arith, some))

@@ -4,3 +4,4 @@ pub mod FailureLemmas
 pub mod SuspectLemmas
 pub mod LawLemmas
 pub mod ForcedLemmas
+pub mod BasisLemmas

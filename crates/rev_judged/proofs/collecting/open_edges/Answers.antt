@@ -1,7 +1,8 @@
 use Rattle.std.proofs.Common.{◌≡◌, ◌<◌, ◌∙◌, Bool, true, false, not, ◌&&◌, get_or, length, ap, sym, subst, arith}
 use Rattle.rev_graph.specs.Graph.{build_at}
 use Rattle.rev_judged.specs.Judged.{has_list, is_open, takes_others}
-use Rattle.rev_judged.proofs.MarkLemmas.{mapped-more, mark-at, marks-length}
+use Rattle.rev_races.proofs.JudgedLemmas.{mapped-more}
+use Rattle.rev_judged.proofs.MarkLemmas.{mark-at, marks-length}
 use Rattle.rev_manifest.specs.Manifest.{ManifestValue}
 use Rattle.rev_judged.proofs.collecting.open_edges.Goals as goal
 use Rattle.rev_judged.proofs.collecting.open_edges.Goals.{then-not-listed-edge, else-not-listed-edge}

@@ -1,5 +1,5 @@
 use Rattle.rev_judged.specs.Judged.{has_list}
-use Rattle.rev_judged.proofs.MarkLemmas.{mapped-more}
+use Rattle.rev_races.proofs.JudgedLemmas.{mapped-more}
 use Rattle.rev_judged.proofs.lists.listed_edges.Goals as goal
 
 pub loop-edge-preserved : goal.loop-edge-preserved
