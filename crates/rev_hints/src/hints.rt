@@ -5,11 +5,11 @@ ghost use Rattle.std.specs.Option.{option_copied};
 ghost use Rattle.indexmap.specs.IndexSet.{contains};
 ghost use Rattle.rev_causal.specs.Chosen.{without};
 ghost use Rattle.rev_graph.specs.Graph.{successor_lists};
-ghost use Rattle.rev_history.specs.Timeline.{kept_events, state_at};
+ghost use Rattle.rev_history.specs.Timeline.{kept_events};
 ghost use Rattle.rev_ranks.specs.Graph.{graph_of};
 ghost use Rattle.rev_waits.specs.Waits.{AreWaitedFor};
 ghost use Rattle.rev_hints.specs.Changes.{change_in, change_value};
-ghost use Rattle.rev_hints.specs.Hints.{AreHints, AreHintsBefore, AreHintsBy, hint_at, hint_by, hint_value, listed};
+ghost use Rattle.rev_hints.specs.Hints.{AreHints, AreHintsBefore, AreHintsBy, hint_at, hint_by, hint_value, listed, recorded_paths};
 
 use crate::changes::{Changed, changes_in};
 use indexmap::{IndexMap, IndexSet};
@@ -150,9 +150,11 @@ fn add_hints(
 ) -> Result<(), AllocError>
     requires user { user < length graph.now.manifest.builds }
     requires waited { AreWaitedFor graph.now.manifest.builds user waited.now }
-    requires before { AreHintsBefore graph.now.manifest.builds cells.now.state (change_in changes.now.entries)
-        user 0 (map hint_value hints.old.items) }
-    ensures { OnOk result (AreHintsBefore graph.now.manifest.builds cells.now.state (change_in changes.now.entries)
+    requires before { AreHintsBefore graph.now.manifest.builds
+        (recorded_paths graph.now.manifest.builds cells.now.state) (change_in changes.now.entries) user 0
+        (map hint_value hints.old.items) }
+    ensures { OnOk result (AreHintsBefore graph.now.manifest.builds
+        (recorded_paths graph.now.manifest.builds cells.now.state) (change_in changes.now.entries)
         (user + 1) 0 (map hint_value hints.new.items)) }
 {
     let mut seen = IndexSet::new(alloc);
@@ -182,9 +184,11 @@ fn add_hints_of(
 ) -> Result<(), AllocError>
     requires user { user < length graph.now.manifest.builds }
     requires steps { graph_of steps.now ≡ successor_lists graph.now.manifest.builds }
-    requires before { AreHintsBefore graph.now.manifest.builds cells.now.state (change_in changes.now.entries)
-        user 0 (map hint_value hints.old.items) }
-    ensures { OnOk result (AreHintsBefore graph.now.manifest.builds cells.now.state (change_in changes.now.entries)
+    requires before { AreHintsBefore graph.now.manifest.builds
+        (recorded_paths graph.now.manifest.builds cells.now.state) (change_in changes.now.entries) user 0
+        (map hint_value hints.old.items) }
+    ensures { OnOk result (AreHintsBefore graph.now.manifest.builds
+        (recorded_paths graph.now.manifest.builds cells.now.state) (change_in changes.now.entries)
         (user + 1) 0 (map hint_value hints.new.items)) }
 {
     if !has_changed(changes, listed_inputs(graph, cells, user)) {
@@ -232,22 +236,34 @@ pub fn change_hints(
     history: &History,
     names: &IndexMap<Name, Name>,
 ) -> Result<Vec<ChangeHint>, AllocError>
-    ensures { IfOk result (λ hints. AreHints history.now.timeline.manifest.builds names.now.entries
-        (state_at history.now.timeline) (kept_events history.now.timeline) (map hint_value hints.items)) }
+    ensures { IfOk result (λ hints. AreHints history.now.timeline.manifest names.now.entries
+        history.now.timeline.opening (kept_events history.now.timeline) (map hint_value hints.items)) }
 {
+    let _edges = history.graph().edges();
     let changes = changes_in(alloc, history, names)?;
     let hints = hints_by(alloc, history.graph(), history.cells(), &changes)?;
     Ok(hints)
 }
 
+// What an edge lists; nothing where it has no list.
+fn paths_of(history: &History, edge: u32) -> &[Name]
+    requires { edge < length history.now.timeline.manifest.builds }
+    ensures { result.now ≡ listed history.now.timeline.manifest history.now.timeline.opening
+        (kept_events history.now.timeline) edge }
+{
+    match rev_races::listed(history, edge) {
+        Some(paths) => paths,
+        None => &[],
+    }
+}
+
 /// The path at a place of what an edge lists, from 0, as hints name it.
 pub fn listed_path(history: &History, edge: u32, place: usize) -> Option<&Name>
-    ensures { option_copied result ≡ slice_get (listed history.now.timeline.manifest.builds
-        (state_at history.now.timeline) edge) place }
+    ensures { option_copied result ≡ slice_get (listed history.now.timeline.manifest
+        history.now.timeline.opening (kept_events history.now.timeline) edge) place }
 {
-    let graph = history.graph();
-    if edge >= graph.edges() {
+    if edge >= history.graph().edges() {
         return None;
     }
-    listed_inputs(graph, history.cells(), edge).get(place)
+    paths_of(history, edge).get(place)
 }

@@ -41,9 +41,12 @@ fn add_at(
     ensures { OnOk result ((k : List ℕ) → Contains found.new k
         ↔ (Contains found.old k ⊎ IsKeyAt graph.now.manifest.builds files.now paths.now user place k)) }
 {
+    if !is_first(paths, place) {
+        return Ok(());
+    }
     let makers = makers(alloc, graph, phony, &paths[place])?;
     for maker in &makers {
-        if is_to_tell(graph, files, waited, user, *maker) && is_first(paths, place) {
+        if is_to_tell(graph, files, waited, user, *maker) {
             found.add(*maker, user, place as u64)?;
         }
     }

@@ -1,4 +1,4 @@
-use Rattle.std.proofs.Common.{◌≡◌, ℕ, ◌+◌, List, [], length, get_or, Contains, ◌⊎◌, sym, subst, ◌∙◌, arith, true≢false}
+use Rattle.std.proofs.Common.{◌≡◌, ℕ, ◌+◌, List, [], length, get_or, Contains, ◌⊎◌, inl, inr, sym, subst, ◌∙◌, arith, true≢false}
 use Rattle.std.specs.Prelude.{◌↔◌}
 use Rattle.std.proofs.lemmas.List.{get_or_default}
 use Rattle.std.proofs.lemmas.List.Elements.{Contains-get_or}
@@ -6,7 +6,7 @@ use Rattle.rev_races.specs.Keys.{SomeBelow, IsKeyBy}
 use Rattle.rev_races.proofs.KeyLemmas.{some-more, some-skip, either-more, key-by, keys-at, makers-are}
 use Rattle.rev_races.proofs.RaceLemmas.{maker-command}
 use Rattle.rev_races.proofs.answer.add_at.Goals as goal
-use Rattle.rev_races.proofs.answer.add_at.Goals.{then-is_to_tell+then-is_first+in_ok-add, else-is_to_tell, else-is_to_tell-via-then-is_to_tell+else-is_first, else-is_to_tell-via-else-is_to_tell}
+use Rattle.rev_races.proofs.answer.add_at.Goals.{then-is_to_tell+in_ok-add, else-is_to_tell}
 
 pub is_to_tell-requires-clause-maker : goal.is_to_tell-requires-clause-maker
 is_to_tell-requires-clause-maker c =
@@ -24,17 +24,22 @@ loop-maker-preserved c =
     let items = c.deref-maker-items.result.now in
     let i = c.loop-maker.maker-index in
     elim c.if-is_to_tell.branch [
-      | then-is_to_tell+then-is_first+in_ok-add w ↦ λ k.
+      | then-is_to_tell+in_ok-add w ↦ λ k.
           subst (λ (fs : List (List ℕ)). Contains fs k ↔ (Contains c.args.found.now k ⊎ SomeBelow (λ j. IsKeyBy builds files paths user place (get_or items j 0) k) (i + 1))) (sym w.found-is)
           (some-more (λ j. IsKeyBy builds files paths user place (get_or items j 0) k) i (c.loop-maker.invariant k)
-          (either-more (w.in_ok-add.ensures k) (key-by builds files paths user place (get_or items i 0) k (c.is_to_tell.ensures.0 w.if-is_to_tell.true) (w.is_first.ensures.0 w.if-is_first.true))))
+          (either-more (w.in_ok-add.ensures k) (key-by builds files paths user place (get_or items i 0) k (c.is_to_tell.ensures.0 w.if-is_to_tell.true) (c.is_first.ensures.0 c.if-not-is_first.false))))
       | else-is_to_tell w ↦ λ k.
           subst (λ (fs : List (List ℕ)). Contains fs k ↔ (Contains c.args.found.now k ⊎ SomeBelow (λ j. IsKeyBy builds files paths user place (get_or items j 0) k) (i + 1))) (sym w.found-is)
-          (some-skip (λ j. IsKeyBy builds files paths user place (get_or items j 0) k) i (c.loop-maker.invariant k) (λ key. elim w.else-is_to_tell.branch [
-            | else-is_to_tell-via-then-is_to_tell+else-is_first v ↦ true≢false (sym (v.is_first.ensures.1 key.first) ∙ v.if-is_first.false)
-            | else-is_to_tell-via-else-is_to_tell v ↦ true≢false (sym (c.is_to_tell.ensures.1 key.told) ∙ v.if-is_to_tell.false)
-          ]))
+          (some-skip (λ j. IsKeyBy builds files paths user place (get_or items j 0) k) i (c.loop-maker.invariant k)
+          (λ key. true≢false (sym (c.is_to_tell.ensures.1 key.told) ∙ w.if-is_to_tell.false)))
     ]
+
+-- a place that is not the first gives nothing
+pub returns-then-not-is_first : goal.returns-then-not-is_first
+returns-then-not-is_first c = λ k. (
+  λ h. inl h,
+  λ e. elim e [ | inl h ↦ h | inr key ↦ absurd (true≢false (sym (c.is_first.ensures.1 key.key.first) ∙ c.if-not-is_first.true)) ],
+)
 
 pub returns : goal.returns
 returns c = λ k.
