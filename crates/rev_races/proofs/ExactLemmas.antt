@@ -20,7 +20,7 @@ use Rattle.rev_races.specs.declared.told.Told.{Told}
 use Rattle.rev_races.specs.Answer.{IsFirstPlace, IsToTell, IsToTell.itself, IsToTell.another}
 use Rattle.rev_races.specs.Keys.{AreTold, IsKeyBelow, IsOfEdges, IsToldAt, IsToldAt.raced, IsToldAt.owned, told_key}
 use Rattle.rev_races.specs.Kinds.{IsBetween}
-use Rattle.rev_races.specs.Races.{last_list, lists, recorded, started}
+use Rattle.rev_races.specs.Races.{last_list, lists, recorded}
 use Rattle.rev_races.proofs.RaceLemmas.{maker-command, keeps-by}
 use Rattle.rev_races.proofs.Waiting.{past-last}
 
@@ -33,7 +33,7 @@ lists-within manifest opening events b all is = elim (cases_lt b (length manifes
   where
     keeps : (build_at manifest.builds b).keeps_deps ≡ true
     keeps = keeps-by (build_at manifest.builds b).keeps_deps
-        (option_or (last_list manifest b events) (if started manifest b events then None else recorded opening (build_at manifest.builds b))) all is
+        (option_or (last_list manifest b events) (recorded opening (build_at manifest.builds b))) all is
 
 none-in : {X : Type 0} (x : X) → Contains [] x → ⊥
 none-in x (k, within, at) = omega (arith, within)

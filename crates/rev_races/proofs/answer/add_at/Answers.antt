@@ -38,7 +38,7 @@ loop-maker-preserved c =
 pub returns-then-not-is_first : goal.returns-then-not-is_first
 returns-then-not-is_first c = λ k. (
   λ h. inl h,
-  λ e. elim e [ | inl h ↦ h | inr key ↦ absurd (true≢false (sym (c.is_first.ensures.1 key.key.first) ∙ c.if-not-is_first.true)) ],
+  λ e. elim e [ inl h ↦ h | inr key ↦ absurd (true≢false (sym (c.is_first.ensures.1 key.key.first) ∙ c.if-not-is_first.true)) ],
 )
 
 pub returns : goal.returns
