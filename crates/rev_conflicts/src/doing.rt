@@ -17,7 +17,7 @@ fn has_path(ranges: &[PathRange], path: u64) -> bool
 }
 
 /// Whether a command did this with a path.
-pub(crate) fn does(command: &Command, kind: Kind, path: u64) -> bool
+pub fn does(command: &Command, kind: Kind, path: u64) -> bool
     ensures { result ≡ does_of kind command.now path }
 {
     has_path(command.paths(kind), path)
@@ -43,7 +43,7 @@ pub(crate) fn changes_file(command: &Command, place: Place) -> bool
 }
 
 /// How a command looks at a place, where it does.
-pub(crate) fn look_at(command: &Command, place: Place) -> Option<Look>
+pub fn look_at(command: &Command, place: Place) -> Option<Look>
     ensures { result ≡ look_of command.now place }
 {
     match place {
@@ -88,6 +88,18 @@ fn add_ranges(ranges: &[PathRange], numbers: &mut Vec<u64>) -> Result<(), AllocE
         add_range(range, numbers)?;
     }
     Ok(())
+}
+
+/// The numbers of ranges, one by one.
+///
+/// # Errors
+/// [`AllocError`] only where an allocation was refused.
+pub fn numbers(alloc: Global, ranges: &[PathRange]) -> Result<Vec<u64>, AllocError>
+    ensures { IfOk result (λ numbers. (n : ℕ) → Contains numbers.items n ↔ (has_path_of ranges.now n ≡ true)) }
+{
+    let mut numbers = Vec::new(alloc);
+    add_ranges(ranges, &mut numbers)?;
+    Ok(numbers)
 }
 
 /// The paths that a command leaves, takes away, or has as temporaries.

@@ -10,7 +10,7 @@ use std::alloc::{AllocError, Global};
 ///
 /// # Errors
 /// [`AllocError`] only where an allocation was refused.
-pub(crate) fn early_edges(
+pub fn early_edges(
     alloc: Global,
     graph: &Graph,
     files: &[Name],

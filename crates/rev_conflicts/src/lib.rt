@@ -20,4 +20,8 @@ mod told;
 
 pub use answer::conflicts;
 pub use conflict::{Change, Conflict, ConflictKind, Look};
+pub use doing::{does, look_at, numbers};
+pub use early::early_edges;
+pub use nexts::{Table, with_nexts};
 pub use place::Place;
+pub use table::{empty_lists, put};

@@ -33,7 +33,7 @@ fn nexts(alloc: Global, lists: &[Vec<u64>]) -> Result<Vec<u64>, AllocError>
 ///
 /// # Errors
 /// [`AllocError`] only where an allocation was refused.
-pub(crate) fn with_nexts(alloc: Global, lists: Vec<Vec<u64>>) -> Result<Table, AllocError>
+pub fn with_nexts(alloc: Global, lists: Vec<Vec<u64>>) -> Result<Table, AllocError>
     ensures lists { IfOk result (λ table. table.lists.items ≡ lists.items) }
     ensures nexts { IfOk result (λ table. AreNexts (graph_of lists.items) table.nexts.items) }
 {
@@ -43,7 +43,9 @@ pub(crate) fn with_nexts(alloc: Global, lists: Vec<Vec<u64>>) -> Result<Table, A
 
 /// Who touches which place of a kind, and where the next such place is.
 #[derive(Drop)]
-pub(crate) struct Table {
-    pub(crate) lists: Vec<Vec<u64>>,
-    pub(crate) nexts: Vec<u64>,
+pub struct Table {
+    /// For each place the numbers of those who are there.
+    pub lists: Vec<Vec<u64>>,
+    /// For each place, and one more, the next one from it on where somebody is, or how many places there are.
+    pub nexts: Vec<u64>,
 }

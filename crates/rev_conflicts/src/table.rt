@@ -9,8 +9,11 @@ use rev_observed::Command;
 use rev_paths::Paths;
 use std::alloc::{AllocError, Global};
 
-// So many empty lists.
-fn empty_lists(alloc: Global, count: u64) -> Result<Vec<Vec<u64>>, AllocError>
+/// So many empty lists.
+///
+/// # Errors
+/// [`AllocError`] only where an allocation was refused.
+pub fn empty_lists(alloc: Global, count: u64) -> Result<Vec<Vec<u64>>, AllocError>
     ensures each { IfOk result (λ lists. length lists.items ≡ count) }
     ensures none { IfOk result (λ lists. (p c : ℕ) → Steps (graph_of lists.items) p c → ⊥) }
 {
@@ -22,8 +25,11 @@ fn empty_lists(alloc: Global, count: u64) -> Result<Vec<Vec<u64>>, AllocError>
     Ok(lists)
 }
 
-// Adds a command at a place.
-fn put(lists: &mut Vec<Vec<u64>>, place: usize, command: u64) -> Result<(), AllocError>
+/// Adds a command at a place.
+///
+/// # Errors
+/// [`AllocError`] only where an allocation was refused.
+pub fn put(lists: &mut Vec<Vec<u64>>, place: usize, command: u64) -> Result<(), AllocError>
     requires { place < length lists.old.items }
     ensures { OnOk result (Puts (graph_of lists.old.items) (graph_of lists.new.items) place command) }
 {
