@@ -9,7 +9,7 @@ import pathlib
 import random
 import subprocess
 import sys
-from dataclasses import dataclass
+from dataclasses import dataclass, replace
 
 TOP = pathlib.Path(__file__).resolve().parent.parent.parent
 RECORDER = TOP / "record/rebug-record"
@@ -19,12 +19,15 @@ RECORDER = TOP / "record/rebug-record"
 class Failing:
     """A build that fails: its files, and what is due of it. `named` is a path that the error names, with its maker and
     its user; else `beside` is the maker that stands among those that were running or still to run, and None in both
-    where no race is the cause."""
+    where no race is the cause. `before` are the files of a day before, on which the build passed, where there was one;
+    `listed` is a path that the user listed on that day, with its maker."""
 
     files: dict[str, str]
     user: str
     named: tuple[str, str] | None = None
     beside: str | None = None
+    before: dict[str, str] | None = None
+    listed: tuple[str, str] | None = None
 
 
 RULES = """more = :
@@ -105,6 +108,10 @@ KINDS = {
     "syntax_error_beside_a_generator": Failing(
         {"m.c": "include v.in\nerror here\n",
          "build.ninja": "build version.h: slow v.in\nbuild m.o: cc m.c || v.in\n" + REST}, "m.o"),
+    "second_day": Failing(
+        {"m.c": "include version.h\nerror here\n", "v.in": "V 2\n",
+         "build.ninja": "build version.h: quick v.in\nbuild m.o: cc m.c\n" + REST},
+        "m.o", before={"m.c": "include version.h\nint m\n"}, listed=("version.h", "version.h")),
     "longer_name": Failing(
         {"m.c": "include reversion.h\nint m\n",
          "build.ninja": "build version.h: slow v.in\nbuild m.o: cc m.c\n" + REST}, "m.o",
@@ -156,17 +163,25 @@ def real(place: int) -> Failing:
     return Failing(files, user, (header, header))
 
 
-BUILDS = {**{name: Failing({**SOURCES, **it.files, "build.ninja": RULES + it.files["build.ninja"]}, it.user, it.named,
-                           it.beside) for name, it in KINDS.items()},
+BUILDS = {**{name: replace(it, files={**SOURCES, **it.files, "build.ninja": RULES + it.files["build.ninja"]})
+             for name, it in KINDS.items()},
           **{f"like_{REAL[place][0]}": real(place) for place in range(len(REAL))}}
 
 
-def record(name: str, room: pathlib.Path) -> pathlib.Path:
-    """Records the build in a folder of its own, and gives the recording."""
-    it, build, recorded = BUILDS[name], room / name / "build", room / name / "recorded"
-    for path, text in it.files.items():
+def write(build: pathlib.Path, files: dict[str, str]) -> None:
+    for path, text in files.items():
         (build / path).parent.mkdir(parents=True, exist_ok=True)
         (build / path).write_text(text, encoding="utf-8")
+
+
+def record(name: str, room: pathlib.Path) -> pathlib.Path:
+    """Records the build in a folder of its own, and gives the recording. A build of the day before is not recorded."""
+    it, build, recorded = BUILDS[name], room / name / "build", room / name / "recorded"
+    if it.before is not None:
+        write(build, it.files | it.before)
+        subprocess.run(["ninja", "-C", build, "-j", "1"], stdin=subprocess.DEVNULL, stdout=subprocess.DEVNULL, timeout=120,
+                       check=True)
+    write(build, it.files)
     words = [sys.executable, RECORDER, build, recorded, "-j", "4"]
     done = subprocess.run(words, stdin=subprocess.DEVNULL, stdout=subprocess.PIPE, stderr=subprocess.STDOUT,
                           timeout=120, env={**os.environ, "LC_ALL": "C"})

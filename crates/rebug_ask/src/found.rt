@@ -1,7 +1,6 @@
 //! What a recording shows of races, as it is told.
 ghost use Rattle.rev_named.specs.Named.{AreLastComponents};
 
-use crate::printed::Entry;
 use indexmap::IndexMap;
 use rev_clashes::{SideFile, clashes};
 use rev_graph::Graph;
@@ -10,16 +9,24 @@ use rev_history::History;
 use rev_manifest::Build;
 use rev_named::{LastComponents, last_components, named_outputs};
 use rev_paths::Name;
+use rev_printed::Entry;
 use rev_races::{Race, path_of, races, stories};
 use rev_races_text::{
-    Change, Clash, Edge, Evidence, Failure, Kind, Printed, Run, Shown, Sources, Story, Suspect,
-    Told,
+    Basis, Change, Clash, Edge, Evidence, Failure, Kind, ListedBefore, Printed, Progress, Run,
+    Shown, Sources, Story, Suspect, Told, Untold,
 };
 use rev_runs::runs;
 use rev_shown::first_output;
-use rev_suspects::{failures, suspects};
+use rev_suspects::{bases, failures, suspects};
 use rev_witness::{find_witness, witness_text};
 use std::alloc::{AllocError, Global};
+
+// How many pairs of a failed command and another edge are looked at.
+const PAIRS: usize = 4_194_304;
+// Of how many failed commands suspects are looked for at least.
+const LEAST_LOOKED: usize = 16;
+// How many suspects of a failed command are told at least, where it has so many.
+const LEAST_TOLD: usize = 8;
 
 /// For each edge the last run of its command, where it ran.
 pub fn last_runs(alloc: Global, history: &History) -> Result<Vec<Option<Run>>, AllocError> {
@@ -37,11 +44,106 @@ pub fn last_runs(alloc: Global, history: &History) -> Result<Vec<Option<Run>>, A
     Ok(last)
 }
 
-// What a recording shows of a race. A command that lists its own output has no story of two.
-fn evidence_of(race: &Race, story: Option<&Story>) -> Evidence {
+/// What is known of the commands that failed.
+#[derive(Drop)]
+struct Failed {
+    // Each run that failed, in the order of the events.
+    runs: Vec<rev_suspects::Failure>,
+    // The suspects of the first of these, in the same order.
+    suspects: Vec<rev_suspects::Suspect>,
+    // For how many of them suspects were looked for.
+    looked: usize,
+}
+
+// Of how many commands that failed suspects are looked for in a build of so many edges: each has up to as many as there
+// are edges.
+fn most_looked(edges: u32) -> usize {
+    usize::max(LEAST_LOOKED, PAIRS / usize::max(edges as usize, 1))
+}
+
+// How many suspects of each of so many failed commands are told that its error does not name, in a build of so many
+// edges.
+fn most_told(edges: u32, failures: usize) -> usize {
+    usize::max(
+        LEAST_TOLD,
+        usize::saturating_mul(edges as usize, 4) / usize::max(failures, 1),
+    )
+}
+
+// What is known of the commands that failed in a history, whose manifest was read from these files.
+fn failed_in(alloc: Global, history: &History, files: &[Name]) -> Result<Failed, AllocError> {
+    let looked = most_looked(history.graph().edges());
+    Ok(Failed {
+        runs: failures(alloc, history)?,
+        suspects: suspects(alloc, history, files, looked)?,
+        looked,
+    })
+}
+
+// A user and a maker as one number.
+fn pair_key(user: u32, maker: u32) -> u64 {
+    u64::from(user) << 32 | u64::from(maker)
+}
+
+/// What is known of users whose list is of before.
+#[derive(Drop)]
+struct Before {
+    // For each edge the number of the event by which it failed last.
+    failed: IndexMap<u32, u32>,
+    // How far a suspect was, by the failed edge and its own.
+    progress: IndexMap<u64, Progress>,
+}
+
+// What is known of the commands that failed, by their edges.
+fn before_of(alloc: Global, failed: &Failed) -> Result<Before, AllocError> {
+    let mut numbers = IndexMap::new(alloc);
+    let mut progress = IndexMap::new(alloc);
+    let mut rest = failed.suspects.as_slice();
+    for failure in &failed.runs {
+        numbers.insert(failure.edge, failure.number)?;
+        let (of, later) = split_of(failure, rest);
+        for suspect in of {
+            progress.insert(pair_key(failure.edge, suspect.maker), suspect.progress)?;
+        }
+        rest = later;
+    }
+    Ok(Before {
+        failed: numbers,
+        progress,
+    })
+}
+
+// What a recording shows of a race. A command that lists its own output has no story of two, and one whose list is of
+// before did not end well here.
+fn evidence_of(
+    race: &Race,
+    story: Option<&Story>,
+    basis: Option<Basis>,
+    before: &Before,
+) -> Evidence {
+    if race.maker == race.user {
+        return Evidence::Own;
+    }
+    if basis == Some(Basis::Earlier) {
+        return Evidence::Earlier(ListedBefore {
+            failed: before.failed.get(&race.user).copied(),
+            maker: before
+                .progress
+                .get(&pair_key(race.user, race.maker))
+                .copied(),
+        });
+    }
     match story {
-        Some(story) if race.maker != race.user => Evidence::Story(*story),
-        _ => Evidence::Own,
+        Some(story) => Evidence::Story(*story),
+        None => Evidence::Own,
+    }
+}
+
+// What stands at an edge.
+fn basis_at(bases: &[Option<Basis>], edge: u32) -> Option<Basis> {
+    match bases.get(edge as usize) {
+        Some(basis) => *basis,
+        None => None,
     }
 }
 
@@ -53,23 +155,28 @@ fn mend_of<'a>(graph: &'a Graph, kind: Kind, maker: u32) -> Option<&'a Name> {
     }
 }
 
-/// The races of a history, whose manifest was read from these files.
-pub fn told_races<'a>(
+// The races by what edges list in a history, whose manifest was read from these files.
+fn listed_races<'a>(
     alloc: Global,
     history: &'a History,
     files: &[Name],
+    failed: &Failed,
 ) -> Result<Vec<Told<'a>>, AllocError> {
     let races = races(alloc, history, files)?;
     let stories = stories(alloc, history, &races)?;
+    let bases = bases(alloc, history)?;
+    let before = before_of(alloc, failed)?;
     let mut told = Vec::new(alloc);
     for (place, race) in races.iter().enumerate() {
         if let Some(path) = path_of(history, race) {
+            let basis = basis_at(&bases, race.user);
             told.push(Told {
                 kind: race.kind,
                 maker: race.maker,
                 user: race.user,
                 path,
-                evidence: evidence_of(race, stories.get(place)),
+                basis,
+                evidence: evidence_of(race, stories.get(place), basis, &before),
                 mend: mend_of(history.graph(), race.kind, race.maker),
             })?;
         }
@@ -128,7 +235,15 @@ fn names_in<'a>(
     Ok(Vec::new(alloc))
 }
 
-// Tells a command that failed: what its error names goes to the races.
+// Counts a suspect that is not told.
+fn count_untold(untold: &mut Untold, progress: Progress) {
+    match progress {
+        Progress::Running => untold.running = u64::saturating_add(untold.running, 1),
+        Progress::ToRun => untold.to_run = u64::saturating_add(untold.to_run, 1),
+    }
+}
+
+// Tells a command that failed, with so many suspects that its error does not name: what it names goes to the races.
 fn told_failure<'a>(
     alloc: Global,
     graph: &'a Graph,
@@ -136,10 +251,15 @@ fn told_failure<'a>(
     suspects: &[rev_suspects::Suspect],
     names: &[Option<&'a Name>],
     entry: Option<&'a Entry>,
+    most: usize,
     races: &mut Vec<Told<'a>>,
 ) -> Result<Failure<'a>, AllocError> {
     let before = races.len();
     let mut others = Vec::new(alloc);
+    let mut untold = Untold {
+        running: 0,
+        to_run: 0,
+    };
     for (place, suspect) in suspects.iter().enumerate() {
         match names.get(place) {
             Some(Some(path)) => races.push(Told {
@@ -147,13 +267,15 @@ fn told_failure<'a>(
                 maker: suspect.maker,
                 user: failure.edge,
                 path: *path,
+                basis: None,
                 evidence: Evidence::Error(suspect.progress),
                 mend: mend_of(graph, Kind::Race, suspect.maker),
             })?,
-            _ => others.push(Suspect {
+            _ if others.len() < most => others.push(Suspect {
                 maker: suspect.maker,
                 progress: suspect.progress,
             })?,
+            _ => count_untold(&mut untold, suspect.progress),
         }
     }
     Ok(Failure {
@@ -163,6 +285,7 @@ fn told_failure<'a>(
         printed: entry.map(printed_in),
         named: races.len().saturating_sub(before),
         others,
+        untold: Some(untold),
     })
 }
 
@@ -174,37 +297,83 @@ fn command_of<'a>(graph: &'a Graph, edge: u32) -> &'a [u8] {
     b""
 }
 
-/// The commands that failed in a history, whose manifest was read from these files, with what they printed. What their
-/// errors name is added to the races.
-pub fn told_failures<'a>(
+// The suspects of a run that failed, and those of later runs.
+fn split_of<'b>(
+    failure: &rev_suspects::Failure,
+    suspects: &'b [rev_suspects::Suspect],
+) -> (&'b [rev_suspects::Suspect], &'b [rev_suspects::Suspect]) {
+    let count = suspects
+        .iter()
+        .take_while(|suspect| suspect.failed == failure.number)
+        .count();
+    suspects.split_at(count)
+}
+
+// The commands that failed, with what they printed. What their errors name is added to the races.
+fn told_failures<'a>(
     alloc: Global,
-    history: &'a History,
-    files: &[Name],
+    graph: &'a Graph,
+    failed: &Failed,
     entries: &'a [Entry],
     races: &mut Vec<Told<'a>>,
 ) -> Result<Vec<Failure<'a>>, AllocError> {
     let mut told = Vec::new(alloc);
-    let failures = failures(alloc, history)?;
-    if failures.is_empty() {
+    if failed.runs.is_empty() {
         return Ok(told);
     }
-    let graph = history.graph();
-    let all = suspects(alloc, history, files)?;
     let components = last_components(alloc, graph)?;
     let mut places = places_of(alloc, entries)?;
-    let mut rest = all.as_slice();
-    for failure in &failures {
-        let count = rest
-            .iter()
-            .take_while(|suspect| suspect.failed == failure.number)
-            .count();
-        let (of, later) = rest.split_at(count);
+    let most = most_told(graph.edges(), failed.runs.len());
+    let mut rest = failed.suspects.as_slice();
+    for (place, failure) in failed.runs.iter().enumerate() {
+        let (of, later) = split_of(failure, rest);
         rest = later;
         let entry = next_entry(entries, &mut places, failure.edge);
         let names = names_in(alloc, graph, &components, entry, of)?;
-        told.push(told_failure(alloc, graph, failure, of, &names, entry, races)?)?;
+        let mut one = told_failure(alloc, graph, failure, of, &names, entry, most, races)?;
+        if place >= failed.looked {
+            one.untold = None;
+        }
+        told.push(one)?;
     }
     Ok(told)
+}
+
+// Whether a race by a list of before is among those that errors name, each by its user and its maker.
+fn is_named(named: &IndexMap<u64, &Name>, race: &Told<'_>) -> bool {
+    match (race.evidence, named.get(&pair_key(race.user, race.maker))) {
+        (Evidence::Earlier(_), Some(path)) => **path == *race.path,
+        _ => false,
+    }
+}
+
+/// What is told of races and of commands that failed.
+#[derive(Drop)]
+pub struct Findings<'a> {
+    /// The races by lists, and then those that errors name. What is both is told once, as the error names it.
+    pub races: Vec<Told<'a>>,
+    /// The commands that failed.
+    pub failures: Vec<Failure<'a>>,
+}
+
+/// What is told of a history, whose manifest was read from these files, with what its failed commands printed.
+pub fn findings_in<'a>(
+    alloc: Global,
+    history: &'a History,
+    files: &[Name],
+    entries: &'a [Entry],
+) -> Result<Findings<'a>, AllocError> {
+    let failed = failed_in(alloc, history, files)?;
+    let mut named = Vec::new(alloc);
+    let failures = told_failures(alloc, history.graph(), &failed, entries, &mut named)?;
+    let mut races = listed_races(alloc, history, files, &failed)?;
+    let mut paths = IndexMap::new(alloc);
+    for race in &named {
+        paths.insert(pair_key(race.user, race.maker), race.path)?;
+    }
+    races.retain(|race| !is_named(&paths, race));
+    races.extend_from_slice(&named)?;
+    Ok(Findings { races, failures })
 }
 
 // An edge by its number.

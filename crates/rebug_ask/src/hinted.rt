@@ -5,12 +5,11 @@ ghost use Rattle.rev_ranks.specs.Graph.{graph_of};
 ghost use Rattle.rev_waits.specs.Waits.{phony_lists};
 
 use indexmap::{IndexMap, IndexSet};
-use rev_dirty::deps_record;
 use rev_fields::{LineFault, path, read_fields};
 use rev_graph::Graph;
 use rev_history::History;
 use rev_paths::Name;
-use rev_races::unlisted;
+use rev_races::listed;
 use rev_races_text::{Hint, Shown, Sources};
 use rev_waits::{makers, phony_steps, steps, waited_for};
 use std::alloc::{AllocError, Global};
@@ -109,9 +108,8 @@ struct Search<'a, 'b> {
     history: &'a History,
     names: &'a IndexMap<Name, Name>,
     sources: &'b Sources<'a>,
-    // The edges that make the manifest, and those without a list.
+    // The edges that make the manifest.
     early: &'b [bool],
-    unlisted: &'b [bool],
 }
 
 // Adds the hints of an edge: each listed path that is another name of what an edge makes for which it does not wait.
@@ -128,11 +126,10 @@ fn add_hints<'a>(
     requires phony { graph_of phony.now ≡ phony_lists search.now.history.now.timeline.manifest.builds }
 {
     let graph = search.history.graph();
-    let Some(record) = deps_record(graph, search.history.cells(), user) else {
+    let Some(paths) = listed(search.history, user) else {
         return Ok(());
     };
-    let paths = record.paths.as_slice();
-    if is_marked(search.unlisted, user) || !has_other(search.names, paths) {
+    if !has_other(search.names, paths) {
         return Ok(());
     }
     let waited = waited_for(alloc, graph, steps, user)?;
@@ -161,7 +158,7 @@ fn add_hints<'a>(
 }
 
 /// The hints of a history, whose manifest was read from these files, in the order of their users and of the paths in
-/// what these list. What makes one of the files runs before all else. An edge lists nothing where races do not judge it.
+/// what these list, as for races. What makes one of the files runs before all else.
 pub fn hints_in<'a>(
     alloc: Global,
     history: &'a History,
@@ -177,13 +174,11 @@ pub fn hints_in<'a>(
     let steps = steps(alloc, graph)?;
     let phony = phony_steps(alloc, graph)?;
     let early = makers_of_files(alloc, graph, &phony, files)?;
-    let unlisted = marks_of(alloc, graph.edges(), &unlisted(alloc, history)?)?;
     let search = Search {
         history,
         names,
         sources,
         early: &early,
-        unlisted: &unlisted,
     };
     for user in 0..graph.edges() {
         add_hints(alloc, &search, &steps, &phony, user, &mut hints)?;

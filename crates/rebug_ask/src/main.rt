@@ -9,7 +9,6 @@ mod mended;
 mod observed;
 mod page;
 mod picturing;
-mod printed;
 mod provoked;
 mod reporting;
 mod statements;

@@ -29,20 +29,24 @@ impl Unprovoked {
     pub fn sentence(self) -> &'static str {
         match self {
             Unprovoked::NoRace => {
-                "no race has that number; `races` tells the number of each, an own output has no other command, and where a race was mended its user waits"
+                "no race has that number; `races` tells the number of each, an own output has no other command, and \
+                where a race was mended its user waits"
             }
             Unprovoked::Cycle => {
                 "that is a cycle: its maker waits for its user, so the user comes first in every build already"
             }
             Unprovoked::Ordered => { "the user waits for the maker, so no build has it come first" }
             Unprovoked::Unwritable => {
-                "no output of the user can be written on a build line (each has a `|` or a line's end), so no order can name it"
+                "no output of the user can be written on a build line (each has a `|` or a line's end), so no order \
+                can name it"
             }
             Unprovoked::Unsound => {
-                "the maker's build statement makes other commands too, so that no line there puts this one alone behind the user"
+                "the maker's build statement makes other commands too, so that no line there puts this one alone \
+                behind the user"
             }
             Unprovoked::Elsewhere => {
-                "the maker's build statement stands in a file that the recorder copied from outside of the build folder, where patch does not find it"
+                "the maker's build statement stands in a file that the recorder copied from outside of the build \
+                folder, where patch does not find it"
             }
         }
     }

@@ -1,12 +1,12 @@
 //! What is reported of a recording that was replayed.
-use crate::found::{told_changes, told_clashes, told_failures, told_races};
+use crate::found::{Findings, findings_in, told_changes, told_clashes};
 use crate::hinted::hints_in;
-use crate::printed::Entry;
 use indexmap::IndexMap;
 use rev_desk::Desk;
 use rev_judged::{Unjudged, not_judged};
 use rev_paths::Name;
-use rev_races_text::{Failure, Replayed, Report, Run, Sources, Told};
+use rev_printed::Entry;
+use rev_races_text::{Replayed, Report, Run, Sources};
 use rev_recording::refused_count;
 use std::alloc::{AllocError, Global};
 
@@ -48,11 +48,11 @@ fn report_with<'a>(
     alloc: Global,
     desk: &'a Desk,
     basis: &Basis<'a>,
-    races: Vec<Told<'a>>,
-    failures: Vec<Failure<'a>>,
+    found: Findings<'a>,
     judged: Unjudged,
 ) -> Result<Report<'a>, AllocError> {
     let Unjudged { plain, collectors } = judged;
+    let Findings { races, failures } = found;
     Ok(Report {
         replayed: replayed_of(desk, basis),
         failures,
@@ -81,10 +81,9 @@ pub fn report_of<'a>(
     basis: &Basis<'a>,
 ) -> Result<Report<'a>, AllocError> {
     let history = desk.history();
-    let mut races = told_races(alloc, history, basis.files)?;
-    let failures = told_failures(alloc, history, basis.files, basis.entries, &mut races)?;
+    let found = findings_in(alloc, history, basis.files, basis.entries)?;
     let judged = not_judged(alloc, history)?;
-    report_with(alloc, desk, basis, races, failures, judged)
+    report_with(alloc, desk, basis, found, judged)
 }
 
 /// Adds the hints to a report.

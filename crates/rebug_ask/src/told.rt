@@ -6,7 +6,6 @@ use crate::found::{last_runs, witness_of};
 use crate::hinted::names_in;
 use crate::mended::mend_text;
 use crate::observed::{Observed, observed_in, observed_sentence, read_observed};
-use crate::printed::entries_in;
 use crate::provoked::provoke_text;
 use crate::reporting::{Basis, add_hints, report_of};
 use rev_desk::Desk;
@@ -96,7 +95,7 @@ fn answer_of(
     }
     let files = names_of(alloc, &inquiry.read.files)?;
     let runs = last_runs(alloc, desk.history())?;
-    let entries = entries_in(alloc, desk.history().graph(), inquiry.printed)?;
+    let entries = rev_printed::read(alloc, desk.history().graph(), inquiry.printed)?;
     let names = names_in(alloc, inquiry.names)?;
     let basis = Basis {
         sources: Sources {

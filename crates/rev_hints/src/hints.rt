@@ -206,8 +206,9 @@ fn hints_by(
     cells: &Cells,
     changes: &IndexMap<Name, Changed>,
 ) -> Result<Vec<ChangeHint>, AllocError>
-    ensures { IfOk result (λ hints. AreHintsBy graph.now.manifest.builds cells.now.state
-        (change_in changes.now.entries) (map hint_value hints.items)) }
+    ensures { IfOk result (λ hints. AreHintsBy graph.now.manifest.builds
+        (recorded_paths graph.now.manifest.builds cells.now.state) (change_in changes.now.entries)
+        (map hint_value hints.items)) }
 {
     let mut hints = Vec::new(alloc);
     if changes.is_empty() {

@@ -1,10 +1,13 @@
 -- The lines of races, clashes and hints.
-use Rattle.std.specs.Prelude.{ℕ, ◌-◌, ◌==◌, nat_le, if◌then◌else◌, List, [], ◌∷◌, ◌++◌, Option, Some, None, bytes_eq, codes, decimal}
+use Rattle.std.specs.Prelude.{ℕ, ◌-◌, ◌==◌, nat_le, if◌then◌else◌, List, [], ◌∷◌, ◌++◌, Option, Some, None, bytes_eq, codes, decimal, slice_get}
+use Rattle.std.specs.Option.{option_map}
+use Rattle.rev_clashes.specs.Clashes.{path_in}
 use Rattle.rev_clashes.specs.declared.side_file.SideFile.{SideFile}
 use Rattle.rev_clashes.specs.declared.side_file.SideFile.TheVariants.{Depfile, ResponseFile}
 use Rattle.rev_races.specs.declared.race.Kind.{Kind}
 use Rattle.rev_races.specs.declared.race.Kind.TheVariants.{Race, Cycle, Own}
-use Rattle.rev_races_text.specs.Edges.{line_if, placed}
+use Rattle.rev_manifest.specs.Manifest.{BuildValue}
+use Rattle.rev_races_text.specs.Edges.{line_if, placed, placed_at, words_if}
 use Rattle.rev_races_text.specs.Happened.{here_line}
 use Rattle.rev_races_text.specs.Names.{name_if, written, written_if}
 use Rattle.rev_races_text.specs.declared.edges.Edge.{Edge}
@@ -14,6 +17,7 @@ use Rattle.rev_races_text.specs.declared.others.Hint.{Hint}
 use Rattle.rev_races_text.specs.declared.names.Shown.{Shown}
 use Rattle.rev_races_text.specs.declared.race.Evidence.{Evidence}
 use Rattle.rev_races_text.specs.declared.race.Evidence.TheVariants as evidence
+use Rattle.rev_races_text.specs.declared.race.ListedBefore.{ListedBefore}
 use Rattle.rev_suspects.specs.declared.suspected.Progress.{Progress}
 use Rattle.rev_suspects.specs.declared.suspected.Progress.TheVariants as progress
 use Rattle.rev_shown.specs.Shown.{shown}
@@ -52,13 +56,27 @@ abbrev pub progress_words : Progress → List ℕ
 progress_words progress.Running = codes "was running"
 progress_words progress.ToRun = codes "was still to run"
 
+-- how the user's command ended, which did not end well
+abbrev pub user_words : Option ℕ → List ℕ
+user_words None = codes "the user did not end well"
+user_words (Some number) = codes "the user failed at " ++ decimal number
+
+-- how far the maker was then, where that is known
+abbrev pub maker_words : Option Progress → List ℕ
+maker_words None = []
+maker_words (Some progress) = codes ", and the maker " ++ progress_words progress ++ codes " when it began"
+
+-- what is known where the list is of before: `    here: the user failed at 9; it listed this when it was built before`
+unfoldable pub before_line : ListedBefore → List ℕ
+before_line l =
+    codes "    here: " ++ user_words l.failed ++ maker_words l.maker
+    ++ codes "; it listed this when it was built before\n"
+
 -- what this recording shows: what happened with two runs, or of what it is known where the user failed
 abbrev pub evidence_line : Evidence → List ℕ → List ℕ
 evidence_line evidence.Own path = []
 evidence_line (evidence.Story story) path = here_line story
-evidence_line (evidence.Earlier number) path =
-    codes "    here: the user failed at " ++ decimal number
-    ++ codes "; it listed this when it was built before\n"
+evidence_line (evidence.Earlier listed) path = before_line listed
 evidence_line (evidence.Error progress) path =
     codes "    here: the maker " ++ progress_words progress ++ codes " when the user began; its error names "
     ++ shown path ++ codes "\n"
@@ -94,6 +112,22 @@ other_words edge file = codes " and of " ++ placed edge ++ codes ": " ++ outcome
 
 abbrev pub clash_line : ClashLine → List ℕ
 clash_line c = first_words c.path c.file c.first ++ other_words c.other c.file
+
+-- the same by numbers: the path is the one that the rule of the first edge says
+abbrev pub side_path : SideFile → Option BuildValue → Option (List ℕ)
+side_path kind build = option_map (path_in kind) build
+
+abbrev pub first_at : SideFile → List BuildValue → List (List ℕ × List ℕ) → ℕ → List ℕ
+first_at kind builds files first =
+    codes "clash " ++ words_if (side_path kind (slice_get builds first)) ++ codes ": " ++ whose kind
+    ++ placed_at builds files first
+
+abbrev pub other_at : SideFile → List BuildValue → List (List ℕ × List ℕ) → ℕ → List ℕ
+other_at kind builds files other =
+    codes " and of " ++ placed_at builds files other ++ codes ": " ++ outcome kind ++ codes "\n"
+
+abbrev pub clash_at : SideFile → List BuildValue → List (List ℕ × List ℕ) → ℕ → ℕ → List ℕ
+clash_at kind builds files first other = first_at kind builds files first ++ other_at kind builds files other
 
 -- HINTS
 -- `hint main.o (build.ninja:19) lists /b/version.h`

@@ -37,8 +37,19 @@ pub struct Failure<'a> {
     pub printed: Option<Printed<'a>>,
     /// How many suspects its error names. They are told as races.
     pub named: usize,
-    /// The other suspects.
+    /// The first of the other suspects.
     pub others: Vec<Suspect>,
+    /// How many more there are; none where suspects were not looked for.
+    pub untold: Option<Untold>,
+}
+
+/// How many suspects are counted and not told.
+#[derive(Clone, Copy)]
+pub struct Untold {
+    /// Those that ran when the failed command began.
+    pub running: u64,
+    /// Those that were still to run.
+    pub to_run: u64,
 }
 
 /// What a command printed.
@@ -123,6 +134,23 @@ impl<'a> Failure<'a> {
             }
         }
         Ok(lines)
+    }
+
+    /// How many suspects are counted and not told that were so far.
+    pub(crate) fn untold_of(&self, progress: Progress) -> u64 {
+        match (self.untold, progress) {
+            (Some(untold), Progress::Running) => untold.running,
+            (Some(untold), Progress::ToRun) => untold.to_run,
+            (None, _) => 0,
+        }
+    }
+
+    /// How many suspects it has; none where they were not looked for.
+    pub(crate) fn suspects(&self) -> Option<u64> {
+        let untold = self.untold?;
+        let told = u64::saturating_add(self.named as u64, self.others.len() as u64);
+        let rest = u64::saturating_add(untold.running, untold.to_run);
+        Some(u64::saturating_add(told, rest))
     }
 
     /// How many bytes more it printed than the recording has.

@@ -8,7 +8,7 @@ use crate::report::Report;
 use rev_clashes::SideFile;
 use rev_paths::Name;
 use rev_races::{Happened, Kind};
-use rev_suspects::Progress;
+use rev_suspects::{Basis, Progress};
 use serde::{Described, Serialize, Serializer};
 use std::alloc::{AllocError, Global};
 
@@ -40,6 +40,7 @@ struct RaceObject<'a> {
     maker: Edge<'a>,
     user: Edge<'a>,
     here: Option<&'static str>,
+    basis: Option<&'static str>,
     mend: Option<Shown<'a>>,
 }
 
@@ -51,6 +52,7 @@ struct FailedObject<'a> {
     command: Text<'a>,
     lines: Vec<Text<'a>>,
     left: u64,
+    suspects: Option<u64>,
 }
 
 // A command that ran and was not judged.
@@ -117,8 +119,24 @@ fn here_word(evidence: Evidence) -> Option<&'static str> {
     match evidence {
         Evidence::Own => None,
         Evidence::Story(story) => Some(happened_word(story.happened)),
-        Evidence::Earlier(_) => Some("failed"),
+        Evidence::Earlier(listed) => match listed.maker {
+            Some(progress) => Some(progress_word(progress)),
+            None => Some("failed"),
+        },
         Evidence::Error(progress) => Some(progress_word(progress)),
+    }
+}
+
+// The word of what a race rests on: the list of the user, or its error.
+fn basis_word(told: &Told<'_>) -> Option<&'static str> {
+    if let Evidence::Error(_) = told.evidence {
+        return Some("error");
+    }
+    match told.basis {
+        Some(Basis::Finish) => Some("finish"),
+        Some(Basis::Record) => Some("record"),
+        Some(Basis::Earlier) => Some("earlier"),
+        None => None,
     }
 }
 
@@ -144,6 +162,7 @@ fn push_race<'a>(
         maker: sources.maker(told),
         user: sources.user(told),
         here: here_word(told.evidence),
+        basis: basis_word(told),
         mend: shown_if(told.mend),
     };
     push_object(alloc, text, race_word(told), &race)
@@ -166,6 +185,7 @@ fn push_suspect<'a>(
         maker,
         user: sources.edge(failure.edge),
         here: Some(progress_word(suspect.progress)),
+        basis: None,
         mend: maker.output,
     };
     push_object(alloc, text, "suspect", &race)
@@ -184,6 +204,7 @@ fn push_failure<'a>(
         command: Text(failure.command),
         lines: failure.lines(alloc)?,
         left: failure.left(),
+        suspects: failure.suspects(),
     };
     push_object(alloc, text, "failed", &failed)
 }

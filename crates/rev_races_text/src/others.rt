@@ -1,6 +1,8 @@
 //! Clashes and hints.
-ghost use Rattle.std.specs.Prelude.{◌≡◌, ◌++◌, Some, OnOk};
-ghost use Rattle.rev_races_text.specs.Lines.{change_line, changed_words, clash_line, first_words, hint_line, lists_words, made_words, other_words, outcome, ran_words, whose};
+ghost use Rattle.std.specs.Prelude.{◌≡◌, ◌++◌, Some, slice_get, OnOk};
+ghost use Rattle.rev_manifest.specs.Seen.{seen_files};
+ghost use Rattle.rev_races_text.specs.Edges.{bytes_if, placed, placed_at};
+ghost use Rattle.rev_races_text.specs.Lines.{change_line, changed_words, clash_at, clash_line, first_words, hint_line, lists_words, made_words, other_words, outcome, ran_words, side_path, whose};
 
 use crate::edges::{Edge, Sources};
 use crate::names::{NameIf, Shown};
@@ -101,7 +103,13 @@ impl Change<'_> {
 
 impl<'a> Sources<'a> {
     /// A clash as it is told.
-    pub fn clash(&self, clash: &Clash) -> ClashLine<'a> {
+    #[tactic(auto, using(crate::proofs::EdgeLemmas::placed_is))]
+    pub fn clash(&self, clash: &Clash) -> ClashLine<'a>
+        ensures file { result.file ≡ clash.now.kind }
+        ensures path { bytes_if result.path ≡ side_path clash.now.kind (slice_get self.now.builds.now clash.now.first) }
+        ensures first { placed result.first ≡ placed_at self.now.builds.now (seen_files self.now.files.now) clash.now.first }
+        ensures other { placed result.other ≡ placed_at self.now.builds.now (seen_files self.now.files.now) clash.now.other }
+    {
         ClashLine {
             file: clash.kind,
             path: self.side_file(clash.kind, clash.first),
@@ -111,7 +119,9 @@ impl<'a> Sources<'a> {
     }
 
     // The path of an edge's file of a kind, as its rule says; none where there is no such edge.
-    fn side_file(&self, kind: SideFile, edge: u32) -> Option<Shown<'a>> {
+    fn side_file(&self, kind: SideFile, edge: u32) -> Option<Shown<'a>>
+        ensures { bytes_if result ≡ side_path kind (slice_get self.now.builds.now edge) }
+    {
         match self.builds.get(edge as usize) {
             Some(build) => Some(Shown(kind.path_in(build))),
             None => None,
@@ -259,15 +269,19 @@ impl fmt::Display for Change<'_> {
     }
 }
 
-/// Adds the line of a clash.
+/// Adds the line of a clash, with the path that the rule of its first edge says.
 ///
 /// # Errors
 /// [`AllocError`] only where an allocation was refused.
+#[tactic(auto, using(crate::proofs::EdgeLemmas::clash_is))]
 pub fn push_clash(
     text: &mut Vec<u8>,
     sources: &Sources<'_>,
     clash: &Clash,
-) -> Result<(), AllocError> {
+) -> Result<(), AllocError>
+    ensures { OnOk result (text.new.items ≡ text.old.items ++ clash_at clash.now.kind sources.now.builds.now
+        (seen_files sources.now.files.now) clash.now.first clash.now.other) }
+{
     let line = sources.clash(clash);
     let words = format!(in *text.allocator(); "{line}")?;
     text.extend_from_slice(words.as_bytes())

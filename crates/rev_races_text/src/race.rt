@@ -1,14 +1,23 @@
 //! Races, cycles and own paths.
 ghost use Rattle.std.specs.Prelude.{◌≡◌, Some, ◌==◌, bytes_eq};
-ghost use Rattle.rev_races_text.specs.Lines.{evidence_line, kind_word, maker_line, mend_line, more_line, progress_words, through_words, user_ends, user_line};
+ghost use Rattle.rev_races_text.specs.Lines.{before_line, evidence_line, kind_word, maker_line, maker_words, mend_line, more_line, progress_words, through_words, user_ends, user_line, user_words};
 
 use crate::edges::{Edge, LineIf, Sources};
 use crate::here::HereLine;
 use crate::names::{NameIf, Shown, Written, WrittenIf};
 use rev_paths::Name;
 use rev_races::{Kind, Story};
-use rev_suspects::Progress;
+use rev_suspects::{Basis, Progress};
 use std::fmt;
+
+/// What is known of a user whose command began here and did not end well, so that its list is that of an earlier build.
+#[derive(Clone, Copy)]
+pub struct ListedBefore {
+    /// The number of the event by which it failed, where it did.
+    pub failed: Option<u32>,
+    /// How far the maker was when it began, where neither waits for the other and the maker was not through.
+    pub maker: Option<Progress>,
+}
 
 /// What this recording shows of a race.
 #[derive(Clone, Copy)]
@@ -17,8 +26,8 @@ pub enum Evidence {
     Own,
     /// The list is of this recording, or of an earlier build that this one had not to do again. What happened here.
     Story(Story),
-    /// The user failed, at the event of this number, and the list is that of an earlier build.
-    Earlier(u32),
+    /// The user did not end well here, and the list is that of an earlier build.
+    Earlier(ListedBefore),
     /// The user failed, its error names the path, and the maker was not settled when the user began.
     Error(Progress),
 }
@@ -34,6 +43,8 @@ pub struct Told<'a> {
     pub user: u32,
     /// The path.
     pub path: &'a Name,
+    /// On what the user's list rests; none where the error of the user names the path.
+    pub basis: Option<Basis>,
     /// What this recording shows of it.
     pub evidence: Evidence,
     /// The output that is to be added to the user's order-only inputs, where that mends it.
@@ -170,6 +181,53 @@ impl fmt::Display for UserLine<'_> {
     }
 }
 
+// How the command of a user ended that did not end well.
+#[derive(Clone, Copy)]
+struct UserWords(Option<u32>);
+
+// How far a maker was then, where that is known.
+#[derive(Clone, Copy)]
+struct MakerWords(Option<Progress>);
+
+impl fmt::Display for UserWords {
+    ghost output = { λ w. Some (user_words w.0) };
+
+    fn fmt<W: fmt::Write>(&self, f: &mut fmt::Formatter<W>) -> fmt::Result {
+        match self.0 {
+            Some(number) => write!(f, "the user failed at {number}"),
+            None => write!(f, "the user did not end well"),
+        }
+    }
+}
+
+impl fmt::Display for MakerWords {
+    ghost output = { λ w. Some (maker_words w.0) };
+
+    fn fmt<W: fmt::Write>(&self, f: &mut fmt::Formatter<W>) -> fmt::Result {
+        match self.0 {
+            Some(progress) => {
+                let words = progress_words(progress);
+                write!(f, ", and the maker {words} when it began")
+            }
+            None => Ok(()),
+        }
+    }
+}
+
+impl fmt::Display for ListedBefore {
+    ghost output = { λ l. Some (before_line l) };
+
+    #[tactic(auto, unfolding(crate::specs::Lines::before_line))]
+    fn fmt<W: fmt::Write>(&self, f: &mut fmt::Formatter<W>) -> fmt::Result {
+        let user = UserWords(self.failed);
+        let maker = MakerWords(self.maker);
+        write!(
+            f,
+            "    here: {user}{maker}; it listed this when it was built before\n"
+        )
+    }
+}
+
 // How far the maker was.
 fn progress_words(progress: Progress) -> &'static str
     ensures { result.now ≡ progress_words progress }
@@ -188,10 +246,7 @@ impl fmt::Display for EvidenceLine<'_> {
         match self.evidence {
             Evidence::Own => Ok(()),
             Evidence::Story(story) => write!(f, "{}", HereLine(story)),
-            Evidence::Earlier(number) => write!(
-                f,
-                "    here: the user failed at {number}; it listed this when it was built before\n"
-            ),
+            Evidence::Earlier(listed) => write!(f, "{listed}"),
             Evidence::Error(progress) => {
                 let words = progress_words(progress);
                 write!(

@@ -1,7 +1,7 @@
 //! What is told of a recording, in words.
-use crate::counts::{NotJudged, Tally};
+use crate::counts::{Counted, NotJudged, Tally};
 use crate::edges::{Edge, Sources};
-use crate::failed::{FailedLine, Failure, Numbered, PrintedLine, Suspect};
+use crate::failed::{FailedLine, Failure, Numbered, PrintedLine};
 use crate::names::{Shown, Text};
 use crate::race::{EvidenceLine, MakerLine, MendLine, More, Told, UserLine};
 use crate::report::Report;
@@ -158,41 +158,77 @@ fn push_printed<'a>(
     )
 }
 
+// What stands behind how many suspects are not told.
+fn left_words(most: usize, untold: u64) -> &'static str {
+    if most == usize::MAX {
+        return " more";
+    }
+    if untold == 0 {
+        return " more (--all tells them)";
+    }
+    " more (--all tells more)"
+}
+
+// Adds how many suspects are not told behind those that are told, if some are.
+fn push_left(
+    text: &mut String,
+    progress: Progress,
+    told: usize,
+    left: u64,
+    after: &'static str,
+) -> Result<(), AllocError> {
+    if told == 0 && left == 0 {
+        return Ok(());
+    }
+    if told == 0 {
+        let commands = Counted {
+            count: left,
+            one: "command",
+            many: "commands",
+        };
+        let head = progress_head(progress);
+        return write!(text, "{head}{commands}\n");
+    }
+    let more = More {
+        before: " and ",
+        more: left,
+        after,
+    };
+    write!(text, "{more}\n")
+}
+
 // Adds the suspects of a failed command that no error names and that were so far, numbered from `number`.
 fn push_suspects<'a>(
     text: &mut String,
     sources: &Sources<'a>,
-    suspects: &[Suspect],
+    failure: &Failure<'a>,
     progress: Progress,
     number: u64,
     most: usize,
 ) -> Result<(), AllocError> {
     let mut number = number;
-    let mut count = 0usize;
-    for suspect in suspects {
+    let mut told = 0usize;
+    let untold = failure.untold_of(progress);
+    let mut left = untold;
+    for suspect in &failure.others {
         if suspect.progress == progress {
-            if count < most {
+            if told < most {
                 let maker = sources.edge(suspect.maker);
-                write!(
-                    text,
-                    "{}",
-                    if count == 0 {
-                        progress_head(progress)
-                    } else {
-                        ", "
-                    }
-                )?;
-                write!(text, "{}", Numbered { maker, number })?;
+                let before = if told == 0 {
+                    progress_head(progress)
+                } else {
+                    ", "
+                };
+                let numbered = Numbered { maker, number };
+                write!(text, "{before}{numbered}")?;
+                told = usize::saturating_add(told, 1);
+            } else {
+                left = u64::saturating_add(left, 1);
             }
-            count = usize::saturating_add(count, 1);
         }
         number = u64::saturating_add(number, 1);
     }
-    push_more(text, " and ", count, most, " more (--all tells them)")?;
-    if count == 0 {
-        return Ok(());
-    }
-    write!(text, "\n")
+    push_left(text, progress, told, left, left_words(most, untold))
 }
 
 // What stands before suspects that were so far.
@@ -228,16 +264,15 @@ fn push_failure<'a>(
         push_user(text, sources, path, &[*told], number)?;
         number = u64::saturating_add(number, 1);
     }
+    if failure.untold.is_none() {
+        return write!(
+            text,
+            "its suspects are not looked for, since so many commands failed\n"
+        );
+    }
     let few = most_of(all, FEW);
-    push_suspects(
-        text,
-        sources,
-        &failure.others,
-        Progress::Running,
-        other,
-        few,
-    )?;
-    push_suspects(text, sources, &failure.others, Progress::ToRun, other, few)
+    push_suspects(text, sources, failure, Progress::Running, other, few)?;
+    push_suspects(text, sources, failure, Progress::ToRun, other, few)
 }
 
 // The edges of some numbers.

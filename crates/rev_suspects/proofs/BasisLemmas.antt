@@ -7,8 +7,8 @@ use Rattle.rev_history.specs.Timeline.{Timeline, kept_events}
 use Rattle.rev_races.proofs.ListLemmas.{finished-is}
 use Rattle.rev_races.specs.Races.{finished, last_list, recorded, started}
 use Rattle.rev_suspects.specs.Bases.{ListsRestOn, rests_on}
-use Rattle.rev_suspects.specs.declared.bases.Basis.{Basis}
-use Rattle.rev_suspects.specs.declared.bases.Basis.TheVariants as basis
+use Rattle.rev_suspects.specs.declared.resting.Basis.{Basis}
+use Rattle.rev_suspects.specs.declared.resting.Basis.TheVariants as basis
 
 abbrev Paths : Type 0
 Paths = Option (List (List ℕ))

@@ -14,7 +14,7 @@ use Rattle.rev_history.specs.Timeline.{Numbered, Timeline, event_at}
 use Rattle.rev_races.specs.Races.{starts}
 use Rattle.rev_races.specs.Runs.{last_number}
 use Rattle.rev_suspects.specs.Failures.{failed_edge, failure_at, failure_by, failures_of, kept_before, last_start}
-use Rattle.rev_suspects.specs.Suspects.{AreFound, all_suspects, failure_in, list_in, lists_of, no_failure, state_before, suspects_in, suspects_of}
+use Rattle.rev_suspects.specs.Suspects.{AreFound, failure_in, first_suspects, list_in, lists_of, no_failure, state_before, suspects_in, suspects_of}
 use Rattle.rev_cells.specs.State.{State}
 use Rattle.rev_suspects.specs.declared.failed.Failure.{Failure}
 use Rattle.rev_suspects.specs.declared.suspected.Suspect.{Suspect}
@@ -170,16 +170,25 @@ flat-same F (f ∷ fs) (l ∷ ls) long each =
     ap (λ (xs : List Suspect). xs ++ flat_map (λ (l : List Suspect). l) ls) (each 0 (omega arith))
     ∙ ap (λ (xs : List Suspect). F f ++ xs) (flat-same F fs ls (omega (arith, long)) (λ j within. each (suc j) (omega (arith, within))))
 
-pub all-found : (t : Timeline) (files : List (List ℕ)) (failures : List Failure) (ks : List ℕ) (lists : List (Vec Suspect)) (all : List Suspect) → failures ≡ failures_of t → ks ≡ t.kept
-    → all ≡ flat_map (λ (l : List Suspect). l) (lists_of lists) → AreFound t files failures ks lists → all ≡ all_suspects t files
-all-found t files failures ks lists all are whole joined found =
+-- what stands among the first of some runs stands among all
+taken : (n : ℕ) (fs : List Failure) (j : ℕ) → j < length (take n fs) → (failure_in (take n fs) j ≡ failure_in fs j) × (j < length fs)
+taken zero fs j within = absurd (omega (arith, within))
+taken (suc n) [] j within = absurd (omega (arith, within))
+taken (suc n) (f ∷ fs) zero within = (refl, omega arith)
+taken (suc n) (f ∷ fs) (suc j) within = let rest = taken n fs j (omega (arith, within)) in (rest.0, (let less = rest.1 in omega (arith, less)))
+
+pub all-found : (t : Timeline) (files : List (List ℕ)) (most : ℕ) (failures : List Failure) (ks : List ℕ) (lists : List (Vec Suspect)) (all : List Suspect)
+    → failures ≡ take most (failures_of t) → ks ≡ t.kept
+    → all ≡ flat_map (λ (l : List Suspect). l) (lists_of lists) → AreFound t files failures ks lists → all ≡ first_suspects t files most
+all-found t files most failures ks lists all are whole joined found =
     joined
     ∙ flat-same (suspects_of t files) failures (lists_of lists) (length-map lists (λ (v : Vec Suspect). v.items) ∙ found.each)
     (λ j within. found.exact j within
     ∙ ap (λ b. if b then suspects_of t files (failure_in failures j) else [])
     (ap (λ (ns : List ℕ). is_among ns (failure_in failures j).began) whole
     ∙ ap (λ (fs : List Failure). is_among t.kept (failure_in fs j).began) are
-    ∙ each-began t t.kept j (subst (λ (fs : List Failure). j < length fs) are within)))
+    ∙ (let at = taken most (failures_of t) j (subst (λ (fs : List Failure). j < length fs) are within) in
+    ap (λ (f : Failure). is_among t.kept f.began) at.0 ∙ each-began t t.kept j at.1)))
     ∙ ap (flat_map (suspects_of t files)) are
 
 -- A LIST PUT AT A PLACE
@@ -262,6 +271,7 @@ pub grown : (ks : List ℕ) (i n d : ℕ) → i < length ks → get_or ks i d �
 grown ks i n d within is = take_more ks i d within ∙ ap (λ m. take i ks ++ m ∷ []) is
 
 -- where no run failed, there are no suspects
-pub none-failed : (t : Timeline) (files : List (List ℕ)) (failures : List Failure) (none : List Suspect) → failures ≡ failures_of t → length failures ≡ 0 → none ≡ [] → none ≡ all_suspects t files
-none-failed t files [] none are few empty = empty ∙ ap (flat_map (suspects_of t files)) are
-none-failed t files (f ∷ fs) none are few empty = absurd (omega (arith, few))
+pub none-failed : (t : Timeline) (files : List (List ℕ)) (most : ℕ) (failures : List Failure) (none : List Suspect) → failures ≡ take most (failures_of t) → length failures ≡ 0 → none ≡ []
+    → none ≡ first_suspects t files most
+none-failed t files most [] none are few empty = empty ∙ ap (flat_map (suspects_of t files)) are
+none-failed t files most (f ∷ fs) none are few empty = absurd (omega (arith, few))

@@ -4,8 +4,8 @@ use Rattle.std.specs.Option.{option_map}
 use Rattle.rev_graph.specs.Graph.{build_at}
 use Rattle.rev_history.specs.Timeline.{Timeline, kept_events}
 use Rattle.rev_races.specs.Races.{finished, last_list, lists, recorded, started}
-use Rattle.rev_suspects.specs.declared.bases.Basis.{Basis}
-use Rattle.rev_suspects.specs.declared.bases.Basis.TheVariants as basis
+use Rattle.rev_suspects.specs.declared.resting.Basis.{Basis}
+use Rattle.rev_suspects.specs.declared.resting.Basis.TheVariants as basis
 
 -- by whether the edge's command began in these events, and whether it ended well in them
 abbrev pub rests_on : Bool → Bool → Basis

@@ -1,5 +1,5 @@
 -- Suspects: commands that a failed one does not wait for, and that were not through when it began.
-use Rattle.std.specs.Prelude.{◌≡◌, ℕ, ◌<◌, ◌==◌, Bool, true, false, not, ◌&&◌, List, [], ◌++◌, map, filter, length, slice_index_or, if◌then◌else◌}
+use Rattle.std.specs.Prelude.{◌≡◌, ℕ, ◌<◌, ◌==◌, Bool, true, false, not, ◌&&◌, List, [], ◌++◌, map, filter, length, slice_index_or, take, if◌then◌else◌}
 use Rattle.std.specs.Global.{Vec}
 use Rattle.std.specs.List.{flat_map, list_any}
 use Rattle.rev_causal.specs.Machine.{run}
@@ -54,9 +54,9 @@ suspects_in manifest files s f =
 abbrev pub suspects_of : Timeline → List (List ℕ) → Failure → List Suspect
 suspects_of t files f = suspects_in t.manifest files (state_before t f.began) f
 
--- those of all runs that failed, in the order in which they did
-abbrev pub all_suspects : Timeline → List (List ℕ) → List Suspect
-all_suspects t files = flat_map (suspects_of t files) (failures_of t)
+-- those of the first runs that failed, in the order in which they did
+abbrev pub first_suspects : Timeline → List (List ℕ) → ℕ → List Suspect
+first_suspects t files most = flat_map (suspects_of t files) (take most (failures_of t))
 
 -- AS THEY ARE FOUND
 abbrev pub no_failure : Failure

@@ -1,5 +1,5 @@
 //! Runs of commands that failed.
-ghost use Rattle.std.specs.Prelude.{◌≡◌, ◌==◌, ◌<◌, ◌∷◌, ◌++◌, [], ℕ, List, None, length, slice_index_or, All, IfOk, IfSome, OnOk};
+ghost use Rattle.std.specs.Prelude.{◌≡◌, ◌==◌, ◌<◌, ◌∷◌, ◌++◌, [], ℕ, List, None, length, slice_index_or, take, All, IfOk, IfSome, OnOk};
 ghost use Rattle.std.specs.List.{cons_option};
 ghost use Rattle.rev_dirty.specs.Reasons.{holds};
 ghost use Rattle.rev_races.specs.Races.{starts};
@@ -95,6 +95,24 @@ fn add_failure(failures: &mut Vec<Failure>, failure: Option<Failure>) -> Result<
         failures.push(failure)?;
     }
     Ok(())
+}
+
+/// The first of the runs that failed, at most so many.
+///
+/// # Errors
+/// [`AllocError`] only where an allocation was refused.
+pub(crate) fn first_failures(
+    alloc: Global,
+    history: &History,
+    most: usize,
+) -> Result<Vec<Failure>, AllocError>
+    ensures failures { IfOk result (λ failures. failures.items ≡ take most (failures_of history.now.timeline)) }
+    ensures within { IfOk result (λ failures.
+        All (λ f. f.edge < length history.now.timeline.manifest.builds) failures.items) }
+{
+    let mut failures = failures(alloc, history)?;
+    failures.truncate(most);
+    Ok(failures)
 }
 
 /// The runs of commands that failed, by kept events, in the order of these. The kept events are gone through once.

@@ -9,9 +9,9 @@ ghost use Rattle.rev_ranks.specs.Graph.{graph_of};
 ghost use Rattle.rev_ranks.specs.Sets.{IsReversed};
 ghost use Rattle.rev_waits.specs.Waits.{waits};
 ghost use Rattle.rev_races.specs.Races.{names};
-ghost use Rattle.rev_suspects.specs.Suspects.{AreMarkedBy, all_suspects, failure_in, list_in, lists_of, is_at as is_mark_at, is_suspect as is_suspect_of, suspects_at, suspects_in};
+ghost use Rattle.rev_suspects.specs.Suspects.{AreMarkedBy, failure_in, first_suspects, list_in, lists_of, is_at as is_mark_at, is_suspect as is_suspect_of, suspects_at, suspects_in};
 
-use crate::failed::{Failure, failures};
+use crate::failed::{Failure, first_failures};
 use crate::marks::{Ways, both_ways, waited_marks, waiting_marks};
 use crate::past::follow;
 use indexmap::IndexSet;
@@ -272,15 +272,16 @@ fn joined(alloc: Global, lists: &[Vec<Suspect>]) -> Result<Vec<Suspect>, AllocEr
     Ok(all)
 }
 
-// The suspects of all runs that failed, found by another history that goes over the kept events.
+// The suspects of the first runs that failed, found by another history that goes over the kept events.
 fn found_suspects(
     alloc: Global,
     history: &History,
     files: &[Name],
+    most: usize,
 ) -> Result<Vec<Suspect>, AllocError>
-    ensures { IfOk result (λ suspects. suspects.items ≡ all_suspects history.now.timeline files.now) }
+    ensures { IfOk result (λ suspects. suspects.items ≡ first_suspects history.now.timeline files.now most) }
 {
-    let failures = failures(alloc, history)?;
+    let failures = first_failures(alloc, history, most)?;
     let begins = begin_numbers(alloc, &failures)?;
     let ways = both_ways(alloc, history.graph())?;
     let mut lists = empty_lists(alloc, failures.len())?;
@@ -295,13 +296,13 @@ fn found_suspects(
     Ok(all)
 }
 
-/// The suspects of all runs that failed, by kept events, in the order in which they failed; of each run first the
-/// edges whose commands ran when it began, and then those that were still to run, by their numbers. An edge is a
-/// suspect where it has a command and neither of the two waits for the other. What makes one of `files`, from which the
-/// manifest was read, runs before all else, and is none.
+/// The suspects of the first runs that failed, at most of so many, by kept events, in the order in which they failed; of
+/// each run first the edges whose commands ran when it began, and then those that were still to run, by their numbers.
+/// An edge is a suspect where it has a command and neither of the two waits for the other. What makes one of `files`,
+/// from which the manifest was read, runs before all else, and is none.
 ///
-/// Where a run failed, another history goes over the kept events once. Each run that failed takes a search of the graph
-/// each way and a look at each edge.
+/// Where a run failed, another history goes over the kept events once. Each of the first runs that failed takes a search
+/// of the graph each way and a look at each edge, and each of their starts a look at all of them.
 ///
 /// # Errors
 /// [`AllocError`] only where an allocation was refused.
@@ -309,14 +310,15 @@ pub fn suspects(
     alloc: Global,
     history: &History,
     files: &[Name],
+    most: usize,
 ) -> Result<Vec<Suspect>, AllocError>
-    ensures { IfOk result (λ suspects. suspects.items ≡ all_suspects history.now.timeline files.now) }
+    ensures { IfOk result (λ suspects. suspects.items ≡ first_suspects history.now.timeline files.now most) }
 {
-    let failures = failures(alloc, history)?;
+    let failures = first_failures(alloc, history, most)?;
     if failures.is_empty() {
         let none = Vec::new(alloc);
         return Ok(none);
     }
-    let all = found_suspects(alloc, history, files)?;
+    let all = found_suspects(alloc, history, files, most)?;
     Ok(all)
 }

@@ -1,5 +1,8 @@
-use Rattle.std.proofs.Common.{◌≡◌, ℕ, ◌<◌, ◌==◌, List, length, get_or, take, sym, ap, subst, ◌∙◌, arith, if◌then◌else◌}
+use Rattle.std.proofs.Common.{◌≡◌, ℕ, ◌<◌, ◌==◌, List, length, get_or, take, sym, ap, subst, ◌∙◌, arith, rules, if◌then◌else◌}
+use Rattle.std.specs.Global.{Vec}
+use Rattle.std.specs.List.{All}
 use Rattle.std.proofs.Math.Seq.{take-length}
+use Rattle.rev_manifest.specs.Manifest.{ManifestValue}
 use Rattle.rev_causal.specs.Machine.{run}
 use Rattle.rev_history.specs.Timeline.{chosen, machine_at, state_at}
 use Rattle.rev_suspects.specs.Past.{IsPast}
@@ -8,8 +11,20 @@ use Rattle.rev_suspects.specs.declared.failed.Failure.{Failure}
 use Rattle.rev_suspects.specs.declared.suspected.Suspect.{Suspect}
 use Rattle.std.specs.List.{flat_map}
 use Rattle.rev_suspects.proofs.FailureLemmas.{below-are}
-use Rattle.rev_suspects.proofs.SuspectLemmas.{all-found, found-more, grown}
+use Rattle.rev_suspects.proofs.SuspectLemmas.{all-found, found-first, found-more, grown}
 use Rattle.rev_suspects.proofs.suspected.found_suspects.Goals as goal
+
+pub loop-number-init : goal.loop-number-init
+loop-number-init c =
+    let each : length c.in_ok-lists.lists.items ≡ length c.in_ok-failures.failures.items = omega (arith, c.in_ok-lists.ensures.each, c.len.ensures, c.in_ok-failures.failures.ok.0) in
+    record {
+      past = search rules;
+      found = found-first c.args.history.now.timeline c.args.files.now c.in_ok-failures.failures.items c.in_ok-lists.lists.items each c.in_ok-lists.ensures.empty;
+    }
+
+pub put_begun-requires-clause-inside : goal.put_begun-requires-clause-inside
+put_begun-requires-clause-inside c =
+    subst (λ (m : ManifestValue). All (λ (v : Vec ℕ). All (λ s. s < length m.builds) v.items) c.in_ok-ways.ways.back.items) c.graph.ensures c.in_ok-ways.ensures.inside
 
 pub loop-number-preserved : goal.loop-number-preserved
 loop-number-preserved c =
@@ -47,5 +62,5 @@ returns c =
     let all : c.loop-number.number-index ≡ length c.args.history.now.timeline.kept =
     omega (arith, c.loop-number-test.false, c.loop-number.auto.number-index-end, ap (λ (xs : List ℕ). length xs) c.kept-number-items.ensures.kept) in
     let whole : take c.loop-number.number-index c.args.history.now.timeline.kept ≡ c.args.history.now.timeline.kept = ap (λ n. take n t.kept) all ∙ take-length t.kept in
-    all-found t c.args.files.now c.in_ok-failures.failures.items (take i t.kept) c.loop-number.lists.items c.in_ok-all.all.items c.in_ok-failures.ensures.failures whole
+    all-found t c.args.files.now c.args.most c.in_ok-failures.failures.items (take i t.kept) c.loop-number.lists.items c.in_ok-all.all.items c.in_ok-failures.ensures.failures whole
     (c.in_ok-all.ensures ∙ ap (λ ls. flat_map (λ (l : List Suspect). l) (lists_of ls)) c.deref-2.ensures.value) c.loop-number.invariant.found

@@ -1,6 +1,6 @@
 use Rattle.rev_races.proofs.JudgedLemmas.{mapped-more}
 use Rattle.rev_suspects.specs.Bases.{basis_of}
-use Rattle.rev_suspects.proofs.bases.bases.Goals as goal
+use Rattle.rev_suspects.proofs.resting.bases.Goals as goal
 
 pub loop-edge-preserved : goal.loop-edge-preserved
 loop-edge-preserved c =
