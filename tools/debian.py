@@ -7,6 +7,7 @@ import os
 import re
 import shutil
 import subprocess
+import textwrap
 import time
 from pathlib import Path
 
@@ -67,13 +68,14 @@ def compress(path: Path) -> None:
     path.unlink()
 
 
-def changelog(version: str, when: int) -> str:
+def changelog(version: str) -> str:
     """CHANGELOG.md as Debian has such a file: its versions with their days, newest first."""
-    entries = []
+    entries: list[str] = []
     text = (TOP / "CHANGELOG.md").read_text(encoding="utf-8")
     for name, day, body in re.findall(r"(?m)^## (\S+), (\d{4}-\d\d-\d\d)$\n((?:(?!^## )(?:.*\n))*)", text):
         lines = re.findall(r"(?m)^- (.*(?:\n  .*)*)", body) or ["See CHANGELOG.md."]
-        told = "".join(f"  * {re.sub(r'[*`]', '', it)}\n".replace("\n  ", "\n    ") for it in lines)
+        told = "".join(textwrap.fill(" ".join(re.sub("[*`]", "", it).split()), 78, initial_indent="  * ",
+                                     subsequent_indent="    ") + "\n" for it in lines)
         date = time.strftime("%a, %d %b %Y 00:00:00 +0000", time.strptime(day, "%Y-%m-%d"))
         shown = version if not entries else name
         entries.append(f"rebug ({shown}) unstable; urgency=medium\n\n{told}\n -- {MAINTAINER}  {date}\n")
@@ -90,7 +92,7 @@ def package(room: Path, out: Path, version: str, when: int, is_unproved: bool) -
     compress(room / "usr/share/man/man1/rebug.1")
     move(room / "usr" / layout.COMPLETIONS["_rebug"], room / "usr/share/zsh/vendor-completions/_rebug")
     (doc / "copyright").write_text(COPYRIGHT.format(maintainer=MAINTAINER), encoding="utf-8")
-    (doc / "changelog").write_text(changelog(told, when), encoding="utf-8")
+    (doc / "changelog").write_text(changelog(told), encoding="utf-8")
     compress(doc / "changelog")
     overrides = room / "usr/share/lintian/overrides/rebug"
     overrides.parent.mkdir(parents=True)

@@ -41,9 +41,9 @@ def sum_of(path: Path) -> str:
 
 def git(*words: str, **environment: str) -> str:
     """What git prints. Raises NoTree. The checkout may be another user's, and a folder that cannot be written."""
-    how = {"capture_output": True, "text": True, "cwd": TOP, "env": {**os.environ, **environment}}
     try:
-        ran = subprocess.run(["git", "-c", f"safe.directory={TOP}", *words], check=False, **how)
+        ran = subprocess.run(["git", "-c", f"safe.directory={TOP}", *words], check=False, capture_output=True,
+                             text=True, cwd=TOP, env={**os.environ, **environment})
     except OSError as why:
         raise NoTree(f"git cannot be run ({why.strerror})") from why
     if ran.returncode:

@@ -1,8 +1,8 @@
 # What ./rebug does in a checkout beside what it does where rebug is installed: it reads this file. The programs are
 # crates/NAME/out/NAME. They are proved and built by tools/prove where they are missing, or where their sources have
-# changed. Nobody who asks of a recording waits for that on a fresh clone: there an installed rebug answers where one is on
-# the PATH, and else a sentence says what can be done. Without words ./rebug runs the example in examples/first, and where
-# its program is yet to be proved, it answers that first from an unproved build; it leaves both programs proved and built.
+# changed. Nobody who asks of a recording waits for that on a fresh clone: there an installed rebug answers where one is
+# on the PATH, and else a sentence says what can be done. Without words ./rebug runs the example in examples/first.
+# Where its program is yet to be proved, an unproved build answers first. In the end both programs are proved and built.
 
 # Said where the kit is not there; tools/prove says the same.
 no_kit="the kit's command rt is not on the PATH; README.md, under Install, says what the kit is and which one to get"
@@ -211,8 +211,8 @@ installed_launcher() {
   done < <(type -aP rebug)
 }
 
-# On a fresh clone: has an installed rebug answer, where one is on the PATH. Else who asks of a recording is told what can
-# be done, since the proofs take long.
+# On a fresh clone: has an installed rebug answer, where one is on the PATH. Else it says what can be done to who asks
+# of a recording, since the proofs take long.
 answer_without_program() {
   local installed
   installed=$(installed_launcher)
@@ -221,7 +221,7 @@ answer_without_program() {
     exec "$installed" "$@"
   fi
   if [ "$name" != rebug_ask ]; then return; fi
-  say "there is no program here to answer yet, and no installed rebug on the PATH (docs/INSTALL.md tells how to get one)"
+  say "no program is built here yet, and no installed rebug is on the PATH (docs/INSTALL.md tells how to get one)"
   if command -v rt >/dev/null 2>&1; then
     say "an answer in a minute or two, from an unproved build: ./rebug --try ${1-} .."
     say "./rebug alone proves and builds the programs, which takes half an hour or more"

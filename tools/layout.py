@@ -15,9 +15,9 @@ from recorder.observed.own import COMPILERS, FLAGS  # noqa: E402
 
 LIBEXEC, DOC = "libexec/rebug", "share/doc/rebug"
 # The pages for users. They stand below DOC as in the sources, so that their links to one another lead somewhere.
-PAGES = ("README.md", "CHANGELOG.md", "record/README.md", "record/observer/README.md", "docs/INSTALL.md", "docs/ASK.md",
-         "docs/CODES.md", "docs/FORMATS.md", "docs/GLOSSARY.md", "docs/JSON.md", "docs/NINJA.md", "docs/PICTURE.md",
-         "docs/PROVOKE.md", "docs/RACES.md", "docs/SECURITY.md", "docs/passed.svg", "docs/way.svg")
+PAGES = ("README.md", "CHANGELOG.md", "record/README.md", "record/observer/README.md",
+         *(f"docs/{it}.md" for it in ("ASK", "CODES", "FORMATS", "GLOSSARY", "INSTALL", "JSON", "NINJA", "PICTURE",
+                                      "PROVOKE", "RACES", "SECURITY", "USE")), "docs/passed.svg", "docs/way.svg")
 FOLDERS = ("examples/flaky",)
 COMPLETIONS = {"rebug.bash": "share/bash-completion/completions/rebug", "_rebug": "share/zsh/site-functions/_rebug",
                "rebug.fish": "share/fish/vendor_completions.d/rebug.fish"}

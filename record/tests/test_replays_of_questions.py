@@ -98,8 +98,8 @@ class ReplaysOfQuestions(unittest.TestCase):
         (moved / "replay").write_text(text.replace("program=", "program=/nowhere", 1))
         said, errors, status = self.asked(recording=moved, rebug=False)
         self.assertEqual((said, status), (b"", 3))
-        self.assertRegex(errors, rb"^replay: there is no rebug at /nowhere\S*, nor on the PATH: name one, as in REBUG=/path"
-                                 rb"/to/rebug \S+\n$")
+        self.assertRegex(errors, rb"^replay: there is no rebug at /nowhere\S*, nor on the PATH: name one, as in "
+                                 rb"REBUG=/path/to/rebug \S+\n$")
         # then that of the PATH is taken
         os.symlink(os.path.abspath(program()), self.room / "rebug")
         path = f"{os.environ['PATH']}:{self.room}"

@@ -62,8 +62,8 @@ class Own:
 
 
 def _built(source: pathlib.Path) -> pathlib.Path:
-    """The program of a source: that which `make` left beside it, else that of the cache, which may have to be made. Of an
-    installed recorder the two come from one release, whenever they were put there."""
+    """The program of a source: that which `make` left beside it, else that of the cache, which may have to be made. An
+    installed recorder has both from one release, whenever they were put there."""
     beside = source.with_suffix("")
     try:
         is_of_source = IS_INSTALLED or beside.stat().st_mtime_ns >= source.stat().st_mtime_ns
