@@ -5,6 +5,7 @@ import os
 from .checking import check
 from .depslog import BrokenLog
 from .folders import BadFolder
+from .installed import launcher
 from .manifest import BadManifest
 from .options import BadOptions, Checking, HelpWanted, read_words
 from .session import NOT_RECORDED, NOT_RUN, Failure, Session
@@ -20,12 +21,6 @@ def say(text):
 def show(text):
     """A line of an answer, on standard output."""
     write_all(1, f"{text}\n".encode("utf-8", "surrogateescape"))
-
-
-def launcher():
-    """The program beside the recorder."""
-    top = os.path.dirname(os.path.dirname(os.path.dirname(os.path.abspath(__file__))))
-    return os.path.join(top, "rebug")
 
 
 def _named(why):

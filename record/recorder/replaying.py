@@ -13,7 +13,8 @@ from .fields import canonical
 
 _SCRIPT = r"""#!/bin/sh
 # Replays this recorded build. Words are questions: replay 'why app' 'dependents 6'. Those that begin with why are asked
-# right after the plan, the others at the end. REBUG names another rebug than the one beside the recorder.
+# right after the plan, the others at the end. REBUG names another rebug than the one of the recorder. Where that one is
+# not there, the one on the PATH is taken.
 program=@PROGRAM@
 if [ -n "${REBUG:-}" ]; then
     case $REBUG in
@@ -41,8 +42,9 @@ if [ -n "${REBUG_IS_MOVING:-}" ]; then
     done
     cd "$whole" || exit 3
 fi
+if ! [ -f "$program" ] && [ -z "${REBUG:-}" ]; then found=$(command -v rebug) && program=$found; fi
 if ! [ -f "$program" ]; then
-    echo "replay: there is no rebug at $program: name one, as in REBUG=/path/to/rebug $0" >&2
+    echo "replay: there is no rebug at $program, nor on the PATH: name one, as in REBUG=/path/to/rebug $0" >&2
     exit 3
 fi
 ask() {

@@ -35,10 +35,12 @@ class ReplaysOfQuestions(unittest.TestCase):
         os.symlink(os.path.abspath(program()), self.room / "the rebug")
         self.record()
 
-    def asked(self, *words, cwd=None, rebug=None, recording=None):
+    def asked(self, *words, cwd=None, rebug=None, recording=None, path=None):
         """What `replay` writes, what it says, and its status."""
         replay = os.path.relpath((recording or self.out) / "replay", cwd or self.room)
         environment = {it: value for it, value in os.environ.items() if it != "REBUG"}
+        environment["PATH"] = path or os.pathsep.join(it for it in os.environ["PATH"].split(os.pathsep)
+                                                      if not os.path.exists(f"{it}/rebug"))
         if rebug is not False:
             environment["REBUG"] = rebug or os.path.abspath(program())
         done = subprocess.run([f"./{replay}", *words], cwd=cwd or self.room, stdin=subprocess.DEVNULL, env=environment,
@@ -96,7 +98,12 @@ class ReplaysOfQuestions(unittest.TestCase):
         (moved / "replay").write_text(text.replace("program=", "program=/nowhere", 1))
         said, errors, status = self.asked(recording=moved, rebug=False)
         self.assertEqual((said, status), (b"", 3))
-        self.assertRegex(errors, rb"^replay: there is no rebug at /nowhere.*: name one, as in REBUG=/path/to/.*\n$")
+        self.assertRegex(errors, rb"^replay: there is no rebug at /nowhere\S*, nor on the PATH: name one, as in "
+                                 rb"REBUG=/path/to/rebug \S+\n$")
+        # then that of the PATH is taken
+        os.symlink(os.path.abspath(program()), self.room / "rebug")
+        path = f"{os.environ['PATH']}:{self.room}"
+        self.assertEqual(self.asked("why w", recording=moved, rebug=False, path=path), (b"1 0 ok\n" + REASONS, b"", 0))
 
     def test_a_program_that_is_not_there(self):
         done = self.checked("--rebug", "nowhere/rebug")

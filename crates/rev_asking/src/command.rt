@@ -154,7 +154,7 @@ fn bare_command<'a>(alloc: Global) -> Command<'a>
     ensures { app_of result ≡ bare_program }
 {
     Command::new(alloc, "rebug")
-        .version("0.1.0")
+        .version("0.9.0")
         .about("Answers questions about a recorded Ninja build, over the recording replayed")
         .after_help(EXAMPLE)
         .subcommand_required(true)

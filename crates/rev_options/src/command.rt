@@ -62,7 +62,7 @@ fn bare_command<'a>(alloc: Global) -> Command<'a>
     ensures negates { (out-Command result).subcommand_negates_reqs ≡ false }
 {
     Command::new(alloc, "rebug")
-        .version("0.1.0")
+        .version("0.9.0")
         .about(
             "Replays a recorded Ninja build, tells why each edge ran, and undoes its events, also out of order",
         )

@@ -10,10 +10,11 @@ import tempfile
 from collections.abc import Iterator
 from typing import BinaryIO
 
+from ..installed import IS_INSTALLED, TOP
 from .calls import Event
 from .own_records import Records
 
-SOURCE = pathlib.Path(__file__).resolve().parents[2] / "observer" / "observer.c"
+SOURCE = TOP / "record" / "observer" / "observer.c"
 COMPILERS = ("cc", "gcc", "clang")
 FLAGS = ("-std=c11", "-O2")
 _LONGEST_BUILD, _LONGEST_TRY = 120, 20  # seconds
@@ -61,10 +62,12 @@ class Own:
 
 
 def _built(source: pathlib.Path) -> pathlib.Path:
-    """The program of a source: that which `make` left beside it, else that of the cache, which may have to be made."""
+    """The program of a source: that which `make` left beside it, else that of the cache, which may have to be made. An
+    installed recorder has both from one release, whenever they were put there."""
     beside = source.with_suffix("")
     try:
-        if beside.stat().st_mtime_ns >= source.stat().st_mtime_ns and os.access(beside, os.X_OK):
+        is_of_source = IS_INSTALLED or beside.stat().st_mtime_ns >= source.stat().st_mtime_ns
+        if is_of_source and os.access(beside, os.X_OK):
             return beside
     except OSError:
         pass

@@ -7,7 +7,7 @@ import signal
 from typing import Any, NoReturn, Sequence
 
 from .. import words as ninja_words
-from ..main import launcher
+from ..installed import launcher
 from ..ninja import NoNinja, found_ninja
 from ..signals import NUMBERS, write_all
 from .answering import NO_ORDERS, REFUSED, STATUSES, UNKNOWN, Answer, Provoker, Unfit
