@@ -10,11 +10,7 @@ use std::alloc::{AllocError, Global};
 ///
 /// # Errors
 /// [`AllocError`] only where an allocation was refused.
-pub fn early_edges(
-    alloc: Global,
-    graph: &Graph,
-    files: &[Name],
-) -> Result<Vec<bool>, AllocError>
+pub fn early_edges(alloc: Global, graph: &Graph, files: &[Name]) -> Result<Vec<bool>, AllocError>
     ensures { IfOk result (λ marks. AreEarly graph.now.manifest.builds files.now marks.items) }
 {
     let mut marks = vec![in alloc; false; graph.edges() as usize]?;

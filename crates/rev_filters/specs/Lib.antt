@@ -1,0 +1,4 @@
+pub mod Codes
+pub mod Patterns
+pub mod Texts
+pub mod Rows
