@@ -159,7 +159,9 @@ class Killed(Killing):
 class Moves(unittest.TestCase):
     """A switch that fails at one of its renames, without Ninja."""
 
-    OLD = {"build.ninja": "old", "r.ninja": "old", "sub/a.ninja": "old", "trace": "old", "replay": "old"}
+    OLD = {"build.ninja": "old", "r.ninja": "old", "sub/a.ninja": "old", "trace": "old", "replay": "old",
+           "mine": "kept"}
+    OBSERVED = {"observed": "old", "filters": "old"}
     NEW = {"build.ninja": "new", "r.ninja": "new", "sub/b.ninja": "new", "fresh/c.ninja": "new", "trace": "new",
            "replay": "new"}
 
@@ -199,11 +201,12 @@ class Moves(unittest.TestCase):
             os.rename = real
 
     def test_what_counts_is_read_and_then_put_in_place(self):
+        """Also where the earlier recording had files that the new one does not have, which go with it."""
         together = {**self.OLD, **self.NEW}
-        for moves in range(6):
-            with self.subTest(moves=moves):
+        for moves, more in itertools.product(range(6), ({}, self.OBSERVED)):
+            with self.subTest(moves=moves, more=more):
                 shutil.rmtree(self.out, ignore_errors=True)
-                self.write(self.OLD)
+                self.write({**self.OLD, **more})
                 with self.assertRaises(NotInPlace):
                     self.switch(moves)
                 self.assertTrue((self.out / ".moving/replay").exists())
