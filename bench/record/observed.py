@@ -36,6 +36,9 @@ from recorder.observed.observers import OBSERVERS  # noqa: E402
 from recorder.observed.places import Places  # noqa: E402
 
 RECORDER = HERE.parents[1] / "record" / "rebug-record"
+# The most that the processor time may be beside the plain build's, and of the reader its part of that and its memory.
+MARKS = {"own": 1.25, "strace": 1.6}
+READER_MARK, MEMORY_MARK = 0.05, 200
 SUBREAPER = 36  # PR_SET_CHILD_SUBREAPER: what is nobody's child comes to this process
 
 
@@ -142,8 +145,11 @@ def table(folder: pathlib.Path, jobs: int, runs: int, observers: dict[str, Obser
         line = (f"  {name:7} {least:7.2f} ({least / base:.2f}) {middle:7.2f} ({middle / base_middle:.2f});"
                 f" {wall:7.2f} ({wall / min(it.wall for it in plain):.2f})")
         if name != "plain":
-            reader = min(it.reader for it in found)
-            line += f"; {reader:5.2f} ({100 * reader / base:.1f} %), {max(it.memory for it in found)} MB"
+            reader, memory = min(it.reader for it in found), max(it.memory for it in found)
+            line += f"; {reader:5.2f} ({100 * reader / base:.1f} %), {memory} MB"
+            marks = {"observer": middle / base_middle <= MARKS[name], "reader": reader <= READER_MARK * base,
+                     "memory": memory <= MEMORY_MARK}
+            line += "; " + ", ".join(f"{it} {'reached' if is_so else 'MISSED'}" for it, is_so in marks.items())
         print(line, flush=True)
 
 
@@ -158,13 +164,13 @@ def sizes(folder: pathlib.Path, jobs: int, name: str) -> None:
     print(f"  {name}: trace {trace:,} bytes, observed {observed:,} bytes ({100 * observed / trace:.1f} %)", flush=True)
 
 
-def main() -> int:
+def main(words: list[str]) -> int:
     parser = argparse.ArgumentParser(description=__doc__, formatter_class=argparse.RawDescriptionHelpFormatter)
     parser.add_argument("folders", nargs="+", type=pathlib.Path, metavar="BUILD_FOLDER")
     parser.add_argument("--runs", type=int, default=5)
     parser.add_argument("--jobs", type=lambda it: [int(n) for n in it.split(",")], default=[1, 4])
     parser.add_argument("--observers", type=lambda it: it.split(","), default=list(OBSERVERS))
-    given = parser.parse_args()
+    given = parser.parse_args(words)
     observers: dict[str, Observer | None] = {"plain": None}
     for name in given.observers:
         observers[name] = OBSERVERS[name]()
@@ -181,4 +187,4 @@ def main() -> int:
 
 
 if __name__ == "__main__":
-    sys.exit(main())
+    sys.exit(main(sys.argv[1:]))

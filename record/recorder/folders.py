@@ -51,7 +51,7 @@ def whole(folder: str) -> Iterator[str]:
     with tempfile.TemporaryDirectory(prefix="rebug-whole-") as copy:
         with HeldFolder.at(folder) as held, HeldFolder.at(copy) as target:
             with held.below(MOVING) as moving:
-                _copy_files(moving, target)
+                _copy_files(moving, target, (_WITHOUT,))
                 left_out = _left_out(moving)
             _copy_files(held, target, left_out)
         yield copy

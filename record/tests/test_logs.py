@@ -105,14 +105,15 @@ class BuildLogs(InFolder):
         lacking = builds.missing_tools("ninja")
         if lacking:
             self.skipTest(lacking)
-        for kind, output in (("of many outputs", lambda it: None), ("of few outputs", lambda it: b"out%d" % (it % 40))):
+        for kind, output, lines in (("of many outputs", lambda it: None, 1_000_000),
+                                    ("of few outputs", lambda it: b"out%d" % (it % 40), 200_000)):
             with self.subTest(kind=kind):
                 build = self.room / kind
                 build.mkdir()
                 (build / "build.ninja").write_text("rule c\n  command = touch $out\nbuild out3: c\n")
                 with open(build / ".ninja_log", "wb") as file:
                     file.write(HEAD)
-                    file.writelines(line(it, output(it)) for it in range(200_000))
+                    file.writelines(line(it, output(it)) for it in range(lines))
                 done = subprocess.run([sys.executable, "-B", "-c", MEASURED, builds.RECORDER.parent, build,
                                        self.room / "out"], capture_output=True, text=True, stdin=subprocess.DEVNULL)
                 self.assertEqual(done.returncode, 0, done.stderr)

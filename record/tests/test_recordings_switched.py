@@ -13,6 +13,7 @@ import tempfile
 import unittest
 
 import builds
+from observing import refusal
 from recorder.checking import check
 from recorder.folders import BadFolder, NotInPlace, OutFolder, whole
 
@@ -25,10 +26,12 @@ TAGGED = {"build.ninja": rb"# generation (\d+)", "r.ninja": rb"# generation (\d+
 
 
 class Generations:
-    """A build folder whose manifest, included files and outputs are others at each generation."""
+    """A build folder whose manifest, included files and outputs are others at each generation. Every other one is
+    observed, where that can be."""
 
     def __init__(self, room):
         self.build, self.out, self.number = room / "build", room / "out", 0
+        self.observed = 2 if refusal("own") is None else 0
         self.build.mkdir()
         (self.build / "s").write_text("s")
 
@@ -44,8 +47,12 @@ class Generations:
             (self.build / name).parent.mkdir(parents=True, exist_ok=True)
             (self.build / name).write_text(f"# generation {it}\n")
 
+    def is_observed(self, number):
+        return self.observed and number % self.observed == 0
+
     def words(self, *words):
-        return [sys.executable, builds.RECORDER, self.build, self.out, *(["--", *words] if words else [])]
+        observing = ["--observe", "--observer", "own"] if self.is_observed(self.number) else []
+        return [sys.executable, builds.RECORDER, self.build, self.out, *observing, *(["--", *words] if words else [])]
 
     def record(self, *words, status=0):
         done = subprocess.run(self.words(*words), capture_output=True, text=True, stdin=subprocess.DEVNULL)
@@ -61,8 +68,8 @@ class Generations:
         return done.returncode != 0
 
 
-def generation_of(folder):
-    """The one generation that all files of a recording are of."""
+def generation_of(folder, of=None):
+    """The one generation that all files of a recording are of; `of` says which ones are observed."""
     folder, found = pathlib.Path(folder), set()
     for name, pattern in TAGGED.items():
         numbers = set(map(int, re.findall(pattern, (folder / name).read_bytes())))
@@ -74,6 +81,10 @@ def generation_of(folder):
         assert (folder / name).read_text() == f"# generation {it}\n", name
     trace, times = ((folder / name).read_text() for name in ("trace", "times"))
     assert len(trace.split("lane 0\n")[1].splitlines()) == len(times.splitlines()) - 1
+    if of is not None:
+        is_there = {name: (folder / name).exists() for name in ("observed", "filters")}
+        assert is_there == dict.fromkeys(is_there, bool(of.is_observed(it))), (it, is_there)
+        assert not (folder / ".without").exists()
     return it
 
 
@@ -126,10 +137,10 @@ class Killed(Killing):
         before, counts = self.it.number, {True: 0, False: 0}
         for call, is_killed in self.runs():
             with whole(str(self.it.out)) as read:
-                kept = generation_of(read)
+                kept = generation_of(read, self.it)
             self.assertIn(kept, (before, self.it.number) if is_killed else (self.it.number,))
             self.next_recorder(call)
-            self.assertEqual(generation_of(self.it.out), kept)
+            self.assertEqual(generation_of(self.it.out, self.it), kept)
             self.assertEqual((self.it.out / "questions").read_text(), "run\n")
             counts[kept != before] += is_killed
             before = kept
@@ -143,12 +154,12 @@ class Killed(Killing):
                 is_there = os.path.exists(os.path.join(read, "trace"))
                 self.assertTrue(is_there or is_killed)
                 if is_there:
-                    self.assertEqual(generation_of(read), self.it.number)
+                    self.assertEqual(generation_of(read, self.it), self.it.number)
             with OutFolder(str(self.it.out)):
                 pass
             self.assert_clean()
             if is_there:
-                self.assertEqual(generation_of(self.it.out), self.it.number)
+                self.assertEqual(generation_of(self.it.out, self.it), self.it.number)
             else:
                 self.assertEqual(list(self.it.out.parent.glob("out/*")), [])
             counts[is_there] += is_killed
@@ -159,7 +170,9 @@ class Killed(Killing):
 class Moves(unittest.TestCase):
     """A switch that fails at one of its renames, without Ninja."""
 
-    OLD = {"build.ninja": "old", "r.ninja": "old", "sub/a.ninja": "old", "trace": "old", "replay": "old"}
+    OLD = {"build.ninja": "old", "r.ninja": "old", "sub/a.ninja": "old", "trace": "old", "replay": "old",
+           "mine": "kept"}
+    OBSERVED = {"observed": "old", "filters": "old"}
     NEW = {"build.ninja": "new", "r.ninja": "new", "sub/b.ninja": "new", "fresh/c.ninja": "new", "trace": "new",
            "replay": "new"}
 
@@ -199,11 +212,12 @@ class Moves(unittest.TestCase):
             os.rename = real
 
     def test_what_counts_is_read_and_then_put_in_place(self):
+        """Also where the earlier recording had files that the new one does not have, which go with it."""
         together = {**self.OLD, **self.NEW}
-        for moves in range(6):
-            with self.subTest(moves=moves):
+        for moves, more in itertools.product(range(6), ({}, self.OBSERVED)):
+            with self.subTest(moves=moves, more=more):
                 shutil.rmtree(self.out, ignore_errors=True)
-                self.write(self.OLD)
+                self.write({**self.OLD, **more})
                 with self.assertRaises(NotInPlace):
                     self.switch(moves)
                 self.assertTrue((self.out / ".moving/replay").exists())
@@ -285,7 +299,7 @@ class Readers(Killing):
             check(str(self.it.out), str(self.rebug), said.append)
             self.assertIn("from a copy", said[0])
             self.it.record("nosuchtarget", status=1)
-            self.assertEqual(generation_of(self.it.out), number)
+            self.assertEqual(generation_of(self.it.out, self.it), number)
         self.assertGreater(count, 4)
 
 

@@ -23,7 +23,8 @@ WORDS += [b"undo 1\n", b"redo 1\n", b"back\n", b"run\n", b"interrupt\n", b"touch
 WORDS += [b"resize 0 2\n", b"resize 1 1\n", b"pool q\n  depth = 1024\n"]
 WORDS += [b"a = $a$a\n", b"pool p\n  depth = 1\n", b"rule r\n  command = r $in\n", b"break touch a\n", b"continue\n"]
 ALL_WORDS = b"run\nkept\nmarks\nstamps\nlogs\n"
-SPECIAL = ("build.ninja", "trace", "script", "names", "times")
+BESIDE = ("names", "times", "output", "observed", "filters")
+SPECIAL = ("build.ninja", "trace", "script", *BESIDE)
 
 
 @dataclass
@@ -293,9 +294,60 @@ def vary_script(rng: random.Random, case: Case) -> None:
     case.files["script"] = b"\n".join([*([b"run"] if rng.random() < 0.8 else []), *asked, b""])
 
 
+def observe(case: Case) -> None:
+    """Gives a case what an observer could have seen: each command read its list, and left its output."""
+    paths: dict[bytes, int] = {}
+    lines = []
+    for words in (it.split(b" ") for it in case.files["trace"].split(b"\n") if it.startswith(b"finish ")):
+        output, listed = words[1], words[4:] if words[3:4] == [b"list"] else []
+        if b"edge " + output in lines:
+            continue
+        lines.append(b"edge " + output)
+        for kind, its in ((b"reads", listed), (b"writes", [output])):
+            numbers = sorted({paths.setdefault(it, len(paths)) for it in its})
+            if numbers:
+                lines.append(b" ".join([kind, *(b"%d" % it for it in numbers)]))
+    text = [b"rebug-observed 1", b"by ptrace", *(b"path " + it for it in paths), *lines, b""]
+    case.files["observed"] = b"\n".join(text)
+    case.files["filters"] = b"# caches\n__pycache__\n*.pyc\n/dev\nlogs/*.txt\n"
+
+
+KINDS = [b"reads", b"stats", b"misses", b"lists", b"writes", b"edits", b"deletes", b"temps", b"folders"]
+FLAGS = [b"cut", b"server", b"namespace", b"uring", b"unresolved", b"twin"]
+
+
+def vary_beside(rng: random.Random, case: Case) -> None:
+    """Changes lines of a file beside the trace, where there is one."""
+    name = rng.choice([it for it in BESIDE if it in case.files] or ["none"])
+    first, *lines = case.files.get(name, b"").split(b"\n")
+    for _ in range(rng.choice([1, 1, 3])):
+        at = rng.randrange(len(lines) + 1)
+        kind = rng.randrange(6)
+        if kind == 0 and lines:
+            del lines[at % len(lines)]
+        elif kind == 1 and lines:
+            lines.insert(at, rng.choice(lines))
+        elif kind == 2 and lines:
+            at %= len(lines)
+            lines[at] = re.sub(rb"(?<= )\d+", lambda _: b"%d" % rng.randrange(9), lines[at], count=1)
+        elif kind == 3 and lines:
+            at %= len(lines)
+            word, _, rest = lines[at].partition(b" ")
+            lines[at] = (rng.choice(KINDS) if word in KINDS else word) + b" " + rest
+        elif kind == 4 and lines:
+            at %= len(lines)
+            lines[at] += b" " + rng.choice(FLAGS if lines[at].startswith(b"edge ") else [b"0-1", b"3", b"x"])
+        else:
+            lines.insert(at, rng.choice([b"path extra", b"edge app", b"outside 3", b"#", b"*", b"a//b", b"reads 0-2"]))
+    if name in case.files:
+        case.files[name] = b"\n".join([first, *lines])
+
+
 def varied(rng: random.Random, case: Case) -> None:
     """Some changes of what a case says."""
-    for vary in rng.sample([vary_manifest, vary_trace, vary_script], rng.choice([1, 2, 3])):
+    if "observed" not in case.files and rng.random() < 0.3:
+        observe(case)
+    for vary in rng.sample([vary_manifest, vary_trace, vary_script, vary_beside], rng.choice([1, 2, 3])):
         vary(rng, case)
 
 
