@@ -3,9 +3,9 @@ use Rattle.std.proofs.Common.{◌≡◌, ℕ, Bool, true, false, List, Option, S
 use Rattle.std.specs.Prelude.{is_some}
 use Rattle.std.specs.Option.{option_map, option_or}
 use Rattle.rev_graph.specs.Graph.{build_at}
-use Rattle.rev_history.specs.Timeline.{Timeline, kept_events}
+use Rattle.rev_history.specs.Timeline.{kept_events}
 use Rattle.rev_races.proofs.ListLemmas.{finished-is}
-use Rattle.rev_races.specs.Races.{finished, last_list, recorded, started}
+use Rattle.rev_races.specs.Races.{last_list, recorded, started}
 use Rattle.rev_suspects.specs.Bases.{ListsRestOn, rests_on}
 use Rattle.rev_suspects.specs.declared.resting.Basis.{Basis}
 use Rattle.rev_suspects.specs.declared.resting.Basis.TheVariants as basis
