@@ -1,0 +1,4 @@
+pub mod NeedLemmas
+pub mod NoteLemmas
+pub mod UseLemmas
+pub mod UserLemmas
