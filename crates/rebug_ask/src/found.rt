@@ -1,6 +1,7 @@
 //! What a recording shows of races, as it is told.
 ghost use Rattle.rev_named.specs.Named.{AreLastComponents};
 
+use crate::hinted::are_whole;
 use indexmap::IndexMap;
 use rev_clashes::{SideFile, clashes};
 use rev_graph::Graph;
@@ -418,15 +419,20 @@ fn edges_of<'a>(
     Ok(edges)
 }
 
-/// The changed files that give hints. `names` has the other names of outputs.
+/// The changed files that give hints. `names` has the other names of outputs, and `whole` the edges whose commands were
+/// observed whole: where that is so of the user and of all that ran, the observation tells who wrote the file.
 pub fn told_changes<'a>(
     alloc: Global,
     history: &'a History,
     sources: &Sources<'a>,
     names: &IndexMap<Name, Name>,
+    whole: &[bool],
 ) -> Result<Vec<Change<'a>>, AllocError> {
     let mut told = Vec::new(alloc);
     for hint in &change_hints(alloc, history, names)? {
+        if are_whole(whole, hint.user, &hint.ran) {
+            continue;
+        }
         if let Some(path) = listed_path(history, hint.user, hint.place) {
             told.push(Change {
                 at: hint.number,

@@ -65,6 +65,11 @@ fn has_other(names: &IndexMap<Name, Name>, paths: &[Name]) -> bool {
     paths.iter().any(|path| names.contains_key(path))
 }
 
+/// Whether the commands of an edge and of some others were all observed whole.
+pub fn are_whole(whole: &[bool], edge: u32, others: &[u32]) -> bool {
+    is_marked(whole, edge) && others.iter().all(|other| is_marked(whole, *other))
+}
+
 // Whether an edge has a mark.
 fn is_marked(marks: &[bool], edge: u32) -> bool {
     match marks.get(edge as usize) {
@@ -108,8 +113,9 @@ struct Search<'a, 'b> {
     history: &'a History,
     names: &'a IndexMap<Name, Name>,
     sources: &'b Sources<'a>,
-    // The edges that make the manifest.
+    // The edges that make the manifest, and those whose commands were observed whole.
     early: &'b [bool],
+    whole: &'b [bool],
 }
 
 // Adds the hints of an edge: each listed path that is another name of what an edge makes for which it does not wait.
@@ -142,6 +148,7 @@ fn add_hints<'a>(
                     if maker != user
                         && !is_marked(&waited, maker)
                         && !is_marked(search.early, maker)
+                        && !are_whole(search.whole, user, &[maker])
                     {
                         hints.push(Hint {
                             maker: search.sources.edge(maker),
@@ -158,13 +165,15 @@ fn add_hints<'a>(
 }
 
 /// The hints of a history, whose manifest was read from these files, in the order of their users and of the paths in
-/// what these list, as for races. What makes one of the files runs before all else.
+/// what these list, as for races. What makes one of the files runs before all else. `whole` has the edges whose commands
+/// were observed whole: of two such ones the observation tells.
 pub fn hints_in<'a>(
     alloc: Global,
     history: &'a History,
     files: &[Name],
     names: &'a IndexMap<Name, Name>,
     sources: &Sources<'a>,
+    whole: &[bool],
 ) -> Result<Vec<Hint<'a>>, AllocError> {
     let mut hints = Vec::new(alloc);
     if names.is_empty() {
@@ -179,6 +188,7 @@ pub fn hints_in<'a>(
         names,
         sources,
         early: &early,
+        whole,
     };
     for user in 0..graph.edges() {
         add_hints(alloc, &search, &steps, &phony, user, &mut hints)?;

@@ -2,6 +2,7 @@
 #![tactic(auto)]
 
 mod asking;
+mod certifying;
 mod files;
 mod found;
 mod hinted;
@@ -11,6 +12,7 @@ mod page;
 mod picturing;
 mod provoked;
 mod reporting;
+mod seen;
 mod statements;
 mod times;
 mod told;
@@ -69,6 +71,8 @@ fn answer<'a, R: Files + Input + Print + Eprint + AllocGlobal>(
         }
         Word::Picture => return picture(rt, &asked),
         Word::Replay => How::Replay,
+        Word::Certify if asked.json => How::CertifyJson,
+        Word::Certify => How::Certify,
         Word::Races => match races_how(&asked) {
             Ok(how) => how,
             Err(sentence) => {

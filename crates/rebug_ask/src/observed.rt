@@ -5,6 +5,7 @@ ghost use Rattle.rev_observed.specs.Joins.{edge_of};
 ghost use Rattle.rev_observed.specs.Observations.{outputs_of};
 
 use crate::files::{Place, read_beside};
+use rev_filters::Filters;
 use rev_graph::Graph;
 use rev_observed::{JoinFault, Observation, ReadFault, edges, read};
 use rev_program::ProgramFault;
@@ -45,6 +46,50 @@ pub fn read_observed<'a, R: Files + AllocGlobal>(
     read_beside(rt, recording, place, "observed", OBSERVED_BYTES)
 }
 
+/// The bytes of the file that says of which paths nothing is to be told; none where there is no such file.
+///
+/// # Errors
+/// As [`read_beside`].
+pub fn read_filters<'a, R: Files + AllocGlobal>(
+    rt: &R,
+    recording: &'a str,
+    place: Place<'_>,
+) -> Result<Option<Vec<u8>>, ProgramFault<'a>> {
+    read_beside(rt, recording, place, "filters", OBSERVED_BYTES)
+}
+
+// The filters that bytes say.
+fn filters_of(alloc: Global, bytes: &[u8]) -> Result<Filters, RecordingFault> {
+    match rev_filters::read(alloc, bytes) {
+        Ok(filters) => Ok(filters),
+        Err(rev_filters::ReadFault::Memory) => Err(RecordingFault::Memory),
+        Err(rev_filters::ReadFault::Numbered(fault)) => {
+            Err(RecordingFault::Observed(ObservedFault {
+                file: "filters",
+                line: fault.line,
+                code: fault.kind.code(),
+            }))
+        }
+    }
+}
+
+/// A mark for each path of an observation: nothing is told of what the filters hide that these bytes say.
+///
+/// # Errors
+/// [`RecordingFault::Observed`] with the first fault of the filters; [`RecordingFault::Memory`] only where an allocation
+/// was refused.
+pub fn hidden_in(
+    alloc: Global,
+    observation: &Observation,
+    filters: Option<&[u8]>,
+) -> Result<Vec<bool>, RecordingFault>
+    ensures { IfOk result (λ hidden. length hidden.items ≡ length observation.now.paths) }
+{
+    let filters = filters_of(alloc, filters.unwrap_or(b""))?;
+    let hidden = rev_filters::hidden(alloc, &[filters], observation.paths())?;
+    Ok(hidden)
+}
+
 // The line of a command of the file by its place among the commands, which counts from 0; lines count from 1.
 fn line_of(bytes: &[u8], place: usize) -> u64 {
     let mut left = place;
@@ -67,6 +112,7 @@ fn observation_of(alloc: Global, bytes: &[u8]) -> Result<Observation, RecordingF
         Ok(observation) => Ok(observation),
         Err(ReadFault::Memory) => Err(RecordingFault::Memory),
         Err(ReadFault::Numbered(fault)) => Err(RecordingFault::Observed(ObservedFault {
+            file: "observed",
             line: fault.line,
             code: fault.kind.code(),
         })),
@@ -88,6 +134,7 @@ fn edges_in(
         Ok(edges) => Ok(edges),
         Err(JoinFault::Memory) => Err(RecordingFault::Memory),
         Err(JoinFault::NoSuchEdge(place)) => Err(RecordingFault::Observed(ObservedFault {
+            file: "observed",
             line: line_of(bytes, place),
             code: ObservedFault::NO_SUCH_EDGE,
         })),

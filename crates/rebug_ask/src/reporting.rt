@@ -1,6 +1,7 @@
 //! What is reported of a recording that was replayed.
 use crate::found::{Findings, findings_in, told_changes, told_clashes};
 use crate::hinted::hints_in;
+use crate::seen::{Sight, listed_left, not_whole, whole_marks};
 use indexmap::IndexMap;
 use rev_desk::Desk;
 use rev_judged::{Unjudged, not_judged};
@@ -21,6 +22,8 @@ pub struct Basis<'a> {
     pub entries: &'a [Entry],
     /// The other names of outputs.
     pub names: &'a IndexMap<Name, Name>,
+    /// What the commands were seen to do, where the recording has that.
+    pub sight: Option<&'a Sight>,
     /// How many commands the trace has.
     pub commands: u64,
 }
@@ -32,14 +35,14 @@ fn running_count(runs: &[Option<Run>]) -> u64 {
         .count() as u64
 }
 
-// How much of a recording counts.
-fn replayed_of(desk: &Desk, basis: &Basis<'_>) -> Replayed {
+/// How much of a recording counts, whose trace has so many commands.
+pub fn replayed_of(desk: &Desk, runs: &[Option<Run>], all: u64) -> Replayed {
     let commands = desk.journal().len() as u64;
     Replayed {
         commands,
-        left: basis.commands.saturating_sub(commands),
+        left: all.saturating_sub(commands),
         refused: refused_count(desk),
-        running: running_count(basis.sources.runs),
+        running: running_count(runs),
     }
 }
 
@@ -53,8 +56,13 @@ fn report_with<'a>(
 ) -> Result<Report<'a>, AllocError> {
     let Unjudged { plain, collectors } = judged;
     let Findings { races, failures } = found;
+    let races = listed_left(alloc, basis.sight, races)?;
+    let plain = not_whole(alloc, basis.sight, &plain)?;
+    let collectors = not_whole(alloc, basis.sight, &collectors)?;
     Ok(Report {
-        replayed: replayed_of(desk, basis),
+        before: 0,
+        seen: None,
+        replayed: replayed_of(desk, basis.sources.runs, basis.commands),
         failures,
         races,
         clashes: told_clashes(alloc, basis.sources.builds)?,
@@ -71,7 +79,7 @@ fn report_with<'a>(
     })
 }
 
-/// What is reported of the desk of a recording that was replayed, but for hints.
+/// What is reported of the desk of a recording that was replayed, but for hints and for what an observation shows.
 ///
 /// # Errors
 /// [`AllocError`] only where an allocation was refused.
@@ -86,7 +94,8 @@ pub fn report_of<'a>(
     report_with(alloc, desk, basis, found, judged)
 }
 
-/// Adds the hints to a report.
+/// Adds the hints to a report. A hint gives way where the commands that it is about were observed whole: the observation
+/// names who wrote the file.
 ///
 /// # Errors
 /// [`AllocError`] only where an allocation was refused.
@@ -97,7 +106,15 @@ pub fn add_hints<'a>(
     report: &mut Report<'a>,
 ) -> Result<(), AllocError> {
     let history = desk.history();
-    report.hints = hints_in(alloc, history, basis.files, basis.names, &basis.sources)?;
-    report.changes = told_changes(alloc, history, &basis.sources, basis.names)?;
+    let whole = whole_marks(basis.sight);
+    report.hints = hints_in(
+        alloc,
+        history,
+        basis.files,
+        basis.names,
+        &basis.sources,
+        whole,
+    )?;
+    report.changes = told_changes(alloc, history, &basis.sources, basis.names, whole)?;
     Ok(())
 }

@@ -1,19 +1,22 @@
 //! What is told of a recording.
 ghost use Rattle.std.specs.Prelude.{◌≡◌, ◌+◌, ◌≤◌, length, IfOk};
 
+use crate::certifying::{Grounds, certified_text};
 use crate::files::{Place, Recording, place_of, read_beside, read_names, read_recording};
 use crate::found::{last_runs, witness_of};
 use crate::hinted::names_in;
 use crate::mended::mend_text;
-use crate::observed::{Observed, observed_in, observed_sentence, read_observed};
+use crate::observed::{observed_sentence, read_filters, read_observed};
 use crate::provoked::provoke_text;
-use crate::reporting::{Basis, add_hints, report_of};
+use crate::reporting::{Basis, add_hints, replayed_of, report_of};
+use crate::seen::{Sight, count_findings, seen_findings, sight_in};
+use rev_conflicts_text::{Finding, findings_json, findings_words, pair_of};
 use rev_desk::Desk;
 use rev_graph::Graph;
 use rev_manifest::Manifest;
 use rev_paths::{Name, PathFault};
 use rev_program::ProgramFault;
-use rev_races_text::Sources;
+use rev_races_text::{Report, Sources};
 use rev_recording::{RecordingFault, fault_line, open, replay, replay_text};
 use rev_script::send;
 use rev_sentences::{Inputs, sentence};
@@ -47,6 +50,10 @@ pub enum How {
     Provoke(u64),
     /// How many commands there were, and the first that was refused.
     Replay,
+    /// Whether no schedule gives the commands other inputs.
+    Certify,
+    /// The same as JSON.
+    CertifyJson,
 }
 
 // What is asked of the bytes of a recording, the file of other names, that of what failed commands printed, and that of
@@ -57,6 +64,7 @@ struct Inquiry<'a> {
     names: &'a [u8],
     printed: &'a [u8],
     observed: Option<&'a [u8]>,
+    filters: Option<&'a [u8]>,
     how: How,
 }
 
@@ -87,6 +95,7 @@ fn answer_of(
     inquiry: Inquiry<'_>,
     manifest: &Manifest,
     desk: &Desk,
+    sight: Option<&Sight>,
     commands: u64,
 ) -> Result<Answer, AllocError> {
     if inquiry.how == How::Replay {
@@ -106,6 +115,7 @@ fn answer_of(
         files: &files,
         entries: &entries,
         names: &names,
+        sight,
         commands,
     };
     found_answer(alloc, inquiry.how, manifest, desk, &basis)
@@ -142,11 +152,16 @@ fn found_answer<'a>(
     basis: &Basis<'a>,
 ) -> Result<Answer, AllocError> {
     let mut report = report_of(alloc, desk, basis)?;
+    let findings = seen_findings(alloc, desk.history(), basis.sight, &report.races)?;
+    count_findings(basis.sight, &findings, &mut report);
     let status = report.status();
     let text = match how {
-        How::Witness(number) => return witness_answer(alloc, desk, report.pair(number)),
+        How::Witness(number) => {
+            return witness_answer(alloc, desk, pair_with(&findings, &report, number));
+        }
         How::Provoke(number) => {
-            return provoke_answer(alloc, manifest, desk, &basis.sources, report.pair(number));
+            let pair = pair_with(&findings, &report, number);
+            return provoke_answer(alloc, manifest, desk, &basis.sources, pair);
         }
         How::Mend => mend_text(
             alloc,
@@ -158,14 +173,25 @@ fn found_answer<'a>(
         )?,
         How::Json => {
             add_hints(alloc, desk, basis, &mut report)?;
-            report.json(alloc, &basis.sources)?
+            let observed = findings_json(alloc, &basis.sources, &findings)?;
+            report.json(alloc, &basis.sources, &observed)?
         }
         _ => {
             add_hints(alloc, desk, basis, &mut report)?;
-            report.words(alloc, &basis.sources, how == How::All)?
+            let all = how == How::All;
+            let observed = findings_words(alloc, &basis.sources, &findings, all)?;
+            report.words(alloc, &basis.sources, &observed, all)?
         }
     };
     Ok(Answer { text, status })
+}
+
+// The user and the maker of what has a number, whose order a schedule can change.
+fn pair_with(findings: &[Finding<'_>], report: &Report<'_>, number: u64) -> Option<(u32, u32)> {
+    if number <= report.before {
+        return pair_of(findings, number);
+    }
+    report.pair(number)
 }
 
 // The answer that has a witness of a user that starts before a maker.
@@ -197,15 +223,43 @@ fn command_count(trace: &Trace) -> u64 {
 }
 
 // What the commands of a graph were seen to do, where the recording has that.
-fn observed_of(
+fn sight_of(
     alloc: Global,
     inquiry: Inquiry<'_>,
     graph: &Graph,
-) -> Result<Option<Observed>, RecordingFault> {
+) -> Result<Option<Sight>, RecordingFault> {
     match inquiry.observed {
-        Some(bytes) if inquiry.how != How::Replay => Ok(Some(observed_in(alloc, graph, bytes)?)),
+        Some(bytes) if inquiry.how != How::Replay => {
+            let files = names_of(alloc, &inquiry.read.files)?;
+            Ok(Some(sight_in(alloc, graph, &files, bytes, inquiry.filters)?))
+        }
         _ => Ok(None),
     }
+}
+
+// The answer whether it is certain that no schedule gives the commands of a desk other inputs.
+fn certified_answer(
+    alloc: Global,
+    inquiry: Inquiry<'_>,
+    manifest: &Manifest,
+    desk: &Desk,
+    commands: u64,
+) -> Result<Answer, RecordingFault> {
+    let files = names_of(alloc, &inquiry.read.files)?;
+    let runs = last_runs(alloc, desk.history())?;
+    let grounds = Grounds {
+        sources: Sources {
+            builds: manifest.builds(),
+            files: &inquiry.read.files,
+            runs: &runs,
+        },
+        files: &files,
+        replayed: replayed_of(desk, &runs, commands),
+        json: inquiry.how == How::CertifyJson,
+    };
+    let bytes = inquiry.observed.unwrap_or(b"");
+    let (text, status) = certified_text(alloc, desk, grounds, bytes, inquiry.filters)?;
+    Ok(Answer { text, status })
 }
 
 // The answer about a trace, by the desk of its recording.
@@ -220,8 +274,18 @@ fn answer_from(
     requires lanes { desk.old.lanes ≡ length trace.now.lanes.items + 1 }
 {
     replay(alloc, desk, trace)?;
-    let _observed = observed_of(alloc, inquiry, desk.history().graph())?;
-    match answer_of(alloc, inquiry, manifest, desk, command_count(trace)) {
+    if inquiry.how == How::Certify || inquiry.how == How::CertifyJson {
+        return certified_answer(alloc, inquiry, manifest, desk, command_count(trace));
+    }
+    let sight = sight_of(alloc, inquiry, desk.history().graph())?;
+    match answer_of(
+        alloc,
+        inquiry,
+        manifest,
+        desk,
+        sight.as_ref(),
+        command_count(trace),
+    ) {
         Ok(answer) => Ok(answer),
         Err(_) => Err(RecordingFault::Memory),
     }
@@ -355,11 +419,16 @@ pub fn tell<'a, R: Files + Print + Eprint + AllocGlobal>(
     let names = read_names(rt, recording, place)?;
     let printed = read_printed(rt, recording, place)?;
     let observed = read_observed(rt, recording, place)?;
+    if observed.is_none() && (how == How::Certify || how == How::CertifyJson) {
+        return Err(ProgramFault::NotObserved(recording));
+    }
+    let filters = read_filters(rt, recording, place)?;
     let inquiry = Inquiry {
         read: &read,
         names: &names,
         printed: &printed,
         observed: observed.as_deref(),
+        filters: filters.as_deref(),
         how,
     };
     match answer_about(rt.alloc(), inquiry) {

@@ -4,7 +4,7 @@ use Rattle.clap.specs.Words.{App, Row, Rule, Shape, Text, first_of, new_app, new
 use Rattle.clap.specs.Simple.{new_shape, on_top}
 use Rattle.clap.specs.declared.builder.action.ArgAction.TheVariants.{Set, SetTrue}
 use Rattle.rev_asking.specs.declared.words.Word.{Word}
-use Rattle.rev_asking.specs.declared.words.Word.TheVariants.{Ask, Picture, Races, Replay}
+use Rattle.rev_asking.specs.declared.words.Word.TheVariants.{Ask, Certify, Picture, Races, Replay}
 
 -- the recording, which has to be given
 abbrev pub recording_rule : Rule
@@ -28,6 +28,10 @@ races_shape =
     shape_with (codes "races")
     (flag_rule (codes "all") ∷ flag_rule (codes "json") ∷ flag_rule (codes "mend") ∷ number_rule (codes "witness")
     ∷ number_rule (codes "provoke") ∷ recording_rule ∷ [])
+
+-- `certify [--json] RECORDING`
+abbrev pub certify_shape : Shape
+certify_shape = shape_with (codes "certify") (flag_rule (codes "json") ∷ recording_rule ∷ [])
 
 -- `replay RECORDING`
 abbrev pub replay_shape : Shape
@@ -54,7 +58,9 @@ bare_program = on_top (λ s. record s { has_version = true; subcommand_required 
 -- the program
 abbrev pub program : App
 program =
-    with_subcommand (with_subcommand (with_subcommand (with_subcommand bare_program races_shape) replay_shape) ask_shape)
+    with_subcommand
+    (with_subcommand (with_subcommand (with_subcommand (with_subcommand bare_program races_shape) certify_shape)
+    replay_shape) ask_shape)
     picture_shape
 
 -- the word that a name is
@@ -62,6 +68,7 @@ abbrev pub word_named : Text → Word
 word_named name =
     if bytes_eq name (codes "replay") then Replay else
     if bytes_eq name (codes "ask") then Ask else
+    if bytes_eq name (codes "certify") then Certify else
     if bytes_eq name (codes "picture") then Picture else Races
 
 -- the word that was given, and what was given to it

@@ -2,7 +2,7 @@
 ghost use Rattle.std.specs.Prelude.{◌≡◌, false, IfOk, IsOkAnd};
 ghost use Rattle.clap.specs.Words.{AddsSubcommand, app_of, rule_of, shape_of};
 ghost use Rattle.clap.specs.declared.builder.command.Command.TheViews.{out-Command};
-ghost use Rattle.rev_asking.specs.Asking.{ask_shape, bare_program, flag_rule, number_rule, out_rule, picture_shape, program, races_shape, recording_rule, replay_shape};
+ghost use Rattle.rev_asking.specs.Asking.{ask_shape, bare_program, certify_shape, flag_rule, number_rule, out_rule, picture_shape, program, races_shape, recording_rule, replay_shape};
 
 use clap::{Arg, ArgAction, Command};
 use std::alloc::{AllocError, Global};
@@ -86,6 +86,23 @@ fn races<'a>(alloc: Global) -> Result<Command<'a>, AllocError>
             "provoke",
             "N",
             "Writes a patch of the manifest with which race N happens in each build: its maker waits for its user",
+        ))?
+        .arg(recording(alloc))
+}
+
+// `certify [--json] RECORDING`
+fn certify<'a>(alloc: Global) -> Result<Command<'a>, AllocError>
+    ensures shape { IfOk result (λ c. shape_of c ≡ certify_shape) }
+    ensures local { IfOk result (λ c. (out-Command c).has_globals ≡ false) }
+{
+    Command::new(alloc, "certify")
+        .about(
+            "Whether no schedule of the build gives a command other inputs, by what its commands were seen to do",
+        )
+        .arg(flag(
+            alloc,
+            "json",
+            "Writes a JSON object a line in place of words",
         ))?
         .arg(recording(alloc))
 }
@@ -177,6 +194,7 @@ pub(crate) fn command<'a>(alloc: Global) -> Result<Command<'a>, AllocError>
     ensures program { IfOk result (λ c. app_of c ≡ program) }
 {
     let program = with_word(bare_command(alloc), races(alloc))?;
+    let program = with_word(program, certify(alloc))?;
     let program = with_word(program, replay(alloc))?;
     let program = with_word(program, ask(alloc))?;
     with_word(program, picture(alloc))

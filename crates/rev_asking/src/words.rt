@@ -12,6 +12,8 @@ use std::alloc::Global;
 pub enum Word {
     /// Its races.
     Races,
+    /// Whether no schedule gives its commands other inputs.
+    Certify,
     /// Whether it replays.
     Replay,
     /// Whatever is asked on standard input.
@@ -161,6 +163,8 @@ fn word_named(name: &str) -> Word
         Word::Replay
     } else if name == "ask" {
         Word::Ask
+    } else if name == "certify" {
+        Word::Certify
     } else if name == "picture" {
         Word::Picture
     } else {

@@ -75,6 +75,9 @@ pub enum ProgramFault<'a> {
     /// A folder has a manifest and no trace.
     #[error("{0} is a build folder, and not a recording: record it first\nrebug: for example: rebug record {0} RECORDING")]
     BuildFolder(&'a str),
+    /// A recording has no file `observed`, and was asked for what that shows.
+    #[error("{0} does not say what its commands read and wrote: record the build with --observe\nrebug: for example: rebug record BUILD {0} --observe")]
+    NotObserved(&'a str),
     /// The file of a picture could not be written.
     #[error("cannot write {0}")]
     Out(&'a str),

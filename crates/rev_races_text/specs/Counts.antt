@@ -1,5 +1,5 @@
 -- The line that counts: what was found, how many commands ran, and which of these were not judged.
-use Rattle.std.specs.Prelude.{ℕ, ◌==◌, ◌≤◌, nat_le, ◌&&◌, ◌||◌, Bool, true, false, if◌then◌else◌, List, [], ◌∷◌, ◌++◌, length, take, codes, decimal}
+use Rattle.std.specs.Prelude.{ℕ, ◌==◌, ◌≤◌, nat_le, ◌&&◌, ◌||◌, Bool, true, false, if◌then◌else◌, List, [], ◌∷◌, ◌++◌, Option, Some, None, length, take, codes, decimal}
 use Rattle.std.specs.List.{flat_map}
 use Rattle.rev_races_text.specs.Names.{name_if}
 use Rattle.rev_races_text.specs.declared.counts.Tally.{Tally}
@@ -66,8 +66,24 @@ unjudged_words all (e ∷ es) (f ∷ fs) =
 unfoldable pub found_words : Tally → List ℕ
 found_words t = some_words true t.failed (codes "command failed; ") (codes "commands failed; ") ++ races_words t
 
+-- how many files change behind their users, are no outputs though others look at them, and are no inputs
+unfoldable pub others_words : Tally → List ℕ
+others_words t =
+    more_words (codes "; ") t.unstable (codes "unstable file") (codes "unstable files")
+    ++ more_words (codes "; ") t.undeclared (codes "undeclared output") (codes "undeclared outputs")
+    ++ more_words (codes "; ") t.unlisted (codes "unlisted input") (codes "unlisted inputs")
+
+-- how many of the commands that ran were observed whole; nothing without an observation
+abbrev pub whole_words : ℕ → Option ℕ → List ℕ
+whole_words ran None = []
+whole_words ran (Some n) =
+    if ran == 0 then [] else (if n == ran then codes ", all observed whole"
+    else codes ", " ++ decimal n ++ codes " of them observed whole")
+
 unfoldable pub ends_words : Tally → List ℕ
-ends_words t = more_words (codes "; ") t.clashes (codes "clash") (codes "clashes") ++ codes "; " ++ ran_words t.ran
+ends_words t =
+    more_words (codes "; ") t.clashes (codes "clash") (codes "clashes") ++ others_words t ++ codes "; "
+    ++ ran_words t.ran ++ whole_words t.ran t.whole
 
 abbrev pub tally_words : Tally → List ℕ
 tally_words t = found_words t ++ ends_words t

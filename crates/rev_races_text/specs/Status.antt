@@ -3,9 +3,9 @@ use Rattle.std.specs.Prelude.{ℕ, ◌==◌, ◌&&◌, ◌||◌, Bool, not, if�
 use Rattle.rev_races_text.specs.declared.failed.Replayed.{Replayed}
 use Rattle.rev_races_text.specs.declared.report.Report.{Report}
 
--- something is found: a race of any kind, by a list or by an error, or a clash
+-- something is found: by an observation, a race of any kind, by a list or by an error, or a clash
 abbrev pub is_found : Report → Bool
-is_found r = not (length r.races.items == 0) || not (length r.clashes.items == 0)
+is_found r = not (r.before == 0) || not (length r.races.items == 0) || not (length r.clashes.items == 0)
 
 -- each command that began ended, and none was refused or left out
 abbrev pub is_whole : Replayed → Bool

@@ -1,10 +1,42 @@
 //! The line that counts: what was found, how many commands ran, and which of these were not judged.
 ghost use Rattle.std.specs.Prelude.{◌≡◌, ◌++◌, ◌==◌, ◌&&◌, Some, if◌then◌else◌, codes};
-ghost use Rattle.rev_races_text.specs.Counts.{collectors_words, counted, ends_words, found_words, more_words, names_some, names_words, plain_words, races_words, ran_words, some_words, tally_words, three_words, unjudged_words};
+ghost use Rattle.rev_races_text.specs.Counts.{collectors_words, counted, ends_words, found_words, more_words, names_some, names_words, others_words, plain_words, races_words, ran_words, some_words, tally_words, three_words, unjudged_words, whole_words};
 
 use crate::edges::Edge;
 use crate::names::NameIf;
 use std::fmt;
+
+/// How much an observation shows.
+#[derive(Clone, Copy, Debug, PartialEq, Eq)]
+pub struct Seen {
+    /// Races.
+    pub races: u64,
+    /// Cycles.
+    pub cycles: u64,
+    /// Files that two commands leave.
+    pub clashes: u64,
+    /// Files that change behind a command that looked at them.
+    pub unstable: u64,
+    /// Files that no line says a command makes, at which another one looks.
+    pub undeclared: u64,
+    /// Files that a command reads and neither its line nor its list has.
+    pub unlisted: u64,
+    /// Commands that ran and were observed whole.
+    pub whole: u64,
+}
+
+impl Seen {
+    /// Nothing of each.
+    pub const NOTHING: Seen = Seen {
+        races: 0,
+        cycles: 0,
+        clashes: 0,
+        unstable: 0,
+        undeclared: 0,
+        unlisted: 0,
+        whole: 0,
+    };
+}
 
 /// How many there are of what is told.
 #[derive(Clone, Copy)]
@@ -19,16 +51,27 @@ pub struct Tally {
     pub own: u64,
     /// Clashes.
     pub clashes: u64,
+    /// Files that change behind a command that looked at them.
+    pub unstable: u64,
+    /// Files that no line says a command makes, at which another one looks.
+    pub undeclared: u64,
+    /// Files that a command reads and neither its line nor its list has.
+    pub unlisted: u64,
     /// Commands that ran.
     pub ran: u64,
+    /// How many of these were observed whole, where the recording has an observation.
+    pub whole: Option<u64>,
 }
 
-/// A number of things.
+/// A number of things, as `1 command` or `2 commands`.
 #[derive(Clone, Copy)]
-pub(crate) struct Counted {
-    pub(crate) count: u64,
-    pub(crate) one: &'static str,
-    pub(crate) many: &'static str,
+pub struct Counted {
+    /// How many there are.
+    pub count: u64,
+    /// What one is called.
+    pub one: &'static str,
+    /// What others are called.
+    pub many: &'static str,
 }
 
 // The same behind a comma, unless it comes first; nothing where there are none.
@@ -60,6 +103,17 @@ struct Ran(u64);
 // How many commands failed, and the races.
 #[derive(Clone, Copy)]
 struct FoundCounts(Tally);
+
+// How many of the commands that ran were observed whole.
+#[derive(Clone, Copy)]
+struct Whole {
+    ran: u64,
+    whole: Option<u64>,
+}
+
+// How many files change behind their users, are no outputs, and are no inputs.
+#[derive(Clone, Copy)]
+struct OtherCounts(Tally);
 
 // How many clashes there are, and commands that ran.
 #[derive(Clone, Copy)]
@@ -247,8 +301,63 @@ impl fmt::Display for EndCounts {
                 many: "clashes",
             },
         };
+        let others = OtherCounts(self.0);
         let ran = Ran(self.0.ran);
-        write!(f, "{clashes}; {ran}")
+        let whole = Whole {
+            ran: self.0.ran,
+            whole: self.0.whole,
+        };
+        write!(f, "{clashes}{others}; {ran}{whole}")
+    }
+}
+
+impl fmt::Display for OtherCounts {
+    ghost output = { λ t. Some (others_words t.0) };
+
+    #[tactic(auto, unfolding(crate::specs::Counts::others_words))]
+    fn fmt<W: fmt::Write>(&self, f: &mut fmt::Formatter<W>) -> fmt::Result {
+        let unstable = Further {
+            before: "; ",
+            counted: Counted {
+                count: self.0.unstable,
+                one: "unstable file",
+                many: "unstable files",
+            },
+        };
+        let undeclared = Further {
+            before: "; ",
+            counted: Counted {
+                count: self.0.undeclared,
+                one: "undeclared output",
+                many: "undeclared outputs",
+            },
+        };
+        let unlisted = Further {
+            before: "; ",
+            counted: Counted {
+                count: self.0.unlisted,
+                one: "unlisted input",
+                many: "unlisted inputs",
+            },
+        };
+        write!(f, "{unstable}{undeclared}{unlisted}")
+    }
+}
+
+impl fmt::Display for Whole {
+    ghost output = { λ w. Some (whole_words w.ran w.whole) };
+
+    fn fmt<W: fmt::Write>(&self, f: &mut fmt::Formatter<W>) -> fmt::Result {
+        let Some(whole) = self.whole else {
+            return Ok(());
+        };
+        if self.ran == 0 {
+            return Ok(());
+        }
+        if whole == self.ran {
+            return write!(f, ", all observed whole");
+        }
+        write!(f, ", {whole} of them observed whole")
     }
 }
 

@@ -44,7 +44,7 @@ pub struct Edge<'a> {
 
 /// A line of a file, behind a colon, where there is one.
 #[derive(Clone, Copy)]
-pub(crate) struct LineIf(pub(crate) Option<u64>);
+pub struct LineIf(pub Option<u64>);
 
 impl fmt::Display for LineIf {
     ghost output = { λ line. Some (line_if line.0) };

@@ -7,7 +7,7 @@ use std::fmt;
 
 /// The line of what happened.
 #[derive(Clone, Copy)]
-pub(crate) struct HereLine(pub(crate) Story);
+pub struct HereLine(pub Story);
 
 // When a command ended, or that it runs, behind who it is.
 #[derive(Clone, Copy)]

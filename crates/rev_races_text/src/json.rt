@@ -71,8 +71,11 @@ struct ClashObject<'a> {
     other: Edge<'a>,
 }
 
-// Adds an object and a line's end.
-fn push_object<T: Serialize>(
+/// Adds an object of a kind, with the members of a value, and a line's end.
+///
+/// # Errors
+/// [`AllocError`] only where an allocation was refused.
+pub fn push_object<T: Serialize>(
     alloc: Global,
     text: &mut Vec<u8>,
     kind: &'static str,
@@ -94,8 +97,8 @@ fn kind_word(kind: Kind) -> &'static str {
     }
 }
 
-// The word of what happened.
-fn happened_word(happened: Happened) -> &'static str {
+/// The word of what happened.
+pub fn happened_word(happened: Happened) -> &'static str {
     match happened {
         Happened::Apart => "apart",
         Happened::Before => "before",
@@ -224,7 +227,7 @@ fn push_races<'a>(
     sources: &Sources<'a>,
     report: &Report<'a>,
 ) -> Result<(), AllocError> {
-    let mut number = 1;
+    let mut number = report.first_race();
     for told in &report.races {
         push_race(alloc, text, sources, told, number)?;
         number = u64::saturating_add(number, 1);
@@ -280,12 +283,17 @@ fn push_clash<'a>(
 }
 
 impl<'a> Report<'a> {
-    /// What is told, as JSON: an object a line. Names stand as people read them, so that each is text whatever its bytes
-    /// are.
+    /// What is told, as JSON: an object a line. What an observation shows (`observed`) stands before the races, as lines
+    /// already. Names stand as people read them, so that each is text whatever its bytes are.
     ///
     /// # Errors
     /// [`AllocError`] only where an allocation was refused.
-    pub fn json(&self, alloc: Global, sources: &Sources<'a>) -> Result<Vec<u8>, AllocError> {
+    pub fn json(
+        &self,
+        alloc: Global,
+        sources: &Sources<'a>,
+        observed: &[u8],
+    ) -> Result<Vec<u8>, AllocError> {
         let mut text = Vec::new(alloc);
         if !self.replayed.is_whole() {
             push_object(alloc, &mut text, "replayed", &self.replayed)?;
@@ -293,6 +301,7 @@ impl<'a> Report<'a> {
         for failure in &self.failures {
             push_failure(alloc, &mut text, sources, failure)?;
         }
+        text.extend_from_slice(observed)?;
         push_races(alloc, &mut text, sources, self)?;
         push_unjudged(alloc, &mut text, sources, &self.unjudged, false)?;
         push_unjudged(alloc, &mut text, sources, &self.collectors, true)?;

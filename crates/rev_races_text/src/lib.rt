@@ -12,12 +12,14 @@ mod race;
 mod report;
 mod words;
 
-pub use counts::Tally;
-pub use edges::{Edge, Sources, push_edge, push_placed};
+pub use counts::{Counted, Seen, Tally};
+pub use edges::{Edge, LineIf, Sources, push_edge, push_placed};
 pub use failed::{Failure, Printed, Replayed, Suspect, Untold};
-pub use names::{Shown, Text};
+pub use here::HereLine;
+pub use json::{happened_word, push_object};
+pub use names::{NameIf, Shown, Text, Written, WrittenIf};
 pub use others::{Change, Clash, ClashLine, Hint, push_clash};
-pub use race::{Evidence, ListedBefore, Told};
+pub use race::{Evidence, ListedBefore, MendLine, More, Through, Told};
 pub use report::{Report, SOMETHING, UNKNOWN};
 pub use rev_races::{Happened, Kind, Run, Story};
 pub use rev_suspects::{Basis, Progress};

@@ -18,15 +18,15 @@ pub struct Text<'a>(pub &'a [u8]);
 /// A path as it stands on a build line (Ninja manual, lexical syntax): a `$` before each `$`, space and `:`. Bytes that
 /// are not visible stand as in a name, since no terminal is to get them.
 #[derive(Clone, Copy)]
-pub(crate) struct Written<'a>(pub(crate) &'a [u8]);
+pub struct Written<'a>(pub &'a [u8]);
 
 /// A name, where there is one.
 #[derive(Clone, Copy)]
-pub(crate) struct NameIf<'a>(pub(crate) Option<Shown<'a>>);
+pub struct NameIf<'a>(pub Option<Shown<'a>>);
 
 /// A path as it stands on a build line, where there is one.
 #[derive(Clone, Copy)]
-pub(crate) struct WrittenIf<'a>(pub(crate) Option<Shown<'a>>);
+pub struct WrittenIf<'a>(pub Option<Shown<'a>>);
 
 // One byte of a name, of a text and of a path on a build line.
 #[derive(Clone, Copy)]

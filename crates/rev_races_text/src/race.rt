@@ -59,12 +59,15 @@ pub(crate) struct MakerLine<'a> {
     pub(crate) maker: Edge<'a>,
 }
 
-// The path by which a user is in the race, and how many more, where it is more than the path that was told.
+/// The path by which a user is in the race, and how many more, where it is more than the path that was told.
 #[derive(Clone, Copy)]
-struct Through<'a> {
-    told: Shown<'a>,
-    path: Shown<'a>,
-    more: u64,
+pub struct Through<'a> {
+    /// The path that was told.
+    pub told: Shown<'a>,
+    /// The first path of the user.
+    pub path: Shown<'a>,
+    /// How many more there are.
+    pub more: u64,
 }
 
 // The line of a user, which is in as many more races with the same maker.
@@ -85,19 +88,24 @@ pub(crate) struct EvidenceLine<'a> {
     pub(crate) path: Shown<'a>,
 }
 
-// The line of the mend.
+/// The line of a mend: an order-only input of the user.
 #[derive(Clone, Copy)]
-pub(crate) struct MendLine<'a> {
-    pub(crate) user: Edge<'a>,
-    pub(crate) output: Shown<'a>,
+pub struct MendLine<'a> {
+    /// The user.
+    pub user: Edge<'a>,
+    /// The input.
+    pub output: Shown<'a>,
 }
 
-// How many are left out, between words; nothing where there are none.
+/// How many are left out, between words; nothing where there are none.
 #[derive(Clone, Copy)]
-pub(crate) struct More {
-    pub(crate) before: &'static str,
-    pub(crate) more: u64,
-    pub(crate) after: &'static str,
+pub struct More {
+    /// What stands before the number.
+    pub before: &'static str,
+    /// How many there are.
+    pub more: u64,
+    /// What stands behind the number.
+    pub after: &'static str,
 }
 
 impl<'a> Sources<'a> {

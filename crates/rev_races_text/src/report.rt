@@ -2,7 +2,7 @@
 ghost use Rattle.std.specs.Prelude.{◌≡◌};
 ghost use Rattle.rev_races_text.specs.Status.{status_of};
 
-use crate::counts::Tally;
+use crate::counts::{Seen, Tally};
 use crate::failed::{Failure, Replayed};
 use crate::others::{Change, Clash, Hint};
 use crate::race::{Evidence, Told};
@@ -13,10 +13,14 @@ pub const SOMETHING: u8 = 4;
 /// The exit status where nothing was found, and the build failed or was not recorded whole.
 pub const UNKNOWN: u8 = 5;
 
-/// What is told of a recording. The races are numbered from 1; the numbers go on with the other suspects, in the order of
-/// the commands that failed.
+/// What is told of a recording. What an observation shows comes first, numbered from 1; the numbers go on with the races,
+/// and then with the other suspects, in the order of the commands that failed.
 #[derive(Drop)]
 pub struct Report<'a> {
+    /// How many numbers are taken by what an observation shows.
+    pub before: u64,
+    /// How much of that there is of each kind, where the recording has an observation.
+    pub seen: Option<Seen>,
     /// How much of it counts.
     pub replayed: Replayed,
     /// The commands that failed.
@@ -55,12 +59,13 @@ fn at<T>(items: &[T], place: u64) -> Option<&T> {
 }
 
 impl<'a> Report<'a> {
-    /// The exit status: 4 where there is a race, a cycle, a path that its own command lists, a clash or a suspect that an
-    /// error names; else 5 where the build failed or was not recorded whole, and else 0.
+    /// The exit status: 4 where an observation shows something, or there is a race, a cycle, a path that its own command
+    /// lists, a clash or a suspect that an error names; else 5 where the build failed or was not recorded whole, and else
+    /// 0.
     pub fn status(&self) -> u8
         ensures { result ≡ status_of self.now }
     {
-        if !self.races.is_empty() || !self.clashes.is_empty() {
+        if self.before != 0 || !self.races.is_empty() || !self.clashes.is_empty() {
             return SOMETHING;
         }
         if self.failures.is_empty() && self.replayed.is_whole() {
@@ -71,13 +76,18 @@ impl<'a> Report<'a> {
 
     /// How many there are of what is told.
     pub(crate) fn tally(&self) -> Tally {
+        let seen = self.seen.unwrap_or(Seen::NOTHING);
         Tally {
             failed: self.failures.len() as u64,
-            races: self.count_of(Kind::Race),
-            cycles: self.count_of(Kind::Cycle),
+            races: u64::saturating_add(self.count_of(Kind::Race), seen.races),
+            cycles: u64::saturating_add(self.count_of(Kind::Cycle), seen.cycles),
             own: self.count_of(Kind::Own),
-            clashes: self.clashes.len() as u64,
+            clashes: u64::saturating_add(self.clashes.len() as u64, seen.clashes),
+            unstable: seen.unstable,
+            undeclared: seen.undeclared,
+            unlisted: seen.unlisted,
             ran: self.ran,
+            whole: self.seen.map(|seen| seen.whole),
         }
     }
 
@@ -96,15 +106,20 @@ impl<'a> Report<'a> {
         self.races.split_at(count.saturating_sub(named))
     }
 
-    /// The number of the first suspect that no error names: those of the races come before.
-    pub(crate) fn first_other(&self) -> u64 {
-        (self.races.len() as u64).saturating_add(1)
+    /// The number of the first race.
+    pub(crate) fn first_race(&self) -> u64 {
+        self.before.saturating_add(1)
     }
 
-    /// The user and the maker of the race or suspect of a number, from 1; none where there is none of that number, or a
-    /// command lists its own output.
+    /// The number of the first suspect that no error names: those of the races come before.
+    pub(crate) fn first_other(&self) -> u64 {
+        u64::saturating_add(self.races.len() as u64, self.first_race())
+    }
+
+    /// The user and the maker of the race or suspect of a number; none where neither has that number, or a command lists
+    /// its own output.
     pub fn pair(&self, number: u64) -> Option<(u32, u32)> {
-        let place = number.checked_sub(1)?;
+        let place = number.checked_sub(self.first_race())?;
         if let Some(told) = at(&self.races, place) {
             return pair_of(told);
         }

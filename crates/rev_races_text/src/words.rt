@@ -119,14 +119,15 @@ fn push_kind<'a>(
     push_more(text, "  and by ", users, most, " more (--all tells them)\n")
 }
 
-// Adds the races, of each maker in a group for each kind.
+// Adds the races, which are numbered from `first`, of each maker in a group for each kind.
 fn push_races<'a>(
     text: &mut String,
     sources: &Sources<'a>,
     races: &[Told<'a>],
+    first: u64,
     most: usize,
 ) -> Result<(), AllocError> {
-    let mut number = 1;
+    let mut number = first;
     for maker in races.chunk_by(|one, other| one.maker == other.maker) {
         for kind in [Kind::Race, Kind::Cycle, Kind::Own] {
             push_kind(text, sources, kind, maker, number, most)?;
@@ -319,7 +320,7 @@ fn push_failures<'a>(
     let (listed, named) = report.parts();
     let mut named = named;
     let mut numbers = (
-        (listed.len() as u64).saturating_add(1),
+        u64::saturating_add(listed.len() as u64, report.first_race()),
         report.first_other(),
     );
     for (place, failure) in report.failures.iter().enumerate() {
@@ -366,8 +367,9 @@ fn push_clashes<'a>(
 }
 
 impl<'a> Report<'a> {
-    /// What is told, in words: how much of the recording counts, what failed, the races of each maker, how many there
-    /// are and what was not judged, the clashes and the hints. Of much the first is told, or all of it.
+    /// What is told, in words: how much of the recording counts, what failed, what an observation shows (`observed`, in
+    /// words already), the races of each maker, how many there are and what was not judged, the clashes and the hints. Of
+    /// much the first is told, or all of it.
     ///
     /// # Errors
     /// [`AllocError`] only where an allocation was refused.
@@ -375,14 +377,16 @@ impl<'a> Report<'a> {
         &self,
         alloc: Global,
         sources: &Sources<'a>,
+        observed: &str,
         all: bool,
     ) -> Result<Vec<u8>, AllocError> {
         let mut text = String::new(alloc);
         let few = most_of(all, FEW);
         write!(text, "{}", self.replayed)?;
         push_failures(alloc, &mut text, sources, self, all)?;
+        text.push_str(observed)?;
         let (listed, _named) = self.parts();
-        push_races(&mut text, sources, listed, few)?;
+        push_races(&mut text, sources, listed, self.first_race(), few)?;
         push_counts(alloc, &mut text, sources, self, all)?;
         push_clashes(&mut text, sources, self, few)?;
         for hint in &self.hints {

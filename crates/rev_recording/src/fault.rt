@@ -6,10 +6,12 @@ use rev_script::{RunFault, report_fault, report_graph_fault, report_manifest_fau
 use std::alloc::{AllocError, AllocFailed, Global};
 use std::fmt;
 
-/// The first fault of the file `observed` that stands beside a trace.
+/// The first fault of a file that stands beside a trace: of `observed`, or of `filters`.
 #[derive(Clone, Copy, Debug, PartialEq, Eq)]
 pub struct ObservedFault {
-    /// The line, from 1.
+    /// The name of the file.
+    pub file: &'static str,
+    /// The line, from 1; 0 where it is about none.
     pub line: u64,
     /// The number of the fault (docs/CODES.md).
     pub code: u16,
@@ -27,6 +29,7 @@ impl ObservedFault {
             101 => "no number of that form or size",
             103 => "a second line for one path or one edge",
             104 => "no observation of this version",
+            106 => "more than 16,384 bytes",
             _ => "a number that is no path's, or ranges that do not rise",
         }
     }
@@ -35,8 +38,8 @@ impl ObservedFault {
 impl fmt::Display for ObservedFault {
     fn fmt<W: fmt::Write>(&self, f: &mut fmt::Formatter<W>) -> fmt::Result {
         let words = self.words();
-        let (line, code) = (self.line, self.code);
-        write!(f, "observed:{line}: {words} ({code}, docs/CODES.md)")
+        let (file, line, code) = (self.file, self.line, self.code);
+        write!(f, "{file}:{line}: {words} ({code}, docs/CODES.md)")
     }
 }
 
@@ -51,7 +54,7 @@ pub enum RecordingFault {
     Graph(GraphFault),
     /// The trace is not read.
     Trace(TextFault),
-    /// What its commands were seen to do is not read, or is of another manifest's commands.
+    /// What its commands were seen to do is not read, or is of another manifest's commands, or a filter is not read.
     Observed(ObservedFault),
 }
 
@@ -90,7 +93,9 @@ pub fn fault_line(
             report_fault(alloc, b"trace", *fault, &mut line)?;
         }
         RecordingFault::Observed(fault) => {
-            line.extend_from_slice(b"fault observed ")?;
+            line.extend_from_slice(b"fault ")?;
+            line.extend_from_slice(fault.file.as_bytes())?;
+            line.extend_from_slice(b" ")?;
             push_number(&mut line, fault.line)?;
             line.extend_from_slice(b" ")?;
             push_number(&mut line, u64::from(fault.code))?;

@@ -3,7 +3,7 @@ use Rattle.std.proofs.lemmas.Result.{IfOk-weaker}
 use Rattle.clap.specs.Words.{AddsSubcommand, Shape, app_of, shape_of, with_subcommand}
 use Rattle.clap.specs.declared.builder.command.Command.{Command}
 use Rattle.clap.specs.declared.builder.command.Command.TheViews.{out-Command}
-use Rattle.rev_asking.specs.Asking.{ask_shape, picture_shape, program, races_shape, replay_shape}
+use Rattle.rev_asking.specs.Asking.{ask_shape, certify_shape, picture_shape, program, races_shape, replay_shape}
 use Rattle.rev_asking.proofs.command.command.Goals as goal
 
 -- a program to which the command of this shape was added
@@ -18,13 +18,16 @@ returns c =
     let first = c.in_ok-program.program in
     let second = c.in_ok-program-2.program in
     let third = c.in_ok-program-3.program in
+    let fourth = c.in_ok-program-4.program in
     let one = added c.races.result races_shape c.bare_command.result first c.races.ensures.shape c.races.ensures.local c.in_ok-program.ensures
     ∙ ap (λ a. with_subcommand a races_shape) c.bare_command.ensures in
-    let two = added c.replay.result replay_shape first second c.replay.ensures.shape c.replay.ensures.local c.in_ok-program-2.ensures
-    ∙ ap (λ a. with_subcommand a replay_shape) one in
-    let three = added c.ask.result ask_shape second third c.ask.ensures.shape c.ask.ensures.local c.in_ok-program-3.ensures
-    ∙ ap (λ a. with_subcommand a ask_shape) two in record {
-      program = IfOk-weaker c.with_word-4.result (λ k. IsOkAnd c.picture.result (λ w. AddsSubcommand third w k)) (λ (k : Command). app_of k ≡ program)
-          (λ k adds. added c.picture.result picture_shape third k c.picture.ensures.shape c.picture.ensures.local adds ∙ ap (λ a. with_subcommand a picture_shape) three)
-          c.with_word-4.ensures;
+    let two = added c.certify.result certify_shape first second c.certify.ensures.shape c.certify.ensures.local c.in_ok-program-2.ensures
+    ∙ ap (λ a. with_subcommand a certify_shape) one in
+    let three = added c.replay.result replay_shape second third c.replay.ensures.shape c.replay.ensures.local c.in_ok-program-3.ensures
+    ∙ ap (λ a. with_subcommand a replay_shape) two in
+    let four = added c.ask.result ask_shape third fourth c.ask.ensures.shape c.ask.ensures.local c.in_ok-program-4.ensures
+    ∙ ap (λ a. with_subcommand a ask_shape) three in record {
+      program = IfOk-weaker c.with_word-5.result (λ k. IsOkAnd c.picture.result (λ w. AddsSubcommand fourth w k)) (λ (k : Command). app_of k ≡ program)
+          (λ k adds. added c.picture.result picture_shape fourth k c.picture.ensures.shape c.picture.ensures.local adds ∙ ap (λ a. with_subcommand a picture_shape) four)
+          c.with_word-5.ensures;
     }

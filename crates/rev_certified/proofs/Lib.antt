@@ -1,0 +1,2 @@
+pub mod CertainLemmas
+pub mod WholeLemmas

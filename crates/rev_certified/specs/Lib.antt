@@ -1,0 +1,3 @@
+pub mod Certain
+pub mod Standing
+pub mod Whole

@@ -1,0 +1,60 @@
+-- The lines of a certificate.
+use Rattle.std.specs.Prelude.{ℕ, ◌==◌, Bool, List, [], ◌++◌, codes, decimal, if◌then◌else◌}
+use Rattle.rev_observed.specs.declared.flags.Flags.{Flags}
+use Rattle.rev_races_text.specs.Counts.{counted}
+use Rattle.rev_races_text.specs.Edges.{placed}
+use Rattle.rev_races_text.specs.declared.edges.Edge.{Edge}
+use Rattle.rev_conflicts_text.specs.declared.certificate.Way.{Way}
+use Rattle.rev_conflicts_text.specs.declared.certificate.Way.TheVariants as way
+
+-- the word of a flag, where it is set
+abbrev pub flag_if : Bool → List ℕ → List ℕ
+flag_if set word = if set then codes " " ++ word else []
+
+-- the flags that are set
+abbrev pub flags_words : Flags → List ℕ
+flags_words f =
+    flag_if f.cut (codes "cut") ++ flag_if f.server (codes "server") ++ flag_if f.namespace (codes "namespace")
+    ++ flag_if f.uring (codes "uring") ++ flag_if f.unresolved (codes "unresolved") ++ flag_if f.twin (codes "twin")
+
+-- why a command stands in the way
+abbrev pub way_words : Way → List ℕ
+way_words way.Failed = codes "did not end well"
+way_words way.Early = codes "made what the manifest is read from: record the build again"
+way_words way.Unseen = codes "was not observed"
+way_words (way.Flagged flags) = codes "was not observed whole:" ++ flags_words flags
+
+-- `in the way: main.o (build.ninja:19) was not observed whole: server`
+abbrev pub way_line : Edge → Way → List ℕ
+way_line user why = codes "in the way: " ++ placed user ++ codes " " ++ way_words why ++ codes "\n"
+
+abbrev pub missing_line : Edge → List ℕ
+missing_line user = codes "in the way: " ++ placed user ++ codes " did not run, though the targets need it\n"
+
+-- what is assumed of paths that filters hide
+abbrev pub hidden_words : ℕ → List ℕ
+hidden_words hidden =
+    if hidden == 0 then []
+    else codes ", and what filters hide (" ++ counted hidden (codes "path") (codes "paths")
+    ++ codes ") gives no command other inputs"
+
+-- what is certain, and of how many commands
+unfoldable pub certain_words : ℕ → List ℕ
+certain_words commands =
+    codes "certain: all " ++ counted commands (codes "command") (codes "commands")
+    ++ codes " observed whole: no schedule of this manifest gives any of them other inputs\n"
+
+-- under which assumptions
+unfoldable pub assumed_words : ℕ → List ℕ
+assumed_words hidden =
+    codes "  assumed: the sources stay the same, and a command that sees the same does the same" ++ hidden_words hidden
+    ++ codes "\n"
+
+abbrev pub certain_line : ℕ → ℕ → List ℕ
+certain_line commands hidden = certain_words commands ++ assumed_words hidden
+
+-- what is certain where not all ran that the targets need
+abbrev pub also_line : ℕ → List ℕ
+also_line commands =
+    codes "certain of what ran alone: no schedule of the " ++ counted commands (codes "command") (codes "commands")
+    ++ codes " gives any of them other inputs, where the others left what they left here\n"

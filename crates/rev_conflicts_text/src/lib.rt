@@ -1,0 +1,17 @@
+//! What people are told of the conflicts of a build's commands, by what these were seen to do.
+#![tactic(auto)]
+
+mod certificate;
+mod certified;
+mod finding;
+mod json;
+mod lines;
+mod told;
+mod words;
+
+pub use certificate::{CertainLine, Way};
+pub use certified::{Certified, NOT_CERTAIN};
+pub use finding::{Finding, Kind};
+pub use json::findings_json;
+pub use told::{conflict_findings, conflicts_left, pair_of, races_left, seen_in};
+pub use words::findings_words;
