@@ -1,8 +1,19 @@
 //! Laws of outcomes.
 ghost use Rattle.rev_outcome.specs.Laws.{OneOutcome};
+ghost use Rattle.rev_outcome.specs.Premises.{LooksCount, OrderCounts};
 
 /// Where one legal schedule of a build ends with each command ended, and no two unordered edges conflict in it, each
 /// legal schedule from the same sources has its outcome.
 pub fn one_outcome()
     ensures { OneOutcome }
+{}
+
+/// A look at what an unordered command leaves is a conflict for a reason: without that the law is false.
+pub fn looks_count()
+    ensures { LooksCount }
+{}
+
+/// The order of build lines is asked of schedules for a reason: without that the law is false.
+pub fn order_counts()
+    ensures { OrderCounts }
 {}
