@@ -1,13 +1,13 @@
 -- One schedule, followed by another one.
-use Rattle.std.proofs.Common.{◌≡◌, ℕ, Bool, true, false, List, [], ◌∷◌, ◌++◌, Option, Some, None, inl, inr, refl, sym, ap, subst, ◌∙◌, true≢false, append-nil}
+use Rattle.std.proofs.Common.{◌≡◌, ℕ, Bool, true, false, List, [], ◌∷◌, ◌++◌, Option, Some, None, inl, inr, refl, sym, ap, subst, ◌∙◌, true≢false, true≢false, append-nil}
 use Rattle.std.specs.Prelude.{◌≢◌, ◌⊎◌, ◌==◌, ◌||◌}
 use Rattle.std.proofs.lemmas.Bool.{cases_eq}
 use Rattle.rev_manifest.specs.Manifest.{BuildValue}
 use Rattle.rev_graph.specs.Graph.{EdgeReaches, EdgeReaches.step as one_step, EdgeReaches.further as then_on}
-use Rattle.rev_outcome.specs.Commands.{Act, Act.Ask, Act.End, Command, Disk, Look, Step, Step.Saw, see, is_asked, is_used}
+use Rattle.rev_outcome.specs.Commands.{Act, Act.Ask, Act.End, Command, Disk, Look, Step, Step.Saw, see, is_asked, is_end, is_used}
 use Rattle.rev_outcome.specs.Schedules.{HasEnded, HasSameOutcome, IsComplete, IsLegal, NoneConflict, World, after, after_step, leaves, opening, run, step_of, uses, with_step}
 use Rattle.rev_outcome.specs.Laws.{OneOutcome, OneOutcomeBy}
-use Rattle.rev_outcome.proofs.StepLemmas.{Grown, any-grown, grown-on, grown-one, grown-same, none-begun, same-or-next, see-same, step-same, uses-left, with-other, with-same}
+use Rattle.rev_outcome.proofs.StepLemmas.{Grown, any-grown, grown-on, grown-one, grown-same, no-step, none-begun, same-or-next, see-same, step-same, uses-left, with-other, with-same}
 use Rattle.rev_outcome.proofs.WorldLemmas.{IsOnTheWay, IsReady, acts-if, none-yet, one-more, same-held}
 
 -- A PROPERTY OF EACH EDGE'S STEPS, THROUGH ONE STEP
@@ -86,19 +86,15 @@ module _ (Waits : ℕ → ℕ → Type 0) (through : (a b c : ℕ) → Waits a b
         grown
 
     -- ANOTHER SCHEDULE
-    module _ (found : (edge : ℕ) → AreFound edge (all edge)) (ended : (edge : ℕ) → commands edge (all edge) ≡ End) where
+    module _ (found : (edge : ℕ) → AreFound edge (all edge)) (ended : (edge : ℕ) → is_end (commands edge (all edge)) ≡ true) where
       -- an edge that has ended did all
       whole : (world : World) (edge : ℕ) → OnTheWay world → HasEnded commands world edge → world.steps edge ≡ all edge
       whole world edge on here = elim (same-or-next (on.grown edge)) [
         | inl same ↦ same
         | inr (step, (later, e)) ↦
             let next = found-in edge later (world.steps edge) step (subst (λ steps. AreFound edge steps) e (found edge)) in
-            let no : step_of next.world.disk End ≡ Some step = sym (ap (step_of next.world.disk) here) ∙ next.is in
-            absurd (nothing next.world.disk step no)
+            absurd (no-step next.world.disk (commands edge (world.steps edge)) step here next.is)
       ]
-        where
-          nothing : (disk : Disk) (step : Step) → step_of disk End ≡ Some step → ⊥
-          nothing disk step e = cc
 
       -- an edge's look shows here what it showed there
       alike : (world there : World) (edge : ℕ) (look : Look) → OnTheWay world → OnTheWay there → Ready world edge → Ready there edge
@@ -108,14 +104,10 @@ module _ (Waits : ℕ → ℕ → Type 0) (through : (a b c : ℕ) → Waits a b
           see-same world.disk there.disk look (λ path asked. same-held Waits through commands first all world there on on_there path (λ other leave. steps path asked other leave))
         where
           goes-on : HasEnded commands world edge → ⊥
-          goes-on over =
-              let no : Ask look ≡ End = sym asks ∙ over in
-              cc
+          goes-on over = true≢false (sym over ∙ ap is_end asks)
 
           goes-on-there : HasEnded commands there edge → ⊥
-          goes-on-there over =
-              let no : Ask look ≡ End = sym asks ∙ ap (commands edge) same ∙ over in
-              cc
+          goes-on-there over = true≢false (sym over ∙ ap (λ steps. is_end (commands edge steps)) (sym same) ∙ ap is_end asks)
 
           steps : (path : List ℕ) → is_asked path look ≡ true → (other : ℕ) → leaves path (all other) ≡ true → world.steps other ≡ there.steps other
           steps path asked other leave = elim (cases_eq other edge) [
@@ -131,7 +123,7 @@ module _ (Waits : ℕ → ℕ → Type 0) (through : (a b c : ℕ) → Waits a b
       -- the next step of an edge is the one that it did there
       same-step : (world : World) (edge : ℕ) (step : Step) → OnTheWay world → Ready world edge → step_of world.disk (commands edge (world.steps edge)) ≡ Some step → Grown (step ∷ world.steps edge) (all edge)
       same-step world edge step on ready is = elim (same-or-next (on.grown edge)) [
-        | inl same ↦ absurd (acts-if Waits through commands first all world edge step is (ap (commands edge) same ∙ ended edge))
+        | inl same ↦ absurd (acts-if Waits through commands first all world edge step is (ap (λ steps. is_end (commands edge steps)) same ∙ ended edge))
         | inr (twin, (later, e)) ↦
             let next = found-in edge later (world.steps edge) twin (subst (λ steps. AreFound edge steps) e (found edge)) in
             let same : step ≡ twin = step-same world.disk next.world.disk (commands edge (world.steps edge)) step twin (looks twin later e next) is next.is in
@@ -162,7 +154,8 @@ module _ (Waits : ℕ → ℕ → Type 0) (through : (a b c : ℕ) → Waits a b
 pub one-outcome-of : (Waits : ℕ → ℕ → Type 0) → ((a b c : ℕ) → Waits a b → Waits b c → Waits a c) → OneOutcomeBy (IsLegal Waits) (NoneConflict Waits)
 one-outcome-of Waits through commands disk schedule other legal complete none other_legal = record {
   as_here = there.grown;
-  all_of_them = λ over edge. whole Waits through commands disk all none s.found complete last edge there (over edge);
+  all_steps = λ edge over. whole Waits through commands disk all none s.found complete last edge there over;
+  same_status = λ edge over. ap (commands edge) (whole Waits through commands disk all none s.found complete last edge there over);
   same_disk = λ over path. same-held Waits through commands disk all last end there s.on path (λ edge leave. whole Waits through commands disk all none s.found complete last edge there (over edge));
 }
   where

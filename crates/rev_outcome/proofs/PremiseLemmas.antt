@@ -13,16 +13,16 @@ use Rattle.rev_outcome.specs.Premises.{LooksCount, NoneLeaveBoth, OrderCounts}
 -- edge 0 leaves a path, and edge 1 looks at it
 maker : Command
 maker [] = Leave [] (Some [])
-maker (step ∷ steps) = End
+maker (step ∷ steps) = End 0
 
 reader : Command
 reader [] = Ask (File [])
-reader (step ∷ steps) = End
+reader (step ∷ steps) = End 0
 
 abbrev two : ℕ → Command
 two zero = maker
 two (suc zero) = reader
-two (suc (suc n)) = λ steps. End
+two (suc (suc n)) = λ steps. End 0
 
 bare : Disk
 bare path = None

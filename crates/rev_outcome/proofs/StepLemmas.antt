@@ -4,7 +4,7 @@ use Rattle.std.specs.Prelude.{◌≢◌, ◌⊎◌, ◌==◌, ◌&&◌, ◌||◌
 use Rattle.std.specs.List.{list_any}
 use Rattle.std.proofs.lemmas.Bool.{cases_eq, cases_Bool, eq-eqb, ne_eqb, false_from_ne_true}
 use Rattle.std.proofs.lemmas.Slice.Eq.{bytes_eq-Decides}
-use Rattle.rev_outcome.specs.Commands.{Act, Act.Ask, Act.Leave, Act.End, Command, Disk, Look, Look.File, Look.Names, Seen, Seen.Holds, Seen.Present, Step, Step.Saw, Step.Left, see, is_asked, is_left, is_used}
+use Rattle.rev_outcome.specs.Commands.{Act, Act.Ask, Act.Leave, Act.End, Command, Disk, Look, Look.File, Look.Names, Seen, Seen.Holds, Seen.Present, Step, Step.Saw, Step.Left, see, is_asked, is_end, is_left, is_used}
 use Rattle.rev_outcome.specs.Schedules.{World, after, after_step, leaves, step_of, uses, with_left, with_step}
 
 -- LISTS, THE NEWEST FIRST
@@ -147,7 +147,13 @@ step-same one other (Ask look) step twin same e f =
 step-same one other (Leave path content) step twin same e f =
     let all : Some step ≡ Some twin = sym e ∙ f in
     cc
-step-same one other End step twin same e f = cc
+step-same one other (End status) step twin same e f = cc
+
+-- what has ended does no step
+pub no-step : (disk : Disk) (act : Act) (step : Step) → is_end act ≡ true → step_of disk act ≡ Some step → ⊥
+no-step disk (Ask look) step over is = true≢false (sym over)
+no-step disk (Leave path content) step over is = true≢false (sym over)
+no-step disk (End status) step over is = cc
 
 -- EDGES
 pub with-same : (steps : ℕ → List Step) (edge : ℕ) (step : Step) → with_step steps edge step edge ≡ step ∷ steps edge

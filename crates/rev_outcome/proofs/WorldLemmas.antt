@@ -3,9 +3,9 @@ use Rattle.std.proofs.Common.{◌≡◌, ℕ, Bool, true, false, List, [], ◌�
 use Rattle.std.specs.Prelude.{◌≢◌, ◌⊎◌, ◌==◌, ◌||◌}
 use Rattle.std.specs.List.{list_any}
 use Rattle.std.proofs.lemmas.Bool.{cases_eq, cases_Bool, false_from_ne_true}
-use Rattle.rev_outcome.specs.Commands.{Act, Act.Ask, Act.Leave, Act.End, Command, Disk, Look, Step, Step.Saw, Step.Left, see, is_asked, is_left, is_used}
+use Rattle.rev_outcome.specs.Commands.{Act, Act.Ask, Act.Leave, Act.End, Command, Disk, Look, Step, Step.Saw, Step.Left, see, is_asked, is_end, is_left, is_used}
 use Rattle.rev_outcome.specs.Schedules.{HasEnded, HasSameOutcome, IsComplete, IsLegal, NoneConflict, World, after, after_step, leaves, opening, run, step_of, uses, with_left, with_step}
-use Rattle.rev_outcome.proofs.StepLemmas.{Grown, IsLeft, any-begun, any-grown, disk-kept, grown-on, grown-one, grown-same, last-kept, last-leaves, last-none, last_left, leaves-kept, left-last, none-before, none-begun, same-or-next, see-same, step-same, uses-left, with-other, with-same}
+use Rattle.rev_outcome.proofs.StepLemmas.{Grown, IsLeft, any-begun, any-grown, disk-kept, grown-on, grown-one, grown-same, last-kept, last-leaves, last-none, last_left, leaves-kept, left-last, none-before, none-begun, no-step, same-or-next, see-same, step-same, uses-left, with-other, with-same}
 
 -- WHO LEFT A PATH LAST
 -- No command has left the path, and it is as at the opening; or one has, what it left last is there, and it waits for
@@ -64,7 +64,7 @@ module _ (Waits : ℕ → ℕ → Type 0) (through : (a b c : ℕ) → Waits a b
     next-ended : (other : ℕ) → HasEnded commands world other → HasEnded commands next other
     next-ended other ended = elim (cases_eq other edge) [
       | inl same ↦ absurd (acts (subst (λ x. HasEnded commands world x) same ended))
-      | inr apart ↦ ap (commands other) (others other apart) ∙ ended
+      | inr apart ↦ ap (λ steps. is_end (commands other steps)) (others other apart) ∙ ended
     ]
 
     next-waited : (one other : ℕ) → next.steps one ≢ [] → Waits one other → HasEnded commands next other
@@ -113,9 +113,7 @@ module _ (Waits : ℕ → ℕ → Type 0) (through : (a b c : ℕ) → Waits a b
 
   -- the next step of an edge whose step is none or some
   pub acts-if : (world : World) (edge : ℕ) (step : Step) → step_of world.disk (commands edge (world.steps edge)) ≡ Some step → HasEnded commands world edge → ⊥
-  acts-if world edge step is ended =
-      let no : step_of world.disk End ≡ Some step = sym (ap (step_of world.disk) ended) ∙ is in
-      cc
+  acts-if world edge step is ended = no-step world.disk (commands edge (world.steps edge)) step ended is
 
   -- TWO WORLDS ON THE WAY
   -- Where each command that ever leaves a path did the same in both, the path is the same in both.

@@ -22,11 +22,16 @@ abbrev pub see : Disk → Look → Seen
 see disk (File path) = Holds (disk path)
 see disk (Names test) = Present (λ path. test path && is_some (disk path))
 
--- What a command does next: it looks, leaves at a path a file or nothing, or has ended.
+-- What a command does next: it looks, leaves at a path a file or nothing, or has ended with a status.
 pub data Act : Type 0 where
   Ask : Look → Act
   Leave : List ℕ → Option (List ℕ) → Act
-  End : Act
+  End : ℕ → Act
+
+abbrev pub is_end : Act → Bool
+is_end (Ask look) = false
+is_end (Leave path content) = false
+is_end (End status) = true
 
 -- what it did, with what it saw
 pub data Step : Type 0 where

@@ -1,7 +1,7 @@
 -- Schedules: in which order the commands of a build do their steps.
 use Rattle.std.specs.Prelude.{◌≡◌, ◌≢◌, ◌⊎◌, ℕ, ◌==◌, Bool, true, List, [], ◌∷◌, ◌++◌, Option, Some, None, bytes_eq, if◌then◌else◌}
 use Rattle.std.specs.List.{list_any}
-use Rattle.rev_outcome.specs.Commands.{Act, Act.Ask, Act.Leave, Act.End, Command, Disk, Step, Step.Saw, Step.Left, see, is_left, is_used}
+use Rattle.rev_outcome.specs.Commands.{Act, Act.Ask, Act.Leave, Act.End, Command, Disk, Step, Step.Saw, Step.Left, see, is_end, is_left, is_used}
 
 -- the disk, and what each edge's command did so far
 pub record World : Type 0 where
@@ -16,7 +16,7 @@ opening disk = record { disk = disk; steps = λ edge. [] }
 abbrev pub step_of : Disk → Act → Option Step
 step_of disk (Ask look) = Some (Saw look (see disk look))
 step_of disk (Leave path content) = Some (Left path content)
-step_of disk End = None
+step_of disk (End status) = None
 
 abbrev pub with_left : Disk → Step → Disk
 with_left disk (Saw look seen) = disk
@@ -35,7 +35,7 @@ abbrev pub after : (ℕ → Command) → World → ℕ → World
 after commands world edge = after_step world edge (step_of world.disk (commands edge (world.steps edge)))
 
 abbrev pub HasEnded : (ℕ → Command) → World → ℕ → Type 0
-HasEnded commands world edge = commands edge (world.steps edge) ≡ End
+HasEnded commands world edge = is_end (commands edge (world.steps edge)) ≡ true
 
 -- SCHEDULES
 -- A schedule says step by step which edge's command is next, so that commands can overlap.
@@ -68,9 +68,12 @@ NoneConflict Waits steps =
     → Waits a b ⊎ Waits b a
 
 -- ONE OUTCOME
--- In another world each command did its first steps, or all, as in this one: it looked at the same, saw the same, and
--- left the same. Where all have ended there, each did all of them, and the disk holds the same.
+-- Another world, whole or on its way, has the outcome of this one. Each command did its first steps there, or all, as it
+-- did them here: it looked at the same, saw the same, and left the same. Which has ended there did all of its steps, and
+-- ended with the same status. Where all have, the disk holds the same.
 pub record HasSameOutcome (commands : ℕ → Command) (world other : World) : Type 0 where
   pub as_here : (edge : ℕ) → (later : List Step) × (world.steps edge ≡ later ++ other.steps edge)
-  pub all_of_them : IsComplete commands other → (edge : ℕ) → other.steps edge ≡ world.steps edge
+  pub all_steps : (edge : ℕ) → HasEnded commands other edge → other.steps edge ≡ world.steps edge
+  pub same_status : (edge : ℕ) → HasEnded commands other edge
+      → commands edge (other.steps edge) ≡ commands edge (world.steps edge)
   pub same_disk : IsComplete commands other → (path : List ℕ) → other.disk path ≡ world.disk path

@@ -1,6 +1,6 @@
 //! Laws of outcomes.
 ghost use Rattle.rev_outcome.specs.Laws.{OneOutcome};
-ghost use Rattle.rev_outcome.specs.Premises.{LooksCount, OrderCounts};
+ghost use Rattle.rev_outcome.specs.Premises.{LooksCount, OrderCounts, UnorderedMatters};
 
 /// Where one legal schedule of a build ends with each command ended, and no two unordered edges conflict in it, each
 /// legal schedule from the same sources has its outcome.
@@ -16,4 +16,9 @@ pub fn looks_count()
 /// The order of build lines is asked of schedules for a reason: without that the law is false.
 pub fn order_counts()
     ensures { OrderCounts }
+{}
+
+/// Of two edges, neither waits for the other exactly where their commands can be such that a build has two outcomes.
+pub fn unordered_matters()
+    ensures { UnorderedMatters }
 {}
