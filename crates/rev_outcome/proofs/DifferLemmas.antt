@@ -1,11 +1,11 @@
 -- Two edges that need not wait for one another, and commands by which that matters.
-use Rattle.std.proofs.Common.{◌≡◌, ℕ, true, List, [], ◌∷◌, ◌++◌, Option, Some, None, inl, inr, refl, sym, ap, subst, ◌∙◌, true≢false, if◌then◌else◌}
+use Rattle.std.proofs.Common.{◌≡◌, ℕ, true, List, [], ◌∷◌, ◌++◌, Option, Some, None, inl, inr, refl, sym, ap, subst, ◌∙◌, if◌then◌else◌}
 use Rattle.std.specs.Prelude.{◌≢◌, ◌⊎◌, ◌==◌}
 use Rattle.std.proofs.lemmas.Bool.{cases_eq, eq-eqb, ne_eqb}
 use Rattle.rev_manifest.specs.Manifest.{BuildValue}
 use Rattle.rev_waits.specs.Waits.{Waits}
 use Rattle.rev_outcome.specs.Commands.{Act.Ask, Act.Leave, Act.End, Command, Disk, Look.File, Seen.Holds, Step, Step.Saw, Step.Left, is_end, is_left, is_used}
-use Rattle.rev_outcome.specs.Schedules.{HasEnded, HasSameOutcome, IsComplete, IsLegal, NoneConflict, World, after, after_step, leaves, opening, run, step_of, uses}
+use Rattle.rev_outcome.specs.Schedules.{HasEnded, HasSameOutcome, IsComplete, NoneConflict, World, after, after_step, opening, run, step_of}
 use Rattle.rev_outcome.specs.Premises.{CanDiffer, UnorderedMatters}
 use Rattle.rev_outcome.proofs.StepLemmas.{any-begun, no-step, with-other, with-same}
 use Rattle.rev_outcome.proofs.OutcomeLemmas.{one-outcome}

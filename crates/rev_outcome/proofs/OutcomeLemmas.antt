@@ -1,13 +1,13 @@
 -- One schedule, followed by another one.
-use Rattle.std.proofs.Common.{◌≡◌, ℕ, Bool, true, false, List, [], ◌∷◌, ◌++◌, Option, Some, None, inl, inr, refl, sym, ap, subst, ◌∙◌, true≢false, true≢false, append-nil}
-use Rattle.std.specs.Prelude.{◌≢◌, ◌⊎◌, ◌==◌, ◌||◌}
+use Rattle.std.proofs.Common.{◌≡◌, ℕ, true, List, [], ◌∷◌, ◌++◌, Option, Some, None, inl, inr, refl, sym, ap, subst, ◌∙◌, true≢false, true≢false, append-nil}
+use Rattle.std.specs.Prelude.{◌||◌}
 use Rattle.std.proofs.lemmas.Bool.{cases_eq}
 use Rattle.rev_manifest.specs.Manifest.{BuildValue}
 use Rattle.rev_graph.specs.Graph.{EdgeReaches, EdgeReaches.step as one_step, EdgeReaches.further as then_on}
-use Rattle.rev_outcome.specs.Commands.{Act, Act.Ask, Act.End, Command, Disk, Look, Step, Step.Saw, see, is_asked, is_end, is_used}
-use Rattle.rev_outcome.specs.Schedules.{HasEnded, HasSameOutcome, IsComplete, IsLegal, NoneConflict, World, after, after_step, leaves, opening, run, step_of, uses, with_step}
+use Rattle.rev_outcome.specs.Commands.{Act.Ask, Command, Disk, Look, Step, Step.Saw, see, is_asked, is_end, is_used}
+use Rattle.rev_outcome.specs.Schedules.{HasEnded, IsLegal, NoneConflict, World, after, after_step, leaves, opening, run, step_of, uses, with_step}
 use Rattle.rev_outcome.specs.Laws.{OneOutcome, OneOutcomeBy}
-use Rattle.rev_outcome.proofs.StepLemmas.{Grown, any-grown, grown-on, grown-one, grown-same, no-step, none-begun, same-or-next, see-same, step-same, uses-left, with-other, with-same}
+use Rattle.rev_outcome.proofs.StepLemmas.{Grown, any-grown, grown-on, grown-one, grown-same, no-step, none-begun, same-or-next, see-same, step-same, with-other, with-same}
 use Rattle.rev_outcome.proofs.WorldLemmas.{IsOnTheWay, IsReady, acts-if, none-yet, one-more, same-held}
 
 -- A PROPERTY OF EACH EDGE'S STEPS, THROUGH ONE STEP

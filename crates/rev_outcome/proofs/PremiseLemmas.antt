@@ -1,13 +1,12 @@
 -- Two commands by which the statement is false without a premise.
-use Rattle.std.proofs.Common.{◌≡◌, ℕ, ◌<◌, zero, suc, Bool, true, false, List, [], ◌∷◌, ◌++◌, Contains, Option, Some, None, inl, inr, refl, sym, ap, subst, ◌∙◌, arith, true≢false, if◌then◌else◌}
-use Rattle.std.specs.Prelude.{◌≢◌, ◌⊎◌, ◌==◌}
-use Rattle.std.proofs.lemmas.Bool.{ne_eqb}
+use Rattle.std.proofs.Common.{◌≡◌, ℕ, zero, suc, true, List, [], ◌∷◌, ◌++◌, Some, None, inr, refl, sym, ap, subst, ◌∙◌, arith, true≢false}
+use Rattle.std.specs.Prelude.{◌≢◌}
 use Rattle.rev_manifest.specs.Manifest.{BuildValue}
-use Rattle.rev_graph.specs.Graph.{EdgeReaches, EdgeReaches.step as one_step, EdgeReaches.further as then_on, EdgeSteps, no_build, producer_of}
+use Rattle.rev_graph.specs.Graph.{EdgeReaches.step as one_step, EdgeReaches.further as then_on, no_build}
 use Rattle.rev_waits.specs.Waits.{Waits}
-use Rattle.rev_outcome.specs.Commands.{Act, Act.Ask, Act.Leave, Act.End, Command, Disk, Look, Look.File, Seen, Seen.Holds, Step, Step.Saw, Step.Left}
+use Rattle.rev_outcome.specs.Commands.{Act.Ask, Act.Leave, Act.End, Command, Disk, Look.File, Seen.Holds, Step, Step.Saw, Step.Left}
 use Rattle.rev_outcome.proofs.StepLemmas.{with-other}
-use Rattle.rev_outcome.specs.Schedules.{after, HasEnded, HasSameOutcome, IsComplete, IsLegal, NoneConflict, World, leaves, opening, run, uses}
+use Rattle.rev_outcome.specs.Schedules.{after, HasSameOutcome, IsComplete, NoneConflict, World, leaves, opening, run, uses}
 use Rattle.rev_outcome.specs.Premises.{LooksCount, NoneLeaveBoth, OrderCounts}
 
 -- edge 0 leaves a path, and edge 1 looks at it

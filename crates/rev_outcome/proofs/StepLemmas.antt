@@ -1,11 +1,11 @@
 -- What steps leave, and what a look depends on.
-use Rattle.std.proofs.Common.{◌≡◌, ℕ, Bool, true, false, List, [], ◌∷◌, ◌++◌, Option, Some, None, inl, inr, refl, sym, ap, subst, ◌∙◌, arith, true≢false, append_assoc, if◌then◌else◌}
-use Rattle.std.specs.Prelude.{◌≢◌, ◌⊎◌, ◌==◌, ◌&&◌, ◌||◌, bytes_eq, is_some}
+use Rattle.std.proofs.Common.{◌≡◌, ℕ, Bool, true, false, List, [], ◌∷◌, ◌++◌, Option, Some, None, inl, inr, refl, sym, ap, subst, ◌∙◌, true≢false, append_assoc, if◌then◌else◌}
+use Rattle.std.specs.Prelude.{◌≢◌, ◌⊎◌, ◌&&◌, ◌||◌, bytes_eq, is_some}
 use Rattle.std.specs.List.{list_any}
-use Rattle.std.proofs.lemmas.Bool.{cases_eq, cases_Bool, eq-eqb, ne_eqb, false_from_ne_true}
+use Rattle.std.proofs.lemmas.Bool.{cases_Bool, eq-eqb, ne_eqb, false_from_ne_true}
 use Rattle.std.proofs.lemmas.Slice.Eq.{bytes_eq-Decides}
-use Rattle.rev_outcome.specs.Commands.{Act, Act.Ask, Act.Leave, Act.End, Command, Disk, Look, Look.File, Look.Names, Seen, Seen.Holds, Seen.Present, Step, Step.Saw, Step.Left, see, is_asked, is_end, is_left, is_used}
-use Rattle.rev_outcome.specs.Schedules.{World, after, after_step, leaves, step_of, uses, with_left, with_step}
+use Rattle.rev_outcome.specs.Commands.{Act, Act.Ask, Act.Leave, Act.End, Disk, Look, Look.File, Look.Names, Seen.Holds, Seen.Present, Step, Step.Saw, Step.Left, see, is_asked, is_end, is_left, is_used}
+use Rattle.rev_outcome.specs.Schedules.{leaves, step_of, uses, with_left, with_step}
 
 -- LISTS, THE NEWEST FIRST
 -- old is new before its last steps

@@ -1,11 +1,10 @@
 -- What holds in each world that a legal schedule leads to.
-use Rattle.std.proofs.Common.{◌≡◌, ℕ, Bool, true, false, List, [], ◌∷◌, ◌++◌, Option, Some, None, inl, inr, refl, sym, ap, subst, ◌∙◌, arith, true≢false, append-nil, if◌then◌else◌}
-use Rattle.std.specs.Prelude.{◌≢◌, ◌⊎◌, ◌==◌, ◌||◌}
-use Rattle.std.specs.List.{list_any}
-use Rattle.std.proofs.lemmas.Bool.{cases_eq, cases_Bool, false_from_ne_true}
-use Rattle.rev_outcome.specs.Commands.{Act, Act.Ask, Act.Leave, Act.End, Command, Disk, Look, Step, Step.Saw, Step.Left, see, is_asked, is_end, is_left, is_used}
-use Rattle.rev_outcome.specs.Schedules.{HasEnded, HasSameOutcome, IsComplete, IsLegal, NoneConflict, World, after, after_step, leaves, opening, run, step_of, uses, with_left, with_step}
-use Rattle.rev_outcome.proofs.StepLemmas.{Grown, IsLeft, any-begun, any-grown, disk-kept, grown-on, grown-one, grown-same, last-kept, last-leaves, last-none, last_left, leaves-kept, left-last, none-before, none-begun, no-step, same-or-next, see-same, step-same, uses-left, with-other, with-same}
+use Rattle.std.proofs.Common.{◌≡◌, ℕ, true, false, List, [], ◌∷◌, Option, Some, inl, inr, refl, sym, ap, subst, ◌∙◌, true≢false}
+use Rattle.std.specs.Prelude.{◌≢◌, ◌||◌}
+use Rattle.std.proofs.lemmas.Bool.{cases_eq, cases_Bool}
+use Rattle.rev_outcome.specs.Commands.{Command, Disk, Step, is_end, is_left}
+use Rattle.rev_outcome.specs.Schedules.{HasEnded, NoneConflict, World, after_step, leaves, opening, step_of}
+use Rattle.rev_outcome.proofs.StepLemmas.{Grown, any-begun, any-grown, disk-kept, last-kept, last-leaves, last_left, leaves-kept, left-last, no-step, uses-left, with-other, with-same}
 
 -- WHO LEFT A PATH LAST
 -- No command has left the path, and it is as at the opening; or one has, what it left last is there, and it waits for
