@@ -1,0 +1,4 @@
+pub mod Stronger
+pub mod Undeclared
+pub mod Answer
+pub mod Tables
