@@ -1,7 +1,7 @@
 use Rattle.std.proofs.Common.{map, subst}
 use Rattle.rev_manifest.specs.Manifest.{ManifestValue}
 use Rattle.rev_cells.specs.State.{State}
-use Rattle.rev_history.specs.Timeline.{kept_events, state_at}
+use Rattle.rev_history.specs.Timeline.{kept_events}
 use Rattle.rev_hints.specs.Changes.{change_in, change_of}
 use Rattle.rev_hints.specs.Hints.{AreHintsBy, hint_value, recorded_paths}
 use Rattle.rev_hints.proofs.HintLemmas.{hints-by}

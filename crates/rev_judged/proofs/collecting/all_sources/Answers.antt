@@ -1,4 +1,4 @@
-use Rattle.std.proofs.Common.{◌≡◌, ◌<◌, ◌∙◌, Bool, false, [], get_or, length, subst, arith, if◌then◌else◌}
+use Rattle.std.proofs.Common.{◌≡◌, ◌<◌, ◌∙◌, false, [], get_or, length, subst, arith, if◌then◌else◌}
 use Rattle.std.specs.List.{filter_map}
 use Rattle.rev_graph.specs.Graph.{build_at, input_producers}
 use Rattle.rev_judged.specs.Judged.{has_list, sources_of}

@@ -1,4 +1,4 @@
-use Rattle.std.proofs.Common.{◌≡◌, ◌<◌, ◌∙◌, Bool, true, false, not, ◌&&◌, get_or, length, ap, sym, subst, arith}
+use Rattle.std.proofs.Common.{◌≡◌, ◌<◌, ◌∙◌, true, false, not, ◌&&◌, get_or, length, ap, sym, subst, arith}
 use Rattle.rev_graph.specs.Graph.{build_at}
 use Rattle.rev_judged.specs.Judged.{has_list, is_open, takes_others}
 use Rattle.rev_races.proofs.JudgedLemmas.{mapped-more}
