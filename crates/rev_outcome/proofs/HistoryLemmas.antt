@@ -37,7 +37,7 @@ module _ (manifest : ManifestValue) (jobs : ℕ) (commands : ℕ → Command) wh
   are-legal (Happens event ∷ moments) s world ordered legal within =
       are-legal moments (after_event manifest s event.1) world (event-ordered manifest jobs s event.1 legal.0 ordered) legal.1 within
   are-legal (Acts edge ∷ moments) s world ordered legal within = (
-    λ other way. within.1.0 other (running-settled manifest.builds s edge other ordered within.0 way),
+    λ other way. within.1.0 other way (running-settled manifest.builds s edge other ordered within.0 way),
     are-legal moments s (after commands world edge) ordered legal within.1.1,
   )
 

@@ -8,7 +8,7 @@ use Rattle.rev_outcome.specs.Schedules.{HasSameOutcome, IsComplete, IsLegal, Non
 -- Of a rule by which schedules are legal, and one by which steps of edges do not conflict: where one legal schedule ends
 -- with each command ended, and no two edges conflict in it, each legal schedule of the same commands from the same disk
 -- has its outcome.
-abbrev pub OneOutcomeBy : (((ℕ → Command) → World → List ℕ → Type 0)) → ((ℕ → List Step) → Type 0) → Type 0
+abbrev pub OneOutcomeBy : ((ℕ → Command) → World → List ℕ → Type 0) → ((ℕ → List Step) → Type 0) → Type 0
 OneOutcomeBy IsLegal NoneConflict =
     (commands : ℕ → Command) (disk : Disk) (schedule other : List ℕ)
     → IsLegal commands (opening disk) schedule → IsComplete commands (run commands (opening disk) schedule)
