@@ -32,16 +32,21 @@ schedule_in (Acts edge ∷ moments) = edge ∷ schedule_in moments
 abbrev pub end_of : (ℕ → Command) → Disk → List Moment → World
 end_of commands disk moments = run commands (opening disk) (schedule_in moments)
 
--- A command does its steps while its edge runs. And what the history holds for settled is so: of the edges that a running
--- one waits for, the command of each that is settled has ended; that of an edge which need not run has nothing to do.
+-- What a history holds for settled is so: of the edges that an edge waits for, the command of each that is settled has
+-- ended. That of an edge which need not run has nothing to do.
+abbrev pub SettledHaveEnded : ManifestValue → (ℕ → Command) → State → World → ℕ → Type 0
+SettledHaveEnded manifest commands state world edge =
+    (other : ℕ) → Waits manifest.builds edge other → is_settled (mark_of state other) ≡ true
+    → HasEnded commands world other
+
+-- A command does its steps while its edge runs, and what its edge waits for has ended where it is settled.
 abbrev pub AreWithinRuns : ManifestValue → (ℕ → Command) → State → World → List Moment → Type 0
 AreWithinRuns manifest commands state world [] = Unit {0}
 AreWithinRuns manifest commands state world (Happens event ∷ moments) =
     AreWithinRuns manifest commands (after_event manifest state event.1) world moments
 AreWithinRuns manifest commands state world (Acts edge ∷ moments) =
     (is_running_mark (mark_of state edge) ≡ true)
-    × (((other : ℕ) → Waits manifest.builds edge other → is_settled (mark_of state other) ≡ true
-        → HasEnded commands world other)
+    × (SettledHaveEnded manifest commands state world edge
     × AreWithinRuns manifest commands state (after commands world edge) moments)
 
 -- A history, whole or on its way, with the steps of its commands between its events.
