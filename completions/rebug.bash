@@ -4,16 +4,17 @@ _rebug() {
   if [ "$first" = --try ]; then first=${COMP_WORDS[2]} place=2; fi
   COMPREPLY=()
   if [ "$COMP_CWORD" -le "$place" ]; then
-    COMPREPLY=($(compgen -W "record provoke help races replay ask picture --try --manifest --trace --script --workers --migrate --help --version" -- "$word"))
+    COMPREPLY=($(compgen -W "record provoke help races certify replay ask picture --try --manifest --trace --script --workers --migrate --help --version" -- "$word"))
     return
   fi
   if [ "$first" = help ]; then
-    COMPREPLY=($(compgen -W "record provoke races replay ask picture" -- "$word"))
+    COMPREPLY=($(compgen -W "record provoke races certify replay ask picture" -- "$word"))
     return
   fi
   case $word in -*) ;; *) return ;; esac
   case $first in
     races) COMPREPLY=($(compgen -W "--all --json --mend --witness --provoke" -- "$word")) ;;
+    certify) COMPREPLY=($(compgen -W "--json" -- "$word")) ;;
     ask) COMPREPLY=($(compgen -W "--json" -- "$word")) ;;
     picture) COMPREPLY=($(compgen -W "--html --event" -- "$word")) ;;
     record) COMPREPLY=($(compgen -W "--check --rebug --help -j --jobs-as-run --lanes --anyway --force --verbose --output --observe --observe=if-possible --observer --keep-log" -- "$word")) ;;

@@ -9,7 +9,7 @@ use crate::observed::{Observed, hidden_in, observed_in};
 use crate::reporting::replayed_of;
 use crate::seen::conflict_findings_in;
 use rev_certified::{Certificate, Marks, certify};
-use rev_conflicts::early_edges;
+use rev_conflicts::{Conflict, Place, conflicts, early_edges};
 use rev_conflicts_text::{Certified, Way};
 use rev_desk::Desk;
 use rev_events::Event;
@@ -50,15 +50,27 @@ fn add_open(edges: &[u32], marks: &mut Vec<bool>, open: &mut Vec<u32>) -> Result
     Ok(())
 }
 
-// The edges that make the targets of the plans of a history.
+// Adds the edges that make some paths.
+fn add_makers(graph: &Graph, paths: &[Name], edges: &mut Vec<u32>) -> Result<(), AllocError> {
+    for path in paths {
+        if let Some(edge) = graph.producer(path) {
+            edges.push(edge)?;
+        }
+    }
+    Ok(())
+}
+
+// The edges that make the targets of the plans of a history. A plan that names none is of the defaults.
 fn target_edges(alloc: Global, history: &History) -> Result<Vec<u32>, AllocError> {
+    let graph = history.graph();
     let mut edges = Vec::new(alloc);
     for number in history.kept() {
         if let Some(Event::Plan(targets)) = history.event(*number) {
-            for target in targets.as_slice() {
-                if let Some(edge) = history.graph().producer(target) {
-                    edges.push(edge)?;
-                }
+            let targets = targets.as_slice();
+            if targets.is_empty() {
+                add_makers(graph, graph.defaults(), &mut edges)?;
+            } else {
+                add_makers(graph, targets, &mut edges)?;
             }
         }
     }
@@ -156,6 +168,58 @@ fn certificate_of(
     )
 }
 
+// A place: a file, or the entries of a folder, by the number of the path.
+#[derive(Clone, Copy, PartialEq, Eq, PartialOrd, Ord)]
+struct Spot {
+    is_folder: bool,
+    path: u64,
+}
+
+// The places of conflicts, each once.
+fn spots_of(alloc: Global, conflicts: &[Conflict]) -> Result<Vec<Spot>, AllocError> {
+    let mut spots = Vec::new(alloc);
+    for conflict in conflicts {
+        spots.push(match conflict.place {
+            Place::File(path) => Spot {
+                is_folder: false,
+                path,
+            },
+            Place::Entries(path) => Spot {
+                is_folder: true,
+                path,
+            },
+        })?;
+    }
+    spots.sort_unstable();
+    spots.dedup();
+    Ok(spots)
+}
+
+// In how many places commands meet that filters hide.
+fn hidden_count(
+    alloc: Global,
+    graph: &Graph,
+    files: &[Name],
+    observed: &Observed,
+    hidden: &[bool],
+    told: &[Conflict],
+) -> Result<u64, AllocError>
+    requires edges { map Some observed.now.edges.items
+        ≡ map (edge_of graph.now.manifest.builds) (outputs_of observed.now.observation.commands) }
+    requires within { AllByRecursion (λ edge. edge < length graph.now.manifest.builds) observed.now.edges.items }
+    requires hidden { length hidden.now ≡ length observed.now.observation.paths }
+{
+    if !hidden.iter().any(|mark| *mark) {
+        return Ok(0);
+    }
+    let none = vec![in alloc; false; hidden.len()]?;
+    let observation = &observed.observation;
+    let all = conflicts(alloc, graph, files, observation, &observed.edges, &none)?;
+    let all = spots_of(alloc, &all)?;
+    let told = spots_of(alloc, told)?;
+    Ok((all.len() as u64).saturating_sub(told.len() as u64))
+}
+
 // How many marks there are.
 fn count_of(marks: &[bool]) -> u64 {
     marks.iter().filter(|mark| **mark).count() as u64
@@ -245,6 +309,14 @@ pub fn certified_text(
     let early = early_edges(alloc, graph, grounds.files)?;
     let flags = flags_by_edge(alloc, graph.edges(), &observed)?;
     let ways = ways_of(alloc, &certificate.unsure, &ended, &early, &flags)?;
+    let met = hidden_count(
+        alloc,
+        graph,
+        grounds.files,
+        &observed,
+        &hidden,
+        &certificate.conflicts,
+    )?;
     let told = told_of(
         alloc,
         history,
@@ -253,7 +325,7 @@ pub fn certified_text(
         &certificate,
         ways,
         count_of(&began),
-        count_of(&hidden),
+        met,
     )?;
     Ok(written(alloc, grounds, &told)?)
 }

@@ -1,6 +1,7 @@
 //! What mends the races of a recording: a patch of its manifest, or what to tell the generator that wrote it.
 use crate::statements::{Statement, patch_name, push_patches, statement_at, statements_of};
 use rev_clashes::SideFile;
+use rev_conflicts_text::Finding;
 use rev_graph::Graph;
 use rev_manifest::Manifest;
 use rev_patch::{Author, Change, author_of};
@@ -36,21 +37,41 @@ enum Left {
     Cycle,
 }
 
-// The mends of races, each statement and maker once, by file and line.
+// Adds the mend by which a user waits for a maker.
+fn add_mend(
+    sources: &Sources<'_>,
+    maker: u32,
+    user: u32,
+    mends: &mut Vec<Mend>,
+) -> Result<(), AllocError> {
+    match sources.builds.get(user as usize) {
+        Some(build) => mends.push(Mend {
+            file: build.file(),
+            line: build.line(),
+            maker,
+            user,
+        })?,
+        None => {}
+    }
+    Ok(())
+}
+
+// The mends of races and of findings, each statement and maker once, by file and line.
 fn mends_of(
     alloc: Global,
     sources: &Sources<'_>,
     races: &[Told<'_>],
+    findings: &[Finding<'_>],
 ) -> Result<Vec<Mend>, AllocError> {
     let mut all = Vec::new(alloc);
     for race in races {
-        if let (Some(_), Some(build)) = (race.mend, sources.builds.get(race.user as usize)) {
-            all.push(Mend {
-                file: build.file(),
-                line: build.line(),
-                maker: race.maker,
-                user: race.user,
-            })?;
+        if race.mend.is_some() {
+            add_mend(sources, race.maker, race.user, &mut all)?;
+        }
+    }
+    for finding in findings {
+        if finding.is_mended_by_order() {
+            add_mend(sources, finding.maker, finding.user, &mut all)?;
         }
     }
     all.sort_unstable();
@@ -291,6 +312,33 @@ fn push_others(
     Ok(())
 }
 
+// Adds what is to be done about findings beside orders.
+fn push_findings(
+    text: &mut Vec<u8>,
+    sources: &Sources<'_>,
+    findings: &[Finding<'_>],
+) -> Result<(), AllocError> {
+    for finding in findings {
+        if !finding.is_mended_by_order() {
+            text.extend_from_slice(b"# no order mends that ")?;
+            push_placed(text, sources, finding.user)?;
+            text.extend_from_slice(b" meets ")?;
+            push_edge(text, sources, finding.maker)?;
+            text.extend_from_slice(b" at ")?;
+            push_shown(text, finding.path.as_bytes())?;
+            text.extend_from_slice(b"\n")?;
+        }
+        if finding.is_to_be_declared() {
+            text.extend_from_slice(b"# behind a | among its outputs, ")?;
+            push_placed(text, sources, finding.maker)?;
+            text.extend_from_slice(b" is to name ")?;
+            push_shown(text, finding.path.as_bytes())?;
+            text.extend_from_slice(b"\n")?;
+        }
+    }
+    Ok(())
+}
+
 // Adds what no order mends either.
 fn push_clashes(
     text: &mut Vec<u8>,
@@ -339,11 +387,13 @@ pub fn mend_text(
     sources: &Sources<'_>,
     races: &[Told<'_>],
     clashes: &[Clash],
+    findings: &[Finding<'_>],
 ) -> Result<Vec<u8>, AllocError> {
     let mut text = Vec::new(alloc);
+    push_findings(&mut text, sources, findings)?;
     push_others(&mut text, sources, races)?;
     push_clashes(&mut text, sources, clashes)?;
-    let mends = mends_of(alloc, sources, races)?;
+    let mends = mends_of(alloc, sources, races, findings)?;
     if mends.is_empty() {
         return Ok(text);
     }

@@ -170,6 +170,7 @@ fn found_answer<'a>(
             &basis.sources,
             &report.races,
             &report.clashes,
+            &findings,
         )?,
         How::Json => {
             add_hints(alloc, desk, basis, &mut report)?;

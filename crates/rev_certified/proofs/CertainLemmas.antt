@@ -98,7 +98,7 @@ module _ (s : Scene) (needed began ended whole : List Bool) (conflicts : List Co
         (none-pass (unsure_in s.builds s.files began ended whole) 0 (length s.builds) none.none_unsure edge (omega arith) (omega (arith, within))) b);
     quiet = λ c is.
         let inside = (are.exact c).1 is in
-        let within : inside.0 < length [] = subst (λ (cs : List Conflict). inside.0 < length cs) none.none_conflict inside.1 in
+        let within : inside.0 < length {A = Conflict} [] = subst (λ (cs : List Conflict). inside.0 < length cs) none.none_conflict inside.1 in
         absurd (omega (arith, within));
   }
 

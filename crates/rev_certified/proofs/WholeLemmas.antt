@@ -1,5 +1,5 @@
 -- Commands that were observed whole, in what is judged.
-use Rattle.std.proofs.Common.{◌≡◌, ℕ, Bool, true, List, length, Result, subst}
+use Rattle.std.proofs.Common.{◌≡◌, ℕ, Bool, true, List, length, Result, Ok, Err, IfOk, subst}
 use Rattle.std.specs.Global.{Vec}
 use Rattle.rev_observed.specs.CommandValues.{CommandValue}
 use Rattle.rev_conflicts.specs.Conflicts.{Scene}
@@ -28,3 +28,12 @@ seen-whole s marks each are = record {
     }),
   );
 }
+
+-- the same of what a call gives
+pub whole-ok : {E : Type 0} (r : Result (Vec Bool) E) (s : Scene) (commands : List CommandValue) → commands ≡ s.commands
+    → IfOk r (λ (m : Vec Bool). length m.items ≡ length s.builds)
+    → IfOk r (λ (m : Vec Bool). AreWholeBy commands s.edges (length commands) m.items)
+    → IfOk r (λ (m : Vec Bool). AreSeenWhole s m.items)
+whole-ok (Ok m) s commands same each are =
+    seen-whole s m.items each (subst (λ (cs : List CommandValue). AreWholeBy cs s.edges (length cs) m.items) same are)
+whole-ok (Err e) s commands same each are = tt

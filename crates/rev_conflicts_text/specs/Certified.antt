@@ -31,12 +31,12 @@ way_line user why = codes "in the way: " ++ placed user ++ codes " " ++ way_word
 abbrev pub missing_line : Edge → List ℕ
 missing_line user = codes "in the way: " ++ placed user ++ codes " did not run, though the targets need it\n"
 
--- what is assumed of paths that filters hide
+-- what is assumed of places that filters hide
 abbrev pub hidden_words : ℕ → List ℕ
 hidden_words hidden =
     if hidden == 0 then []
-    else codes ", and what filters hide (" ++ counted hidden (codes "path") (codes "paths")
-    ++ codes ") gives no command other inputs"
+    else codes ", and what it finds in " ++ counted hidden (codes "hidden place") (codes "hidden places")
+    ++ codes " (filters) does not change what it makes"
 
 -- what is certain, and of how many commands
 unfoldable pub certain_words : ℕ → List ℕ

@@ -24,7 +24,7 @@ pub enum Way {
 pub struct CertainLine {
     /// How many commands ran.
     pub commands: u64,
-    /// How many paths filters hide.
+    /// In how many places commands meet that filters hide.
     pub hidden: u64,
 }
 
@@ -54,7 +54,7 @@ struct FlagIf {
 #[derive(Clone, Copy)]
 struct FlagWords(Flags);
 
-// What is assumed of paths that filters hide.
+// What is assumed of places that filters hide.
 #[derive(Clone, Copy)]
 struct HiddenWords(u64);
 
@@ -62,7 +62,7 @@ struct HiddenWords(u64);
 #[derive(Clone, Copy)]
 struct CertainWords(u64);
 
-// What is assumed, where filters hide so many paths.
+// What is assumed, where filters hide so many places.
 #[derive(Clone, Copy)]
 struct AssumedWords(u64);
 
@@ -163,14 +163,14 @@ impl fmt::Display for HiddenWords {
         if self.0 == 0 {
             return Ok(());
         }
-        let paths = Counted {
+        let places = Counted {
             count: self.0,
-            one: "path",
-            many: "paths",
+            one: "hidden place",
+            many: "hidden places",
         };
         write!(
             f,
-            ", and what filters hide ({paths}) gives no command other inputs"
+            ", and what it finds in {places} (filters) does not change what it makes"
         )
     }
 }

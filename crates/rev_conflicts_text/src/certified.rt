@@ -25,7 +25,7 @@ pub struct Certified<'a> {
     pub commands: u64,
     /// How many of them were observed whole.
     pub whole: u64,
-    /// How many paths filters hide.
+    /// In how many places commands meet that filters hide.
     pub hidden: u64,
     /// What the observation shows.
     pub findings: Vec<Finding<'a>>,

@@ -17,6 +17,7 @@ struct FindingObject<'a> {
     look: Option<&'static str>,
     change: Option<&'static str>,
     here: Option<&'static str>,
+    basis: &'static str,
     declare: Option<Shown<'a>>,
     mend: Option<Shown<'a>>,
 }
@@ -134,6 +135,7 @@ fn push_finding<'a>(
         look: look_of(finding),
         change: change_of(finding),
         here: here_of(finding),
+        basis: "observed",
         declare,
         mend: shown_if(finding.order()),
     };

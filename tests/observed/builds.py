@@ -1,0 +1,174 @@
+"""Small builds that are recorded with --observe by real Ninja with four jobs: each has one planted conflict, or none. No
+compiler is needed: commands are the shell's. Where the order of two commands matters, the later one sleeps."""
+
+from __future__ import annotations
+
+import os
+import pathlib
+import subprocess
+import sys
+from dataclasses import dataclass, field
+
+TOP = pathlib.Path(__file__).resolve().parents[2]
+RECORDER = TOP / "record/rebug-record"
+
+RULES = """rule sh
+  command = $do
+"""
+
+
+@dataclass(frozen=True)
+class Planted:
+    """A build: the lines of its manifest below the rule `sh`, its sources, and what is due of it. `lines` are what
+    `races` is to write, behind a number of spaces and up to a place that begins with `(build.ninja`; `found` is the kind
+    of each finding with what the maker does and how the user looks, where it says so; `pair` is whether the first
+    finding is of two commands whose order a schedule can change; `certain` is whether `certify` says so."""
+
+    build: str
+    sources: dict[str, str] = field(default_factory=dict)
+    lines: tuple[str, ...] = ()
+    found: tuple[tuple[str, str | None, str | None], ...] = ()
+    pair: bool = True
+    certain: bool = False
+
+
+BUILDS = {
+    "a command reads what another makes": Planted(
+        """build table: sh in
+  do = cp in table
+build user: sh in
+  do = sleep 0.4; cat table in > user
+""",
+        {"in": "x\n"},
+        ("race table made by table (build.ninja:3)", "used by user (build.ninja:5), which does not wait for it [1]",
+         "mend: build.ninja:5: build user: ... || table"),
+        (("race", "output", "read"),)),
+    "a command asks before the other made it": Planted(
+        """build table: sh in
+  do = sleep 0.4; cp in table
+build user: sh in
+  do = cat table > user 2> /dev/null || cp in user
+""",
+        {"in": "x\n"},
+        ("race table made by table", "which asked for it before it was there, and does not wait for it [1]"),
+        (("race", "output", "miss"),)),
+    "a file that is no output": Planted(
+        """build stamp: sh in
+  do = cp in extra; touch stamp
+build user: sh in
+  do = sleep 0.4; cat extra in > user
+""",
+        {"in": "x\n"},
+        ("race extra: stamp (build.ninja:3) writes it, though no line says so",
+         "used by user (build.ninja:5), which does not wait for it [1]", "mend: build.ninja:3: build stamp | extra: ...",
+         "mend: build.ninja:5: build user: ... || extra"),
+        (("race", "undeclared", "read"),)),
+    "a source that is changed in place": Planted(
+        """build stamp: sh
+  do = echo more >> in; touch stamp
+build user: sh in
+  do = sleep 0.4; cat in > user
+""",
+        {"in": "x\n"},
+        ("race in: stamp (build.ninja:3) changes it in place", "used by user (build.ninja:5), which does not wait"),
+        (("race", "edit", "read"),)),
+    "a file that is taken away": Planted(
+        """build stamp: sh
+  do = sleep 0.4; rm old; touch stamp
+build user: sh in
+  do = cat old > user
+""",
+        {"in": "x\n", "old": "y\n"},
+        ("race old: stamp (build.ninja:3) takes it away", "used by user (build.ninja:5), which does not wait"),
+        (("race", "delete", "read"),)),
+    "a folder that is listed": Planted(
+        """build parts/one: sh in
+  do = sleep 0.4; cp in parts/one
+build user: sh in
+  do = ls parts > user
+""",
+        {"in": "x\n", "parts/zero": "y\n"},
+        ("race parts: parts/one (build.ninja:3) makes or takes away an entry of this folder",
+         "used by user (build.ninja:5), which lists the folder, and does not wait for it [1]"),
+        (("race", "entry", "list"),)),
+    "two commands write one file": Planted(
+        """build one: sh in
+  do = cp in both; touch one
+build two: sh in
+  do = cp in both; touch two
+""",
+        {"in": "x\n"},
+        ("clash both: one (build.ninja:3) writes it",
+         "so does two (build.ninja:5): both write, and neither waits for the other [1]",
+         "mend: another path for one of the two"),
+        (("clash", None, None),)),
+    "two commands with one temporary": Planted(
+        """build one: sh in
+  do = cp in work.tmp; cp work.tmp one; rm work.tmp
+build two: sh in
+  do = sleep 0.4; cp in work.tmp; cp work.tmp two; rm work.tmp
+""",
+        {"in": "x\n"},
+        ("clash work.tmp: one (build.ninja:3) makes it, and takes it away again", "so does two (build.ninja:5)"),
+        (("clash", None, None),)),
+    "a file that changes behind its user": Planted(
+        """build user: sh in
+  do = cat in > user
+build stamp: sh user
+  do = echo more >> in; touch stamp
+""",
+        {"in": "x\n"},
+        ("unstable in: stamp (build.ninja:5) changes it in place",
+         "used by user (build.ninja:3), which looked at it before: the next build shows it another file [1]",
+         "mend: another path for what it writes there"),
+        (("unstable", "edit", "read"),), pair=False),
+    "a command asks for an output of one that waits for it": Planted(
+        """build user: sh in
+  do = cat late > user 2> /dev/null || cp in user
+build late: sh user
+  do = cp user late
+""",
+        {"in": "x\n"},
+        ("cycle late made by late (build.ninja:5)", "used by user (build.ninja:3), for which the maker waits"),
+        (("cycle", None, "miss"),)),
+    "everything is declared": Planted(
+        """build table: sh in
+  do = cp in table
+build user: sh in || table
+  do = cat table in > user
+build both: sh user table
+  do = cat user table > both
+""",
+        {"in": "x\n"}, certain=True),
+    "two commands make one folder": Planted(
+        """build d/one: sh in
+  do = mkdir -p d && cp in d/one
+build d/two: sh in
+  do = mkdir -p d && cp in d/two
+""",
+        {"in": "x\n"}, certain=True),
+}
+
+
+def write_files(folder: pathlib.Path, files: dict[str, str]) -> None:
+    """Writes files below a folder."""
+    for name, text in files.items():
+        (folder / name).parent.mkdir(parents=True, exist_ok=True)
+        (folder / name).write_text(text)
+
+
+def record(folder: pathlib.Path, recorded: pathlib.Path, *words: str) -> None:
+    """Records the build in a folder, and says so where that fails."""
+    ran = subprocess.run([sys.executable, RECORDER, folder, recorded, "--observe", *words], capture_output=True, text=True,
+                         timeout=120, check=False, stdin=subprocess.DEVNULL, env={**os.environ, "LC_ALL": "C"})
+    if ran.returncode != 0:
+        raise RuntimeError(f"rebug-record ends with {ran.returncode}\n{ran.stdout}{ran.stderr}")
+
+
+def record_planted(it: Planted, room: pathlib.Path) -> pathlib.Path:
+    """Records a build from nothing in a folder of its own; the recording's folder."""
+    folder = room / "build"
+    folder.mkdir()
+    write_files(folder, {"build.ninja": RULES + it.build, **it.sources})
+    record(folder, room / "recorded", "-j", "4")
+    return room / "recorded"
