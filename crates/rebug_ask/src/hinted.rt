@@ -165,8 +165,8 @@ fn add_hints<'a>(
 }
 
 /// The hints of a history, whose manifest was read from these files, in the order of their users and of the paths in
-/// what these list, as for races. What makes one of the files runs before all else. `whole` has the edges whose commands
-/// were observed whole: of two such ones the observation tells.
+/// what these list, as for races. What makes one of the files runs before all else. `whole` has the edges whose
+/// commands were observed whole: of two such ones the observation tells.
 pub fn hints_in<'a>(
     alloc: Global,
     history: &'a History,
