@@ -10,14 +10,16 @@ import sys
 from dataclasses import dataclass
 from pathlib import Path
 
+import evidence
+
 sys.path.insert(0, str(Path(__file__).resolve().parent.parent / "record"))
 from recorder.observed.own import COMPILERS, FLAGS  # noqa: E402
 
 LIBEXEC, DOC = "libexec/rebug", "share/doc/rebug"
-# The pages for users. They stand below DOC as in the sources, so that their links to one another lead somewhere.
-PAGES = ("README.md", "CHANGELOG.md", "record/README.md", "record/observer/README.md",
-         *(f"docs/{it}.md" for it in ("ASK", "CODES", "FORMATS", "GLOSSARY", "INSTALL", "JSON", "NINJA", "PICTURE",
-                                      "PROVOKE", "RACES", "SECURITY", "USE")), "docs/passed.svg", "docs/way.svg")
+# Below DOC the pages stand as in the sources, so that their links to one another lead somewhere: these, and the pages
+# of docs/ that are not for engineers of rebug alone.
+PAGES = ("README.md", "CHANGELOG.md", "record/README.md", "record/observer/README.md")
+FOR_ENGINEERS = ("ARCHITECTURE.md", "CONTRIBUTING.md", "DECISIONS.md", "MEMORY.md", "PROMISES.md", "RELEASING.md")
 FOLDERS = ("examples/flaky",)
 COMPLETIONS = {"rebug.bash": "share/bash-completion/completions/rebug", "_rebug": "share/zsh/site-functions/_rebug",
                "rebug.fish": "share/fish/vendor_completions.d/rebug.fish"}
@@ -40,14 +42,19 @@ def placed(top: Path) -> list[Placed]:
     found += [Placed(f"record/{name}", f"{LIBEXEC}/record/{name}") for name in ("rebug-record", "rebug-provoke")]
     found += [Placed(it, f"{LIBEXEC}/{it}") for it in below(top, "record/recorder") if it.endswith(".py")]
     found += [Placed(f"completions/{name}", target) for name, target in COMPLETIONS.items()]
-    found += [Placed(it, f"{DOC}/{it}") for it in [*PAGES, *(it for one in FOLDERS for it in below(top, one))]]
+    pages = [it for it in below(top, "docs") if it.endswith((".md", ".svg")) and Path(it).name not in FOR_ENGINEERS]
+    found += [Placed(it, f"{DOC}/{it}") for it in [*PAGES, *pages, *(it for one in FOLDERS for it in below(top, one))]]
     return sorted(found, key=lambda it: it.target)
 
 
 def below(top: Path, folder: str) -> list[str]:
-    """The names of the files below a folder of the sources."""
-    found = (Path(at, name) for at, _, names in os.walk(top / folder) for name in names)
-    return sorted(str(path.relative_to(top)) for path in found if "__pycache__" not in path.parts)
+    """The names of the files below a folder of the sources. What git ignores is none of them."""
+    try:
+        found = {*evidence.git("ls-files", "-z", "-c", "-o", "--exclude-standard", folder).split("\0")}
+        return sorted(it for it in found if (top / it).is_file())
+    except evidence.NoTree:
+        paths = (Path(at, name) for at, _, names in os.walk(top / folder) for name in names)
+        return sorted(str(path.relative_to(top)) for path in paths if "__pycache__" not in path.parts)
 
 
 def mode_of(path: Path) -> int:

@@ -3,7 +3,6 @@
 import os
 import re
 import shlex
-import sys
 
 from .depslog import BrokenLog
 from .disk import read_file, take_snapshot
@@ -11,6 +10,7 @@ from .events import Start
 from .fields import canonical, shown
 from .files import WRITTEN, names_of_files, write_recording
 from .folders import OPTIONAL, BadFolder, NotInPlace, OutFolder
+from .installed import words_of_recorder
 from .limits import what_is_refused
 from .manifest import Manifest
 from .ninja import NoNinja, changed_commands, found_ninja
@@ -134,7 +134,7 @@ class Session:
         for note in found.notes + (found.remarks if self.options.verbose else []):
             self.say(note)
         out = self.options.out
-        check = " ".join(map(shlex.quote, [sys.argv[0], "--check", out]))
+        check = " ".join(map(shlex.quote, [*words_of_recorder(), "--check", out]))
         self.say(f"{out} has {len(found.found.events)} events of this build. Next: {check}, or "
                  f"{shlex.quote(os.path.join(out, 'replay'))}")
 
