@@ -2,10 +2,12 @@
 ghost use Rattle.std.specs.Prelude.{◌≤◌, length};
 
 use crate::files::{Recording, place_of, read_recording};
+use crate::observed::{Observed, observed_in, read_observed};
 use crate::told::{leave, manifest_of, refuse, trace_of, write};
 use rev_answers::{Told, answer_json, answer_words, fault_json, opening_json, opening_words};
 use rev_desk::Desk;
 use rev_manifest::Manifest;
+use rev_observed::Observation;
 use rev_program::ProgramFault;
 use rev_prompt::{Answer, LineFault, Question, Session, answer_to, question_of, texts_of};
 use rev_recording::{RecordingFault, open};
@@ -245,11 +247,20 @@ fn put_opening<R: Print + AllocGlobal>(
     put(rt, &text)
 }
 
+// What was observed, if it was, and the edge of each command.
+fn parts_of(observed: Option<&Observed>) -> (Option<&Observation>, &[u32]) {
+    match observed {
+        Some(observed) => (Some(&observed.observation), observed.edges.as_slice()),
+        None => (None, &[]),
+    }
+}
+
 // Tells what the recording has, and answers lines about it.
 fn asked<R: Input + Print + AllocGlobal>(
     rt: &R,
     manifest: &Manifest,
     trace: &Trace,
+    observed: Option<&Observed>,
     desk: &mut Desk,
     manner: Manner,
 ) -> Result<(), Ended>
@@ -258,16 +269,48 @@ fn asked<R: Input + Print + AllocGlobal>(
     let alloc = rt.alloc();
     let turns = turns_of(alloc, &trace.lanes)?;
     let lanes = trace.lanes.len() as u32;
+    let (observation, edges) = parts_of(observed);
     let mut session = Session {
         turns: &turns,
         taken: 0,
         lane: lanes,
         builds: manifest.builds(),
         opening: &trace.opening,
+        observation,
+        edges,
     };
     let edges = desk.history().graph().edges();
     put_opening(rt, turns.len(), edges, lanes, manner.json)?;
     converse(rt, &mut session, desk, manner)
+}
+
+// What the bytes of a file say of the commands of a desk's graph, if there is one.
+fn seen_in(
+    alloc: Global,
+    desk: &Desk,
+    bytes: Option<&[u8]>,
+) -> Result<Option<Observed>, RecordingFault> {
+    match bytes {
+        Some(bytes) => Ok(Some(observed_in(alloc, desk.history().graph(), bytes)?)),
+        None => Ok(None),
+    }
+}
+
+// Answers lines about a trace and a desk of it.
+fn asked_at<R: Input + Print + AllocGlobal>(
+    rt: &R,
+    manifest: &Manifest,
+    trace: &Trace,
+    bytes: Option<&[u8]>,
+    desk: &mut Desk,
+    manner: Manner,
+) -> Result<(), Ended>
+    requires { length trace.now.lanes.items ≤ Trace.MAX_LANES }
+{
+    match seen_in(rt.alloc(), desk, bytes) {
+        Ok(observed) => asked(rt, manifest, trace, observed.as_ref(), desk, manner),
+        Err(fault) => Err(Ended::Recording(fault)),
+    }
 }
 
 // Answers lines about a trace that was read.
@@ -275,6 +318,7 @@ fn asked_of<R: Input + Print + AllocGlobal>(
     rt: &R,
     manifest: &Manifest,
     trace: &Trace,
+    bytes: Option<&[u8]>,
     manner: Manner,
 ) -> Result<(), Ended>
     requires { length trace.now.lanes.items ≤ Trace.MAX_LANES }
@@ -283,7 +327,7 @@ fn asked_of<R: Input + Print + AllocGlobal>(
         Ok(desk) => desk,
         Err(fault) => return Err(Ended::Recording(fault)),
     };
-    let ended = asked(rt, manifest, trace, &mut desk, manner);
+    let ended = asked_at(rt, manifest, trace, bytes, &mut desk, manner);
     leave(desk);
     ended
 }
@@ -292,6 +336,7 @@ fn asked_of<R: Input + Print + AllocGlobal>(
 fn asked_about<R: Input + Print + AllocGlobal>(
     rt: &R,
     read: &Recording,
+    bytes: Option<&[u8]>,
     manner: Manner,
 ) -> Result<(), Ended> {
     let manifest = match manifest_of(rt.alloc(), &read.files) {
@@ -299,7 +344,7 @@ fn asked_about<R: Input + Print + AllocGlobal>(
         Err(fault) => return Err(Ended::Recording(fault)),
     };
     match trace_of(rt.alloc(), &read.trace) {
-        Ok(trace) => asked_of(rt, &manifest, &trace, manner),
+        Ok(trace) => asked_of(rt, &manifest, &trace, bytes, manner),
         Err(fault) => Err(Ended::Recording(fault)),
     }
 }
@@ -312,7 +357,8 @@ pub fn ask<'a, R: Files + Input + Print + Eprint + AllocGlobal>(
 ) -> Result<u8, ProgramFault<'a>> {
     let place = place_of(rt, recording);
     let read = read_recording(rt, recording, place)?;
-    match asked_about(rt, &read, manner) {
+    let observed = read_observed(rt, recording, place)?;
+    match asked_about(rt, &read, observed.as_deref(), manner) {
         Ok(()) => Ok(0),
         Err(Ended::Write) => Err(ProgramFault::Write),
         Err(Ended::Read) => Err(ProgramFault::Read),

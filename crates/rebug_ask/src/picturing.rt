@@ -2,18 +2,23 @@
 ghost use Rattle.std.specs.Prelude.{◌≡◌, ◌+◌, ◌≤◌, length};
 
 use crate::files::{Recording, place_of, read_recording, read_times};
+use crate::observed::{Observed, hidden_in, observed_in, read_filters, read_observed};
 use crate::page::{HEAD, TAIL};
 use crate::times::times_in;
-use crate::told::{leave, manifest_of, names_of, refuse, say, trace_of, write};
+use crate::told::{command_count, leave, manifest_of, names_of, refuse, say, trace_of, write};
 use rev_asking::Asked;
 use rev_bars::{Drawing, push_drawing};
+use rev_conflicts::{Conflict, conflicts};
 use rev_desk::Desk;
 use rev_fields::number;
 use rev_history::History;
 use rev_manifest::Manifest;
+use rev_paths::Name;
 use rev_program::{ProgramFault, USAGE};
 use rev_races::{Race, Story, races, stories};
-use rev_recording::{RecordingFault, open, replay};
+use rev_races_text::Replayed;
+use rev_recording::{RecordingFault, open, refused_count, replay};
+use rev_runs::runs;
 use rev_trace::Trace;
 use std::alloc::{AllocError, Global};
 use std::fs;
@@ -26,11 +31,37 @@ struct Wish {
     event: Option<u32>,
 }
 
+// What a picture is made of, beside the desk of the recording.
+#[derive(Clone, Copy)]
+struct Bytes<'a> {
+    read: &'a Recording,
+    times: &'a [u8],
+    observed: Option<&'a [u8]>,
+    filters: Option<&'a [u8]>,
+}
+
 // What came of it.
 enum Made {
-    Text(Vec<u8>),
+    // The picture, and how much of the recording counts, a line for each reason why that is not all of it.
+    Text(Vec<u8>, Vec<u8>),
     // The event is not kept.
     NoEvent(u32),
+}
+
+// What was observed of a recording, and the conflicts of it.
+struct Sight {
+    observed: Observed,
+    conflicts: Vec<Conflict>,
+}
+
+// Written, since a derived drop is proved again at each exit of each caller.
+impl Drop for Sight {
+    fn drop(self) {
+        let Sight {
+            observed: _observed,
+            conflicts: _conflicts,
+        } = self;
+    }
 }
 
 // Whether an event is kept, if one is wished for.
@@ -41,14 +72,65 @@ fn is_there(history: &History, event: Option<u32>) -> bool {
     }
 }
 
-// The races of a history, whose manifest was read from these files.
-fn races_of(
+// What was observed of a history, whose manifest was read from these files, and the conflicts of it.
+fn sight_of(
     alloc: Global,
     history: &History,
-    files: &[(Vec<u8>, Vec<u8>)],
-) -> Result<Vec<Race>, AllocError> {
-    let names = names_of(alloc, files)?;
-    races(alloc, history, &names)
+    files: &[Name],
+    bytes: &[u8],
+    filters: Option<&[u8]>,
+) -> Result<Sight, RecordingFault> {
+    let graph = history.graph();
+    let observed = observed_in(alloc, graph, bytes)?;
+    let hidden = hidden_in(alloc, &observed.observation, filters)?;
+    let conflicts = conflicts(
+        alloc,
+        graph,
+        files,
+        &observed.observation,
+        &observed.edges,
+        &hidden,
+    )?;
+    Ok(Sight {
+        observed,
+        conflicts,
+    })
+}
+
+// The same where something was observed.
+fn maybe_sight_of(
+    alloc: Global,
+    history: &History,
+    files: &[Name],
+    bytes: Bytes<'_>,
+) -> Result<Option<Sight>, RecordingFault> {
+    match bytes.observed {
+        Some(observed) => Ok(Some(sight_of(alloc, history, files, observed, bytes.filters)?)),
+        None => Ok(None),
+    }
+}
+
+// How many commands had not ended when the recording did.
+fn running_count(alloc: Global, history: &History) -> Result<u64, AllocError> {
+    let runs = runs(alloc, history)?;
+    Ok(
+        runs.iter()
+            .filter(|run| run.kept && run.ended.is_none())
+            .count() as u64,
+    )
+}
+
+// How much of a recording counts whose trace has so many commands, a line for each reason why that is not all of it.
+fn replayed_text(alloc: Global, desk: &Desk, commands: u64) -> Result<Vec<u8>, AllocError> {
+    let said = desk.journal().len() as u64;
+    let replayed = Replayed {
+        commands: said,
+        left: commands.saturating_sub(said),
+        refused: refused_count(desk),
+        running: running_count(alloc, desk.history())?,
+    };
+    let text = format!(in alloc; "{replayed}")?;
+    Ok(text.into_bytes())
 }
 
 // The text of a drawing.
@@ -64,21 +146,32 @@ fn text_of(alloc: Global, drawing: &Drawing<'_>, html: bool) -> Result<Vec<u8>, 
     Ok(text)
 }
 
-// The picture of a history with its races.
+// The picture of a history with its races and what was observed.
 fn drawn_races(
     alloc: Global,
-    times: &[u8],
     desk: &Desk,
+    times: &[Option<u32>],
     races: &[Race],
     stories: &[Story],
+    sight: Option<&Sight>,
+    replayed: &[u8],
     wish: Wish,
 ) -> Result<Vec<u8>, AllocError> {
-    let times = times_in(alloc, desk, times)?;
+    let conflicts: &[Conflict] = match sight {
+        Some(sight) => &sight.conflicts,
+        None => &[],
+    };
     let drawing = Drawing {
         history: desk.history(),
         races,
         stories,
-        times: &times,
+        observation: match sight {
+            Some(sight) => Some(&sight.observed.observation),
+            None => None,
+        },
+        conflicts,
+        replayed,
+        times,
         event: wish.event,
     };
     text_of(alloc, &drawing, wish.html)
@@ -87,21 +180,38 @@ fn drawn_races(
 // The picture of the desk of a recording that was replayed.
 fn drawn_desk(
     alloc: Global,
-    times: &[u8],
-    files: &[(Vec<u8>, Vec<u8>)],
+    bytes: Bytes<'_>,
     desk: &Desk,
+    files: &[Name],
+    sight: Option<&Sight>,
+    replayed: &[u8],
     wish: Wish,
 ) -> Result<Vec<u8>, AllocError> {
-    let races = races_of(alloc, desk.history(), files)?;
+    let races = races(alloc, desk.history(), files)?;
     let stories = stories(alloc, desk.history(), &races)?;
-    drawn_races(alloc, times, desk, &races, &stories, wish)
+    let times = times_in(alloc, desk, bytes.times)?;
+    drawn_races(alloc, desk, &times, &races, &stories, sight, replayed, wish)
+}
+
+// The picture of the desk of a recording that was replayed, whose trace has so many commands.
+fn drawn_replayed(
+    alloc: Global,
+    bytes: Bytes<'_>,
+    desk: &Desk,
+    commands: u64,
+    wish: Wish,
+) -> Result<Made, RecordingFault> {
+    let files = names_of(alloc, &bytes.read.files)?;
+    let sight = maybe_sight_of(alloc, desk.history(), &files, bytes)?;
+    let replayed = replayed_text(alloc, desk, commands)?;
+    let text = drawn_desk(alloc, bytes, desk, &files, sight.as_ref(), &replayed, wish)?;
+    Ok(Made::Text(text, replayed))
 }
 
 // The picture of a trace, by the desk of its recording.
 fn drawn_from(
     alloc: Global,
-    times: &[u8],
-    files: &[(Vec<u8>, Vec<u8>)],
+    bytes: Bytes<'_>,
     trace: &Trace,
     desk: &mut Desk,
     wish: Wish,
@@ -113,17 +223,13 @@ fn drawn_from(
     if !is_there(desk.history(), wish.event) {
         return Ok(Made::NoEvent(desk.history().last()));
     }
-    match drawn_desk(alloc, times, files, desk, wish) {
-        Ok(text) => Ok(Made::Text(text)),
-        Err(_) => Err(RecordingFault::Memory),
-    }
+    drawn_replayed(alloc, bytes, desk, command_count(trace), wish)
 }
 
 // The picture of a trace that was read.
 fn drawn_trace(
     alloc: Global,
-    times: &[u8],
-    files: &[(Vec<u8>, Vec<u8>)],
+    bytes: Bytes<'_>,
     manifest: &Manifest,
     trace: &Trace,
     wish: Wish,
@@ -131,21 +237,16 @@ fn drawn_trace(
     requires { length trace.now.lanes.items ≤ Trace.MAX_LANES }
 {
     let mut desk = open(alloc, manifest, trace)?;
-    let drawn = drawn_from(alloc, times, files, trace, &mut desk, wish);
+    let drawn = drawn_from(alloc, bytes, trace, &mut desk, wish);
     leave(desk);
     drawn
 }
 
 // The picture of the bytes of a recording.
-fn picture_of_bytes(
-    alloc: Global,
-    times: &[u8],
-    read: &Recording,
-    wish: Wish,
-) -> Result<Made, RecordingFault> {
-    let manifest = manifest_of(alloc, &read.files)?;
-    let trace = trace_of(alloc, &read.trace)?;
-    drawn_trace(alloc, times, &read.files, &manifest, &trace, wish)
+fn picture_of_bytes(alloc: Global, bytes: Bytes<'_>, wish: Wish) -> Result<Made, RecordingFault> {
+    let manifest = manifest_of(alloc, &bytes.read.files)?;
+    let trace = trace_of(alloc, &bytes.read.trace)?;
+    drawn_trace(alloc, bytes, &manifest, &trace, wish)
 }
 
 // What is wished for, or a sentence where it is not understood.
@@ -195,6 +296,15 @@ fn say_no_event<R: Eprint>(rt: &R, last: u32) {
     );
 }
 
+// Says lines, if there are any.
+fn say_lines<R: Eprint + AllocGlobal>(rt: &R, lines: &[u8]) {
+    for line in lines.split(|byte| *byte == b'\n') {
+        if !line.is_empty() {
+            rev_program::say(rt, line);
+        }
+    }
+}
+
 // Writes the picture of a recording as it is wished for, and gives the program's status.
 fn picture_wished<'a, R: Files + Print + Eprint + AllocGlobal>(
     rt: &R,
@@ -204,9 +314,18 @@ fn picture_wished<'a, R: Files + Print + Eprint + AllocGlobal>(
     let place = place_of(rt, asked.recording);
     let read = read_recording(rt, asked.recording, place)?;
     let times = read_times(rt, asked.recording, place)?;
-    match picture_of_bytes(rt.alloc(), &times, &read, wish) {
-        Ok(Made::Text(text)) => {
+    let observed = read_observed(rt, asked.recording, place)?;
+    let filters = read_filters(rt, asked.recording, place)?;
+    let bytes = Bytes {
+        read: &read,
+        times: &times,
+        observed: observed.as_deref(),
+        filters: filters.as_deref(),
+    };
+    match picture_of_bytes(rt.alloc(), bytes, wish) {
+        Ok(Made::Text(text, replayed)) => {
             put(rt, asked.out, &text)?;
+            say_lines(rt, &replayed);
             Ok(0)
         }
         Ok(Made::NoEvent(last)) => {

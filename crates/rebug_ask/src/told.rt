@@ -214,8 +214,8 @@ fn witness_answer(
     }
 }
 
-// How many commands the lanes of a trace have.
-fn command_count(trace: &Trace) -> u64 {
+/// How many commands the lanes of a trace have.
+pub fn command_count(trace: &Trace) -> u64 {
     let mut count = 0;
     for lane in &trace.lanes {
         count = u64::saturating_add(count, lane.len() as u64);

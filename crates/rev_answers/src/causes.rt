@@ -1,9 +1,11 @@
 //! What events rest on, in words.
 use crate::events::{is_kept, push_numbered};
+use crate::observed::{push_looks, push_observed_needs};
+use crate::told::{Told, history_of};
 use rev_cells::Cell;
 use rev_graph::Graph;
 use rev_history::History;
-use rev_prompt::Link;
+use rev_prompt::{Link, Need, Needs, Reach};
 use rev_shown::push_cell;
 use std::alloc::AllocError;
 
@@ -53,30 +55,50 @@ fn push_links(
         push_through(text, history.graph(), link.cell.as_ref())?;
         text.push(b'\n')?;
     }
-    if links.is_empty() {
+    Ok(())
+}
+
+// Adds that there is nothing, where that is so.
+fn push_if_nothing(text: &mut Vec<u8>, is_nothing: bool) -> Result<(), AllocError> {
+    if is_nothing {
         text.extend_from_slice(b"  nothing\n")?;
     }
     Ok(())
 }
 
+// Adds what an event rests on by its cells, and by what its command was seen to look at.
+fn push_all_needs(
+    text: &mut Vec<u8>,
+    told: Told<'_>,
+    needs: &Needs,
+    head: &[u8],
+) -> Result<(), AllocError> {
+    let history = history_of(told);
+    push_numbered(text, history, needs.number)?;
+    if !is_kept(history, needs.number) {
+        return text.extend_from_slice(b" rests on nothing: it is not kept\n");
+    }
+    text.extend_from_slice(head)?;
+    push_links(text, history, &needs.links, End::Earlier)?;
+    let looks: &[Need] = match &needs.looks {
+        Some(looks) => looks,
+        None => &[],
+    };
+    push_looks(text, told, looks)?;
+    push_if_nothing(text, needs.links.is_empty() && looks.is_empty())
+}
+
 /// Adds what an event rests on.
 pub(crate) fn push_needs(
     text: &mut Vec<u8>,
-    history: &History,
-    number: u32,
-    all: bool,
-    links: &[Link],
+    told: Told<'_>,
+    needs: &Needs,
 ) -> Result<(), AllocError> {
-    push_numbered(text, history, number)?;
-    if !is_kept(history, number) {
-        return text.extend_from_slice(b" rests on nothing: it is not kept\n");
+    match needs.reach {
+        Reach::Itself => push_all_needs(text, told, needs, b" rests on\n"),
+        Reach::All => push_all_needs(text, told, needs, b" rests on, also by way of others:\n"),
+        Reach::Observed => push_observed_needs(text, told, needs.number, needs.looks.as_ref()),
     }
-    text.extend_from_slice(if all {
-        b" rests on, also by way of others:\n"
-    } else {
-        b" rests on\n"
-    })?;
-    push_links(text, history, links, End::Earlier)
 }
 
 /// Adds what rests on an event.
@@ -91,5 +113,6 @@ pub(crate) fn push_dependents(
         return text.extend_from_slice(b": nothing rests on it, since it is not kept\n");
     }
     text.extend_from_slice(b": on it rest\n")?;
-    push_links(text, history, links, End::Later)
+    push_links(text, history, links, End::Later)?;
+    push_if_nothing(text, links.is_empty())
 }

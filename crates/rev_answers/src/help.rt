@@ -5,11 +5,12 @@ pub(crate) const HELP: &[u8] = b"run                the recording to its end, to
 next [N]           its next commands, one or N, each told
 until OUT          up to the next event of the edge of this output
 who OUT            its events
+who reads PATH     which commands read it, as observed, or else by build lines and lists; who writes PATH
 why OUT            why it is to run, or why it ran
 with OUT           which commands ran while it did
 without OUT        undoes its events, with all that rests on them
 what EVENT         an event in words
-needs EVENT [all]  which events it rests on, itself or by way of others
+needs EVENT [all]  which events it rests on, itself or by way of others; `observed`: by what was observed alone
 dependents EVENT   which events rest on it
 would cone EVENT   what `cone` would take
 order EVENT..      whether these events in another order make the same build

@@ -6,6 +6,7 @@ use crate::meant::meant;
 use crate::object::Object;
 use crate::reasons::reason_word;
 use crate::refusals::{FULL, Subject, push_full, push_refusal, subject_of};
+use crate::seen::{looks_value, readers, users_value, writers};
 use crate::told::{Told, history_of};
 use crate::values::{
     lines_value, links_value, names_value, put_edge, put_event, put_events, put_name, run_value,
@@ -17,7 +18,7 @@ use rev_events::Refusal;
 use rev_graph::Graph;
 use rev_history::History;
 use rev_paths::Name;
-use rev_prompt::{Answer, Because, Link, Span, Step, Tally, Wait, Way};
+use rev_prompt::{Answer, Because, Link, Needs, Reach, Span, Step, Tally, User, Wait, Way};
 use serde_json::Value;
 use std::alloc::{AllocError, Global};
 
@@ -110,18 +111,15 @@ fn events(
 }
 
 // What an event rests on.
-fn needs(
-    alloc: Global,
-    history: &History,
-    number: u32,
-    all: bool,
-    links: &[Link],
-) -> Result<Object, AllocError> {
+fn needs(alloc: Global, told: Told<'_>, needs: &Needs) -> Result<Object, AllocError> {
+    let history = history_of(told);
     let mut object = Object::of_kind(alloc, "needs")?;
-    put_event(&mut object, alloc, "event", history, Some(number))?;
-    object.put_flag(alloc, "all", all)?;
-    let links = links_value(alloc, history, links, End::Earlier)?;
+    put_event(&mut object, alloc, "event", history, Some(needs.number))?;
+    object.put_flag(alloc, "all", needs.reach == Reach::All)?;
+    let links = links_value(alloc, history, &needs.links, End::Earlier)?;
     object.put(alloc, "events", links)?;
+    let looks = looks_value(alloc, told, needs.looks.as_ref())?;
+    object.put(alloc, "observed", looks)?;
     Ok(object)
 }
 
@@ -370,6 +368,21 @@ fn step_or_null(alloc: Global, told: Told<'_>, step: Option<Step>) -> Result<Val
     }
 }
 
+// An undo that was carried out, and who was seen to look at what was undone.
+fn undone(
+    alloc: Global,
+    told: Told<'_>,
+    reply: Reply,
+    number: u32,
+    users: &[User],
+) -> Result<Object, AllocError> {
+    let subject = Subject::Event(number);
+    let mut object = replied(alloc, told, Some(reply), Some(number), subject)?;
+    let warnings = users_value(alloc, told, users)?;
+    object.put(alloc, "warnings", warnings)?;
+    Ok(object)
+}
+
 // What came of `run`.
 fn tally_object(
     alloc: Global,
@@ -382,6 +395,7 @@ fn tally_object(
     object.put_number(alloc, "refused", tally.refused)?;
     let first = step_or_null(alloc, told, tally.first)?;
     object.put(alloc, "first", first)?;
+    object.put_number(alloc, "running", tally.running)?;
     object.put_flag(alloc, "paused", paused)?;
     Ok(object)
 }
@@ -412,7 +426,9 @@ fn events_answer(alloc: Global, told: Told<'_>, answer: &Answer) -> Result<Objec
         Answer::Event(number) => one_event(alloc, history, *number),
         Answer::Kept(numbers) => events(alloc, history, None, numbers),
         Answer::Who(path, numbers) => events(alloc, history, Some(path), numbers),
-        Answer::Needs(number, all, links) => needs(alloc, history, *number, *all, links),
+        Answer::Needs(of) => needs(alloc, told, of),
+        Answer::Readers(path, of) => readers(alloc, history, path, of),
+        Answer::Writers(path, of) => writers(alloc, history, path, of),
         Answer::Dependents(number, links) => dependents(alloc, history, *number, links),
         Answer::WouldCone(number, members) => cone(alloc, history, *number, members, false),
         Answer::Cone(number, members) => cone(alloc, history, *number, members, true),
@@ -435,6 +451,7 @@ fn answer_object(alloc: Global, told: Told<'_>, answer: &Answer) -> Result<Objec
         Answer::Said(reply, number) => {
             replied(alloc, told, *reply, *number, subject_asked(told, *number))
         }
+        Answer::Undone(reply, number, users) => undone(alloc, told, *reply, *number, users),
         Answer::Run(tally, paused) => tally_object(alloc, told, *tally, *paused),
         Answer::Steps(steps, ended, paused) => steps_object(alloc, told, steps, *ended, *paused),
         other => events_answer(alloc, told, other),

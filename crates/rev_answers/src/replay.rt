@@ -55,10 +55,25 @@ pub(crate) fn push_tally(
         }
     }
     text.push(b'\n')?;
+    push_running(text, tally.running)?;
     if paused {
         text.extend_from_slice(PAUSE)?;
     }
     Ok(())
+}
+
+// Adds that commands run where the recording ends.
+fn push_running(text: &mut Vec<u8>, running: u64) -> Result<(), AllocError> {
+    if running == 0 {
+        return Ok(());
+    }
+    text.extend_from_slice(b"the recording ends while ")?;
+    push_number(text, running)?;
+    text.extend_from_slice(if running == 1 {
+        b" command runs: the answers are of the others\n"
+    } else {
+        b" commands run: the answers are of the others\n"
+    })
 }
 
 /// Adds commands of the recording, a line each.

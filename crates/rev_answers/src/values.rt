@@ -48,15 +48,15 @@ fn event_value(alloc: Global, history: &History, number: u32) -> Result<Value, A
     Ok(object.value())
 }
 
-// An event, where there is one.
+// An event, where one was accepted under the number.
 fn event_or_null(
     alloc: Global,
     history: &History,
     number: Option<u32>,
 ) -> Result<Value, AllocError> {
     match number {
-        Some(number) => event_value(alloc, history, number),
-        None => Ok(Value::Null),
+        Some(number) if history.event(number).is_some() => event_value(alloc, history, number),
+        _ => Ok(Value::Null),
     }
 }
 

@@ -6,6 +6,7 @@ use crate::causes::{push_dependents, push_needs};
 use crate::events::{push_count, push_events, push_list, push_numbered, push_visible};
 use crate::help::HELP;
 use crate::meant::push_no_output;
+use crate::observed::{push_readers, push_users, push_writers};
 use crate::reasons::push_why;
 use crate::refusals::{NEXT_LINE, Subject, push_full, push_refusal, subject_of};
 use crate::replay::{push_steps, push_tally};
@@ -15,7 +16,7 @@ use rev_desk::Reply;
 use rev_fields::{number, push_number};
 use rev_history::History;
 use rev_paths::Name;
-use rev_prompt::{Answer, Question};
+use rev_prompt::{Answer, Question, User};
 use rev_shown::push_shown;
 use std::alloc::{AllocError, Global};
 
@@ -212,6 +213,19 @@ fn push_said(
     Ok(())
 }
 
+// Adds what the desk replied to an undo that was carried out, and who was seen to look at what was undone.
+fn push_undone(
+    text: &mut Vec<u8>,
+    alloc: Global,
+    told: Told<'_>,
+    reply: Reply,
+    number: u32,
+    users: &[User],
+) -> Result<(), AllocError> {
+    push_said(text, alloc, told, Some(reply), Some(number))?;
+    push_users(text, told, number, users)
+}
+
 // Adds an answer that names events.
 fn push_events_answer(
     text: &mut Vec<u8>,
@@ -227,7 +241,9 @@ fn push_events_answer(
         }
         Answer::Kept(numbers) => push_kept(text, history, numbers),
         Answer::Who(path, numbers) => push_who(text, history, path, numbers),
-        Answer::Needs(number, all, links) => push_needs(text, history, *number, *all, links),
+        Answer::Needs(needs) => push_needs(text, told, needs),
+        Answer::Readers(path, readers) => push_readers(text, told, path, readers),
+        Answer::Writers(path, writers) => push_writers(text, told, path, writers),
         Answer::Dependents(number, links) => push_dependents(text, history, *number, links),
         Answer::WouldCone(_, members) => push_cone(text, history, members, b" would be undone\n"),
         Answer::Cone(_, members) => push_cone(text, history, members, b" undone\n"),
@@ -258,6 +274,9 @@ pub fn answer_words(alloc: Global, told: Told<'_>, answer: &Answer) -> Result<Ve
             b"no event was accepted under this number; `kept` lists those that are kept\n",
         )?,
         Answer::Said(reply, number) => push_said(&mut text, alloc, told, *reply, *number)?,
+        Answer::Undone(reply, number, users) => {
+            push_undone(&mut text, alloc, told, *reply, *number, users)?;
+        }
         Answer::Run(tally, paused) => push_tally(&mut text, alloc, told, *tally, *paused)?,
         Answer::Steps(steps, ended, paused) => {
             push_steps(&mut text, alloc, told, steps, *ended, *paused)?;

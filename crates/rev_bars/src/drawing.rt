@@ -1,12 +1,15 @@
 //! A history drawn.
 use crate::labels::label_bars;
 use crate::linked::links;
+use crate::observed::add_conflicts;
 use crate::places::{Places, narrow, places_of};
-use crate::racing::is_racing;
+use crate::racing::racing_marks;
+use rev_conflicts::Conflict;
 use rev_events::Event;
 use rev_fields::push_number;
 use rev_held::Link;
 use rev_history::History;
+use rev_observed::Observation;
 use rev_picture::{Bar, Line, push_picture};
 use rev_races::{Race, Story, path_of};
 use rev_runs::{Run, is_kept, runs};
@@ -15,8 +18,8 @@ use std::alloc::{AllocError, Global};
 
 // The least number of units of a bar.
 const LEAST: u32 = 4;
-// The most dependences, and the most races, that are drawn.
-const MOST: usize = 500;
+/// The most dependences, and the most races and conflicts, that are drawn.
+pub(crate) const MOST: usize = 500;
 
 /// What is drawn.
 #[derive(Clone, Copy)]
@@ -27,6 +30,12 @@ pub struct Drawing<'a> {
     pub races: &'a [Race],
     /// What happened in it with the two edges of each.
     pub stories: &'a [Story],
+    /// What was observed of its commands, if they were.
+    pub observation: Option<&'a Observation>,
+    /// The conflicts of what was observed.
+    pub conflicts: &'a [Conflict],
+    /// How much of the recording counts, a line for each reason why that is not all of it.
+    pub replayed: &'a [u8],
     /// When each event happened, by its number, in milliseconds; nothing where that is not known of any.
     pub times: &'a [Option<u32>],
     /// The event whose dependences are drawn, if one is chosen.
@@ -46,7 +55,7 @@ fn words_of_end(history: &History, ended: Option<u32>) -> &'static [u8] {
 }
 
 // The bar of a run.
-fn bar_of<'a>(history: &'a History, places: &Places, races: &[Race], run: &Run) -> Bar<'a> {
+fn bar_of<'a>(history: &'a History, places: &Places, marks: &[bool], run: &Run) -> Bar<'a> {
     let name: &'a [u8] = match first_output(history.graph(), run.edge) {
         Some(name) => name.as_bytes(),
         None => b"",
@@ -67,7 +76,7 @@ fn bar_of<'a>(history: &'a History, places: &Places, races: &[Race], run: &Run) 
         began: run.began,
         ended: run.ended,
         undone: !run.kept,
-        racing: is_racing(races, run.edge),
+        racing: marks.get(run.edge as usize) == Some(&true),
     }
 }
 
@@ -113,15 +122,19 @@ fn add_marks<'a>(
 
 // A line that is drawn: two events, and its words.
 #[derive(Drop)]
-struct Drawn {
-    one: u32,
-    other: u32,
-    words: Vec<u8>,
-    racing: bool,
+pub(crate) struct Drawn {
+    pub(crate) one: u32,
+    pub(crate) other: u32,
+    pub(crate) words: Vec<u8>,
+    pub(crate) racing: bool,
 }
 
-// Adds the number of an event, and the event in words.
-fn push_numbered(text: &mut Vec<u8>, history: &History, number: u32) -> Result<(), AllocError> {
+/// Adds the number of an event, and the event in words.
+pub(crate) fn push_numbered(
+    text: &mut Vec<u8>,
+    history: &History,
+    number: u32,
+) -> Result<(), AllocError> {
     push_number(text, u64::from(number))?;
     if let Some(event) = history.event(number) {
         text.extend_from_slice(b" ")?;
@@ -278,7 +291,11 @@ fn caption(
     } else {
         b"by time"
     })?;
-    text.extend_from_slice(b"; red: in a race; hollow: undone")?;
+    text.extend_from_slice(if drawing.observation.is_some() {
+        b"; red: in a race (`race`: by lists, `observed`: by what was observed); hollow: undone"
+    } else {
+        b"; red: in a race; hollow: undone"
+    })?;
     if let Some(event) = drawing.event {
         text.extend_from_slice(b"; lines: what event ")?;
         push_number(&mut text, u64::from(event))?;
@@ -288,7 +305,19 @@ fn caption(
         text.extend_from_slice(b" (the first 500 of ")?;
         push_counted(&mut text, links as u64, b")")?;
     }
+    push_replayed(&mut text, drawing.replayed)?;
     Ok(text)
+}
+
+// Adds how much of the recording counts, where that is not all of it.
+fn push_replayed(text: &mut Vec<u8>, replayed: &[u8]) -> Result<(), AllocError> {
+    for line in replayed.split(|byte| *byte == b'\n') {
+        if !line.is_empty() {
+            text.extend_from_slice(b"; ")?;
+            text.extend_from_slice(line)?;
+        }
+    }
+    Ok(())
 }
 
 // All bars, with their labels.
@@ -298,10 +327,12 @@ fn bars_of<'a>(
     places: &Places,
     runs: &[Run],
 ) -> Result<Vec<Bar<'a>>, AllocError> {
+    let edges = drawing.history.graph().edges();
+    let marks = racing_marks(alloc, drawing.races, drawing.conflicts, edges)?;
     let mut bars = Vec::new(alloc);
     add_marks(drawing.history, places, &mut bars)?;
     for run in runs {
-        bars.push(bar_of(drawing.history, places, drawing.races, run))?;
+        bars.push(bar_of(drawing.history, places, &marks, run))?;
     }
     label_bars(alloc, &mut bars, places.count, places.width)?;
     Ok(bars)
@@ -333,6 +364,7 @@ pub fn push_drawing(
     };
     let mut all = Vec::new(alloc);
     add_races(alloc, drawing, &mut all)?;
+    add_conflicts(alloc, drawing, &runs, &mut all)?;
     add_links(alloc, history, &links, &mut all)?;
     let lines = lines_of(alloc, &places, &all)?;
     let caption = caption(alloc, drawing, runs.len(), links.len())?;

@@ -4,9 +4,10 @@
 mod drawing;
 mod labels;
 mod linked;
+mod observed;
 mod places;
 mod racing;
 
 pub use drawing::{Drawing, push_drawing};
 pub use linked::links;
-pub use racing::is_racing;
+pub use racing::racing_marks;

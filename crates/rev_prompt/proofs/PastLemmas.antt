@@ -6,9 +6,9 @@ use Rattle.rev_causal.specs.Machine.{Legal}
 use Rattle.rev_cells.specs.State.{State}
 use Rattle.rev_cells.specs.Table.{Table}
 use Rattle.rev_events.specs.declared.event.Event.{Event}
-use Rattle.rev_events.specs.Machine.{after, refusal}
+use Rattle.rev_events.specs.Machine.{refusal}
 use Rattle.rev_history.specs.Timeline.{IsHistory, Timeline, chosen, event_at, machine_at, under}
-use Rattle.rev_prompt.specs.Past.{CanFollow, IsLed, IsOpeningOf, after_event, led_by, state_by}
+use Rattle.rev_prompt.specs.Past.{CanFollow, IsLed, after_event, led_by, state_by}
 
 -- the next event, if there is one
 record IsNext (t : Timeline) (s : State) (o : Option Event) (ks : List ℕ) : Type 0 where

@@ -1,29 +1,56 @@
 -- What questions are answered.
-use Rattle.std.specs.Prelude.{◌≡◌, ℕ, Bool, true, false, List, [], map, reverse, Option, Some, None}
+use Rattle.std.specs.Prelude.{◌≡◌, ℕ, List, [], map, reverse, Option, Some, None}
+use Rattle.std.specs.Global.{Vec}
 use Rattle.rev_graph.specs.Graph.{producer_of}
 use Rattle.rev_history.specs.Timeline.{Timeline}
 use Rattle.rev_held.specs.declared.linked.Link.{Link}
 use Rattle.rev_held.specs.Links.{link_between}
 use Rattle.rev_held.specs.Several.{dependents_of, needed_by}
 use Rattle.rev_held.specs.Ways.{ways_to}
+use Rattle.rev_looked.specs.declared.need.Need.{Need}
+use Rattle.rev_looked.specs.Needs.{Scene, needs_of, scene}
+use Rattle.rev_observed.specs.Observations.{ObservationValue}
 use Rattle.rev_runs.specs.Edges.{events_of}
 use Rattle.rev_prompt.specs.declared.answers.Answer.{Answer}
 use Rattle.rev_prompt.specs.declared.answers.Answer.TheVariants as answer
+use Rattle.rev_prompt.specs.declared.answers.Needs.{Needs}
 use Rattle.rev_prompt.specs.declared.answers.Span.{Span}
 use Rattle.rev_prompt.specs.declared.answers.Way.{Way}
+use Rattle.rev_prompt.specs.declared.question.Reach.{Reach}
+use Rattle.rev_prompt.specs.declared.question.Reach.TheVariants as reach
 use Rattle.rev_prompt.specs.Past.{plan_of, state_then}
 use Rattle.rev_prompt.specs.Reasons.{IsWay}
 use Rattle.rev_prompt.specs.Spans.{last_run, runs_beside}
 
 -- what an event rests on, from the latest down: itself, or also by way of others
-abbrev pub needs_links : Timeline → ℕ → Bool → List Link
-needs_links t n false = map (λ one. link_between t one n) (reverse (needed_by t n))
-needs_links t n true = map (λ (pair : ℕ × ℕ). link_between t pair.0 pair.1) (ways_to t n)
+abbrev pub needs_links : Timeline → ℕ → Reach → List Link
+needs_links t n reach.Itself = map (λ one. link_between t one n) (reverse (needed_by t n))
+needs_links t n reach.All = map (λ (pair : ℕ × ℕ). link_between t pair.0 pair.1) (ways_to t n)
+needs_links t n reach.Observed = []
 
-abbrev pub IsNeeds : Timeline → ℕ → Bool → Answer → Type 0
-IsNeeds t n all (answer.Needs number is_all links) =
-    (number ≡ n) × ((is_all ≡ all) × (links.items ≡ needs_links t n all))
-IsNeeds t n all _ = ⊥
+-- what was observed, if anything was: its paths and commands, and the edges of these
+abbrev pub scene_of : Timeline → ObservationValue → List ℕ → Scene
+scene_of t o edges = scene t o.paths o.commands edges
+
+-- what an event rests on by what its command was seen to look at
+abbrev pub looks_of : Timeline → Option ObservationValue → List ℕ → ℕ → Option (List Need)
+looks_of t None edges n = None
+looks_of t (Some o) edges n = Some (needs_of (scene_of t o edges) n)
+
+abbrev pub items_in : Option (Vec Need) → Option (List Need)
+items_in None = None
+items_in (Some v) = Some v.items
+
+pub record AreNeeds (t : Timeline) (o : Option ObservationValue) (edges : List ℕ) (n : ℕ) (reach : Reach)
+    (needs : Needs) : Type 0 where
+  pub number : needs.number ≡ n
+  pub reach_is : needs.reach ≡ reach
+  pub links : needs.links.items ≡ needs_links t n reach
+  pub looks : items_in needs.looks ≡ looks_of t o edges n
+
+abbrev pub IsNeeds : Timeline → Option ObservationValue → List ℕ → ℕ → Reach → Answer → Type 0
+IsNeeds t o edges n reach (answer.Needs needs) = AreNeeds t o edges n reach needs
+IsNeeds t o edges n reach _ = ⊥
 
 abbrev pub IsDependents : Timeline → ℕ → Answer → Type 0
 IsDependents t n (answer.Dependents number links) =

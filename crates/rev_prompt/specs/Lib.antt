@@ -5,3 +5,4 @@ pub mod Lines
 pub mod Past
 pub mod Reasons
 pub mod Spans
+pub mod Users

@@ -5,7 +5,7 @@ use crate::session::Session;
 use rev_commands::Command;
 use rev_desk::{Desk, Reply};
 use rev_paths::Name;
-use rev_runs::is_of_edge;
+use rev_runs::{is_of_edge, runs};
 use std::alloc::{AllocError, Global};
 
 // Says the command at a place; nothing where none is left.
@@ -26,12 +26,36 @@ fn is_done(step: Step) -> bool {
     )
 }
 
+// How many commands of edges run, where all commands of the recording were said.
+fn running_count(
+    alloc: Global,
+    session: &Session<'_>,
+    desk: &Desk,
+    taken: usize,
+) -> Result<u64, AllocError> {
+    if taken < session.turns.len() {
+        return Ok(0);
+    }
+    let mut count = 0u64;
+    for run in &runs(alloc, desk.history())? {
+        if run.kept && run.ended.is_none() {
+            count = count.saturating_add(1);
+        }
+    }
+    Ok(count)
+}
+
 /// `run`: says what is left of the recording, up to a break.
-pub(crate) fn run(session: &Session<'_>, desk: &mut Desk) -> Result<(Answer, usize), AllocError> {
+pub(crate) fn run(
+    alloc: Global,
+    session: &Session<'_>,
+    desk: &mut Desk,
+) -> Result<(Answer, usize), AllocError> {
     let mut tally = Tally {
         said: 0,
         refused: 0,
         first: None,
+        running: 0,
     };
     let mut taken = session.taken;
     for at in session.taken..session.turns.len() {
@@ -48,6 +72,7 @@ pub(crate) fn run(session: &Session<'_>, desk: &mut Desk) -> Result<(Answer, usi
             tally.first = tally.first.or(Some(step));
         }
     }
+    tally.running = running_count(alloc, session, desk, taken)?;
     Ok((Answer::Run(tally, desk.paused()), taken))
 }
 
@@ -108,5 +133,5 @@ pub(crate) fn until(
             return Ok((Answer::Steps(steps, false, desk.paused()), taken));
         }
     }
-    Ok((Answer::Steps(steps, true, false), taken))
+    Ok((Answer::Steps(steps, true, desk.paused()), taken))
 }

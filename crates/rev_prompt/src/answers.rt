@@ -1,6 +1,9 @@
 //! What questions are answered.
+use crate::question::Reach;
 use rev_dirty::Reason;
 use rev_held::Link;
+use rev_looked::{Naming, Need, User};
+use rev_observed::Kind;
 use rev_paths::Name;
 use std::alloc::AllocError;
 
@@ -31,6 +34,8 @@ pub struct Tally {
     pub refused: u64,
     /// The first that was.
     pub first: Option<Step>,
+    /// How many commands of edges run where the recording has ended; 0 where it has not.
+    pub running: u64,
 }
 
 /// A reason with what it names.
@@ -93,6 +98,79 @@ impl Drop for Way {
     }
 }
 
+/// What an event rests on.
+pub struct Needs {
+    /// The number of the event.
+    pub number: u32,
+    /// How far it was asked.
+    pub reach: Reach,
+    /// The earlier events on which it rests, from the latest, and through what; none where it was asked for what was
+    /// observed alone.
+    pub links: Vec<Link>,
+    /// What it rests on by what its command was seen to look at, which its build line does not declare; none where
+    /// nothing was observed.
+    pub looks: Option<Vec<Need>>,
+}
+
+// Written, since a derived drop is proved again at each exit of each caller.
+impl Drop for Needs {
+    fn drop(self) {
+        let Needs {
+            number: _number,
+            reach: _reach,
+            links: _links,
+            looks: _looks,
+        } = self;
+    }
+}
+
+/// An edge whose command was seen to do something with a path.
+#[derive(Clone, Copy)]
+pub struct Deed {
+    /// The edge.
+    pub edge: u32,
+    /// What its command does with the path.
+    pub kind: Kind,
+    /// The last kept run of the command.
+    pub run: Option<Span>,
+}
+
+/// Which commands read a path.
+pub enum Readers {
+    /// Those that were seen to.
+    Observed(Vec<Deed>),
+    /// Where nothing was observed, those that name it.
+    Named(Vec<Naming>),
+}
+
+// Written, since a derived drop is proved again at each exit of each caller.
+impl Drop for Readers {
+    fn drop(self) {
+        match self {
+            Readers::Observed(_deeds) => {}
+            Readers::Named(_namings) => {}
+        }
+    }
+}
+
+/// Which commands write a path.
+pub enum Writers {
+    /// Those that were seen to.
+    Observed(Vec<Deed>),
+    /// Where nothing was observed, the edge that has it as an output.
+    Declared(Option<u32>),
+}
+
+// Written, since a derived drop is proved again at each exit of each caller.
+impl Drop for Writers {
+    fn drop(self) {
+        match self {
+            Writers::Observed(_deeds) => {}
+            Writers::Declared(_edge) => {}
+        }
+    }
+}
+
 /// What a question is answered, by numbers of events. Its words and its JSON are made of it.
 pub enum Answer {
     /// Nothing was asked.
@@ -113,8 +191,12 @@ pub enum Answer {
     Kept(Vec<u32>),
     /// The events of the edge of an output, also those that were undone.
     Who(Name, Vec<u32>),
-    /// What an event rests on, from the latest; also by way of others where all was asked for.
-    Needs(u32, bool, Vec<Link>),
+    /// What an event rests on.
+    Needs(Needs),
+    /// Which commands read a path.
+    Readers(Name, Readers),
+    /// Which commands write a path.
+    Writers(Name, Writers),
     /// What rests on an event.
     Dependents(u32, Vec<Link>),
     /// What a cone of an event would take.
@@ -132,6 +214,8 @@ pub enum Answer {
     Order(Vec<u8>),
     /// What the desk replied to a typed command, and the event that it names; no reply where the journal was full.
     Said(Option<rev_desk::Reply>, Option<u32>),
+    /// What the desk replied to an undo that was carried out, the event, and who was seen to look at what it left.
+    Undone(rev_desk::Reply, u32, Vec<User>),
     /// What came of `run`, and whether a break stands.
     Run(Tally, bool),
     /// Commands of the recording, one by one; whether it ended, and whether a break stands.
@@ -151,7 +235,9 @@ impl Drop for Answer {
             Answer::Event(_number) => {}
             Answer::Kept(_numbers) => {}
             Answer::Who(_path, _numbers) => {}
-            Answer::Needs(_number, _all, _links) => {}
+            Answer::Needs(_needs) => {}
+            Answer::Readers(_path, _readers) => {}
+            Answer::Writers(_path, _writers) => {}
             Answer::Dependents(_number, _links) => {}
             Answer::WouldCone(_number, _members) => {}
             Answer::Cone(_number, _members) => {}
@@ -160,6 +246,7 @@ impl Drop for Answer {
             Answer::Why(_path, _run, _plan, _way) => {}
             Answer::Order(_line) => {}
             Answer::Said(_reply, _number) => {}
+            Answer::Undone(_reply, _number, _users) => {}
             Answer::Run(_tally, _paused) => {}
             Answer::Steps(_steps, _ended, _paused) => {}
         }

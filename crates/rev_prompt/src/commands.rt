@@ -9,6 +9,7 @@ use rev_commands::{Command, Which};
 use rev_desk::{Desk, Reply, Unsaid, Why};
 use rev_events::Refusal;
 use rev_history::History;
+use rev_looked::{User, users};
 use rev_paths::Name;
 use rev_runs::is_of_edge;
 use std::alloc::{AllocError, Global};
@@ -47,6 +48,38 @@ pub(crate) fn apply(
 ) -> Result<Answer, AllocError> {
     let reply = say(desk, session.lane, command)?;
     Ok(Answer::Said(reply, number))
+}
+
+// Who was seen to look at what an event left; nobody where nothing was observed.
+fn users_of(
+    alloc: Global,
+    session: &Session<'_>,
+    history: &History,
+    number: u32,
+) -> Result<Vec<User>, AllocError> {
+    match session.observation {
+        Some(observation) => users(alloc, history, observation, session.edges, number),
+        None => Ok(Vec::new(alloc)),
+    }
+}
+
+/// `undo EVENT`: takes an event back, and tells who was seen to look at what it left.
+pub(crate) fn undo(
+    alloc: Global,
+    session: &Session<'_>,
+    desk: &mut Desk,
+    number: u32,
+) -> Result<Answer, AllocError> {
+    let users = users_of(alloc, session, desk.history(), number)?;
+    let reply = say(desk, session.lane, Command::Undo(Which::Number(number)))?;
+    match reply {
+        Some(Reply::Accepted(entry, met)) if !users.is_empty() => Ok(Answer::Undone(
+            Reply::Accepted(entry, met),
+            number,
+            users,
+        )),
+        reply => Ok(Answer::Said(reply, Some(number))),
+    }
 }
 
 // The events that a cone of an event would take, or why it would be refused.

@@ -27,6 +27,17 @@ impl Drop for EventName {
     }
 }
 
+/// How far it is asked on what an event rests.
+#[derive(Clone, Copy, Debug, PartialEq, Eq)]
+pub enum Reach {
+    /// On what the event itself rests.
+    Itself,
+    /// Also by way of others.
+    All,
+    /// By what its command was seen to look at alone.
+    Observed,
+}
+
 /// What is asked.
 pub enum Question {
     /// `run`: what is left of the recording is replayed.
@@ -35,14 +46,18 @@ pub enum Question {
     Next(u32),
     /// `until OUT`: the recording is replayed up to an event of this edge.
     Until(Name),
-    /// `needs EVENT [all]`: what the event rests on.
-    Needs(EventName, bool),
+    /// `needs EVENT [all]`, `needs EVENT observed`: what the event rests on.
+    Needs(EventName, Reach),
     /// `dependents EVENT`: what rests on it.
     Dependents(EventName),
     /// `would cone EVENT`: what a cone would take.
     WouldCone(EventName),
     /// `who OUT`: the events of an edge.
     Who(Name),
+    /// `who reads PATH`: which commands read a path.
+    Readers(Name),
+    /// `who writes PATH`: which commands write a path.
+    Writers(Name),
     /// `what EVENT`: an event in words.
     What(EventName),
     /// `why OUT`: why an edge runs, or ran.
@@ -88,6 +103,8 @@ impl Drop for Question {
             Question::Dependents(_part) => {}
             Question::WouldCone(_part) => {}
             Question::Who(_part) => {}
+            Question::Readers(_part) => {}
+            Question::Writers(_part) => {}
             Question::What(_part) => {}
             Question::Why(_part) => {}
             Question::With(_part) => {}
@@ -181,13 +198,45 @@ fn event_names(alloc: Global, texts: &[Vec<u8>]) -> Result<Vec<EventName>, LineF
     Ok(names)
 }
 
-// `needs EVENT` and `needs EVENT all`
-fn needs(alloc: Global, texts: &[Vec<u8>]) -> Result<Question, LineFault> {
+// How far the word asks that stands behind an event.
+fn reach_of(word: &[u8]) -> Option<Reach> {
+    match word {
+        b"all" => Some(Reach::All),
+        b"observed" => Some(Reach::Observed),
+        _ => None,
+    }
+}
+
+// Whether texts are the word of a kind of event and an output, which may be named as a word that stands behind events.
+fn is_kind_at(texts: &[Vec<u8>]) -> bool {
     match texts {
-        [rest @ .., last] if !rest.is_empty() && last.as_slice() == b"all".as_slice() => {
-            Ok(Question::Needs(event_name(alloc, rest)?, true))
+        [kind, _out] => is_kind(kind),
+        _ => false,
+    }
+}
+
+// `needs EVENT`, `needs EVENT all` and `needs EVENT observed`
+fn needs(alloc: Global, texts: &[Vec<u8>]) -> Result<Question, LineFault> {
+    if !is_kind_at(texts)
+        && let [rest @ .., last] = texts
+        && !rest.is_empty()
+        && let Some(reach) = reach_of(last)
+    {
+        return Ok(Question::Needs(event_name(alloc, rest)?, reach));
+    }
+    Ok(Question::Needs(event_name(alloc, texts)?, Reach::Itself))
+}
+
+// `who OUT`, `who reads PATH` and `who writes PATH`
+fn who(alloc: Global, texts: &[Vec<u8>]) -> Result<Question, LineFault> {
+    match texts {
+        [word, one] if word.as_slice() == b"reads".as_slice() => {
+            Ok(Question::Readers(path(alloc, one)?))
         }
-        _ => Ok(Question::Needs(event_name(alloc, texts)?, false)),
+        [word, one] if word.as_slice() == b"writes".as_slice() => {
+            Ok(Question::Writers(path(alloc, one)?))
+        }
+        _ => Ok(Question::Who(only_path(alloc, texts)?)),
     }
 }
 
@@ -234,7 +283,7 @@ fn path_question(
 ) -> Result<Option<Question>, LineFault> {
     let question = match word {
         b"until" => Question::Until(only_path(alloc, rest)?),
-        b"who" => Question::Who(only_path(alloc, rest)?),
+        b"who" => who(alloc, rest)?,
         b"why" => Question::Why(only_path(alloc, rest)?),
         b"with" => Question::With(only_path(alloc, rest)?),
         b"without" => Question::Without(only_path(alloc, rest)?),

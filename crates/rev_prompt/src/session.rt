@@ -5,21 +5,23 @@ ghost use Rattle.rev_prompt.specs.Asking.{is_quit as is_quit_of, only_asks as on
 use crate::advance::{advance, run, until};
 use crate::answers::Answer;
 use crate::causes::{dependents, needs};
-use crate::commands::{apply, cone, without, would_cone};
+use crate::commands::{apply, cone, undo, without, would_cone};
 use crate::events::{named_event, who};
 use crate::listings::{kept, logs, marks, order, stamps};
 use crate::question::{EventName, Question};
 use crate::reasons::why;
 use crate::spans::with;
+use crate::users::{readers, writers};
 use rev_cells::Opening;
 use rev_commands::{Command, Which};
 use rev_desk::Desk;
 use rev_manifest::Build;
+use rev_observed::Observation;
 use rev_script::Turn;
 use std::alloc::{AllocError, Global};
 
 /// What a session has: the turns of the recording, how many of them were taken, the lane of what is typed, the edges
-/// of the manifest, and the opening.
+/// of the manifest, the opening, and what was observed.
 #[derive(Clone, Copy)]
 pub struct Session<'a> {
     /// The commands of the recording, in the order of their turns.
@@ -32,6 +34,10 @@ pub struct Session<'a> {
     pub builds: &'a [Build],
     /// The opening of the recording.
     pub opening: &'a Opening,
+    /// What was observed of its commands, if they were.
+    pub observation: Option<&'a Observation>,
+    /// The edge of each command that was observed, in their order.
+    pub edges: &'a [u32],
 }
 
 /// What comes of a question.
@@ -58,6 +64,7 @@ impl Drop for Reply {
 // What a question about an event is answered.
 fn asked_of_event(
     alloc: Global,
+    session: &Session<'_>,
     desk: &Desk,
     name: &EventName,
     question: &Question,
@@ -68,7 +75,14 @@ fn asked_of_event(
         Err(answer) => return Ok(answer),
     };
     match question {
-        Question::Needs(_, all) => needs(alloc, history, number, *all),
+        Question::Needs(_, reach) => needs(
+            alloc,
+            history,
+            session.observation,
+            session.edges,
+            number,
+            *reach,
+        ),
         Question::Dependents(_) => dependents(alloc, history, number),
         Question::WouldCone(_) => would_cone(history, number),
         _ => Ok(Answer::Event(number)),
@@ -76,13 +90,13 @@ fn asked_of_event(
 }
 
 /// What a question that only asks is answered: one that is none of `run`, `next`, `until`, `undo`, `redo`, `cone`,
-/// `without` and the commands of a script. The desk is read alone, and its history has this opening.
+/// `without` and the commands of a script. The desk is read alone, and its history has the opening of the session.
 ///
 /// # Errors
 /// [`AllocError`] only where an allocation was refused.
 pub fn asked(
     alloc: Global,
-    opening: &Opening,
+    session: &Session<'_>,
     desk: &Desk,
     question: &Question,
 ) -> Result<Answer, AllocError> {
@@ -91,9 +105,15 @@ pub fn asked(
         Question::Needs(name, _)
         | Question::Dependents(name)
         | Question::WouldCone(name)
-        | Question::What(name) => asked_of_event(alloc, desk, name, question),
+        | Question::What(name) => asked_of_event(alloc, session, desk, name, question),
         Question::Who(out) => who(alloc, history, out),
-        Question::Why(out) => why(alloc, history, opening, out),
+        Question::Readers(path) => {
+            readers(alloc, history, session.observation, session.edges, path)
+        }
+        Question::Writers(path) => {
+            writers(alloc, history, session.observation, session.edges, path)
+        }
+        Question::Why(out) => why(alloc, history, session.opening, out),
         Question::With(out) => with(alloc, history, out),
         Question::Order(names) => order(alloc, desk, names),
         Question::Kept => kept(alloc, history),
@@ -107,6 +127,7 @@ pub fn asked(
 
 // What a command about an event is answered.
 fn done_to_event(
+    alloc: Global,
     session: &Session<'_>,
     desk: &mut Desk,
     name: &EventName,
@@ -118,7 +139,7 @@ fn done_to_event(
     };
     let which = Which::Number(number);
     match question {
-        Question::Undo(_) => apply(session, desk, Command::Undo(which), Some(number)),
+        Question::Undo(_) => undo(alloc, session, desk, number),
         Question::Redo(_) => apply(session, desk, Command::Redo(which), Some(number)),
         _ => cone(session, desk, number),
     }
@@ -160,11 +181,11 @@ fn done(
     question: &Question,
 ) -> Result<(Answer, usize), AllocError> {
     let answer = match question {
-        Question::Run => return run(session, desk),
+        Question::Run => return run(alloc, session, desk),
         Question::Next(count) => return advance(alloc, session, desk, *count),
         Question::Until(out) => return until(alloc, session, desk, out),
         Question::Undo(name) | Question::Redo(name) | Question::Cone(name) => {
-            done_to_event(session, desk, name, question)?
+            done_to_event(alloc, session, desk, name, question)?
         }
         Question::Without(out) => without(alloc, session, desk, out)?,
         Question::Command(command) => apply(session, desk, command.copy()?, None)?,
@@ -190,7 +211,7 @@ pub fn answer_to(
 {
     let ends = is_quit(question);
     if only_asks(question) {
-        let answer = asked(alloc, session.opening, desk, question)?;
+        let answer = asked(alloc, session, desk, question)?;
         return Ok(Reply {
             answer,
             taken: session.taken,

@@ -9,8 +9,8 @@ use rev_paths::Name;
 use rev_runs::{Run, runs};
 use std::alloc::{AllocError, Global};
 
-// When a run was.
-fn span_of(run: &Run) -> Span
+/// When a run was.
+pub(crate) fn span_of(run: &Run) -> Span
     ensures { result ≡ span_of_run run.now }
 {
     Span {
@@ -19,8 +19,8 @@ fn span_of(run: &Run) -> Span
     }
 }
 
-// Whether a run is kept and one of an edge.
-fn is_kept_of(run: &Run, edge: u32) -> bool
+/// Whether a run is kept and one of an edge.
+pub(crate) fn is_kept_of(run: &Run, edge: u32) -> bool
     ensures { result ≡ is_kept edge run.now }
 {
     run.kept && run.edge == edge

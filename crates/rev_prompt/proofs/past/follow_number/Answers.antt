@@ -1,8 +1,7 @@
-use Rattle.std.proofs.Common.{◌≡◌, ℕ, ◌∷◌, List, None, Some, false, nat_lt, refl, subst, sym}
+use Rattle.std.proofs.Common.{◌≡◌, None, Some, refl, subst, sym}
 use Rattle.std.specs.Result.{OnOk}
 use Rattle.rev_manifest.specs.Manifest.{ManifestValue}
 use Rattle.rev_events.specs.Machine.{after, refusal}
-use Rattle.rev_prompt.specs.Past.{IsLed}
 use Rattle.rev_prompt.proofs.PastLemmas.{is-accepted, led-next, where-accepted}
 use Rattle.rev_prompt.proofs.past.follow_number.Goals as goal
 
