@@ -1,5 +1,5 @@
 -- What comes of a desk that is closed by what was found of its lanes.
-use Rattle.std.proofs.Common.{◌≡◌, ◌∙◌, ℕ, List, Option, None, Some, Result, Ok, Err, IfErr, IfNone, IfOk, IfSome, OnOk, refl, sym, subst}
+use Rattle.std.proofs.Common.{◌≡◌, ℕ, List, Option, None, Some, Result, Ok, Err, IfErr, IfNone, IfOk, IfSome, OnOk, refl, sym, subst}
 use Rattle.rev_desk.specs.Machine.{DeskValue}
 use Rattle.rev_workers.specs.declared.fault.CloseFault.{CloseFault}
 use Rattle.rev_workers.specs.declared.fault.CloseCode.TheVariants as code

@@ -4,6 +4,7 @@ pub mod Covered
 pub mod Each
 pub mod Runs
 pub mod Said
+pub mod Sends
 pub mod Sets
 pub mod Stands
 pub mod Surveyed

@@ -1,5 +1,5 @@
 -- A lane that says one command more.
-use Rattle.std.proofs.Common.{◌≡◌, ◌∙◌, ◌+◌, ◌<◌, ◌≤◌, ◌^◌, ℕ, inl, inr, subst, arith, List, [], ◌∷◌, ◌++◌, refl, sym, ap, append-nil, append_assoc}
+use Rattle.std.proofs.Common.{◌≡◌, ◌∙◌, ◌+◌, ◌<◌, ◌^◌, ℕ, inl, inr, subst, arith, List, [], ◌∷◌, ◌++◌, refl, sym, ap, append-nil, append_assoc}
 use Rattle.std.proofs.lemmas.Bool.{cases_order}
 use Rattle.std.proofs.lemmas.List.{map-append}
 use Rattle.rev_commands.specs.declared.command.Command.{Command}

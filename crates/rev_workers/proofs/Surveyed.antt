@@ -1,13 +1,11 @@
 -- Lanes whose later commands are confirmed, and whose earlier ones are compared.
-use Rattle.std.proofs.Common.{◌≡◌, ◌∙◌, ◌↔◌, ◌+◌, ◌-◌, ◌<◌, ◌≤◌, ◌==◌, ℕ, suc, Bool, true, false, IsTrue, List, [], ◌∷◌, ◌++◌, Some, drop, take, slice_get, refl, sym, ap, subst, arith, if◌then◌else◌, take-append-drop}
-use Rattle.std.specs.List.{AllByRecursion}
+use Rattle.std.proofs.Common.{◌≡◌, ◌∙◌, ◌↔◌, ◌+◌, ◌-◌, ◌≤◌, ◌==◌, ℕ, suc, Bool, true, false, IsTrue, List, [], ◌∷◌, ◌++◌, Some, drop, take, slice_get, refl, sym, ap, subst, arith, if◌then◌else◌, take-append-drop}
 use Rattle.std.proofs.lemmas.List.{append_cancel_right, drop-drop}
 use Rattle.rev_commands.specs.declared.command.Command.{Command}
 use Rattle.rev_desk.specs.declared.reply.Reply.{Reply}
 use Rattle.rev_desk.specs.declared.reply.Entry.{Entry}
-use Rattle.rev_workers.specs.Tracks.{Track}
 use Rattle.rev_workers.specs.Closing.{AreStated, IsStated, base_in, part}
-use Rattle.rev_workers.specs.Running.{DoneValue, IsConfirmed, lanes_in}
+use Rattle.rev_workers.specs.Running.{DoneValue, lanes_in}
 
 grown : (b : Bool) (x : Command × Reply) (ps qs : List (Command × Reply)) → (if b then x ∷ (ps ++ qs) else ps ++ qs) ≡ (if b then x ∷ ps else ps) ++ qs
 grown true x ps qs = refl

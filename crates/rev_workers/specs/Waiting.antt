@@ -1,5 +1,6 @@
 -- For which refusals a lane waits, and until when.
 use Rattle.std.specs.Prelude.{ℕ, ◌+◌, ◌≡◌, ◌≢◌, ◌≤◌, ◌==◌, ◌&&◌, ⊤, Bool, true, false, not, List, length, map, Some, None, slice_get, slice_set, if◌then◌else◌}
+use Rattle.std.specs.declared.snapshot.Snapshot.{Snapshot}
 use Rattle.rev_events.specs.declared.event.Event.TheVariants as event
 use Rattle.rev_events.specs.declared.refusal.Refusal.TheVariants as refusal
 use Rattle.rev_commands.specs.declared.command.Command.{Command}
@@ -22,10 +23,10 @@ abbrev pub MayPass : Reply → Type 0
 MayPass r = may_pass r ≡ true
 
 -- WHO RESTS
--- a lane has ended, or waits while this very desk refuses a command so
+-- a lane has ended, or waits with a command that this very desk refuses so
 abbrev pub Rests : DeskValue → Standing → Type 0
 Rests desk standing.Going = ⊥
-Rests desk (standing.Waiting refused_at for_input) = (asked : Command) × MayPass (reply_to desk asked)
+Rests desk (standing.Waiting refused_at for_input asked) = MayPass (reply_to desk asked.value)
 Rests desk standing.Ended = ⊤
 
 -- no lane beside the one of this number goes on
@@ -36,7 +37,7 @@ OthersRest number desk standings =
 -- a lane has ended, or waits and need not look at a journal of so many entries
 abbrev pub IsStill : ℕ → Standing → Type 0
 IsStill entries standing.Going = ⊥
-IsStill entries (standing.Waiting refused_at for_input) = refused_at ≡ entries
+IsStill entries (standing.Waiting refused_at for_input asked) = refused_at ≡ entries
 IsStill entries standing.Ended = ⊤
 
 abbrev pub OthersAreStill : ℕ → ℕ → List Standing → Type 0
@@ -46,7 +47,7 @@ OthersAreStill number entries standings =
 -- a lane waits, and is to look at a journal of so many entries
 abbrev pub is_to_look : ℕ → Standing → Bool
 is_to_look entries standing.Going = false
-is_to_look entries (standing.Waiting refused_at for_input) = not (refused_at == entries)
+is_to_look entries (standing.Waiting refused_at for_input asked) = not (refused_at == entries)
 is_to_look entries standing.Ended = false
 
 -- WHAT NEED NOT BE LOOKED AT
@@ -81,14 +82,15 @@ makes_no_input desk c = is_touch c && is_plain (reply_to desk c)
 -- a lane begins to wait with a command, and the others stand as they stood
 abbrev pub BeginsToWait : DeskValue → ℕ → Command → List Standing → List Standing → Type 0
 BeginsToWait desk number c old new =
-    new ≡ slice_set old number (standing.Waiting (length desk.journal) (is_for_input c (reply_to desk c)))
+    (asked : Snapshot Command) × (asked.value ≡ c)
+    × (new ≡ slice_set old number (standing.Waiting (length desk.journal) (is_for_input c (reply_to desk c)) asked))
 
 -- how a lane stands after one entry more that makes no input, over a journal of so many entries before that
 abbrev pub kept_waiting : ℕ → Standing → Standing
 kept_waiting entries standing.Going = standing.Going
-kept_waiting entries (standing.Waiting refused_at for_input) =
-    if for_input && (refused_at == entries) then standing.Waiting (entries + 1) for_input
-    else standing.Waiting refused_at for_input
+kept_waiting entries (standing.Waiting refused_at for_input asked) =
+    if for_input && (refused_at == entries) then standing.Waiting (entries + 1) for_input asked
+    else standing.Waiting refused_at for_input asked
 kept_waiting entries standing.Ended = standing.Ended
 
 -- how lanes stand after a command's entry
@@ -104,13 +106,20 @@ IsRefusedSo for_input c r = MayPass r × (for_input ≡ is_for_input c r)
 -- As long as the journal is as long as when its command was refused, the desk refuses it so.
 abbrev pub Stands : DeskValue → Standing → Type 0
 Stands desk standing.Going = ⊤
-Stands desk (standing.Waiting refused_at for_input) =
+Stands desk (standing.Waiting refused_at for_input asked) =
     (refused_at ≤ length desk.journal)
-    × (refused_at ≡ length desk.journal → (asked : Command) × IsRefusedSo for_input asked (reply_to desk asked))
+    × (refused_at ≡ length desk.journal → IsRefusedSo for_input asked.value (reply_to desk asked.value))
 Stands desk standing.Ended = ⊤
+
+-- A lane that waits is refused now: where it need not look again, this very desk refuses its command with 68, 72 or 74.
+abbrev pub WhoWaitsIsRefused : DeskValue → List Standing → Type 0
+WhoWaitsIsRefused desk standings =
+    (lane refused_at : ℕ) (for_input : Bool) (asked : Snapshot Command)
+    → slice_get standings lane ≡ Some (standing.Waiting refused_at for_input asked) → refused_at ≡ length desk.journal
+    → MayPass (reply_to desk asked.value)
 
 -- a lane does not wait
 abbrev pub IsOutOfWay : Standing → Type 0
 IsOutOfWay standing.Going = ⊤
-IsOutOfWay (standing.Waiting refused_at for_input) = ⊥
+IsOutOfWay (standing.Waiting refused_at for_input asked) = ⊥
 IsOutOfWay standing.Ended = ⊤

@@ -205,7 +205,7 @@ fn run_both<L: Ledger + Send + Sync, R: Threads + Wait + Sync, G: Gate>(
                 × AreBelow shared.now later.items × (later_numbers.now ≡ numbers_in later.items)
                 × (later_room.items ≡ [])
                 × (all.now ≡ numbers_in jobs.items ++ numbers_in later.items) × (0 < vec_len jobs)
-                × (0 < vec_len later) × (0 < length all.now) }
+                × (0 < vec_len later) × (0 < length all.now) × IsSync G.row }
             ensures { Covers result.1 (jobs.items ++ later.items) result.0.items
                 × IfSome result.1 (λ n. Contains (numbers_in jobs.items ++ numbers_in later.items) n)
                 × HaveTold G.told G.answered gate.entry.now result.1 (jobs.items ++ later.items) }
@@ -216,7 +216,7 @@ fn run_both<L: Ledger + Send + Sync, R: Threads + Wait + Sync, G: Gate>(
                 move || -> Ran<L>
                     requires { IsSync R.row × AreBelow shared.now later.items
                         × (later_numbers.now ≡ numbers_in later.items)
-                        × (later_room.items ≡ []) }
+                        × (later_room.items ≡ []) × IsSync G.row }
                     ensures { Covers result.1 later.items result.0.items
                         × IfSome result.1 (λ n. Contains (numbers_in later.items) n)
                         × HaveTold G.told G.answered gate.entry.now result.1 later.items }

@@ -10,7 +10,7 @@ ghost use Rattle.std.specs.List.{AllByRecursion, list_any};
 ghost use Rattle.rev_workers.specs.Tracks.{Track, Carries, fresh, said};
 ghost use Rattle.rev_workers.specs.declared.held.NotAnswered.TheVariants as not_answered;
 ghost use Rattle.rev_workers.specs.declared.standing.Standing.TheVariants as standing;
-ghost use Rattle.rev_workers.specs.Waiting.{BeginsToWait, MayPass, OthersAreStill, OthersRest, Stands};
+ghost use Rattle.rev_workers.specs.Waiting.{BeginsToWait, MayPass, OthersAreStill, OthersRest, Stands, WhoWaitsIsRefused};
 ghost use Rattle.rev_workers.specs.Waiting.{is_to_look, standings_after};
 
 use crate::closing::{missing, misstated, settle};
@@ -23,6 +23,7 @@ use crate::standing::{
 use rev_desk::{Command, Desk, Reply, Unsaid, Why};
 use std::alloc::{AllocError, Global};
 use std::marker::Model;
+use std::snapshot::Snapshot;
 use std::sync::ledger::{Blank, Book, Ledger};
 
 /// Why a command that waits until it is able has no answer.
@@ -34,8 +35,8 @@ pub enum NotAnswered {
     Unsaid(Unsaid),
 }
 
-/// A desk, the book of its ledger, and how each lane stands. Contracts see the desk and the standings. While a lane
-/// waits that need not look again, this very desk refuses a command with 68, 72 or 74.
+/// A desk, the book of its ledger, and how each lane stands. Contracts see the desk and the standings. A lane that waits
+/// and need not look again has a command that this very desk refuses with 68, 72 or 74.
 pub struct Held<L: Ledger> {
     desk: Desk,
     book: Book<L>,
@@ -144,8 +145,8 @@ impl<L: Ledger> Held<L> {
     }
 
     /// Answers a command of a lane, or has the lane wait: it waits exactly where the command is refused 68, 72 or 74
-    /// and another lane goes on. So such a refusal is answered only where every other lane has ended, or waits while
-    /// this very desk refuses a command so.
+    /// and another lane goes on. So such a refusal is answered only where every other lane has ended, or waits with a
+    /// command that this very desk refuses so.
     pub fn step_when_able(
         &mut self,
         lane: &mut Lane<L>,
@@ -184,6 +185,7 @@ impl<L: Ledger> Held<L> {
                 let standing = Standing::Waiting {
                     refused_at: entries,
                     for_input: is_for_input(&command, verdict),
+                    command: Snapshot::of(&command),
                 };
                 self.stand(lane.number, standing);
                 return Err(NotAnswered::Waits(command));
@@ -312,9 +314,10 @@ impl<L: Ledger> Held<L> {
         self.standings[number as usize] = standing;
     }
 
-    /// The desk.
+    /// The desk. It refuses the command of each lane that waits and need not look again.
     pub fn desk(&self) -> &Desk
-        ensures { result.now ≡ self.now.desk }
+        ensures desk { result.now ≡ self.now.desk }
+        ensures refused { WhoWaitsIsRefused self.now.desk self.now.standings }
     {
         &self.desk
     }

@@ -6,16 +6,21 @@ ghost use Rattle.rev_workers.specs.Waiting.{MayPass, OthersAreStill, IsStill, is
 use crate::lane::Lane;
 use rev_desk::{Command, Reply};
 use rev_events::{Event, Refusal};
+use std::snapshot::Snapshot;
 use std::sync::ledger::Ledger;
 
 /// How a lane stands.
-#[derive(Clone, Copy, Debug, PartialEq, Eq)]
+#[derive(Drop)]
 pub enum Standing {
     /// It goes on.
     Going,
     /// Waiting. Its command was last known to be refused at this journal length; past it the lane is to look again, and
-    /// counts as one that goes on.
-    Waiting { refused_at: u64, for_input: bool },
+    /// counts as one that goes on. The command is for contracts alone, and takes no bytes.
+    Waiting {
+        refused_at: u64,
+        for_input: bool,
+        command: Snapshot<Command>,
+    },
     /// It sends no more.
     Ended,
 }
@@ -108,6 +113,7 @@ fn keep_one(standing: &mut Standing, entries: u64)
     if let Standing::Waiting {
         refused_at,
         for_input,
+        ..
     } = standing
     {
         if *for_input && *refused_at == entries {

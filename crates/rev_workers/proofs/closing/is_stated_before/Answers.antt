@@ -1,5 +1,4 @@
-use Rattle.std.proofs.Common.{◌≡◌, ◌∙◌, ◌↔◌, ◌-◌, ◌≤◌, IsTrue, drop, take, ap, arith}
-use Rattle.rev_workers.specs.Closing.{part}
+use Rattle.std.proofs.Common.{◌≡◌, ◌∙◌, ◌-◌, ◌≤◌, take, ap, arith}
 use Rattle.rev_workers.proofs.Surveyed.{found-as, stated-before}
 use Rattle.rev_workers.proofs.closing.is_stated_before.Goals as goal
 

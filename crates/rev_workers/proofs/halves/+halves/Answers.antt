@@ -5,6 +5,8 @@ use Rattle.rev_workers.specs.Running.{Covers, IsUnder, numbers_in}
 use Rattle.rev_workers.proofs.Covered.{all-from, covers-lost}
 use Rattle.rev_workers.proofs.Together.{below-numbers, if-weaker, numbers-earlier, numbers-halves, numbers-later}
 use Rattle.rev_workers.proofs.Told.{as_promised, told-joined, told-lost}
+use denote.Param.Send.{arg_send, param_send}
+use Rattle.rev_workers.proofs.Sends.{given_send}
 use Rattle.rev_workers.proofs.halves.+halves.Goals as goal
 
 pub run_both-scope-end_all-requires : goal.run_both-scope-end_all-requires
@@ -100,3 +102,6 @@ run_halves-returns-in_default-clause-told g t c =
     let n = c.least_of.result in
     told-lost g.G.Gate.told g.G.Gate.answered c.args.gate.now n c.args.jobs.items
     (subst (AllByRecursion (λ k. n ≤ k)) c.requires.numbers (all-from n c.args.numbers.now c.least_of.ensures.least))
+
+pub run_both-scope-spawn_with-worker-requires-send-F : goal.run_both-scope-spawn_with-worker-requires-send-F
+run_both-scope-spawn_with-worker-requires-send-F g t c κs within = search (param_send, arg_send, given_send, c.requires.0, c.requires.11)

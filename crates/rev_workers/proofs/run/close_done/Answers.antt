@@ -21,7 +21,7 @@ returns-in-Some-clause-stopped g c = λ is.
     let u = c.survey_of-found.result.unconfirmed in
     let ds = c.args.done.items in
     let journal = c.stopped_at.result.desk.journal in
-    let same : c.journal.result.now ≡ journal = c.journal.ensures.journal ∙ ap (λ (d : DeskValue). d.journal) (c.desk.ensures ∙ sym c.stopped_at.ensures.desk) in
+    let same : c.journal.result.now ≡ journal = c.journal.ensures.journal ∙ ap (λ (d : DeskValue). d.journal) (c.desk.ensures.desk ∙ sym c.stopped_at.ensures.desk) in
     let among : IfSome u (λ m. Contains (done_numbers ds) m) = subst (λ (es : List DoneValue). IfSome u (λ m. Contains (done_numbers es) m)) c.deref.ensures.value c.survey_of-found.ensures.among in
     let under : (k : ℕ) (d : DoneValue) → slice_get ds k ≡ Some d → IsUnder u d.lane.number → IsConfirmed journal d = λ k d at less.
     subst (λ (es : List Entry). IsConfirmed es d) same (c.survey_of-found.ensures.confirmed k d (ap (λ (xs : List DoneValue). slice_get xs k) c.deref.ensures.value ∙ at) less) in
@@ -33,7 +33,7 @@ returns-clause-first g c =
     let none = none-lesser c.args.stopped c.survey_of-found.result.unconfirmed (sym c.lesser-stopped.ensures ∙ c.in_default.is) in
     let ds = c.args.done.items in
     let journal = c.args.held.desk.journal in
-    let same : c.journal.result.now ≡ journal = c.journal.ensures.journal ∙ ap (λ (d : DeskValue). d.journal) c.desk.ensures in
+    let same : c.journal.result.now ≡ journal = c.journal.ensures.journal ∙ ap (λ (d : DeskValue). d.journal) c.desk.ensures.desk in
     let confirmed : AreConfirmed journal ds = λ k d at.
     subst (λ (es : List Entry). IsConfirmed es d) same
     (c.survey_of-found.ensures.confirmed k d (ap (λ (xs : List DoneValue). slice_get xs k) c.deref.ensures.value ∙ at) (subst (λ o. IsUnder o d.lane.number) (sym none.1) tt)) in
@@ -61,7 +61,7 @@ returns-clause-ok g c =
     let d = c.args.held.desk in
     let m = c.survey_of-found.result.misstated in
     let same = c.in-Some-lanes_of.ensures in
-    let journal : c.journal.result.now ≡ d.journal = c.journal.ensures.journal ∙ ap (λ (x : DeskValue). x.journal) c.desk.ensures in
+    let journal : c.journal.result.now ≡ d.journal = c.journal.ensures.journal ∙ ap (λ (x : DeskValue). x.journal) c.desk.ensures.desk in
     let stated : m ≡ None → AreStated d.lanes d.journal (lanes_in ds) = λ is.
     subst (λ (es : List Entry). AreStated d.lanes es (lanes_in ds)) journal
     (subst (λ (xs : List DoneValue). AreStated d.lanes c.journal.result.now (lanes_in xs)) c.deref.ensures.value

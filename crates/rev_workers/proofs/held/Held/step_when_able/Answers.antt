@@ -19,7 +19,7 @@ returns-then-may_pass-clause-waits g c = λ k is. (
   (λ o.
       let yes = found _ _ _ _ _ _ _ c.others_are_still.ensures (search rules) (search rules) (search rules) o in
       search (rules, yes)),
-  search rules,
+  (c.of.result, search rules, search rules),
 )
 
 pub returns-in-Ok-step-clause-able : goal.returns-in-Ok-step-clause-able
