@@ -1,6 +1,6 @@
 // Refuses one allocation of the program into which it is loaded (LD_PRELOAD): the one whose number, from 1, stands in
-// REFUSE, counted from the first write to standard output on, or from the start where REFUSE_FROM_START is set. It tells a
-// refusal by a byte on the descriptor REFUSE_TOLD.
+// REFUSE, counted from the first write to standard output on, or from the start where REFUSE_FROM_START is set. It tells
+// a refusal by a byte on the descriptor REFUSE_TOLD.
 #define _GNU_SOURCE
 #include <errno.h>
 #include <stdatomic.h>
