@@ -135,8 +135,8 @@ def table(folder: pathlib.Path, jobs: int, runs: int, observers: dict[str, Obser
         for _ in range(runs):
             for name, observer in observers.items():
                 costs[name].append(cost(folder, jobs, observer, pathlib.Path(room)))
-    print(f"{folder.name}, -j{jobs}, {runs} runs: processor least (ratio), median (ratio); wall least (ratio); "
-          f"reader least, of the plain build's processor time, memory", flush=True)
+    print(f"{'/'.join(folder.parts[-2:])}, -j{jobs}, {runs} runs: processor least (ratio), median (ratio); "
+          f"wall least (ratio); reader least, of the plain build's processor time, memory", flush=True)
     for name, found in costs.items():
         least, middle = min(it.processor for it in found), statistics.median(it.processor for it in found)
         wall = min(it.wall for it in found)

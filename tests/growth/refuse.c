@@ -1,5 +1,6 @@
 // Refuses one allocation of the program into which it is loaded (LD_PRELOAD): the one whose number, from 1, stands in
-// REFUSE, counted from the first write to standard output on. It tells a refusal by a byte on the descriptor REFUSE_TOLD.
+// REFUSE, counted from the first write to standard output on, or from the start where REFUSE_FROM_START is set. It tells
+// a refusal by a byte on the descriptor REFUSE_TOLD.
 #define _GNU_SOURCE
 #include <errno.h>
 #include <stdatomic.h>
@@ -21,6 +22,7 @@ __attribute__((constructor)) static void begin(void) {
   const char *number = getenv("REFUSE"), *descriptor = getenv("REFUSE_TOLD");
   if (number) refused = atol(number);
   if (descriptor) told = atoi(descriptor);
+  if (getenv("REFUSE_FROM_START")) atomic_store(&is_counting, 1);
 }
 
 static int is_refused(void) {

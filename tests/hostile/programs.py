@@ -27,9 +27,11 @@ REPORT_LINE = re.compile(
 )
 # What no terminal should get.
 RAW = re.compile(rb"[^\n -\x7e]")
-KINDS_OF_RACES = {"replayed", "failed", "race", "cycle", "own", "suspect", "not judged", "clash", "hint", "change"}
+KINDS_OF_RACES = {"replayed", "failed", "race", "cycle", "own", "suspect", "not judged", "clash", "hint", "change",
+                  "unstable", "undeclared", "unlisted", "observed"}
 # The words of the second program in front of the recording, and the statuses that it may end with there.
 ASKED: list[tuple[list[str], tuple[int, ...]]] = [
+    (["races"], (0, 1, 4, 5)), (["certify"], (0, 1, 3, 4, 5)), (["certify", "--json"], (0, 1, 3, 4, 5)),
     (["races"], (0, 1, 4, 5)), (["races", "--all"], (0, 1, 4, 5)), (["races", "--json"], (0, 1, 4, 5)),
     (["races", "--mend"], (0, 1, 4, 5)), (["races", "--witness", "1"], (0, 1, 2)),
     (["races", "--witness", "9"], (0, 1, 2)), (["races", "--provoke", "1"], (0, 1, 2)), (["replay"], (0, 1, 4)),
