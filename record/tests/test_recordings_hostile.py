@@ -211,6 +211,24 @@ class Links(FromOthers):
         return True
 
 
+class Names(FromOthers):
+    """Names of included files that are options of a program."""
+
+    def test_a_name_that_is_an_option_is_a_file(self):
+        names = ("--migrate", "-rf.ninja", "--workers")
+        (self.build / "build.ninja").write_text("".join(f"include {it}\n" for it in names) + "build a: phony\n")
+        for it in names:
+            (self.build / it).write_text("x = 1\n")
+        self.assertEqual(self.record()[0], 0)
+        self.assertLessEqual(set(names), set(os.listdir(self.out)))
+        said = self.room / "stand in"
+        said.write_text("#!/bin/sh\nprintf '%s\\n' \"$@\"\n")
+        said.chmod(0o755)
+        done = subprocess.run([self.out / "replay"], env={**os.environ, "REBUG": str(said)}, capture_output=True,
+                              text=True)
+        self.assertEqual(done.stdout.splitlines()[-4:], ["--", *names], done)
+
+
 class Rights(FromOthers):
     """Folders in which another user may not write."""
 
