@@ -50,9 +50,18 @@ class Defaults(unittest.TestCase):
         for it in folders:
             os.makedirs(f"{self.room}/{it}", exist_ok=True)
 
-    def of_caches(self, build="b", sources=("src",)):
-        """The patterns beside those that are always there, relative to the room where they are in it."""
-        text = default_filters(os.fsencode(f"{self.room}/{build}"), [os.fsencode(f"{self.room}/{it}") for it in sources],
+    def in_each_folder(self):
+        """A name in each folder, as `observed` has the names."""
+        folders = [*(it for it, _, _ in os.walk(self.room)), f"{self.room}/me/.cargo/registry",
+                   f"{self.room}/me/.cargo/git"]
+        return [b"caches/cc/x", b"#cc/x", *(os.fsencode(f"{it}/x") for it in folders),
+                *(os.fsencode(f"{self.room}/me/.cargo/{it}") for it in (".package-cache", ".global-cache"))]
+
+    def of_caches(self, build="b", sources=("src",), named=None):
+        """The patterns beside those that are always there, relative to the room where they are in it, of a build that
+        left these places; without any, a file in each folder."""
+        folders = [os.fsencode(f"{self.room}/{it}") for it in (build, *sources)]
+        text = default_filters(folders[0], folders[1:], self.in_each_folder() if named is None else named,
                                self.environment)
         found = patterns(text)
         self.assertEqual(found[: len(ALWAYS)], ALWAYS)
@@ -60,6 +69,13 @@ class Defaults(unittest.TestCase):
 
     def test_what_is_not_there_is_not_named(self):
         self.assertEqual(self.of_caches(), [])
+
+    def test_a_cache_that_the_build_did_not_use_is_not_named(self):
+        self.make("me/.ccache", "me/.cache/ccache")
+        used = os.fsencode(f"{self.room}/me/.cache/ccache/1/x")
+        beside = os.fsencode(f"{self.room}/me/.ccache2")
+        self.assertEqual(self.of_caches(named=[b"o", b"me/.ccache/x", beside, used]), ["me/.cache/ccache"])
+        self.assertEqual(self.of_caches(named=[]), [])
 
     def test_caches_of_the_home_folder(self):
         self.make("me/.ccache", "me/.cache/ccache", "me/.cache/g-ir-scanner", "me/.cache/other", "me/.cargo")
@@ -165,7 +181,8 @@ class Recorded(unittest.TestCase):
         (room / "named").mkdir()
         (room / "settings").write_text(f"cache_dir = {room}/named\n")
         environment = {"HOME": str(room), "PATH": os.environ["PATH"], "CCACHE_CONFIGPATH": str(room / "settings")}
-        self.assertIn(os.fsencode(room / "named"), patterns(default_filters(b"/b", [], environment)))
+        left = os.fsencode(room / "named/x")
+        self.assertIn(os.fsencode(room / "named"), patterns(default_filters(b"/b", [], [left], environment)))
 
     def test_without_an_observation_there_are_none(self):
         folder = self.room.path / "plain"

@@ -33,7 +33,8 @@ __pycache__
 *.pyc.*
 """
 _OF_CACHES = """
-# Caches, as they are on this machine: a file comes out the same, whether it was in the cache or is put there.
+# Caches in which commands of this build left files: a file comes out the same, whether it was in the cache or is put
+# there.
 """
 
 
@@ -64,10 +65,14 @@ CACHES = (
 )
 
 
-def default_filters(build: bytes, sources: Iterable[bytes], environment: Mapping[str, str] = os.environ) -> bytes:
-    """The text of the file. `build` and `sources` are the real folders of the build and of its sources."""
+def default_filters(build: bytes, sources: Iterable[bytes], named: Iterable[bytes],
+                    environment: Mapping[str, str] = os.environ) -> bytes:
+    """The text of the file. `build` and `sources` are the real folders of the build and of its sources, and `named` the
+    places that `observed` names: a cache in which none of them lies is not named here, since it tells of its user."""
     folders = dict.fromkeys([*_named_by_ccache(environment), *_folders(environment)])
-    lines = [it for it in (_pattern(os.fsencode(name), build, tuple(sources)) for name in folders) if it]
+    patterns = [it for it in (_pattern(os.fsencode(name), build, tuple(sources)) for name in folders) if it]
+    paths = list(named)
+    lines = [it for it in patterns if any(path.startswith(_begin(it)) for path in paths)]
     text = _ALWAYS.encode()
     if lines:
         text += _OF_CACHES.encode() + b"".join(it + b"\n" for it in dict.fromkeys(lines))
@@ -100,6 +105,12 @@ def _named_by_ccache(environment: Mapping[str, str]) -> Iterator[str]:
     folder = said.stdout.rstrip("\n")
     if said.returncode == 0 and os.path.isabs(folder) and os.path.isdir(folder):
         yield os.path.realpath(folder)
+
+
+def _begin(pattern: bytes) -> bytes:
+    """What each path begins with that a cache's pattern hides, but for the cache's folder itself."""
+    first, star, _ = pattern.partition(b"*")
+    return first if star else pattern + b"/"
 
 
 def _pattern(folder: bytes, build: bytes, sources: tuple[bytes, ...]) -> bytes | None:

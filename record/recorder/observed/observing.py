@@ -137,9 +137,9 @@ class Observation:
         sources = source_folders(self.folder, self.manifest)
         names = Names(self.places, self.folder, sources, after.stamps, outputs)
         with folder.create(OBSERVED) as file:
-            Observed(pairs, self.places, names).write(file, self.observer.name)
+            named = Observed(pairs, self.places, names).write(file, self.observer.name)
         with folder.create(FILTERS) as file:
-            file.write(default_filters(self.folder, sources))
+            file.write(default_filters(self.folder, sources, named))
         recording.notes += [*self.notes, *self._notes(pairs, recording.runs)]
         recording.remarks.append(f"{len(pairs)} commands were observed, with {self.build.processes.count:,} processes; "
                                  f"reading that took {self.seconds:.2f} s of processor time")

@@ -94,8 +94,8 @@ class Observed:
                 found.add(self.places.number(folder + b"/" + name.split(b".")[0] + b".py"))
         return found
 
-    def write(self, file: BinaryIO, by: bytes) -> None:
-        """Writes the whole file."""
+    def write(self, file: BinaryIO, by: bytes) -> list[bytes]:
+        """Writes the whole file; gives the places that it names."""
         numbers: dict[int, int] = {}
         body: list[bytes] = []
         for edge, command in self.pairs:
@@ -109,9 +109,11 @@ class Observed:
                 outside.update(it for it in its if self._is_outside(kind, it))
             if outside:
                 body.append(b"outside %d" % len(outside))
+        paths = [self.names.of(it) for it in numbers]
         file.write(b"rebug-observed 1\nby " + field(by) + b"\n")
-        file.writelines(b"path " + field(self.names.of(it)) + b"\n" for it in numbers)
+        file.writelines(b"path " + field(it) + b"\n" for it in paths)
         file.writelines(it + b"\n" for it in body)
+        return paths
 
     def _is_outside(self, kind: str, place: int) -> bool:
         """Whether a place is one of those that are counted and not named."""
