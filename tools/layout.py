@@ -19,7 +19,8 @@ LIBEXEC, DOC = "libexec/rebug", "share/doc/rebug"
 # Below DOC the pages stand as in the sources, so that their links to one another lead somewhere: these, and the pages
 # of docs/ that are not for engineers of rebug alone.
 PAGES = ("README.md", "CHANGELOG.md", "record/README.md", "record/observer/README.md")
-FOR_ENGINEERS = ("ARCHITECTURE.md", "CONTRIBUTING.md", "DECISIONS.md", "MEMORY.md", "PROMISES.md", "RELEASING.md")
+FOR_ENGINEERS = ("docs/ALIKE.md", "docs/ARCHITECTURE.md", "docs/CONTRIBUTING.md", "docs/DECISIONS.md", "docs/EDITS.md",
+                 "docs/MEMORY.md", "docs/PROMISES.md", "docs/RELEASING.md", "docs/decisions/")
 FOLDERS = ("examples/flaky",)
 COMPLETIONS = {"rebug.bash": "share/bash-completion/completions/rebug", "_rebug": "share/zsh/site-functions/_rebug",
                "rebug.fish": "share/fish/vendor_completions.d/rebug.fish"}
@@ -42,7 +43,7 @@ def placed(top: Path) -> list[Placed]:
     found += [Placed(f"record/{name}", f"{LIBEXEC}/record/{name}") for name in ("rebug-record", "rebug-provoke")]
     found += [Placed(it, f"{LIBEXEC}/{it}") for it in below(top, "record/recorder") if it.endswith(".py")]
     found += [Placed(f"completions/{name}", target) for name, target in COMPLETIONS.items()]
-    pages = [it for it in below(top, "docs") if it.endswith((".md", ".svg")) and Path(it).name not in FOR_ENGINEERS]
+    pages = [it for it in below(top, "docs") if it.endswith((".md", ".svg")) and not it.startswith(FOR_ENGINEERS)]
     found += [Placed(it, f"{DOC}/{it}") for it in [*PAGES, *pages, *(it for one in FOLDERS for it in below(top, one))]]
     return sorted(found, key=lambda it: it.target)
 
