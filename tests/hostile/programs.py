@@ -40,7 +40,8 @@ ASKED: list[tuple[list[str], tuple[int, ...]]] = [
 # What is asked at the prompt, with the name of an output or of another path.
 QUESTIONS = [b"run", b"next", b"next 3", b"kept", b"marks", b"stamps", b"logs", b"help", b"", b"nonsense", b"who %b",
              b"why %b", b"with %b", b"what finish %b", b"needs %b all", b"dependents %b", b"would cone %b",
-             b"without %b", b"until %b", b"undo start %b", b"marks %b", b"stamps %b"]
+             b"without %b", b"until %b", b"undo start %b", b"marks %b", b"stamps %b", b"needs %b observed",
+             b"who reads %b", b"who writes %b", b"undo finish %b"]
 # How standard error names a fault of a recording.
 _FAULT = re.compile(rb"\(\d+, docs/CODES\.md\)")
 # How it names a file that the manifest includes and that is not read: a folder, say, or a file outside.

@@ -1,5 +1,6 @@
-"""Small builds that are recorded with --observe by real Ninja with four jobs: each has one planted conflict, or none. No
-compiler is needed: commands are the shell's. Where the order of two commands matters, the later one sleeps."""
+"""Small builds that are recorded with --observe by real Ninja with four jobs: each has one planted conflict, or none.
+No compiler is needed: commands are the shell's. Where the order of two commands matters, the later one sleeps, or waits
+for a file that it then reads."""
 
 from __future__ import annotations
 
@@ -19,10 +20,10 @@ RULES = """rule sh
 
 @dataclass(frozen=True)
 class Planted:
-    """A build: the lines of its manifest below the rule `sh`, its sources, and what is due of it. `lines` are what
-    `races` is to write, behind a number of spaces and up to a place that begins with `(build.ninja`; `found` is the kind
-    of each finding with what the maker does and how the user looks, where it says so; `pair` is whether the first
-    finding is of two commands whose order a schedule can change; `certain` is whether `certify` says so."""
+    """A build: the lines of its manifest below the rule `sh`, its sources, and what is due of it. `lines` are parts of
+    what `races` is to write; `found` is the kind of each finding with what the maker does and how the user looks, where
+    it says so; `pair` is whether the first finding is of two commands whose order a schedule can change; `certain` is
+    whether `certify` says so."""
 
     build: str
     sources: dict[str, str] = field(default_factory=dict)
@@ -37,7 +38,7 @@ BUILDS = {
         """build table: sh in
   do = cp in table
 build user: sh in
-  do = sleep 0.4; cat table in > user
+  do = until [ -e table ]; do sleep 0.05; done; cat table in > user
 """,
         {"in": "x\n"},
         ("race table made by table (build.ninja:3)", "used by user (build.ninja:5), which does not wait for it [1]",
@@ -45,7 +46,7 @@ build user: sh in
         (("race", "output", "read"),)),
     "a command asks before the other made it": Planted(
         """build table: sh in
-  do = sleep 0.4; cp in table
+  do = sleep 1.5; cp in table
 build user: sh in
   do = cat table > user 2> /dev/null || cp in user
 """,
@@ -56,25 +57,26 @@ build user: sh in
         """build stamp: sh in
   do = cp in extra; touch stamp
 build user: sh in
-  do = sleep 0.4; cat extra in > user
+  do = until [ -e extra ]; do sleep 0.05; done; cat extra in > user
 """,
         {"in": "x\n"},
         ("race extra: stamp (build.ninja:3) writes it, though no line says so",
-         "used by user (build.ninja:5), which does not wait for it [1]", "mend: build.ninja:3: build stamp | extra: ...",
+         "used by user (build.ninja:5), which does not wait for it [1]",
+         "mend: build.ninja:3: build stamp | extra: ...",
          "mend: build.ninja:5: build user: ... || extra"),
         (("race", "undeclared", "read"),)),
     "a source that is changed in place": Planted(
         """build stamp: sh
   do = echo more >> in; touch stamp
 build user: sh in
-  do = sleep 0.4; cat in > user
+  do = cat in > user
 """,
         {"in": "x\n"},
         ("race in: stamp (build.ninja:3) changes it in place", "used by user (build.ninja:5), which does not wait"),
         (("race", "edit", "read"),)),
     "a file that is taken away": Planted(
         """build stamp: sh
-  do = sleep 0.4; rm old; touch stamp
+  do = sleep 1.5; rm old; touch stamp
 build user: sh in
   do = cat old > user
 """,
@@ -83,7 +85,7 @@ build user: sh in
         (("race", "delete", "read"),)),
     "a folder that is listed": Planted(
         """build parts/one: sh in
-  do = sleep 0.4; cp in parts/one
+  do = cp in parts/one
 build user: sh in
   do = ls parts > user
 """,
@@ -95,7 +97,7 @@ build user: sh in
         """build one: sh in
   do = cp in both; touch one
 build two: sh in
-  do = cp in both; touch two
+  do = sleep 1.5; cp in both; touch two
 """,
         {"in": "x\n"},
         ("clash both: one (build.ninja:3) writes it",
@@ -106,7 +108,7 @@ build two: sh in
         """build one: sh in
   do = cp in work.tmp; cp work.tmp one; rm work.tmp
 build two: sh in
-  do = sleep 0.4; cp in work.tmp; cp work.tmp two; rm work.tmp
+  do = sleep 1.5; cp in work.tmp; cp work.tmp two; rm work.tmp
 """,
         {"in": "x\n"},
         ("clash work.tmp: one (build.ninja:3) makes it, and takes it away again", "so does two (build.ninja:5)"),
@@ -159,8 +161,9 @@ def write_files(folder: pathlib.Path, files: dict[str, str]) -> None:
 
 def record(folder: pathlib.Path, recorded: pathlib.Path, *words: str) -> None:
     """Records the build in a folder, and says so where that fails."""
-    ran = subprocess.run([sys.executable, RECORDER, folder, recorded, "--observe", *words], capture_output=True, text=True,
-                         timeout=120, check=False, stdin=subprocess.DEVNULL, env={**os.environ, "LC_ALL": "C"})
+    ran = subprocess.run([sys.executable, RECORDER, folder, recorded, "--observe", *words], capture_output=True,
+                         text=True, timeout=120, check=False, stdin=subprocess.DEVNULL,
+                         env={**os.environ, "LC_ALL": "C"})
     if ran.returncode != 0:
         raise RuntimeError(f"rebug-record ends with {ran.returncode}\n{ran.stdout}{ran.stderr}")
 
