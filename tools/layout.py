@@ -19,8 +19,7 @@ LIBEXEC, DOC = "libexec/rebug", "share/doc/rebug"
 # Below DOC the pages stand as in the sources, so that their links to one another lead somewhere: these, and the pages
 # of docs/ that are not for engineers of rebug alone.
 PAGES = ("README.md", "CHANGELOG.md", "record/README.md", "record/observer/README.md")
-FOR_ENGINEERS = ("docs/ALIKE.md", "docs/ARCHITECTURE.md", "docs/CONTRIBUTING.md", "docs/DECISIONS.md", "docs/EDITS.md",
-                 "docs/MEMORY.md", "docs/PROMISES.md", "docs/RELEASING.md", "docs/decisions/")
+FOR_ENGINEERS = ("docs/inside/",)
 FOLDERS = ("examples/flaky",)
 COMPLETIONS = {"rebug.bash": "share/bash-completion/completions/rebug", "_rebug": "share/zsh/site-functions/_rebug",
                "rebug.fish": "share/fish/vendor_completions.d/rebug.fish"}
