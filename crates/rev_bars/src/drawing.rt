@@ -1,4 +1,4 @@
-//! A history drawn.
+//! The drawing of a history.
 use crate::labels::label_bars;
 use crate::linked::links;
 use crate::observed::add_conflicts;
@@ -18,27 +18,27 @@ use std::alloc::{AllocError, Global};
 
 // The least number of units of a bar.
 const LEAST: u32 = 4;
-/// The most dependences, and the most races and conflicts, that are drawn.
+/// The most lines of each kind that are drawn: dependences, races, and conflicts.
 pub(crate) const MOST: usize = 500;
 
-/// What is drawn.
+/// What a picture is made from.
 #[derive(Clone, Copy)]
 pub struct Drawing<'a> {
     /// The history.
     pub history: &'a History,
-    /// Its races.
+    /// The races of the history.
     pub races: &'a [Race],
-    /// What happened in it with the two edges of each.
+    /// For each race, what happened in the history with its two edges.
     pub stories: &'a [Story],
-    /// What was observed of its commands, if they were.
+    /// What the commands were observed to do. `None` where the recording has no observation.
     pub observation: Option<&'a Observation>,
-    /// The conflicts of what was observed.
+    /// The conflicts of the observed commands.
     pub conflicts: &'a [Conflict],
-    /// How much of the recording counts, a line for each reason why that is not all of it.
+    /// Words that tell how much of the recording counts: a line for each reason why a part does not.
     pub replayed: &'a [u8],
-    /// When each event happened, by its number, in milliseconds; nothing where that is not known of any.
+    /// When each event happened, in milliseconds, by the number of the event. Empty where the recording has no times.
     pub times: &'a [Option<u32>],
-    /// The event whose dependences are drawn, if one is chosen.
+    /// The event whose dependences are drawn. `None` where no event was chosen.
     pub event: Option<u32>,
 }
 
@@ -129,7 +129,7 @@ pub(crate) struct Drawn {
     pub(crate) racing: bool,
 }
 
-/// Adds the number of an event, and the event in words.
+/// Appends the number of an event and the event in words.
 pub(crate) fn push_numbered(
     text: &mut Vec<u8>,
     history: &History,
@@ -345,7 +345,7 @@ fn height_of(rows: u32, lines: usize) -> u32 {
         .saturating_add(32)
 }
 
-/// Adds the picture of a history as one element of SVG.
+/// Appends the picture of a history as one SVG element.
 ///
 /// # Errors
 /// [`AllocError`] only where an allocation was refused.

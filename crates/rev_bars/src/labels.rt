@@ -1,4 +1,4 @@
-//! What is written beside bars.
+//! The labels of bars.
 use crate::places::narrow;
 use rev_picture::Bar;
 use std::alloc::{AllocError, Global};
@@ -42,7 +42,7 @@ fn room_of(left: u32, next: u32, words: &[u8]) -> u32 {
     if letters > MOST { MOST } else { letters }
 }
 
-/// Gives each bar the label for which there is room. Bars of a row stand in the order of their places.
+/// Gives each bar as much of its label as there is room for. The bars of a row stand in the order of their places.
 pub(crate) fn label_bars(
     alloc: Global,
     bars: &mut [Bar<'_>],

@@ -1,4 +1,4 @@
-//! The runs of a recorded build as they are drawn, with what depends on what and what races.
+//! The runs of a recorded build as bars, with the dependences and the races between them.
 #![tactic(auto)]
 
 mod drawing;

@@ -6,8 +6,8 @@ use rev_held::{Link, dependents, links_on, links_to, needed};
 use rev_history::History;
 use std::alloc::{AllocError, Global};
 
-/// The dependences of an event on earlier kept ones, and then those of later ones on it, in the order of their numbers,
-/// each with the first cell by which it is. None where the event is not kept.
+/// The dependences of an event, in the order of their numbers: first on earlier kept events, then those of later kept
+/// events on it. Each has the first cell through which the two are linked. There are none where the event is not kept.
 ///
 /// # Errors
 /// [`AllocError`] only where an allocation was refused.

@@ -1,4 +1,4 @@
-//! Conflicts that were observed, drawn.
+//! The lines of conflicts that were observed.
 use crate::drawing::{Drawing, Drawn, MOST, push_numbered};
 use rev_conflicts::{Conflict, ConflictKind, Place};
 use rev_history::History;
@@ -124,8 +124,8 @@ fn pairs_of(alloc: Global, drawing: &Drawing<'_>) -> Result<Vec<(u32, u32)>, All
     Ok(pairs)
 }
 
-/// Adds the lines of the first conflicts, of each two edges the first place, where no race of the two is drawn by
-/// lists.
+/// Adds a line for each of the first conflicts. Two edges get one line, with the first place at which they conflict.
+/// They get none where a race between them is drawn already.
 ///
 /// # Errors
 /// [`AllocError`] only where an allocation was refused.

@@ -7,20 +7,20 @@ const MARGIN: u32 = 64;
 // How much room stands to the right of the last event, for names.
 const RIGHT: u32 = 240;
 
-/// Where the events of a history stand, by their numbers.
+/// The places of a history's events, by the number of the event.
 #[derive(Drop)]
 pub(crate) struct Places {
-    /// How far each event is from the left edge.
+    /// The distance of each event from the left edge, in units.
     pub(crate) lefts: Vec<u32>,
     /// The row of each event.
     pub(crate) rows: Vec<u32>,
-    /// How many units the picture is wide.
+    /// The width of the picture, in units.
     pub(crate) width: u32,
-    /// How many rows it has.
+    /// The number of rows.
     pub(crate) count: u32,
 }
 
-/// A count as a number of 32 bits: the greatest one where it is above.
+/// A count as a number of 32 bits. A count above the greatest such number gives that number.
 pub(crate) fn narrow(count: usize) -> u32 {
     match u32::try_from(count) {
         Ok(number) => number,
@@ -29,7 +29,7 @@ pub(crate) fn narrow(count: usize) -> u32 {
 }
 
 impl Places {
-    /// How far an event is from the left edge.
+    /// The distance of an event from the left edge, in units.
     pub(crate) fn left(&self, number: u32) -> u32 {
         match self.lefts.get(number as usize) {
             Some(left) => *left,
@@ -137,7 +137,7 @@ fn count(rows: &[u32]) -> u32 {
     greatest.saturating_add(1)
 }
 
-/// Where the events up to the last one stand. Without times they stand in their order.
+/// The places of the events up to the last one. Without times the events stand side by side in their order.
 pub(crate) fn places_of(
     alloc: Global,
     last: u32,

@@ -46,7 +46,7 @@ fn mark_conflicts(marks: &mut [bool], conflicts: &[Conflict])
     }
 }
 
-/// A mark for each of so many edges that is in one of these races or observed conflicts, as the maker or as the user.
+/// For each of `count` edges, whether the edge is the maker or the user of one of these races or observed conflicts.
 ///
 /// # Errors
 /// [`AllocError`] only where an allocation was refused.

@@ -1,4 +1,4 @@
-//! All the bytes that a reader has, or as many as are wanted.
+//! The bytes of a reader, to its end or up to a limit.
 #![tactic(auto)]
 
 mod reading;

@@ -1,4 +1,4 @@
-//! What is read from a reader.
+//! Bytes read from a reader.
 ghost use Rattle.std.specs.Prelude.{◌≡◌, ◌<◌, ◌≤◌, ◌+◌, IsTrue, IfOk, IfSome, OnOk, length, vec_len};
 ghost use Rattle.std.specs.Io.KnownBytes.{Consumes, IsAtEnd};
 ghost use Rattle.rev_input.specs.Input.{Outcome, ReadOn, ReadsOne, Takes};
@@ -7,12 +7,12 @@ ghost use Rattle.rev_input.specs.declared.reading.TakeFault.TheVariants.{Memory}
 use crate::source::{Source, is_interrupted};
 use std::alloc::{AllocError, Global};
 
-/// Why a reader's bytes are not taken. Those that were read before the fault are gone.
+/// Why a reader's bytes are not available. The bytes that were read before the fault are lost.
 #[derive(Clone, Copy, Debug, PartialEq, Eq)]
 pub enum TakeFault {
     /// The system refused memory.
     Memory,
-    /// A read failed, or there were [`READ_LIMIT`] reads and the end had not come.
+    /// A read failed, or [`READ_LIMIT`] reads did not reach the end.
     Read,
 }
 
@@ -63,8 +63,9 @@ fn read_some<S: Source>(
     }
 }
 
-/// Reads until there are more than `most` bytes or the end has come. If at most `most` bytes come back, the reader was
-/// read to its end. Of a reader with more bytes come back more than `most`, and at most one read beyond that.
+/// Reads until there are more than `most` bytes or the end was reached. At most `most` bytes come back exactly where
+/// the reader was read to its end. Of a longer reader come back more than `most` bytes, with at most one read beyond
+/// that number.
 ///
 /// # Errors
 /// [`TakeFault::Read`] where a read fails, unless it was interrupted ([`is_interrupted`]), or after [`READ_LIMIT`]

@@ -1,4 +1,4 @@
-//! What is read from, one read at a time.
+//! Sources of bytes, read piece by piece.
 ghost use Rattle.std.specs.Prelude.{◌≡◌, List, ℕ, Option};
 ghost use Rattle.std.specs.Io.{ReadsAtMost};
 ghost use Rattle.std.specs.Io.KnownBytes.{ReadConsumes};
@@ -8,8 +8,8 @@ ghost use Rattle.rev_input.specs.Input.{Outcome, is_cut_short, outcome_of};
 use std::io;
 use std::io::{ErrorKind, Read};
 
-/// What bytes are read from. As `std::io::Read`, but contracts know of each read what came of it, so that a caller's
-/// answer can be said to be that of its reads.
+/// A source of bytes. It differs from `std::io::Read` in that contracts know the result of each read, so the answer of
+/// a caller can be stated by the results of its reads.
 pub trait Source {
     // The bytes that reads will give from here on, where they are known.
     ghost remaining: { Self → Option (List ℕ) };
@@ -17,14 +17,14 @@ pub trait Source {
     // What a read may give here, and what the source is after it.
     ghost gives: { Self → Outcome → Self → Type 0 };
 
-    /// Reads into the room, and says how many bytes came: none where the end has come.
+    /// Reads into `room`, and returns the number of bytes read. It is 0 at the end.
     fn read(&mut self, room: &mut [u8]) -> io::Result<usize>
         ensures bound { ReadsAtMost result room.new }
         ensures bytes { ReadConsumes (remaining self.old) (remaining self.new) result room.new }
         ensures gives { gives self.old (outcome_of result room.new) self.new };
 }
 
-/// A reader of the standard library's kind, as a file. No contract says what its reads give, nor when they fail.
+/// A reader of the standard library, as a file. No contract says what its reads return, or when they fail.
 #[derive(Drop)]
 pub struct Reader<R: Read>(pub R);
 
@@ -38,8 +38,8 @@ impl<R: Read> Source for Reader<R> {
     }
 }
 
-/// Whether a read or a write was cut short by a signal. It has then done nothing and is made again: so rebug treats
-/// both, wherever it reads or writes.
+/// Whether a signal cut a read or a write short. Nothing was read or written then, and rebug repeats the call wherever
+/// it reads or writes.
 pub fn is_interrupted(error: &io::Error) -> bool
     ensures { result ≡ is_cut_short (error_kind error.now) }
 {

@@ -85,8 +85,8 @@ fn open_edges(alloc: Global, history: &History, listed: &[bool]) -> Result<Vec<b
     Ok(marks)
 }
 
-/// For each edge whether it takes something else than outputs, or has from such a one what it takes, through edges
-/// without a list. `listed` has the edges with a list.
+/// For each edge, whether it takes something other than outputs: directly, or through inputs that edges without a list
+/// make. `listed` tells which edges have a list.
 ///
 /// # Errors
 /// [`AllocError`] only where an allocation was refused.

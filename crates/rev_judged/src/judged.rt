@@ -1,4 +1,4 @@
-//! What is not judged.
+//! Commands that are not judged.
 ghost use Rattle.std.specs.Prelude.{◌≡◌, ◌<◌, false, true, filter, length, map, IfOk};
 ghost use Rattle.rev_judged.specs.Judged.{counts, has_list, is_unjudged_as, sources_of, takes_from_others};
 ghost use Rattle.rev_races.specs.Answer.{AreNoted};
@@ -11,13 +11,13 @@ use rev_history::History;
 use rev_races::started_edges;
 use std::alloc::{AllocError, Global};
 
-/// The edges whose commands began here and that have no list of what they read, in rising order.
+/// The edges whose commands began in this history and that have no list of what they read, in rising order.
 #[derive(Drop)]
 pub struct Unjudged {
-    /// Those that take something else than outputs, or have from such a one what they take.
+    /// The edges that take something other than outputs, directly or through another edge without a list.
     pub plain: Vec<u32>,
-    /// Those that only collect outputs, as a link does: each input is made by an edge with a list, or by one that only
-    /// collects outputs, and there is no order-only input.
+    /// The edges that only collect outputs, as a link does. Each input of such an edge is made by an edge with a list,
+    /// or by another edge that only collects outputs. The edge has no order-only input.
     pub collectors: Vec<u32>,
 }
 
@@ -76,8 +76,9 @@ fn edges_with(
     Ok(edges)
 }
 
-/// The commands of a history that were not judged: they began, and have no list of what they read, since they keep none,
-/// or failed and had none before. It takes time linear in the kept events, the edges and their inputs, up to hashing.
+/// The commands of a history that are not judged: each began, and its edge has no list of what it read. An edge has no
+/// list where it keeps none, or where its command failed and no earlier build left one. The time is linear in the kept
+/// events, the edges and their inputs, up to hashing.
 ///
 /// # Errors
 /// [`AllocError`] only where an allocation was refused.

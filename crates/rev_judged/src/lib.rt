@@ -1,4 +1,4 @@
-//! Commands that left no list of what they read, and those among them that only collect outputs.
+//! Commands that left no list of what they read, and the ones among them that only collect outputs.
 #![tactic(auto)]
 
 mod collecting;

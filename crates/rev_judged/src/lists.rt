@@ -1,4 +1,4 @@
-//! Which edges have a list of what they read.
+//! Edges that have a list of what they read.
 ghost use Rattle.std.specs.Prelude.{◌≡◌, ◌<◌, map, length, IfOk};
 ghost use Rattle.rev_judged.specs.Judged.{has_list};
 ghost use Rattle.rev_races.specs.Judged.{edges_of};
@@ -16,7 +16,7 @@ fn lists_some(history: &History, edge: u32) -> bool
     paths.is_some()
 }
 
-/// For each edge whether it has a list of what its command read.
+/// For each edge, whether it has a list of what its command read.
 ///
 /// # Errors
 /// [`AllocError`] only where an allocation was refused.

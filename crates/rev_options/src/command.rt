@@ -1,4 +1,4 @@
-//! The command line as `clap` is told of it.
+//! The command line, as `clap` reads it.
 ghost use Rattle.std.specs.Prelude.{◌≡◌, [], codes, false, IfOk};
 ghost use Rattle.clap.specs.Built.{TakesValue};
 ghost use Rattle.clap.specs.Words.{IsPlainArg, app_of, args_of, groups_of, rule_of};

@@ -1,18 +1,18 @@
-//! The fields that the command line fills.
+//! What the command line says.
 
-/// What the words of the command line say.
+/// What the command line says.
 #[derive(Debug, Drop)]
 pub struct Options<'a> {
-    /// The manifest.
+    /// The name of the manifest's file.
     pub manifest: &'a str,
-    /// The trace.
+    /// The name of the trace's file.
     pub trace: &'a str,
-    /// The script.
+    /// The name of the script's file.
     pub script: &'a str,
     /// Whether each lane of the trace runs on a thread of its own.
     pub workers: bool,
-    /// Whether the trace is written in version 2, in place of a report.
+    /// Whether the program writes the trace in version 2 and no report.
     pub migrate: bool,
-    /// The files that the manifest may include, in the order in which they were named.
+    /// The files that the manifest may include, in the order of the command line.
     pub files: Vec<&'a str>,
 }

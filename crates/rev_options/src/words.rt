@@ -8,11 +8,11 @@ use crate::fields::Options;
 use clap::{ArgMatches, Error};
 use std::alloc::{AllocError, Global};
 
-/// What the words of a command line say, the first of which is the program's name.
+/// What the words of a command line say. The first word is the program's name.
 ///
 /// # Errors
-/// As `clap` has it: a word that the command line has not, an option without its file or twice, a file that has to be
-/// given and is not, a wish for help or for the version; or the system refused memory.
+/// The faults of `clap`: a word that is not an option, an option without its file or given twice, a file that is
+/// missing. A wish for the help or the version is an error too, as `clap` has it, and so is refused memory.
 pub fn options<'a>(alloc: Global, words: &'a [String]) -> Result<Options<'a>, Error>
     ensures manifest { IfOk result (λ o. value_in (map string_bytes words.entry.now) (codes "manifest")
         ≡ Some o.manifest.now) }

@@ -1,4 +1,4 @@
-//! What the word `order` of a script writes.
+//! The line that the script's word `order` writes.
 #![tactic(auto)]
 
 mod orders;

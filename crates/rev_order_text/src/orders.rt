@@ -79,8 +79,8 @@ fn refused_text(alloc: Global, number: u32, code: u16) -> Result<Vec<u8>, AllocE
     Ok(text)
 }
 
-/// The line of `order N...`: the accepted events of these numbers run again from the opening, in this order, on a
-/// history of their own, and are compared with the kept ones.
+/// The line of `order N...`. The accepted events of these numbers run from the opening, in this order, in a history of
+/// their own, and that history is compared with the kept events.
 pub fn order_text(alloc: Global, history: &History, numbers: &[u32]) -> Result<Vec<u8>, AllocError>
     ensures { IfOk result (λ text. text.items ≡ order_text_of history.now.timeline numbers.now) }
 {

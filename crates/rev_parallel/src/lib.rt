@@ -1,4 +1,4 @@
-//! The report of a run over files, a trace and a script, whose lanes go on threads of their own.
+//! The report of a run over files, a trace and a script, with the lanes on threads of their own.
 #![tactic(auto)]
 
 mod parallel;

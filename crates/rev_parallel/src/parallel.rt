@@ -1,4 +1,4 @@
-//! The report of a run whose lanes go on threads of their own.
+//! The report of a run with the lanes on threads of their own.
 ghost use Rattle.std.specs.Prelude.{◌≡◌, ◌+◌, ◌≤◌, IfOk, length};
 ghost use Rattle.rev_workers.specs.Closing.{left_by};
 
@@ -215,8 +215,8 @@ fn report_edges<R: Threads + Wait + Sync, W: Write>(
     }
 }
 
-/// As `run_parallel`, but the desk, and the trace where no thread took it, stand in `memory` at the end, whether the
-/// run went to its end or not, so that the caller chooses when they are freed.
+/// Like `run_parallel`, but leaves the desk in `memory`, and the trace where no thread took it, even if the run ends
+/// early. So the caller chooses when they are freed.
 pub fn run_parallel_in<R: Threads + Wait + Sync, W: Write>(
     rt: &R,
     alloc: Global,
@@ -235,14 +235,16 @@ pub fn run_parallel_in<R: Threads + Wait + Sync, W: Write>(
     }
 }
 
-/// As `run_serial`, but the manifest is read on as many threads as there are processors, and the first `run` lets each
-/// lane of the trace say all its commands from a thread of its own, whatever number stands behind `run`, and then writes
-/// the new entries in the journal's order. A later `run` finds nothing left and writes nothing. Where the lanes do not
-/// fit the journal, or one could not say all that it had to say, `fault close CODE LANE` is the report's last line.
+/// Like `run_serial`, but on threads. As many threads as there are processors read the manifest. At the first `run`,
+/// each lane of the trace sends all its commands from a thread of its own, whatever number follows `run`; then the
+/// entries are written in the journal's order. A later `run` finds no commands left and writes nothing.
 ///
-/// What it read and made is freed when it ends.
+/// Where the lanes do not fit the journal, or a lane could not send all its commands, the report ends with the line
+/// `fault close CODE LANE`. What the run read and made is freed at its end.
 ///
-/// Answers `Write` where the writer fails in any way or takes no byte, and `Memory` where the system refused memory.
+/// # Errors
+/// [`RunFault::Write`] where the writer fails in any way or takes no byte, and [`RunFault::Memory`] where the system
+/// refused memory.
 pub fn run_parallel<R: Threads + Wait + Sync, W: Write>(
     rt: &R,
     alloc: Global,

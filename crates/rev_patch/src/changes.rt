@@ -1,4 +1,4 @@
-//! Lines of a manifest's file that get order-only inputs.
+//! Lines of a manifest's file to which order-only inputs are added.
 ghost use Rattle.std.specs.Prelude.{◌≡◌, ◌≤◌, ◌<◌, ◌==◌, ◌||◌, not, ◌++◌, Some, map, length, take, drop, IfOk, OnOk};
 ghost use Rattle.std.specs.List.{flat_map, list_all};
 ghost use Rattle.rev_patch.specs.Additions.{added, edit_at, edits_for, edits_of, is_written, paths_text, place_for, same_line, spaced_path, texts_of, unless, written, written_byte};
@@ -9,25 +9,26 @@ use crate::lines::{Row, edited_rows, push_new, rows_of};
 use crate::statement::{Place, place_of};
 use std::alloc::{AllocError, Global};
 
-/// An order-only input that is added to the build statement that begins at a line, from 1.
+/// An order-only input that is added to a build statement.
 #[derive(Clone, Copy, Debug, PartialEq, Eq)]
 pub struct Addition<'a> {
     /// The line at which the statement begins, from 1.
     pub line: u64,
-    /// The path, as it is and not as it is written.
+    /// The path itself, not its spelling in a manifest.
     pub path: &'a [u8],
 }
 
-/// A line that is another now.
+/// A line that is changed.
 #[derive(Debug, Drop)]
 pub struct Change {
-    /// Its place among the lines, from 0.
+    /// The number of the line, from 0.
     pub line: usize,
-    /// What stands there now, without the line's end.
+    /// The text of the changed line, without the line's end.
     pub text: Vec<u8>,
 }
 
-/// Whether a path can be written on a build line: nothing takes the meaning of a `|` or of a line's end away there.
+/// Whether a build line can name this path. It cannot name a path with a `|` or a line end, since no escape exists for
+/// these bytes.
 pub fn is_written(path: &[u8]) -> bool
     ensures { result ≡ is_written path.now }
 {
@@ -212,11 +213,12 @@ fn first_statement(additions: &[Addition<'_>]) -> usize
     additions.len()
 }
 
-/// The lines of a file that are others once these order-only inputs were added. `additions` stand in the order of their
-/// lines, those of one statement beside each other. What is added to one statement is put behind the last of its paths
-/// and signs before the validations, with `||` where that is not there; a `$` stands before each `$`, space and `:` of a
-/// path. Left out is what would be added to a statement that begins at no line of the file, or beside a path that no
-/// build line can name.
+/// The changed lines of a file to which these order-only inputs are added. `additions` stand in the order of their
+/// lines, so those of one statement stand side by side.
+///
+/// The paths are put after the last path or sign before the statement's validations, with `||` where the statement has
+/// none. Each `$`, space and `:` of a path is written with a `$` before it. A statement is left as it is where no line
+/// of the file has its number, or where no build line can name one of the paths added to it.
 ///
 /// # Errors
 /// [`AllocError`] only where an allocation was refused.
@@ -239,8 +241,8 @@ pub fn changes_of(
     Ok(changes)
 }
 
-/// The text with these lines changed: each line that a change names is its text, the first one's where several name it,
-/// and every other line stays as it is. So do the ends of the lines.
+/// The text with the changed lines in place of the old ones. Where several changes name one line, the first counts. All
+/// other lines and all line ends stay as they are.
 ///
 /// # Errors
 /// [`AllocError`] only where an allocation was refused.

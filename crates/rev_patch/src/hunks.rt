@@ -1,4 +1,4 @@
-//! Changed lines as `diff -u` tells them.
+//! Changed lines in the form of `diff -u`.
 ghost use Rattle.std.specs.Prelude.{◌≡◌, ◌+◌, ◌-◌, ◌<◌, ◌≤◌, ◌++◌, map, length, IfOk, OnOk};
 ghost use Rattle.std.specs.List.{flat_map, slice_range};
 ghost use Rattle.rev_patch.specs.Lines.{edited, edits, edit_of, line_of};
@@ -163,8 +163,8 @@ fn first_hunk(changes: &[Change]) -> usize
     changes.len()
 }
 
-/// The changes of a file as `diff -u` tells them and `patch -p0` takes them; nothing where there are none. They stand
-/// in rising order.
+/// The changes of a file in the form of `diff -u`, which `patch -p0` takes; empty where nothing changes. `changes`
+/// stand in the order of their lines.
 ///
 /// # Errors
 /// [`AllocError`] only where an allocation was refused.

@@ -1,4 +1,4 @@
-//! Patches of manifests: order-only inputs that are added to build statements, as `diff -u` has it.
+//! Patches of manifests: order-only inputs added to build statements, in the form of `diff -u`.
 #![tactic(auto)]
 
 mod changes;

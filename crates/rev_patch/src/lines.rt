@@ -1,4 +1,4 @@
-//! The lines of a text, and what changes make of them.
+//! The lines of a text, and the changes of each.
 ghost use Rattle.std.specs.Prelude.{◌≡◌, ◌++◌, map, IfOk, OnOk};
 ghost use Rattle.rev_patch.specs.Lines.{edited, edits, line_of, lines_of, lines_of_parts, new_text, edit_of};
 ghost use Rattle.rev_fields.specs.Parts.{slices_of};
@@ -11,11 +11,11 @@ use std::alloc::{AllocError, Global};
 /// A line of a text, without its end.
 #[derive(Clone, Copy)]
 pub(crate) struct Row<'a> {
-    /// What it is.
+    /// The line as it is in the file.
     pub(crate) old: &'a [u8],
-    /// What it is changed to, if it is.
+    /// The changed line. `None` where the line stays.
     pub(crate) new: Option<&'a [u8]>,
-    /// Whether it has an end.
+    /// Whether a line end follows.
     pub(crate) is_ended: bool,
 }
 
@@ -70,7 +70,7 @@ fn note<'a>(rows: &mut [Row<'a>], change: &'a Change)
     }
 }
 
-/// The lines of a text, each with what the first change that names it makes of it.
+/// The lines of a text, each with the first change that names it.
 pub(crate) fn edited_rows<'a>(
     alloc: Global,
     text: &'a [u8],
@@ -85,7 +85,7 @@ pub(crate) fn edited_rows<'a>(
     Ok(rows)
 }
 
-/// Adds a line as it is now, with its end.
+/// Appends a line with its end, changed where it has a change.
 pub(crate) fn push_new(text: &mut Vec<u8>, row: &Row<'_>) -> Result<(), AllocError>
     ensures { OnOk result (text.new.items ≡ text.old.items ++ new_text (line_of row.now)) }
 {

@@ -1,4 +1,4 @@
-//! Who wrote a manifest, by its first comment.
+//! The author of a manifest, as its first comment names it.
 ghost use Rattle.std.specs.Prelude.{◌≡◌, ◌≤◌, length};
 ghost use Rattle.std.specs.List.{list_any};
 ghost use Rattle.rev_patch.specs.Author.{author, author_in, generated, has_word, is_comment, line_len};
@@ -6,13 +6,13 @@ ghost use Rattle.rev_patch.specs.Author.{author, author_in, generated, has_word,
 /// Who wrote a manifest.
 #[derive(Clone, Copy, Debug, PartialEq, Eq)]
 pub enum Author {
-    /// Nobody says that it was generated.
+    /// The comment names no generator.
     Hand,
     /// CMake.
     CMake,
     /// Meson.
     Meson,
-    /// Another generator.
+    /// Another generator, without its name.
     Generator,
 }
 
@@ -80,7 +80,8 @@ fn is_comment(line: &[u8]) -> bool
     line.starts_with(b"#")
 }
 
-/// Who wrote a manifest, by the comment that it begins with: the first line of it that names an author decides.
+/// The author of a manifest, as the comment at its start names it. The first line of the comment that names an author
+/// decides.
 pub fn author_of(text: &[u8]) -> Author
     ensures { result ≡ author text.now }
 {

@@ -1,4 +1,4 @@
-//! What stands in a line of a build statement, and where order-only inputs are added.
+//! The parts of a build statement's lines, and the place where order-only inputs are added.
 ghost use Rattle.std.specs.Prelude.{◌≡◌, ◌<◌, ◌≤◌, suc, None, drop, length, map};
 ghost use Rattle.std.specs.List.{list_any};
 ghost use Rattle.rev_patch.specs.Additions.{texts_of};
@@ -11,7 +11,7 @@ use crate::lines::Row;
 /// A part of a line of a build statement.
 #[derive(Clone, Copy)]
 pub(crate) enum Token {
-    /// A byte whose meaning a `$` before it takes away.
+    /// A byte after a `$`, which takes away its meaning.
     Escaped(u8),
     /// A `$` at the end of the line.
     Dollar,
@@ -25,16 +25,17 @@ pub(crate) enum Token {
     Plain,
 }
 
-/// What was seen of a line.
+/// What a line has.
 #[derive(Clone, Copy)]
 pub(crate) struct Signs {
-    /// Whether the sign of order-only inputs stands in it.
+    /// Whether the line has the sign `||`.
     pub(crate) has_order: bool,
-    /// Whether the sign of validations does.
+    /// Whether the line has the sign `|@`.
     pub(crate) has_validations: bool,
-    /// How many bytes there are up to the end of the last part that says something before the validations.
+    /// The number of bytes up to the end of the last part before the validations that is not blank. `None` where all is
+    /// blank.
     pub(crate) last: Option<usize>,
-    /// Whether the statement goes on behind it.
+    /// Whether the statement goes on in the next line.
     pub(crate) goes_on: bool,
 }
 
@@ -144,7 +145,7 @@ fn signs_with(signs: Signs, end: usize, token: Token) -> Signs
     }
 }
 
-/// What stands in a line of a statement.
+/// What a line of a statement has.
 pub(crate) fn signs_of(line: &[u8]) -> Signs
     ensures order { result.has_order ≡ list_any is_order (tokens line.now) }
     ensures validations { result.has_validations ≡ has_validations line.now }
@@ -174,18 +175,18 @@ pub(crate) fn signs_of(line: &[u8]) -> Signs
 pub(crate) struct Spot {
     /// The line, from 0.
     pub(crate) line: usize,
-    /// How many bytes of it stand before the place.
+    /// The number of the line's bytes before the place.
     pub(crate) at: usize,
 }
 
-/// Where order-only inputs are to be added in a statement.
+/// The place at which order-only inputs are added to a statement.
 #[derive(Clone, Copy)]
 pub(crate) struct Place {
     /// The line, from 0.
     pub(crate) line: usize,
-    /// How many bytes of it stand before the place.
+    /// The number of the line's bytes before the place.
     pub(crate) at: usize,
-    /// Whether the sign of order-only inputs stands in the statement.
+    /// Whether the statement has the sign `||`.
     pub(crate) has_sign: bool,
 }
 
@@ -244,8 +245,8 @@ fn put_at(seen: Seen) -> Option<Place>
     }
 }
 
-/// Where order-only inputs are added to the statement that begins at a line: behind all that says something before its
-/// validations. None where there is no such line, or it says nothing.
+/// The place at which order-only inputs are added to the statement that begins at line `first`: after all of it that is
+/// not blank and stands before its validations. `None` where the text has no such line, or the statement is blank.
 pub(crate) fn place_of(rows: &[Row<'_>], first: usize) -> Option<Place>
     ensures { result ≡ place_in first (statement (drop first (texts_of (map line_of rows.now)))) }
 {

@@ -1,4 +1,4 @@
-//! Whether files say a manifest with orders, and nothing else.
+//! Whether files say a manifest with added orders and nothing else.
 ghost use Rattle.std.specs.Prelude.{◌≡◌, ◌↔◌, IfOk, IsTrue};
 ghost use Rattle.rev_manifest.specs.Seen.{seen_files};
 ghost use Rattle.rev_graph.specs.Fault.{IsFaultless};
@@ -54,8 +54,8 @@ fn is_sound(
     is_faultless(alloc, new)
 }
 
-/// Whether files, each a name and its content, say a manifest that is `old` with these order-only inputs and nothing
-/// else, and in which no edge waits for itself. It takes time and memory linear in the files and the orders.
+/// Whether these files, each a name and its content, say the manifest `old` with these order-only inputs and nothing
+/// else, and no edge of that manifest waits for itself. Time and memory are linear in the files and the orders.
 ///
 /// # Errors
 /// [`AllocError`] only where an allocation was refused.

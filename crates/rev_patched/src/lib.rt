@@ -1,4 +1,4 @@
-//! Manifests with order-only inputs that were added to them: what mends races, and what makes them happen.
+//! Manifests to which order-only inputs were added, to mend a race or to make it happen.
 #![tactic(auto)]
 
 mod check;

@@ -1,4 +1,4 @@
-//! Order-only inputs that are to be added to edges.
+//! Orders: order-only inputs to be added to edges.
 ghost use Rattle.std.specs.Prelude.{◌≡◌, ◌<◌, ◌++◌, ℕ, [], ◌∷◌, find, length, IfOk, OnOk};
 ghost use Rattle.std.specs.Option.{option_copied, option_or};
 ghost use Rattle.rev_patch.specs.Additions.{is_written};
@@ -10,10 +10,10 @@ use rev_patch::is_written;
 use rev_paths::Name;
 use std::alloc::{AllocError, Global};
 
-/// A path that is to be an order-only input of an edge.
+/// A path that is added to an edge as an order-only input.
 #[derive(Clone, Copy, Debug)]
 pub struct Order<'a> {
-    /// The edge, by its number.
+    /// The number of the edge.
     pub edge: u32,
     /// The path.
     pub path: &'a Name,
@@ -31,8 +31,8 @@ fn first_written(paths: &[Name]) -> Option<&Name>
     None
 }
 
-/// The first output of an edge that can be written on a build line, if one can: the first explicit one, or else the
-/// first implicit one.
+/// The first output of an edge that a build line can name. Explicit outputs come before implicit ones. `None` where a
+/// build line can name none of them.
 pub fn writable_output(build: &Build) -> Option<&Name>
     ensures { option_copied result
         ≡ option_or (find is_written build.now.explicit_outs) (find is_written build.now.implicit_outs) }

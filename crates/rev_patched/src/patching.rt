@@ -1,4 +1,4 @@
-//! The changed lines that add orders to a manifest's files.
+//! The changed lines that add orders to the files of a manifest.
 ghost use Rattle.std.specs.Prelude.{◌≡◌, ◌≤◌, length, slice_get, IfOk, IfSome};
 ghost use Rattle.std.specs.Option.{option_copied};
 ghost use Rattle.rev_manifest.specs.Seen.{seen_files};
@@ -139,10 +139,13 @@ fn patched_files(
     Ok(changed)
 }
 
-/// The changed lines of each file that add orders to a manifest which was read from these files; none where the changed
-/// files do not say the manifest with these orders and nothing else, as where one statement makes several edges, or
-/// where an edge waits for itself with them. Each order's path can be written on a build line ([`writable_output`]), and
-/// the edges of one statement have the same orders. It takes time linear in the files, and `n log n` in the orders.
+/// The changed lines of each file that add these orders to a manifest. `files` are the files from which the manifest
+/// was read.
+///
+/// `None` where the changed files do not say the manifest with these orders and nothing else. This is so where one
+/// statement makes several edges and not all of them have the order, or where an edge would wait for itself. The caller
+/// sees to it that a build line can name the path of each order ([`writable_output`]), and that the edges of one
+/// statement have the same orders. The time is linear in the files, and `n log n` in the orders.
 ///
 /// # Errors
 /// [`AllocError`] only where an allocation was refused.

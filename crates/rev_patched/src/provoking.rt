@@ -1,4 +1,4 @@
-//! Patches that have the maker of a path come behind its user.
+//! Patches that put the maker of a path after its user.
 ghost use Rattle.std.specs.Prelude.{◌≡◌, ◌⊎◌, ◌<◌, ◌↔◌, Contains, length, IfOk, IfSome, IsTrue};
 ghost use Rattle.std.specs.Option.{option_copied};
 ghost use Rattle.rev_manifest.specs.Seen.{seen_files};
@@ -17,17 +17,17 @@ use rev_paths::Name;
 use rev_waits::{steps, waited_for};
 use std::alloc::{AllocError, Global};
 
-/// What has a maker come behind a user.
+/// The answer to the wish that a maker runs after a user.
 #[derive(Debug, Drop)]
 pub enum Provoked {
-    /// The changed lines of each file.
+    /// A patch: the changed lines of each file.
     Patch(Vec<Vec<Change>>),
-    /// Nothing: the two are one edge, or the user waits for the maker.
+    /// No patch, since the two are one edge, or the user waits for the maker.
     Ordered,
-    /// No line: no output of the user can be written on a build line.
+    /// No patch, since a build line can name no output of the user.
     Unwritable,
-    /// No patch: with that line the files do not say the manifest with this order and nothing else, or the manifest has
-    /// no such edges or no graph.
+    /// No patch, since the changed files do not say the manifest with this order and nothing else, or the manifest
+    /// lacks these edges or has no graph.
     Unsound,
 }
 
@@ -129,10 +129,12 @@ fn provoked_in(
     provoked_apart(alloc, files, old, graph, user, maker)
 }
 
-/// What has the maker of a path come behind its user in each build: the changed lines of the files that a manifest was
-/// read from, where an output of the user is one more order-only input of the maker. In the manifest that they say the
-/// maker waits for the user, no edge waits for itself, and all else is as it was. There are none where the two are one,
-/// or the user waits for the maker: then, and only then, that line would make a cycle.
+/// A patch with which the maker of a path runs after its user in each build. It adds an output of the user to the
+/// maker's order-only inputs. `files` are the files from which the manifest was read.
+///
+/// In the patched manifest the maker waits for the user, no edge waits for itself, and all else is as it was. The patch
+/// would make a cycle exactly where the two are one edge or the user waits for the maker, and the answer is
+/// [`Provoked::Ordered`] there.
 ///
 /// # Errors
 /// [`AllocError`] only where an allocation was refused.

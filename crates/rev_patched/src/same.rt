@@ -1,4 +1,4 @@
-//! Whether a manifest is another one with orders, and nothing else.
+//! Whether one manifest is another with added orders and nothing else.
 ghost use Rattle.std.specs.Prelude.{◌≡◌, ◌≤◌, ◌++◌, ◌||◌, ℕ, List, length, bytes_eq, filter, not, IfOk, OnOk};
 ghost use Rattle.rev_manifest.specs.Names.{has_path, without};
 ghost use Rattle.rev_manifest.specs.Seen.{seen_pools};
@@ -183,7 +183,7 @@ fn same_defaults(
     Ok(new == left.as_slice())
 }
 
-/// Whether a manifest is another one with orders, and nothing else.
+/// Whether one manifest is another with added orders and nothing else.
 pub(crate) fn same_manifest(
     alloc: Global,
     orders: &[Order<'_>],

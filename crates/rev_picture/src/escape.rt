@@ -20,9 +20,9 @@ fn push_byte(text: &mut Vec<u8>, byte: &u8) -> Result<(), AllocError>
     }
 }
 
-/// Adds a name as it stands in XML, in a text or between quotes: `&`, `<`, `>`, `"` and `'` by the references `&amp;`,
-/// `&lt;`, `&gt;`, `&quot;` and `&apos;`, and every other byte as people read it: visible ASCII as it is, but for a
-/// backslash, and the rest behind a backslash. So no byte of a name ends a text or a value, and each is allowed in XML.
+/// Appends a name to XML text, or to a value between quotes. The bytes `&`, `<`, `>`, `"` and `'` become `&amp;`,
+/// `&lt;`, `&gt;`, `&quot;` and `&apos;`. Every other byte stands as `push_shown` of `rev_shown` writes it. So no byte
+/// of a name ends a text or a value, and XML allows each byte.
 ///
 /// # Errors
 /// [`AllocError`] only where an allocation was refused.
@@ -45,8 +45,8 @@ fn push_word_byte(text: &mut Vec<u8>, byte: &u8) -> Result<(), AllocError>
     push_byte(text, byte)
 }
 
-/// Adds words as they stand in XML, in which names are shown already (`push_shown` of `rev_shown`): as a name, but that
-/// a space and a backslash stay as they are.
+/// Appends words to XML. Names in these words stand as `push_shown` of `rev_shown` wrote them, so spaces and
+/// backslashes stay as they are. Every other byte is written as in a name.
 ///
 /// # Errors
 /// [`AllocError`] only where an allocation was refused.
@@ -59,12 +59,13 @@ pub fn push_escaped_words(text: &mut Vec<u8>, words: &[u8]) -> Result<(), AllocE
     Ok(())
 }
 
-/// Every escaped name reads in XML as it is shown to people: it has no tag, no end of a value, and no control byte.
+/// A reader of XML reads every escaped name as the name that people are shown. So the text has no tag, no end of a
+/// value and no control byte.
 pub fn names_are_read()
     ensures { NamesAreRead }
 {}
 
-/// Words read as they are, but for bytes that are no printable ASCII, which are written out.
+/// A reader of XML reads words as they are. A byte that is not printable ASCII reads as its written-out form.
 pub fn words_are_read()
     ensures { WordsAreRead }
 {}

@@ -110,8 +110,9 @@ fn push_lines(text: &mut Vec<u8>, lines: &[Line<'_>]) -> Result<(), AllocError>
     Ok(())
 }
 
-/// Adds the picture of a build as one element of SVG, so many units wide and high, with so many rows: the words above
-/// all, the rows' names, the bars in the order given, and the lines above them.
+/// Appends the picture of a build as one SVG element. `width` and `height` count units. `rows` counts the rows; the
+/// first one is for events without a job. The picture has `words` at its top, the names of the rows, the bars in the
+/// given order, and the lines above the bars.
 ///
 /// # Errors
 /// [`AllocError`] only where an allocation was refused.

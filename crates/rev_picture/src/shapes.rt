@@ -7,51 +7,52 @@ use crate::escape::{push_escaped, push_escaped_words};
 use rev_fields::push_number;
 use std::alloc::AllocError;
 
-/// An edge that ran, or an event without a job.
+/// A command that ran, or an event without a job.
 #[derive(Clone, Copy, Debug, PartialEq, Eq)]
 pub struct Bar<'a> {
-    /// The row that it stands in: 0 for what has no job, and one more than the job for what has one.
+    /// The row of the bar. Row 0 is for what has no job; job N has row N + 1.
     pub row: u32,
-    /// How many units it begins from the left edge.
+    /// The distance from the left edge, in units.
     pub left: u32,
-    /// How many units it is wide.
+    /// The width in units.
     pub width: u32,
-    /// What is told before its name.
+    /// The words that stand before the name in the tip.
     pub words: &'a [u8],
-    /// Its name, as the manifest has it.
+    /// The name, with the manifest's own bytes.
     pub name: &'a [u8],
-    /// The part of the name that is written beside it, if any is.
+    /// The part of the name that is written beside the bar. `None` where the bar has no label.
     pub label: Option<&'a [u8]>,
     /// The number of the event that began it.
     pub began: u32,
-    /// The number of the event that ended it, which is the same for what takes no time; none where it still runs.
+    /// The number of the event that ended it. For what takes no time it is the same as `began`; `None` where the
+    /// command still runs.
     pub ended: Option<u32>,
-    /// Whether it is undone.
+    /// Whether the event that began it is undone.
     pub undone: bool,
-    /// Whether it is in a race.
+    /// Whether its edge is in a race.
     pub racing: bool,
 }
 
-/// A dependence of one event on another, or a race of the two.
+/// A dependence of one event on another, or a race of two events.
 #[derive(Clone, Copy, Debug, PartialEq, Eq)]
 pub struct Line<'a> {
-    /// The number of the event that is depended on.
+    /// The number of the event that the other one depends on.
     pub one: u32,
-    /// How many units it is from the left edge.
+    /// The distance of event `one` from the left edge, in units.
     pub one_left: u32,
-    /// Its row.
+    /// The row of event `one`.
     pub one_row: u32,
-    /// The number of the event that depends on it.
+    /// The number of the event that depends on `one`.
     pub other: u32,
-    /// How many units that is from the left edge.
+    /// The distance of event `other` from the left edge, in units.
     pub other_left: u32,
-    /// Its row.
+    /// The row of event `other`.
     pub other_row: u32,
-    /// What is told of it, in which names are shown already.
+    /// The words of the line. Names in them stand as `push_shown` of `rev_shown` wrote them.
     pub words: &'a [u8],
-    /// The row in which that is written.
+    /// The row in which the words stand.
     pub words_row: u32,
-    /// Whether it is a race.
+    /// Whether the line is a race.
     pub racing: bool,
 }
 
@@ -186,7 +187,7 @@ fn label_left(bar: &Bar<'_>) -> u64
     left
 }
 
-/// Adds an edge as an element of SVG: a bar in its row, with its name and events for who points at it, and its label.
+/// Appends a bar as an SVG element: a rectangle in its row, a tip with its name and events, and its label.
 ///
 /// # Errors
 /// [`AllocError`] only where an allocation was refused.
@@ -237,8 +238,8 @@ fn push_line_words(text: &mut Vec<u8>, line: &Line<'_>) -> Result<(), AllocError
     text.extend_from_slice(b"</text></g>\n")
 }
 
-/// Adds a dependence or a race as an element of SVG: a line between two events, with their numbers, and its words
-/// below the rows of jobs.
+/// Appends a dependence or a race as an SVG element: a line between two events with their numbers, and its words below
+/// the rows of jobs.
 ///
 /// # Errors
 /// [`AllocError`] only where an allocation was refused.

@@ -1,4 +1,4 @@
-//! The words of a command line, and what a program says on standard error.
+//! The words of a command line, and what a program writes to standard error.
 use crate::fault::ProgramFault;
 use crate::visible::push_visible;
 use clap::error::ErrorKind;
@@ -7,7 +7,7 @@ use std::io;
 use std::process::ExitCode;
 use std::rt::Env;
 
-/// The status of a command line that is wrong.
+/// The status of a wrong command line.
 pub const USAGE: u8 = 2;
 /// The status of a run that could not read, write or get memory.
 pub const FAILURE: u8 = 3;
@@ -22,10 +22,10 @@ fn given_words<R: Env + Alloc<A = Global>>(rt: &R) -> io::Result<Vec<String>> {
     Ok(words)
 }
 
-/// The words of the command line, and first `rebug`, which people type for both programs.
+/// The words of the command line, with `rebug` as the first, since users type that name for both programs.
 ///
 /// # Errors
-/// The status with which the program ends, when it has said why: [`USAGE`] where a word is not UTF-8 text, [`FAILURE`]
+/// The status with which the program ends, after it wrote why: [`USAGE`] where a word is not UTF-8 text, [`FAILURE`]
 /// where memory was refused.
 pub fn words<R: Env + Eprint + AllocGlobal>(rt: &R) -> Result<Vec<String>, ExitCode> {
     match given_words(rt) {
@@ -41,7 +41,7 @@ pub fn words<R: Env + Eprint + AllocGlobal>(rt: &R) -> Result<Vec<String>, ExitC
     }
 }
 
-/// Says a text on standard error behind the program's name, each byte of it as a terminal may have it.
+/// Writes the program's name and a text to standard error, without the bytes that a terminal could obey.
 pub fn say<R: Eprint + AllocGlobal>(rt: &R, text: &[u8]) {
     let mut visible = Vec::new(rt.alloc());
     if push_visible(&mut visible, text).is_err() {
@@ -51,7 +51,7 @@ pub fn say<R: Eprint + AllocGlobal>(rt: &R, text: &[u8]) {
     }
 }
 
-/// Says why a program ends, and gives its status.
+/// Writes why a program ends, and returns its status.
 pub fn fail<R: Eprint + AllocGlobal>(rt: &R, fault: ProgramFault<'_>) -> ExitCode {
     match format!(in rt.alloc(); "{fault}") {
         Ok(text) => say(rt, text.as_bytes()),
@@ -68,8 +68,8 @@ fn text_of<R: AllocGlobal>(rt: &R, error: &clap::Error) -> Option<Vec<u8>> {
     Some(visible)
 }
 
-/// Says what is wrong with a command line, on standard error, or gives the help or the version that it asks for, on
-/// standard output; gives the status.
+/// Writes what is wrong with a command line to standard error, or the wanted help or version to standard output.
+/// Returns the status.
 pub fn explain<R: Print + Eprint + AllocGlobal>(rt: &R, error: &clap::Error) -> ExitCode {
     if error.kind() == ErrorKind::OutOfMemory {
         return fail(rt, ProgramFault::Memory);

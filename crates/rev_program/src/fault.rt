@@ -1,4 +1,4 @@
-//! Why a program ends early.
+//! Faults that end a program.
 use rev_script::RunFault;
 use std::alloc::{AllocError, AllocFailed};
 use std::io::ErrorKind;
@@ -10,16 +10,16 @@ pub enum Unread {
     /// No file has the name.
     #[error("it is not there")]
     Missing,
-    /// The name is a folder's.
+    /// The name is the name of a folder.
     #[error("it is a folder")]
     Folder,
-    /// The name is a pipe's, a socket's or a device's.
+    /// The name is the name of a pipe, a socket or a device.
     #[error("it is not a regular file")]
     Special,
-    /// The file lies outside of the recording's folder, or a link leads out of it.
+    /// The file is outside of the recording's folder, or a link leads out of the folder.
     #[error("it lies outside of the recording's folder")]
     Outside,
-    /// The name, or the whole path, is not UTF-8 text, which is what the system is asked by.
+    /// The name, or the whole path, is not UTF-8 text, and the system is asked by UTF-8 names.
     #[error("its path is not UTF-8 text")]
     NoText,
     /// The system does not let this user read it.
@@ -75,7 +75,7 @@ pub enum ProgramFault<'a> {
     /// A folder has a manifest and no trace.
     #[error("{0} is a build folder, and not a recording: record it first\nrebug: for example: rebug record {0} RECORDING")]
     BuildFolder(&'a str),
-    /// A recording has no file `observed`, and was asked for what that shows.
+    /// A recording has no file `observed`, and the command line asks for what that file tells.
     #[error("{0} does not say what its commands read and wrote: record the build with --observe\nrebug: for example: rebug record BUILD {0} --observe")]
     NotObserved(&'a str),
     /// The file of a picture could not be written.

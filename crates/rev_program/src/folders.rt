@@ -1,11 +1,11 @@
-//! Which files lie in a folder.
+//! The files below a folder.
 ghost use Rattle.std.specs.Prelude.{◌≡◌, IfOk};
 ghost use Rattle.rev_program.specs.Folders.{folder_text, is_below};
 
 use std::alloc::{AllocError, Global};
 
-/// A folder's canonical path as it stands before the names of what lies in it: with a slash at its end, which the root
-/// has already.
+/// A folder's canonical path as the prefix of the paths below it: it ends with a slash, as the root's path already
+/// does.
 ///
 /// # Errors
 /// [`AllocError`] only where an allocation was refused.
@@ -19,7 +19,7 @@ pub(crate) fn folder_text(alloc: Global, path: &[u8]) -> Result<Vec<u8>, AllocEr
     Ok(text)
 }
 
-/// Whether a canonical path is that of something below a folder, whose text [`folder_text`] made.
+/// Whether a canonical path is below the folder whose prefix [`folder_text`] made.
 pub(crate) fn is_below(folder: &[u8], path: &[u8]) -> bool
     ensures { result ≡ is_below folder.now path.now }
 {

@@ -1,4 +1,4 @@
-//! What both programs do around their answers: words, files that are read, faults, and what stands on standard error.
+//! What both programs do around their answers: words, files, faults, and standard error.
 #![tactic(auto)]
 
 mod command_line;

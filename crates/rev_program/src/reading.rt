@@ -8,7 +8,7 @@ use std::io;
 use std::os::unix::fs::MetadataExt;
 use std::rt::Files;
 
-/// Why the bytes of a file are not there.
+/// Why the bytes of a file are not available.
 #[derive(Clone, Copy, Debug, PartialEq, Eq)]
 pub enum ReadFault {
     /// The system refused memory.
@@ -38,7 +38,7 @@ impl From<io::Error> for ReadFault {
     }
 }
 
-/// Whether a name is a folder's.
+/// Whether a name is the name of a folder.
 pub fn is_folder<R: Files>(rt: &R, name: &str) -> bool {
     match rt.metadata(name) {
         Ok(metadata) => metadata.is_dir(),
@@ -46,11 +46,11 @@ pub fn is_folder<R: Files>(rt: &R, name: &str) -> bool {
     }
 }
 
-/// The bytes of a file that the command line names, where there are no more than `most`, and else more than `most`, from
-/// its start. It may be a pipe or a device.
+/// The bytes of a file that the command line names. Of a file with more than `most` bytes come back more than `most`,
+/// from its start. The file may be a pipe or a device.
 ///
 /// # Errors
-/// [`ReadFault::Memory`] where memory was refused, else [`ReadFault::Unread`] with the reason.
+/// [`ReadFault::Memory`] where memory was refused, otherwise [`ReadFault::Unread`] with the reason.
 pub fn read_named<R: Files + AllocGlobal>(
     rt: &R,
     name: &str,
@@ -65,7 +65,7 @@ pub fn read_named<R: Files + AllocGlobal>(
     }
 }
 
-/// The text of a folder, by which [`read_below`] knows what lies below it.
+/// The prefix of the paths below a folder, as [`read_below`] takes it.
 ///
 /// # Errors
 /// As [`read_named`].
@@ -108,12 +108,12 @@ fn open_below<R: Files + AllocGlobal>(
     Ok((file, opened.len()))
 }
 
-/// The bytes of a regular file below a folder, whose text [`real_folder`] gave, where there are no more than `most`, and
-/// else more than `most`, from its start. Links are followed as long as they stay below the folder. Of another file no
-/// byte is read, and an open does not wait.
+/// The bytes of a regular file below a folder, whose prefix [`real_folder`] gave. Of a file with more than `most` bytes
+/// come back more than `most`, from its start. Links are followed as long as they stay below the folder. No byte of
+/// another file is read, and opening a pipe does not wait.
 ///
 /// # Errors
-/// As [`read_named`]; [`Unread::Outside`] where the file lies outside of the folder, [`Unread::Special`] where it is a
+/// As [`read_named`]; [`Unread::Outside`] where the file is outside of the folder, [`Unread::Special`] where it is a
 /// pipe, a socket or a device.
 pub fn read_below<R: Files + AllocGlobal>(
     rt: &R,
@@ -129,11 +129,11 @@ pub fn read_below<R: Files + AllocGlobal>(
     }
 }
 
-/// The bytes of a regular file below a folder, as [`read_below`] gives them, where there are no more than `most`.
+/// The bytes of a regular file below a folder, as [`read_below`] gives them, for a file of at most `most` bytes.
 ///
 /// # Errors
-/// As [`read_below`]; [`Unread::Long`] where the file has more than `most` bytes, of which none is read where the system
-/// says so before.
+/// As [`read_below`]; [`Unread::Long`] where the file has more than `most` bytes. No byte is read where the system
+/// tells the file's length before.
 pub fn read_short<R: Files + AllocGlobal>(
     rt: &R,
     folder: &[u8],

@@ -1,4 +1,4 @@
-//! How text stands at a terminal.
+//! Text at a terminal.
 ghost use Rattle.std.specs.Prelude.{◌≡◌, ◌<◌, ◌∷◌, ◌++◌, [], if◌then◌else◌, OnOk};
 ghost use Rattle.std.specs.List.{flat_map};
 ghost use Rattle.rev_program.specs.Visible.{hex_digit, is_harmless, visible_byte};
@@ -38,9 +38,9 @@ fn push_byte(text: &mut Vec<u8>, byte: u8) -> Result<(), AllocError>
     Ok(())
 }
 
-/// Adds a text as a terminal may have it: visible ASCII bytes, spaces and ends of lines as they are, and every other byte
-/// as `\x` and two digits to the base 16. So no byte of a name moves a cursor, changes a colour, or turns the direction
-/// of what follows.
+/// Appends a text in a form that no terminal obeys. Visible ASCII bytes, spaces and line ends stay as they are, and
+/// every other byte is `\x` and two hexadecimal digits. So no byte of a name moves a cursor, changes a colour, or turns
+/// the direction of what follows.
 ///
 /// # Errors
 /// [`AllocError`] only where an allocation was refused.

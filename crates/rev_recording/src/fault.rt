@@ -6,19 +6,19 @@ use rev_script::{RunFault, report_fault, report_graph_fault, report_manifest_fau
 use std::alloc::{AllocError, AllocFailed, Global};
 use std::fmt;
 
-/// The first fault of a file that stands beside a trace: of `observed`, or of `filters`.
+/// The first fault of the file `observed` or `filters`, which stand beside a trace.
 #[derive(Clone, Copy, Debug, PartialEq, Eq)]
 pub struct ObservedFault {
     /// The name of the file.
     pub file: &'static str,
-    /// The line, from 1; 0 where it is about none.
+    /// The number of the line, from 1; 0 where the fault has no line.
     pub line: u64,
-    /// The number of the fault (docs/CODES.md).
+    /// The number of the fault, as docs/CODES.md lists it.
     pub code: u16,
 }
 
 impl ObservedFault {
-    /// The number of a line that names no edge's first output.
+    /// The number of the fault that a line names an output that is not the first of any edge.
     pub const NO_SUCH_EDGE: u16 = 60;
 
     // What the number means.
@@ -48,13 +48,13 @@ impl fmt::Display for ObservedFault {
 pub enum RecordingFault {
     /// The system refused memory.
     Memory,
-    /// The manifest is not read.
+    /// The manifest has a fault.
     Manifest(ManifestFault),
     /// The manifest's edges make no graph.
     Graph(GraphFault),
-    /// The trace is not read.
+    /// The trace has a fault.
     Trace(TextFault),
-    /// What its commands were seen to do is not read, or is of another manifest's commands, or a filter is not read.
+    /// The observation has a fault, or is of another manifest's commands, or a filter has a fault.
     Observed(ObservedFault),
 }
 
@@ -70,8 +70,8 @@ impl<T: Drop> From<AllocFailed<T>> for RecordingFault {
     }
 }
 
-/// The line that a report ends with at such a fault; nothing where memory was refused. `files` are those that the
-/// manifest was read from.
+/// The last line of a report that ends at this fault; empty where memory was refused. `files` are those from which the
+/// manifest was read.
 ///
 /// # Errors
 /// [`RunFault::Memory`] only where an allocation was refused.

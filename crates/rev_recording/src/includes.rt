@@ -1,4 +1,4 @@
-//! The files that a manifest includes, in the order in which its reader asks for them.
+//! The files that a manifest includes, in the order in which its reader needs them.
 ghost use Rattle.std.specs.Prelude.{◌≡◌, ◌||◌, List, ℕ, false, bytes_eq, IfOk, IfSome, OnOk};
 ghost use Rattle.rev_manifest.specs.Names.{has_path};
 ghost use Rattle.rev_scopes.specs.Scopes.{variable_in};
@@ -71,8 +71,9 @@ enum Step {
     Refused,
 }
 
-/// The statements of a manifest gone through in the order of reading, an included file at its place, to find which
-/// files the manifest includes. What `rev_manifest` reads of a statement's variables is read here by the same calls.
+/// A walk over the statements of a manifest in reading order, with the statements of an included file at the place of
+/// the `include`. It finds the files that the manifest includes. Variables are read by the calls that `rev_manifest`
+/// uses.
 pub struct Includes {
     // The names of the files, each at the place of its file.
     names: IndexSet<Name>,
@@ -256,7 +257,7 @@ fn first_step(
 }
 
 impl Includes {
-    /// A manifest of this name, of which nothing was gone through.
+    /// A walk over the manifest of this name, before its first statement.
     ///
     /// # Errors
     /// [`AllocError`] only where an allocation was refused.
@@ -384,8 +385,8 @@ impl Includes {
         Ok(None)
     }
 
-    /// The next file that the manifest includes and that was not given; none where it includes no more of them, or the
-    /// reader refuses it before.
+    /// The next included file that was not given yet. `None` where the manifest includes no other file, or its reader
+    /// refuses it before the next one.
     ///
     /// # Errors
     /// [`AllocError`] only where an allocation was refused.
@@ -405,7 +406,7 @@ impl Includes {
         Ok(None)
     }
 
-    /// Gives the bytes of the file that [`Includes::next_missing`] asked for last, under its name.
+    /// Gives the bytes of the file that [`Includes::next_missing`] named last, under that name.
     ///
     /// # Errors
     /// [`AllocError`] only where an allocation was refused.

@@ -1,4 +1,4 @@
-//! A recording: the files that its manifest includes, and its build replayed over a desk.
+//! A recording: the files that its manifest includes, and its build replayed at a desk.
 #![tactic(auto)]
 
 mod fault;

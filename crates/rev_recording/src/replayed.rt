@@ -1,4 +1,4 @@
-//! A recording replayed.
+//! The replay of a recording.
 ghost use Rattle.std.specs.Prelude.{◌≡◌, ◌+◌, ◌++◌, ◌<◌, ◌≤◌, IfOk, OnOk, length};
 ghost use Rattle.rev_recording.specs.Replayed.{counts_words};
 ghost use Rattle.rev_desk.specs.Machine.{opened_desk};
@@ -31,10 +31,10 @@ fn desk_of(alloc: Global, graph: Graph, trace: &Trace) -> Result<Desk, Recording
     }
 }
 
-/// The desk of a recording, to which nothing was said yet. It has a lane more than the trace, for what is asked.
+/// A desk with an empty journal for this recording. It has one lane more than the trace, for questions.
 ///
 /// # Errors
-/// [`RecordingFault::Graph`] where the manifest's edges make no graph; else `Memory` where memory was refused.
+/// [`RecordingFault::Graph`] where the manifest's edges make no graph; otherwise `Memory` where memory was refused.
 pub fn open(alloc: Global, manifest: &Manifest, trace: &Trace) -> Result<Desk, RecordingFault>
     requires { length trace.now.lanes.items ≤ Trace.MAX_LANES }
     ensures { IfOk result (λ desk. desk ≡ opened_desk manifest.now trace.now.opening.jobs trace.now.opening.state
@@ -81,8 +81,8 @@ fn say_turns(desk: &mut Desk, turns: &[Turn<'_>]) -> Result<(), RecordingFault>
     Ok(())
 }
 
-/// Says all commands of a trace to its desk, in the order in which `run` takes them, and past breaks. Where the journal
-/// is full, the rest is left out.
+/// Sends all commands of a trace to its desk, in the order in which `run` takes them. Breaks do not stop it. Where the
+/// journal is full, the remaining commands are left out.
 ///
 /// # Errors
 /// [`RecordingFault::Memory`] alone, where memory was refused.
@@ -117,7 +117,7 @@ fn is_refused(entry: &Entry) -> bool {
     matches!(entry.reply, Reply::Refused(_))
 }
 
-/// How many commands of a desk's journal were refused.
+/// The number of refused commands in a desk's journal.
 pub fn refused_count(desk: &Desk) -> u64 {
     desk.journal()
         .iter()
@@ -125,8 +125,7 @@ pub fn refused_count(desk: &Desk) -> u64 {
         .count() as u64
 }
 
-/// The line of a recording that was replayed: how many commands its desk's journal has, and how many of them were
-/// refused.
+/// The line that describes a replay: the number of commands in the desk's journal, and the number of refused ones.
 ///
 /// # Errors
 /// [`AllocError`] only where an allocation was refused.

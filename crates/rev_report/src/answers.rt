@@ -1,4 +1,4 @@
-//! What commands are answered.
+//! The answers to commands.
 ghost use Rattle.std.specs.Prelude.{◌≡◌, ◌<◌, IfOk, OnOk};
 ghost use Rattle.rev_report.specs.Answers.{after_answer, answer_to, names_break};
 ghost use Rattle.rev_desk.specs.Machine.{next_number};

@@ -1,4 +1,4 @@
-//! What depends on a kept event.
+//! The events that depend on a kept event.
 ghost use Rattle.std.specs.Prelude.{◌≡◌, ◌++◌, codes, decimal, IfOk, OnOk};
 ghost use Rattle.std.specs.List.{flat_map};
 ghost use Rattle.rev_report.specs.Dependents.{dependents};
@@ -52,8 +52,8 @@ fn dependents_text(alloc: Global, history: &History, number: u32) -> Result<Vec<
     }
 }
 
-/// The line `dependents N M...` with the number of a kept event and those of the kept events that depend on it;
-/// `refused 80` where no accepted event has the name, `refused 81` where it is not kept.
+/// The line `dependents N M...`: the number of a kept event, and the numbers of the kept events that depend on it.
+/// `refused 80` where no accepted event has the name, `refused 81` where the event is not kept.
 pub(crate) fn named_text(alloc: Global, desk: &Desk, which: Which) -> Result<Vec<u8>, AllocError>
     ensures { IfOk result (λ text. text.items
         ≡ named_text (named desk.now.journal which) desk.now.history) }

@@ -1,11 +1,11 @@
-//! What a run has in memory.
+//! The memory of a run.
 ghost use Rattle.std.specs.Prelude.{◌≡◌, None};
 
 use rev_desk::Desk;
 use rev_trace::Trace;
 
-/// What a run read and made, and handed back in place of freeing it: the trace, and the desk with its graph. A value
-/// that is dropped frees both piece by piece.
+/// What a run read and made: the trace, and the desk with its graph. A run hands it back in place of freeing it, since
+/// dropping either value frees it piece by piece.
 #[derive(Drop)]
 pub struct RunMemory {
     /// The trace, where it was read without a fault.
@@ -15,7 +15,7 @@ pub struct RunMemory {
 }
 
 impl RunMemory {
-    /// That of a run which has not begun.
+    /// The memory of a run that has not begun.
     pub fn new() -> RunMemory
         ensures trace { result.trace ≡ None }
         ensures desk { result.desk ≡ None }

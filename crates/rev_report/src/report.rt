@@ -1,4 +1,4 @@
-//! The report of a run: what is written for files, a trace and a script.
+//! The report of a run: the text that is written for files, a trace and a script.
 ghost use Rattle.std.specs.Prelude.{◌≡◌, ◌<◌, ◌≤◌, ◌+◌, IfOk, IsSome, OnOk, drop, length};
 ghost use Rattle.rev_report.specs.Report.{after_word, edges_report, kept_text, left_after, named_text, report, script_report, script_text, session_text, trace_report, why_edge, word_text};
 ghost use Rattle.rev_script.specs.Output.{Writes};
@@ -190,8 +190,8 @@ fn run_word<W: Write>(
     }
 }
 
-/// Does the words of a script in turn, where `run` takes the turns that are left of these. The script's own commands
-/// are of the given lane.
+/// Carries out the words of a script in turn. `run` takes its commands from the turns that are left. The script's own
+/// commands are sent on `lane`.
 pub fn run_words<W: Write>(
     alloc: Global,
     desk: &mut Desk,
@@ -213,7 +213,7 @@ pub fn run_words<W: Write>(
     Ok(())
 }
 
-/// A desk with an empty journal and one lane more than these.
+/// A desk with an empty journal and one lane more than the trace has.
 pub fn open_desk(
     alloc: Global,
     graph: Graph,
@@ -380,12 +380,13 @@ pub fn run_serial_in<W: Write>(
     report_edges(alloc, &manifest, trace, script, writer, memory)
 }
 
-/// Reads a manifest, builds its graph, reads a trace and a script, runs the script, and writes the report, which ends
-/// at the first fault of the four. `files` are pairs of a name and a content, and the first is the manifest itself.
-/// What it read and made is freed when it ends.
+/// Reads a manifest, builds its graph, reads a trace and a script, carries out the script, and writes the report. The
+/// report ends at the first fault of the four. `files` are pairs of a name and a content; the first is the manifest
+/// itself. What it read and made is freed at its end.
 ///
-/// Answers `Write` where the writer fails in any way or takes no byte, and `Memory` where the system refused memory.
-/// After either a prefix of the report was written.
+/// # Errors
+/// [`RunFault::Write`] where the writer fails in any way or takes no byte, and [`RunFault::Memory`] where the system
+/// refused memory. After either, the writer has a prefix of the report.
 pub fn run_serial<W: Write>(
     alloc: Global,
     files: &[(Vec<u8>, Vec<u8>)],

@@ -1,4 +1,4 @@
-//! What `run` takes, and what comes of it.
+//! The word `run`.
 ghost use Rattle.std.specs.Prelude.{◌≡◌, ℕ, ◌+◌, ◌<◌, ◌≤◌, List, IfOk, OnOk, length, take, drop};
 ghost use Rattle.rev_report.specs.Answers.{after_answer, answer_to, names_break, said_line};
 ghost use Rattle.rev_script.specs.Output.{Writes};
@@ -14,7 +14,7 @@ use rev_script::{RunFault, Turn, send};
 use std::alloc::Global;
 use std::io::Write;
 
-/// Says a command of a lane to the desk, writes the line of its answer, and tells whether the answer names a break.
+/// Sends a command of a lane to the desk and writes the line of its answer. Returns whether the answer names a break.
 #[tactic(auto, unfolding(crate::specs::Answers::said_line))]
 pub(crate) fn run_command<W: Write>(
     alloc: Global,
@@ -74,8 +74,8 @@ fn most_of(left: usize, most: Option<u32>) -> usize
     }
 }
 
-/// Takes turns as `run` does, where so many were taken before, writes the line of each, and says how many are taken
-/// then.
+/// Takes turns as the word `run` does, after `taken` turns were taken before. Writes the line of each answer, and
+/// returns the number of turns taken in all.
 pub(crate) fn run_taken<W: Write>(
     alloc: Global,
     desk: &mut Desk,

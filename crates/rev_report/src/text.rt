@@ -1,4 +1,4 @@
-//! The lines that tell what commands are answered.
+//! The lines of the answers to commands.
 ghost use Rattle.std.specs.Prelude.{◌≡◌, ◌++◌, IfOk, OnOk, None, Some};
 ghost use Rattle.rev_report.specs.Answers.{answer_line, number_text, reply_text};
 
@@ -71,7 +71,8 @@ fn full_line(alloc: Global, lane: u32) -> Result<Vec<u8>, AllocError>
     Ok(line)
 }
 
-/// The line of an answer to a command of a lane, whose entry has this number where there is one.
+/// The line of the answer to a command of a lane. `number` is the entry's number in the journal, where there is an
+/// entry.
 pub fn answer_line(
     alloc: Global,
     number: u64,

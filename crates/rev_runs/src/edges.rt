@@ -7,7 +7,8 @@ use rev_graph::Graph;
 use rev_history::History;
 use std::alloc::{AllocError, Global};
 
-/// The edge of which an event is one: that of its output. A plan, a touch, an interrupt and a resize are of none.
+/// The edge that an event is about: the edge that makes the event's output. A plan, a touch, an interrupt and a resize
+/// are about no edge, and the answer is `None`.
 pub fn edge_of_event(graph: &Graph, event: &Event) -> Option<u32>
     ensures { result ≡ edge_of graph.now.manifest.builds event.now }
 {
@@ -35,7 +36,7 @@ fn is_edge(edge: u32, found: Option<u32>) -> bool
     }
 }
 
-/// Whether an event is one of an edge.
+/// Whether an event is about this edge.
 pub fn is_of_edge(graph: &Graph, event: &Event, edge: u32) -> bool
     ensures { result ≡ is_edge_of edge (edge_of graph.now.manifest.builds event.now) }
 {
@@ -62,8 +63,8 @@ fn add_where(numbers: &mut Vec<u32>, number: u32, passes: bool) -> Result<(), Al
     Ok(())
 }
 
-/// The numbers of all accepted events of an edge, in rising order, also of those that were undone. It looks at each
-/// accepted event once.
+/// The numbers of all accepted events of an edge, in rising order. Undone events are among them. Each accepted event is
+/// looked at once.
 ///
 /// # Errors
 /// [`AllocError`] only where an allocation was refused.

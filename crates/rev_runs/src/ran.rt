@@ -11,20 +11,21 @@ use std::alloc::{AllocError, Global};
 /// One run of an edge's command.
 #[derive(Clone, Copy, Debug, PartialEq, Eq)]
 pub struct Run {
-    /// The edge.
+    /// The number of the edge.
     pub edge: u32,
-    /// The job that it ran on.
+    /// The number of the job on which the command ran.
     pub job: u32,
-    /// The number of the event that began it.
+    /// The number of the start event.
     pub began: u32,
-    /// The number of the event that ended it, well or not; none where it still runs.
+    /// The number of the event that ended the command, well or not. `None` where the command still runs.
     pub ended: Option<u32>,
-    /// Whether the event that began it is kept.
+    /// Whether the start event is kept.
     pub kept: bool,
 }
 
-/// For each edge the number of its nearest end above the numbers that are still to be looked at, unless a start is
-/// nearer: among the kept events, and among the undone ones.
+/// For each edge the number of its nearest end, over the events that were looked at so far. The search goes from the
+/// last event to the first, so a start that is met later removes the end. Kept events and undone events have a list
+/// each.
 pub(crate) struct Ends {
     pub(crate) kept: Vec<Option<u32>>,
     pub(crate) undone: Vec<Option<u32>>,
@@ -106,10 +107,11 @@ fn add_number(
     add_step(number, step, false, &mut ends.undone, runs)
 }
 
-/// All runs of a history's accepted events, in the order of the numbers that began them: each start with the next end
-/// of its edge, unless a start of it comes first. A kept start ends by a kept event, an undone one by an undone one.
+/// All runs of a history's accepted events, in the order of their start events. A run is a start with the next end of
+/// the same edge. Where another start of the edge comes before that end, the run has no end. A kept start ends by a
+/// kept event, and an undone start by an undone event.
 ///
-/// The events are gone through once, from the last to the first.
+/// The events are looked at once, from the last to the first.
 ///
 /// # Errors
 /// [`AllocError`] only where an allocation was refused.

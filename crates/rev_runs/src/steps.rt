@@ -9,9 +9,9 @@ use rev_history::History;
 /// What an event does to the command of an edge.
 #[derive(Clone, Copy, Debug, PartialEq, Eq)]
 pub(crate) enum Step {
-    /// It begins, on a job.
+    /// The command begins, on a job.
     Begin { edge: u32, job: u32 },
-    /// It ends, well or not.
+    /// The command ends, well or not.
     End { edge: u32 },
 }
 
@@ -24,7 +24,7 @@ pub(crate) fn edge_of(step: Step) -> u32
     }
 }
 
-/// What an event does, where it begins or ends the command of an edge.
+/// The step of an event that begins or ends a command; `None` for every other event.
 pub(crate) fn step_of(graph: &Graph, event: &Event) -> Option<Step>
     ensures step { result ≡ step_of_event graph.now.manifest event.now }
     ensures within { IfSome result (λ step. edge_of step < length graph.now.manifest.builds) }
@@ -42,7 +42,7 @@ pub(crate) fn step_of(graph: &Graph, event: &Event) -> Option<Step>
     }
 }
 
-/// Whether an event is kept.
+/// Whether the event with this number is kept.
 pub fn is_kept(history: &History, number: u32) -> bool
     ensures { result ≡ is_kept_of history.now.timeline number }
 {

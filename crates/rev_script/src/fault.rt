@@ -1,4 +1,4 @@
-//! Why a run ends early.
+//! Faults that end a run early.
 ghost use Rattle.std.specs.Prelude.{◌≡◌};
 ghost use Rattle.rev_script.specs.declared.fault.RunFault.TheVariants.{Memory};
 

@@ -1,4 +1,4 @@
-//! The report of a fault in what a run is given: one line, and the status that says so.
+//! The report of a fault: one line, and the status.
 ghost use Rattle.std.specs.Prelude.{◌≡◌, ◌≢◌, ◌++◌, ℕ, List, IfOk, OnOk, slice_get};
 ghost use Rattle.rev_manifest.specs.Seen.{seen_files};
 ghost use Rattle.rev_script.specs.Lines.{edges_fault_line, manifest_fault_line, name_text, text_fault_line};
@@ -15,7 +15,7 @@ use rev_manifest::ManifestFault;
 use std::alloc::{AllocError, Global};
 use std::io::Write;
 
-/// Writes the line of the first fault of a text, which is named.
+/// Writes the line of the first fault of a text. `what` names the text.
 pub fn report_fault<W: Write>(
     alloc: Global,
     what: &[u8],
@@ -31,7 +31,8 @@ pub fn report_fault<W: Write>(
     Ok(Status::Fault)
 }
 
-/// Writes the line of a fault of a manifest's edges. `Memory` is no fault of theirs.
+/// Writes the line of a fault of a manifest's edges. For `GraphFault::Memory` it writes nothing and returns
+/// [`RunFault::Memory`].
 pub fn report_graph_fault<W: Write>(
     alloc: Global,
     fault: &GraphFault,

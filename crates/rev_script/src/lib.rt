@@ -1,5 +1,5 @@
-//! What a run is given and writes, apart from its desk: the words of a script, the turns of a trace's lanes, the lines
-//! of a report, and faults.
+//! The parts of a run besides its desk: the words of a script, the turns of a trace's lanes, the lines of a report, and
+//! faults.
 #![tactic(auto)]
 
 mod fault;

@@ -1,4 +1,4 @@
-//! Traces that are written in version 2.
+//! Traces written in version 2.
 ghost use Rattle.std.specs.Prelude.{◌≡◌, IfOk};
 ghost use Rattle.rev_script.specs.Migrations.{migrated_status, migrated_text};
 ghost use Rattle.rev_script.specs.Output.{Writes};
@@ -14,8 +14,9 @@ use std::io::Write;
 
 /// Writes the text of a trace in version 2, or the line of its first fault.
 ///
-/// Answers `Write` where the writer fails in any way or takes no byte, and `Memory` where the system refused memory.
-/// After either a prefix was written.
+/// # Errors
+/// [`RunFault::Write`] where the writer fails in any way or takes no byte, and [`RunFault::Memory`] where the system
+/// refused memory. After either, the writer has a prefix of the text.
 pub fn write_migrated<W: Write>(
     alloc: Global,
     trace: &[u8],

@@ -1,4 +1,4 @@
-//! Numbers that a word names.
+//! The numbers in a script's word.
 ghost use Rattle.std.specs.Prelude.{◌≡◌, bytes_eq};
 ghost use Rattle.std.specs.Cmp.{partial_equiv_from_equiv};
 ghost use Rattle.std.specs.Cmp.Lexicographic.{nat_list_eq_equiv};
@@ -10,7 +10,7 @@ use rev_fields::{LineFault, number};
 use std::alloc::Global;
 use std::marker::Model;
 
-/// Numbers in a given order, in which one may stand more than once.
+/// Numbers in a given order; a number may occur more than once.
 #[derive(Debug)]
 pub struct Numbers {
     items: Vec<u32>,
@@ -31,7 +31,7 @@ impl Model for Numbers {
 }
 
 impl Numbers {
-    /// The numbers of a vector, which is taken over with its memory.
+    /// The numbers of a vector, whose memory it takes over.
     pub fn new(items: Vec<u32>) -> Numbers
         ensures { result ≡ items.items }
     {
@@ -60,7 +60,7 @@ impl Eq for Numbers {
     ghost laws = { nat_list_eq_equiv };
 }
 
-/// The numbers that texts write.
+/// The numbers that these texts spell.
 pub(crate) fn each_number(alloc: Global, texts: &[Vec<u8>]) -> Result<Vec<u32>, LineFault>
     ensures { Answers result (λ numbers. numbers.items) (each_of short (vectors_of texts.now)) }
 {

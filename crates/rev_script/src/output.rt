@@ -1,4 +1,4 @@
-//! What goes out to a writer.
+//! Output to a writer.
 ghost use Rattle.std.specs.Prelude.{◌<◌, ◌≤◌, IfOk, OnErr, length, take};
 ghost use Rattle.std.specs.Io.KnownBytes.{Appends, Keeps};
 ghost use Rattle.rev_script.specs.Output.{Writes};
@@ -28,7 +28,7 @@ fn write_some<W: Write>(writer: &mut W, bytes: &[u8]) -> Result<usize, RunFault>
     Err(RunFault::Write)
 }
 
-/// Writes all of the bytes. A write that is interrupted is made again. After a fault a prefix of the bytes was written.
+/// Writes all of the bytes. An interrupted write is repeated. After a fault the writer has a prefix of the bytes.
 pub fn send<W: Write>(writer: &mut W, bytes: &[u8]) -> Result<(), RunFault>
     ensures { Writes result (W.contents writer.old) (W.contents writer.new) bytes.now }
 {

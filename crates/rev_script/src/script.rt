@@ -1,4 +1,4 @@
-//! Scripts: the words that ask for something, and what their lines say.
+//! Scripts: their words, and the lines that spell them.
 ghost use Rattle.std.specs.Prelude.{◌≡◌, Some, None, IfOk, OnOk, IsErrOf};
 ghost use Rattle.rev_fields.specs.declared.faults.TextFault.{TextFault};
 ghost use Rattle.rev_fields.specs.Faults.{Answers};
@@ -16,24 +16,25 @@ use std::alloc::Global;
 /// A line of a script.
 #[derive(Debug, PartialEq, Eq)]
 pub enum Word {
-    /// A command of the script's own lane.
+    /// A command, sent on the script's own lane.
     Command(Command),
-    /// `run` takes the commands that are left in the trace, the lanes in turn, up to one whose answer names a break;
-    /// `run K` takes at most so many.
+    /// `run` sends the commands that are left in the trace, lane by lane in turn, up to one whose answer names a break.
+    /// `run K` sends at most `K` commands.
     Run(Option<u32>),
     /// `kept` lists the kept events.
     Kept,
-    /// `marks` lists the marks, what is held, the depths that pools were given, and whether the build was interrupted.
+    /// `marks` lists the marks, the held jobs and slots, the depths that resizes gave, and whether the build was
+    /// interrupted.
     Marks,
-    /// `stamps` lists the files that are there.
+    /// `stamps` lists the files that exist.
     Stamps,
     /// `logs` lists the records of the build log and of the deps log.
     Logs,
-    /// `why OUT` tells the way from an edge to one with reasons.
+    /// `why OUT` lists the edges from this one to an edge that has reasons.
     Why(Name),
-    /// `dependents WHICH` lists the kept events that depend on a kept one.
+    /// `dependents WHICH` lists the kept events that depend on this kept event.
     Dependents(Which),
-    /// `order N...` tells whether these accepted events, in this order from the opening, are equivalent to the kept
+    /// `order N...` answers whether these accepted events, in this order from the opening, are equivalent to the kept
     /// ones.
     Order(Numbers),
 }
@@ -155,7 +156,7 @@ fn read_word(alloc: Global, line: &[u8]) -> Result<Word, LineFault>
     word_of_texts(alloc, &texts)
 }
 
-/// The words of a script, all of its lines but the empty ones. A script has no opening lines and opens no lane.
+/// The words of a script: one for each line that is not empty. A script has no opening lines and opens no lane.
 pub fn read_script(alloc: Global, text: &[u8]) -> Result<Vec<Word>, ReadFault>
     ensures words { IfOk result (λ words. words.items ≡ script_of text.now) }
     ensures sound { OnOk result (script_fault text.now ≡ None) }

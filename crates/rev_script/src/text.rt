@@ -21,7 +21,7 @@ pub fn kept_line(alloc: Global, number: u32, event: &Event) -> Result<Vec<u8>, A
     Ok(line)
 }
 
-/// The line of a question that is refused.
+/// The line of a refused question.
 pub fn refused_line(alloc: Global, code: u16) -> Result<Vec<u8>, AllocError>
     ensures { IfOk result (λ line. line.items ≡ refused_line code) }
 {
@@ -31,7 +31,7 @@ pub fn refused_line(alloc: Global, code: u16) -> Result<Vec<u8>, AllocError>
     Ok(line)
 }
 
-/// The line of a fault in what is named.
+/// The line of a fault in a named text.
 pub(crate) fn fault_line(
     alloc: Global,
     what: &[u8],
@@ -61,7 +61,7 @@ fn push_path(line: &mut Vec<u8>, path: Option<&Name>) -> Result<(), AllocError>
     push_field(line, path.as_bytes())
 }
 
-/// The line of a fault of a graph, which may name a path.
+/// The line of a fault of a graph, with the path that the fault names, if any.
 pub(crate) fn graph_fault_line(
     alloc: Global,
     code: u16,

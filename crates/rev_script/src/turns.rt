@@ -14,7 +14,7 @@ use std::alloc::{AllocError, Global};
 /// A command and the number of its lane.
 #[derive(Clone, Copy)]
 pub struct Turn<'a> {
-    /// The number of the lane. Lanes count from 0.
+    /// The number of the lane, from 0.
     pub lane: u32,
     /// The command.
     pub command: &'a Command,
@@ -107,9 +107,9 @@ fn push_round<'a>(
     Ok(())
 }
 
-/// All commands of the lanes of a trace, at most 63, in the order of their turns: the first command of each lane in
-/// rising number of the lanes, then the second command of each lane that has one, and so on. A round asks only the
-/// lanes that have commands left.
+/// All commands of a trace's lanes, at most 63 lanes, in the order of their turns. The first round has the first
+/// command of each lane, in the order of the lanes; the second round has the second commands, and so on. A round looks
+/// only at the lanes that have commands left.
 pub fn turns_of<'a>(alloc: Global, lanes: &'a [Vec<Command>]) -> Result<Vec<Turn<'a>>, AllocError>
     requires { length lanes.now ≤ Trace.MAX_LANES }
     ensures { IfOk result (λ list. seen_turns list.items ≡ turns (lanes_of lanes.now)) }

@@ -1,4 +1,4 @@
-//! A sentence for the fault line of a report.
+//! The sentence about the fault line of a report.
 ghost use Rattle.std.specs.Prelude.{◌≡◌, ◌==◌, ◌++◌, ℕ, IfOk, IfSome, None, OnOk, is_some};
 ghost use Rattle.std.specs.List.{last_or, slice_get, slice_split};
 ghost use Rattle.std.specs.Option.{option_copied};
@@ -10,14 +10,14 @@ use crate::meanings::meaning;
 use rev_fields::{LineFault, push_number, read_fields, wide_number};
 use std::alloc::{AllocError, Global};
 
-/// The names and the bytes that a run was given.
+/// The names and the bytes of a run's input files.
 #[derive(Clone, Copy)]
 pub struct Inputs<'a> {
-    /// The manifest and the files that it may name.
+    /// The manifest and the files that it may include.
     pub files: &'a [(Vec<u8>, Vec<u8>)],
-    /// The trace's name and bytes.
+    /// The name and the bytes of the trace.
     pub trace: (&'a [u8], &'a [u8]),
-    /// The script's name and bytes.
+    /// The name and the bytes of the script.
     pub script: (&'a [u8], &'a [u8]),
 }
 
@@ -361,8 +361,8 @@ fn fault_line(report: &[u8]) -> Option<&[u8]>
     }
 }
 
-/// One sentence about the last line of a report: where the fault is, and what it means. None where that line is no
-/// fault line, or is not whole.
+/// One sentence about the last line of a report: where the fault is, and what it means. `None` where the last line is
+/// not a fault line, or is incomplete.
 pub fn sentence(
     alloc: Global,
     report: &[u8],

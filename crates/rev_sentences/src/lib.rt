@@ -1,4 +1,4 @@
-//! What a user is told beside a fault line: one sentence on the standard error.
+//! The sentence on standard error that explains a report's fault line.
 #![tactic(auto)]
 
 mod fault_lines;

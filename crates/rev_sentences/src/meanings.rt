@@ -1,4 +1,4 @@
-//! What the numbers of faults and refusals mean.
+//! The meanings of the numbers of faults and refusals.
 ghost use Rattle.std.specs.Prelude.{◌≡◌};
 ghost use Rattle.std.specs.Option.{option_copied};
 ghost use Rattle.rev_sentences.specs.Meanings.{meaning_of, of_desks, of_events, of_manifests, words_in};
@@ -98,7 +98,7 @@ fn of_a_desk(number: u64) -> Option<&'static str>
     Some(words)
 }
 
-/// What a number of a report means, in a few words; none where no report has the number. These are the words of
+/// The meaning of a number in a report, in a few words; `None` where no report has the number. The words are those of
 /// docs/CODES.md.
 pub fn meaning(number: u64) -> Option<&'static str>
     ensures { option_copied result ≡ meaning_of number }

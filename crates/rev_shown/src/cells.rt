@@ -11,7 +11,7 @@ use rev_graph::Graph;
 use rev_paths::Name;
 use std::alloc::AllocError;
 
-/// The first output of an edge; none where there is no such edge.
+/// The first output of an edge. `None` where the graph has no edge with this number.
 pub fn first_output(graph: &Graph, edge: u32) -> Option<&Name>
     ensures { option_copied result ≡ first_output_of graph.now.manifest.builds edge }
 {
@@ -54,7 +54,7 @@ fn push_deps(text: &mut Vec<u8>, path: &Name) -> Result<(), AllocError>
     text.extend_from_slice(b" read")
 }
 
-/// Adds what a cell holds, as `a.o` for the stamp of that file, or `the mark of a.o` for the edge that makes it.
+/// Appends a cell in words: `a.o` for the stamp of that file, `the mark of a.o` for the mark of the edge that makes it.
 ///
 /// # Errors
 /// [`AllocError`] only where an allocation was refused.

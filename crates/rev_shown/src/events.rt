@@ -71,8 +71,8 @@ fn push_plan(text: &mut Vec<u8>, targets: &[Name]) -> Result<(), AllocError>
     push_names(text, targets)
 }
 
-/// Adds an event in words, as `start a.o (job 0)`, `finish a.o` or `touch a.h (240)`: what a `finish` lists and the
-/// stamps of outputs are left out.
+/// Appends an event in words, as `start a.o (job 0)`, `finish a.o` or `touch a.h (240)`. The words leave out what a
+/// `finish` lists and the stamps of its outputs.
 ///
 /// # Errors
 /// [`AllocError`] only where an allocation was refused.

@@ -1,4 +1,4 @@
-//! What people read of names, cells and events.
+//! Names, cells and events as people read them.
 #![tactic(auto)]
 
 mod cells;

@@ -1,4 +1,4 @@
-//! How names stand in what people read.
+//! Names as people read them.
 ghost use Rattle.std.specs.Prelude.{◌≡◌, ◌<◌, ◌∷◌, ◌++◌, [], if◌then◌else◌, OnOk};
 ghost use Rattle.rev_shown.specs.Shown.{hex_byte, hex_digit, is_visible, shown, shown_byte};
 
@@ -58,9 +58,9 @@ fn push_plain(text: &mut Vec<u8>, byte: u8) -> Result<(), AllocError>
     push_hex(text, byte)
 }
 
-/// Adds a name as people read it: its visible ASCII bytes as they are, a space as `\s`, tab, LF, CR and backslash as
-/// `\t`, `\n`, `\r` and `\\`, and every other byte as `\x` and two digits to the base 16. So a name stands in a line as
-/// one word, and no byte of it moves a cursor or changes a colour.
+/// Appends a name as people read it. A visible ASCII byte stands as it is. A space is `\s`; tab, LF, CR and backslash
+/// are `\t`, `\n`, `\r` and `\\`. Every other byte is `\x` and two hexadecimal digits. So a name is one word of a line,
+/// and no byte of it moves a cursor or changes a colour.
 ///
 /// # Errors
 /// [`AllocError`] only where an allocation was refused.

@@ -1,4 +1,4 @@
-//! Words with a name or a number behind them.
+//! Words that a name or a number follows.
 ghost use Rattle.std.specs.Prelude.{◌≡◌, ◌++◌, decimal, OnOk};
 ghost use Rattle.rev_shown.specs.Shown.{shown};
 
@@ -7,7 +7,7 @@ use rev_fields::push_number;
 use rev_paths::Name;
 use std::alloc::AllocError;
 
-/// Adds words and a name.
+/// Appends words and then a name.
 pub(crate) fn push_named(text: &mut Vec<u8>, words: &[u8], name: &Name) -> Result<(), AllocError>
     ensures { OnOk result (text.new.items ≡ text.old.items ++ words.now ++ shown name.now) }
 {
@@ -15,7 +15,7 @@ pub(crate) fn push_named(text: &mut Vec<u8>, words: &[u8], name: &Name) -> Resul
     push_shown(text, name.as_bytes())
 }
 
-/// Adds words and a number.
+/// Appends words and then a number.
 pub(crate) fn push_counted(text: &mut Vec<u8>, words: &[u8], number: u64) -> Result<(), AllocError>
     ensures { OnOk result (text.new.items ≡ text.old.items ++ words.now ++ decimal number) }
 {

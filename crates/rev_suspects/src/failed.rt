@@ -1,4 +1,4 @@
-//! Runs of commands that failed.
+//! Runs that failed.
 ghost use Rattle.std.specs.Prelude.{◌≡◌, ◌==◌, ◌<◌, ◌∷◌, ◌++◌, [], ℕ, List, None, length, slice_index_or, take, All, IfOk, IfSome, OnOk};
 ghost use Rattle.std.specs.List.{cons_option};
 ghost use Rattle.rev_dirty.specs.Reasons.{holds};
@@ -13,11 +13,11 @@ use std::alloc::{AllocError, Global};
 /// A run of a command that failed.
 #[derive(Clone, Copy, Debug, PartialEq, Eq)]
 pub struct Failure {
-    /// The number of the event by which it failed.
+    /// The number of the `fail` event.
     pub number: u32,
-    /// The edge.
+    /// The number of the edge.
     pub edge: u32,
-    /// The number of the event that began it.
+    /// The number of the start event.
     pub began: u32,
 }
 
@@ -97,7 +97,7 @@ fn add_failure(failures: &mut Vec<Failure>, failure: Option<Failure>) -> Result<
     Ok(())
 }
 
-/// The first of the runs that failed, at most so many.
+/// The first failed runs, at most `most` of them.
 ///
 /// # Errors
 /// [`AllocError`] only where an allocation was refused.
@@ -115,7 +115,7 @@ pub(crate) fn first_failures(
     Ok(failures)
 }
 
-/// The runs of commands that failed, by kept events, in the order of these. The kept events are gone through once.
+/// The runs that failed, in the order of their `fail` events. Only kept events count, and each is looked at once.
 ///
 /// # Errors
 /// [`AllocError`] only where an allocation was refused.

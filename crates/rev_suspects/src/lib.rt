@@ -1,4 +1,5 @@
-//! Suspects of failed commands: what they do not wait for, and what was not through when they began.
+//! Suspects of failed commands: the commands that a failed one does not wait for, and that were not through when it
+//! began.
 #![tactic(auto)]
 
 mod failed;

@@ -1,4 +1,4 @@
-//! Which edges wait for which, as marks.
+//! The edges that wait for an edge, and the edges that it waits for, as marks.
 ghost use Rattle.std.specs.Prelude.{◌≡◌, ◌<◌, length, vec_len, IfOk};
 ghost use Rattle.std.specs.List.{All};
 ghost use Rattle.rev_graph.specs.Graph.{successor_lists};
@@ -41,7 +41,7 @@ fn steps_back(alloc: Global, graph: &Graph, steps: &[Vec<u32>]) -> Result<Vec<Ve
     Ok(back)
 }
 
-/// The ways of a graph.
+/// The steps between the edges of a graph, in both directions.
 ///
 /// # Errors
 /// [`AllocError`] only where an allocation was refused.
@@ -58,7 +58,7 @@ pub(crate) fn both_ways(alloc: Global, graph: &Graph) -> Result<Ways, AllocError
     Ok(Ways { steps, back })
 }
 
-/// The edges that an edge waits for.
+/// Marks the edges that an edge waits for.
 ///
 /// # Errors
 /// [`AllocError`] only where an allocation was refused.
@@ -77,7 +77,7 @@ pub(crate) fn waited_marks(
     Ok(marks)
 }
 
-/// The edges that wait for an edge. `back` has the steps against those of the graph.
+/// Marks the edges that wait for an edge. `back` has the graph's steps in reverse.
 ///
 /// # Errors
 /// [`AllocError`] only where an allocation was refused.

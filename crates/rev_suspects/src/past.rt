@@ -1,4 +1,4 @@
-//! A history that goes over the kept events of another, one by one.
+//! A history that repeats the kept events of another, one by one.
 ghost use Rattle.std.specs.Prelude.{◌≡◌, ◌∷◌, ◌++◌, [], ℕ, List, OnOk};
 ghost use Rattle.rev_events.specs.Machine.{after};
 ghost use Rattle.rev_history.specs.Timeline.{state_at};
@@ -29,7 +29,7 @@ fn accept_next(past: &mut History, event: &Event) -> Result<(), AllocError>
     }
 }
 
-/// Goes over the event of one more kept number.
+/// Repeats the event of one more kept number in `past`.
 ///
 /// # Errors
 /// [`AllocError`] only where an allocation was refused.

@@ -1,4 +1,4 @@
-//! On what the list of an edge rests.
+//! What the list of an edge rests on.
 ghost use Rattle.std.specs.Prelude.{◌≡◌, ◌<◌, false, length, map, true, IfOk};
 ghost use Rattle.rev_races.specs.Answer.{AreNoted};
 ghost use Rattle.rev_races.specs.Judged.{edges_of};
@@ -8,15 +8,15 @@ use rev_history::History;
 use rev_races::{finished_edges, listed, started_edges};
 use std::alloc::{AllocError, Global};
 
-/// On what rests what an edge lists in a history.
+/// What an edge's list of files rests on in a history.
 #[derive(Clone, Copy, Debug, PartialEq, Eq)]
 pub enum Basis {
-    /// Its command ended well here, and the last of these ends gave the list.
+    /// The edge's command ended well in this history, and its last such end gave the list.
     Finish,
-    /// Its command did not begin here: the list is the deps log's record of its first output.
+    /// The edge's command did not begin in this history. The list is the deps log's record of the edge's first output.
     Record,
-    /// Its command began here and did not end well: the list is what the deps log's record of its first output had
-    /// before, from an earlier build.
+    /// The edge's command began in this history and did not end well. The list is the one that the deps log had before,
+    /// from an earlier build.
     Earlier,
 }
 
@@ -48,7 +48,7 @@ fn basis_at(history: &History, began: &[bool], ended: &[bool], edge: u32) -> Opt
     }
 }
 
-/// For each edge on what its list rests; none where it has no list. The kept events are gone through twice.
+/// For each edge what its list rests on, or `None` where it has no list. The kept events are looked at twice.
 ///
 /// # Errors
 /// [`AllocError`] only where an allocation was refused.

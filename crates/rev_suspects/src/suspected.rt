@@ -1,4 +1,4 @@
-//! The suspects of runs that failed.
+//! The suspects of failed runs.
 ghost use Rattle.std.specs.Prelude.{◌≡◌, ◌==◌, ◌<◌, ◌++◌, [], ℕ, length, nat_eq, slice_set, All, IfOk, OnOk, if◌then◌else◌};
 ghost use Rattle.indexmap.specs.IndexSet.{contains};
 ghost use Rattle.std.specs.List.{flat_map, list_any};
@@ -30,15 +30,14 @@ pub enum Progress {
     ToRun,
 }
 
-/// A command that a failed one does not wait for, nor the other way round, and that was not through when the failed one
-/// began.
+/// A command that was not through when a failed command began. Neither of the two waits for the other.
 #[derive(Clone, Copy, Debug, PartialEq, Eq)]
 pub struct Suspect {
-    /// The number of the event by which the other command failed, as in [`Failure`].
+    /// The number of the other command's `fail` event, as in [`Failure`].
     pub failed: u32,
-    /// The edge.
+    /// The number of the suspect's edge.
     pub maker: u32,
-    /// How far it was.
+    /// How far the suspect was.
     pub progress: Progress,
 }
 
@@ -296,13 +295,15 @@ fn found_suspects(
     Ok(all)
 }
 
-/// The suspects of the first runs that failed, at most of so many, by kept events, in the order in which they failed; of
-/// each run first the edges whose commands ran when it began, and then those that were still to run, by their numbers.
-/// An edge is a suspect where it has a command and neither of the two waits for the other. What makes one of `files`,
-/// from which the manifest was read, runs before all else, and is none.
+/// The suspects of the first failed runs, at most `most` runs, by kept events. The runs stand in the order in which
+/// they failed. For each run, the edges whose commands ran when it began come first, and then the edges that were still
+/// to run; both stand in rising order.
 ///
-/// Where a run failed, another history goes over the kept events once. Each of the first runs that failed takes a search
-/// of the graph each way and a look at each edge, and each of their starts a look at all of them.
+/// An edge is a suspect where it has a command and neither of the two waits for the other. What makes one of `files`,
+/// from which the manifest was read, runs before all else and is not a suspect.
+///
+/// Where a run failed, a second history repeats the kept events once. Each of the first runs takes a search of the
+/// graph in each direction and a look at each edge. Each of their starts takes a look at all of these runs.
 ///
 /// # Errors
 /// [`AllocError`] only where an allocation was refused.

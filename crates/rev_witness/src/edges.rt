@@ -1,4 +1,4 @@
-//! What is said of edges: their first outputs, the events of their commands, and the order in which they end.
+//! The plans, starts and ends of edges that a witness is made of, and the order in which the edges end.
 ghost use Rattle.std.specs.Prelude.{◌≡◌, ◌<◌, length, map, slice_get, IfOk};
 ghost use Rattle.std.specs.List.{All, range_with_len};
 ghost use Rattle.std.specs.Option.{option_copied};
@@ -27,7 +27,7 @@ fn some_output(graph: &Graph, edge: u32) -> Option<&Name>
     }
 }
 
-/// The first output of an edge: each has one.
+/// The first output of an edge; each edge has one.
 pub(crate) fn first_output(graph: &Graph, edge: u32) -> &Name
     requires { edge < length graph.now.manifest.builds }
     ensures { result.now ≡ first_out graph.now.manifest edge }
@@ -39,7 +39,7 @@ pub(crate) fn first_output(graph: &Graph, edge: u32) -> &Name
     }
 }
 
-/// The plan of two edges, by their first outputs.
+/// The plan of two edges, named by their first outputs.
 pub(crate) fn plan_of(
     alloc: Global,
     graph: &Graph,
@@ -67,7 +67,7 @@ fn first_slot(graph: &Graph, edge: u32) -> Option<u32>
     }
 }
 
-/// The start of an edge's command on the first job and in the first slot.
+/// The start of an edge's command, on the first job and in the first slot.
 pub(crate) fn start_of(graph: &Graph, edge: u32) -> Result<Event, AllocError>
     requires { edge < length graph.now.manifest.builds }
     ensures { IfOk result (λ start. start ≡ start_event graph.now.manifest edge) }
@@ -80,7 +80,7 @@ pub(crate) fn start_of(graph: &Graph, edge: u32) -> Result<Event, AllocError>
     })
 }
 
-/// The end of an edge's command, with the stamp 1 of each output and nothing listed.
+/// The end of an edge's command. Each output has the stamp 1, and the command lists nothing.
 pub(crate) fn finish_of(alloc: Global, graph: &Graph, edge: u32) -> Result<Event, AllocError>
     requires { edge < length graph.now.manifest.builds }
     ensures { IfOk result (λ finish. finish ≡ finish_event graph.now.manifest edge) }
@@ -121,7 +121,7 @@ fn ranks_of(alloc: Global, graph: &Graph, waited: &[bool]) -> Result<Vec<Vec<u32
     Ok(ranks)
 }
 
-/// The edges that an edge waits for, a list for each rank: each stands behind those that it waits for itself.
+/// The edges that an edge waits for, a list for each rank. Each edge stands after the edges that it waits for.
 pub(crate) fn by_rank(alloc: Global, graph: &Graph, edge: u32) -> Result<Vec<Vec<u32>>, AllocError>
     requires { edge < length graph.now.manifest.builds }
     ensures lists { IfOk result (λ lists. AreByRank graph.now edge (graph_of lists.items)) }

@@ -25,7 +25,7 @@ use std::alloc::{AllocError, Global};
 pub struct Witness {
     /// The files that are there at first, each with the stamp 1.
     pub sources: Vec<Name>,
-    /// What happens then. The last event starts the edge.
+    /// The events of the build. The last event starts the edge.
     pub history: History,
 }
 
@@ -180,10 +180,11 @@ fn found_between(
     }))
 }
 
-/// A build from nothing on one job, in which `user` starts while `maker` is still to run: both are planned, then all
-/// that `user` waits for ends, by rank, and `user` starts. Each event is accepted. Of two edges with commands there is
-/// one exactly where `user` does not wait for `maker`; so each race has one. It takes time and memory linear in edges
-/// and inputs, and what the events take.
+/// A build from nothing on one job, in which `user` starts while `maker` is still to run. Both are planned, then
+/// everything that `user` waits for ends, by rank, and then `user` starts. Each event is accepted.
+///
+/// Where both edges have commands, there is such a build exactly where `user` does not wait for `maker`. So each race
+/// has a witness. Time and memory are linear in edges and inputs, besides what the events take.
 ///
 /// # Errors
 /// [`AllocError`] only where an allocation was refused.

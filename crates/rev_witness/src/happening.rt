@@ -1,4 +1,4 @@
-//! Events that happen one after the other.
+//! Events that a witness lets happen, one after another.
 ghost use Rattle.std.specs.Prelude.{◌≡◌, ◌↔◌, ◌+◌, ◌<◌, ◌^◌, ◌||◌, ℕ, None, false, length, true, IfOk, OnOk, IsTrue};
 ghost use Rattle.rev_cells.specs.State.{State, mark_of};
 ghost use Rattle.rev_cells.specs.declared.mark.Mark.TheVariants as mark;
@@ -36,7 +36,7 @@ fn is_through(cells: &Cells, edge: u32) -> bool
     }
 }
 
-/// Has an event happen, unless it is refused. Says whether it happened.
+/// Lets an event happen, unless it is refused. Returns whether it happened.
 #[tactic(auto, using(crate::proofs::WitnessLemmas::began_on, crate::proofs::WitnessLemmas::has_happened))]
 pub(crate) fn happens(history: &mut History, event: &Event) -> Result<bool, AllocError>
     ensures began { (manifest : ManifestValue) (opening : State) → BeganWith manifest opening history.old.timeline
@@ -95,7 +95,7 @@ fn passes(history: &mut History, graph: &Graph, edge: u32) -> Result<bool, Alloc
     happens(history, &Event::Pass { out: out.copy()? })
 }
 
-/// Has an edge end, where it is to: its command runs, or, where it is phony, it passes. Says whether that was accepted.
+/// Lets an edge end that is to be built: its command runs, and a phony edge passes. Returns whether that was accepted.
 pub(crate) fn ends(
     alloc: Global,
     history: &mut History,

@@ -1,4 +1,4 @@
-//! Witnesses: for an edge that does not wait for another, a build from nothing in which it starts before that one.
+//! Witnesses: a build from nothing in which an edge starts before another edge that it does not wait for.
 #![tactic(auto)]
 
 mod edges;

@@ -1,4 +1,4 @@
-//! The opening of a witness: files that no edge makes, and nothing else.
+//! The opening of a witness: the files that no edge makes.
 ghost use Rattle.std.specs.Prelude.{◌≡◌, ◌<◌, [], ◌∷◌, length, IfOk, OnOk};
 ghost use Rattle.rev_graph.specs.Graph.{build_at, inputs_of};
 ghost use Rattle.rev_witness.specs.Sources.{AddsSources, AreThere};
@@ -85,7 +85,7 @@ fn add_inputs(graph: &Graph, edge: u32, sources: &mut Sources) -> Result<(), All
     Ok(())
 }
 
-/// The opening on one job in which each input that no edge makes has the stamp 1, and there is nothing else.
+/// The opening on one job in which each input that no edge makes has the stamp 1. It has no other record.
 pub(crate) fn sources_of(alloc: Global, graph: &Graph) -> Result<Sources, AllocError>
     ensures opening { IfOk result (λ sources. sources.opening ≡ opening_with sources.paths.items) }
     ensures made { IfOk result (λ sources. AreSources graph.now.manifest.builds sources.paths.items) }

@@ -56,7 +56,7 @@ fn push_kept(text: &mut Vec<u8>, history: &History) -> Result<(), AllocError>
     Ok(())
 }
 
-/// A witness as a trace that `rebug` replays: the stamp 1 of each source, and then its events on one lane.
+/// A witness as a trace that `rebug` replays: the stamp 1 of each source, and then the events on one lane.
 ///
 /// # Errors
 /// [`AllocError`] only where an allocation was refused.
