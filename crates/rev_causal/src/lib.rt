@@ -1,5 +1,6 @@
 //! The causal theory of undo: what it is for an event to depend on another, and what follows of undoing, redoing and
-//! reordering events, proved once for every machine whose events ask and change only the cells of their footprints.
+//! reordering events. It is proved once for every machine whose events ask and change only the cells of their
+//! footprints.
 //!
 //! The theory is in `specs/`, and its proofs in `proofs/`; they know nothing of builds.
 //!

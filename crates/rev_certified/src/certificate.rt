@@ -33,7 +33,6 @@ pub struct Certificate {
     pub whole: Vec<bool>,
 }
 
-// Written, since a derived drop is proved again at each exit of each caller.
 impl Drop for Certificate {
     fn drop(self) {
         let Certificate {

@@ -1,15 +1,16 @@
-//! The files of a command that are no outputs of its edge.
+//! The files of a command beside the outputs of its edge.
 ghost use Rattle.std.specs.Prelude.{◌≡◌};
 ghost use Rattle.rev_clashes.specs.Clashes.{path_in};
 
 use rev_manifest::Build;
 
-/// A file of a command that is no output of its edge, at a path that its rule names.
+/// A file of a command beside the outputs of its edge, at a path that its rule names.
 #[derive(Clone, Copy, Debug, PartialEq, Eq)]
 pub enum SideFile {
     /// The list of what the command read, which it leaves (Ninja manual, depfile).
     Depfile,
-    /// What the command is told in a file, which Ninja writes before it runs (Ninja manual, response files).
+    /// The file with the command's arguments, which Ninja writes before the command runs (Ninja manual, response
+    /// files).
     ResponseFile,
 }
 

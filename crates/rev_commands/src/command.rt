@@ -27,7 +27,6 @@ pub enum Command {
     Continue,
 }
 
-// Written, since a derived drop is proved again at each exit of each caller.
 impl Drop for Command {
     fn drop(self) {
         match self {

@@ -28,7 +28,6 @@ pub enum Point {
     Interrupt,
 }
 
-// Written, since a derived drop is proved again at each exit of each caller.
 impl Drop for Point {
     fn drop(self) {
         match self {

@@ -212,16 +212,14 @@ fn names_in_order(alloc: Global, set: IndexSet<Name>) -> Result<Vec<Name>, Alloc
     set.into_iter().collect(alloc)
 }
 
-/// The prerequisites that a depfile lists for an edge with these outputs: those of
-/// all lines, as canonical paths, each where it is mentioned first. The time is
-/// linear in the bytes and in the outputs, up to hashing.
+/// The prerequisites that a depfile lists for an edge with these outputs: those of all lines, as canonical paths, each
+/// where it is mentioned first. The time is linear in the bytes and in the outputs, up to hashing.
 ///
 /// # Errors
-/// The first fault of the text, lines in order: [`DepfileFault::NoColon`] for a line
-/// that has words and no separating colon, [`DepfileFault::OtherTarget`] for one with
-/// prerequisites and no target that is an output, [`DepfileFault::LongPath`] for a
-/// prerequisite of more than 4,096 bytes; or [`DepfileFault::Memory`] where an
-/// allocation failed.
+/// The first fault of the text, lines in order. [`DepfileFault::NoColon`]: a line has words and no separating colon.
+/// [`DepfileFault::OtherTarget`]: a line has prerequisites and no target that is an output.
+/// [`DepfileFault::LongPath`]: a prerequisite has more than 4,096 bytes. [`DepfileFault::Memory`] only where an
+/// allocation was refused.
 pub fn read(alloc: Global, bytes: &[u8], outputs: &[Name]) -> Result<Vec<Name>, DepfileFault>
     ensures value { IfOk result (λ names. names.items ≡ prerequisites bytes.now) }
     ensures sound { OnOk result (first_fault outputs.now bytes.now ≡ None) }

@@ -195,8 +195,8 @@ pub(crate) fn counted_on_line(
     Ok(inputs)
 }
 
-/// What is asked of all inputs of an edge, of which `listed` are those that its deps record lists, and
-/// `producers` the edges that produce those.
+/// What is asked of all inputs of an edge. `listed` are those that its deps record lists, and `producers` the edges
+/// that produce the listed ones.
 pub(crate) fn all_inputs(
     alloc: Global,
     graph: &Graph,

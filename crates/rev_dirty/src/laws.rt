@@ -2,8 +2,8 @@
 ghost use Rattle.rev_dirty.specs.Laws.{ShowsThrough};
 ghost use Rattle.rev_dirty.specs.Reading.{ReasonCellsDecide, SeenAreSeen, SeenPathsDecide};
 
-/// The visible stamp of a path is its stamp; but of a missing output of a phony edge it is the greatest visible stamp
-/// of that edge's explicit and implicit inputs, 0 where it has none.
+/// The visible stamp of a path is its stamp. Of a missing output of a phony edge it is the greatest visible stamp of
+/// that edge's explicit and implicit inputs, 0 where it has none.
 pub fn shows_through()
     ensures { ShowsThrough }
 {}
@@ -18,8 +18,8 @@ pub fn seen_paths_decide()
     ensures { SeenPathsDecide }
 {}
 
-/// The reasons of an edge depend on its reason cells alone: the marks of the producers of its inputs, the stamps that
-/// are seen of its inputs, the stamps and build records of its outputs, and its deps record.
+/// The reasons of an edge depend on its reason cells alone. These are the marks of the producers of its inputs, the
+/// stamps that are seen of its inputs, the stamps and build records of its outputs, and its deps record.
 pub fn reason_cells_decide()
     ensures { ReasonCellsDecide }
 {}

@@ -30,8 +30,8 @@ fn greatest_there(cells: &Cells, paths: &[Name], least: u64) -> Option<u64>
     Some(newest)
 }
 
-/// The greatest visible stamp of the inputs of an edge that are not order-only, of which its deps record lists some,
-/// where none of these is missing: then what produces them is not looked at.
+/// The greatest visible stamp of the inputs of an edge that are not order-only, where none of these is missing: then
+/// what produces them is not looked at. `listed` are the inputs that its deps record lists.
 pub(crate) fn newest_there(graph: &Graph, cells: &Cells, edge: u32, listed: &[Name]) -> Option<u64>
     requires edge { edge < length graph.now.manifest.builds }
     requires graph { IsGraph graph.now }

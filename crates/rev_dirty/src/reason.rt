@@ -2,9 +2,9 @@
 ghost use Rattle.std.specs.Prelude.{◌≡◌};
 ghost use Rattle.rev_dirty.specs.Reasons.{kind_of};
 
-/// Why an edge is dirty. Positions count from 0: those of outputs as [`rev_graph::Graph::outputs`] has them, explicit
-/// before implicit, and those of inputs in the list of explicit, implicit and order-only inputs and then of what the
-/// deps record of the first output lists, where the edge keeps deps.
+/// Why an edge is dirty. Positions count from 0. Those of outputs are as [`rev_graph::Graph::outputs`] has them,
+/// explicit before implicit. Those of inputs are in one list: explicit, implicit and order-only inputs, and then,
+/// where the edge keeps deps, what the deps record of its first output lists.
 #[derive(Clone, Copy, Debug, PartialEq, Eq)]
 pub enum Reason {
     /// The output at this position is missing.

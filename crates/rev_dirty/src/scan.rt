@@ -17,9 +17,9 @@ use rev_graph::Graph;
 use std::alloc::{AllocError, Global};
 use std::marker::Model;
 
-/// A scan over the edges of a graph in one state. It keeps what it learned of phony edges, each of which is entered
-/// once in its life, and of what edges changed (Ninja has the name `DependencyScan`). What it has learned shows in no
-/// answer.
+/// A scan over the edges of a graph in one state. It keeps what it learned of phony edges, and of what edges changed,
+/// so that it enters each phony edge once in its life (Ninja has the name `DependencyScan`). What it has learned shows
+/// in no answer.
 ///
 /// Calls about one edge take a number below [`Graph::edges`]. After an error the scan answers as before.
 #[derive(Drop)]
@@ -67,12 +67,12 @@ impl<'a> DependencyScan<'a> {
     /// Where there is none the edge is clean.
     ///
     /// An edge that is not phony is dirty where an output is missing, is older than an input or has no record of this
-    /// edge's command, where its deps are not known or out of date, or where an input was rebuilt (Ninja manual, the
-    /// build log, deps, restat, generator). A phony edge is dirty only where it has no input of any kind, for each
-    /// output that is missing.
+    /// edge's command. It is dirty, too, where its deps are not known or out of date, or where an input was rebuilt
+    /// (Ninja manual, the build log, deps, restat, generator). A phony edge is dirty only where it has no input of any
+    /// kind, for each output that is missing.
     ///
-    /// It takes time linear in the edge's inputs and outputs, and in what those phony edges behind its inputs have that
-    /// the scan enters for the first time, up to hashing.
+    /// It takes time linear in the edge's inputs and outputs, and in those of each phony edge that the scan enters for
+    /// the first time, up to hashing.
     ///
     /// # Errors
     /// [`AllocError`] only where an allocation was refused.

@@ -159,8 +159,8 @@ fn step(
     }
 }
 
-/// Makes the phony edges known through which inputs are seen, and those behind them. Each that was not known is entered
-/// once and left once. What was known stays so, also where memory is short.
+/// Makes the phony edges known through which inputs are seen, at any depth. Each that was not known is entered once
+/// and left once. What was known stays so, also where memory is short.
 pub(crate) fn know(
     alloc: Global,
     graph: &Graph,

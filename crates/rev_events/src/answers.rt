@@ -72,7 +72,7 @@ fn finish_answer(
 }
 
 /// What an event writes where the state accepts it, as [`effect`] gives it, and else why it is refused, as [`check`]
-/// says: the two in one call, which makes a plan once and reads a depfile once.
+/// says. One call makes a plan once and reads a depfile once.
 ///
 /// # Errors
 /// [`Fault::Refused`] with the refusal, [`Fault::Memory`] only where an allocation was refused.

@@ -17,7 +17,6 @@ pub enum Listing {
     Paths(Names),
 }
 
-// Written, since a derived drop is proved again at each exit of each caller.
 impl Drop for Listing {
     fn drop(self) {
         match self {
@@ -100,7 +99,6 @@ pub enum Event {
     },
 }
 
-// Written, since a derived drop is proved again at each exit of each caller.
 impl Drop for Event {
     fn drop(self) {
         match self {

@@ -24,7 +24,7 @@ fn given_or(cells: &Cells, pool: u32, depth: u32) -> u32
     }
 }
 
-/// The present depth of a pool, none where there is no such pool.
+/// The present depth of a pool; `None` where the manifest has no pool of that number.
 pub(crate) fn present_depth(graph: &Graph, cells: &Cells, pool: u32) -> Option<u32>
     ensures { result ≡ present_depth_in graph.now.manifest cells.now.state pool }
 {
@@ -53,8 +53,8 @@ fn is_depth(depth: u32) -> bool
 }
 
 /// The slots that a pool loses where it is given a depth: those from that depth up to its present one. It loses none
-/// where it grows or keeps its depth, and none where it cannot be given the depth: where there is no such pool, or its
-/// present depth or the new one is not from 1 to 1,024.
+/// where it grows or keeps its depth. It loses none, too, where it cannot be given the depth: the manifest has no such
+/// pool, or its present depth or the given one is not from 1 to 1,024.
 ///
 /// It takes constant time.
 pub fn slots_lost(graph: &Graph, cells: &Cells, pool: u32, depth: u32) -> Range<u32>

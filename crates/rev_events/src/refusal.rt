@@ -5,7 +5,7 @@ ghost use Rattle.rev_events.specs.Refusal.{code_of, first_number, second_number}
 /// Why an event or a command is refused. Edges are named by their numbers; positions count from 0.
 #[derive(Clone, Copy, Debug, PartialEq, Eq)]
 pub enum Refusal {
-    /// An edge runs, so there is no plan. It carries the least such edge.
+    /// An edge runs, so nothing is planned. It carries the least such edge.
     StillRunning(u32),
     /// A target stands on no build line. It carries the position of the first such target.
     UnknownTarget(u64),
@@ -53,7 +53,7 @@ pub enum Refusal {
     Depfile(u16, u64),
     /// A slot is held that the pool would lose. It carries the least such slot and the edge that has it.
     DepthInUse(u32, u32),
-    /// There is no such pool, or its present depth or the new one is not from 1 to 1,024.
+    /// The manifest has no such pool, or its present depth or the asked one is not from 1 to 1,024.
     BadResize,
     /// No event was accepted under the number.
     NoSuchEvent,

@@ -17,7 +17,6 @@ pub struct Stamps {
     items: ArcSlice<u64>,
 }
 
-// Written, since a derived drop is proved again at each exit of each caller.
 impl Drop for Stamps {
     fn drop(self) {
         let Stamps { items: _items } = self;

@@ -10,8 +10,8 @@ use std::alloc::{AllocError, AllocFailed};
 /// What is wrong with a line. Where several of the first four are, the first of them counts.
 #[derive(Clone, Copy, Debug, PartialEq, Eq)]
 pub enum FaultKind {
-    /// No line of the language: a field that is no text, an unknown word, a wrong count of fields,
-    /// a path that is empty or longer than 4,096 bytes, or a line that may not stand at this place.
+    /// No form reads the line: a field does not write a text, a word is unknown, the count of fields is wrong, or a
+    /// path is empty or longer than 4,096 bytes. Or the line may not stand at this place.
     Syntax,
     /// A field that has to be a number is none in form, or is out of its range.
     Number,

@@ -11,7 +11,7 @@ pub const MAX_BYTES: usize = 16_384;
 /// What is wrong with a text.
 #[derive(Clone, Copy, Debug, PartialEq, Eq)]
 pub enum FaultKind {
-    /// The line is a pattern with nothing between two slashes, or behind the last one: it could hide nothing.
+    /// The line is a pattern with nothing between two slashes, or after its last slash: it could hide nothing.
     Syntax,
     /// The text has more than [`MAX_BYTES`] bytes. It is at line 0.
     Long,

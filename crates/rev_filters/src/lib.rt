@@ -1,4 +1,4 @@
-//! Which paths are left out of what is told: patterns, a line each, and the paths that they hide.
+//! Which paths answers leave out: patterns, a line each, and the paths that they hide.
 #![tactic(auto)]
 
 mod faults;

@@ -1,4 +1,4 @@
-//! The phony edges behind the inputs of an edge.
+//! The phony edges through which the inputs of an edge are seen.
 ghost use Rattle.std.specs.Prelude.{◌≡◌, ◌<◌, [], length, IfSome, OnOk};
 ghost use Rattle.std.specs.List.{cons_option};
 ghost use Rattle.rev_footprint.specs.Behind.{phony_among, next_edges, AreBehind, ArePhony, AreProducers, Grows};

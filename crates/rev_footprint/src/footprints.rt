@@ -10,15 +10,14 @@ use crate::listed::is_among;
 use rev_cells::Cell;
 use std::marker::Model;
 
-/// The cells that an event reads and writes in a state. A written cell is read too, so all stand in one list, which has
-/// room for them and no more: the written ones first, and behind them those that are only read.
+/// The cells that an event reads and writes in a state. A written cell is read too, so all stand in one list, which
+/// has room for them and no more: first the written ones, then those that are only read.
 pub struct Footprint {
     cells: Vec<Cell>,
     written: usize,
     whole: bool,
 }
 
-// Written, since a derived drop is proved again at each exit of each caller.
 impl Drop for Footprint {
     fn drop(self) {
         let Footprint {
@@ -44,8 +43,9 @@ impl Model for Footprint {
 }
 
 impl Footprint {
-    /// The footprint of an event that reads these cells, of which it writes the first ones. Of a whole event they are
-    /// those that it writes. It takes no memory: where a list with room for no more is refused, the larger one stays.
+    /// The footprint of an event that reads these cells and writes the first `written` of them. Of a whole event they
+    /// are those that it writes. It takes no memory: where a list with room for no more is refused, the larger one
+    /// stays.
     pub fn of(read: Vec<Cell>, written: usize, whole: bool) -> Footprint
         requires within { written ≤ length read.items }
         requires distinct { IsDistinct (eq_by_cmp cell_cmp) read.items }

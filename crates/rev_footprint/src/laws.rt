@@ -8,7 +8,7 @@ pub fn events_are_local()
     ensures { EventsAreLocal }
 {}
 
-/// So builds are a machine of which the laws of undo hold.
+/// So the laws of undo hold of the machine of builds.
 pub fn machine_is_local()
     ensures { MachineIsLocal }
 {}

@@ -1,4 +1,4 @@
-//! The cells of a footprint in one list: those that are written, and behind them those that are only read.
+//! The cells of a footprint in one list: first those that are written, then those that are only read.
 ghost use Rattle.std.specs.Prelude.{◌≡◌, ◌++◌, IfOk, OnOk, length, take};
 ghost use Rattle.std.specs.List.{IsDistinct};
 ghost use Rattle.std.specs.Ordering.{eq_by_cmp};
@@ -53,7 +53,7 @@ fn put_behind(cells: &mut Vec<Cell>, more: Vec<Cell>) -> Result<(), AllocError>
     Ok(())
 }
 
-/// Puts the cells of a set behind those that are written, but for these themselves.
+/// Appends the cells of a set that are not among the written ones.
 pub(crate) fn add_others(
     alloc: Global,
     written: &mut Vec<Cell>,

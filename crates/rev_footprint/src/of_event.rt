@@ -332,16 +332,17 @@ fn add_reads(
     Ok(())
 }
 
-/// The footprint of an event in a state: exactly the cells that an accepted event of its kind reads and writes there. A
-/// plan is whole.
+/// The footprint of an event in a state: exactly the cells that an accepted event of its kind reads and writes there.
+/// A plan is whole.
 ///
 /// A start or a clean reads the marks of the producers of the edge's inputs, the stamps and built records of its
-/// outputs, its deps record where it keeps one, and the stamps that are seen of its inputs that are not order-only,
-/// through phony edges whatever the stamps are; a start whether the build is halted, too, and where it names a slot of
-/// its edge's pool that pool's depth. A pass reads no visible stamp. An abort reads whether the build is halted. A
-/// resize writes the depth of its pool, which it reads too, and reads the slots that the pool loses.
+/// outputs, and its deps record where it keeps one. It reads, too, the stamps that are seen of its inputs that are not
+/// order-only, through phony edges whatever the stamps are. A start also reads whether the build is halted and, where
+/// it names a slot of its edge's pool, that pool's depth. A pass reads no visible stamp. An abort reads whether the
+/// build is halted. A resize writes the depth of its pool, which it reads too, and reads the slots that the pool
+/// loses.
 ///
-/// It takes time linear in the cells and in what the phony edges behind the inputs have, up to hashing.
+/// It takes time linear in the cells and in what the phony edges have through which inputs are seen, up to hashing.
 ///
 /// # Errors
 /// [`AllocError`] only where an allocation was refused.

@@ -161,8 +161,8 @@ fn add_input_stamps(
     Ok(())
 }
 
-/// Adds the stamps that are seen of an edge's inputs that count, of which its deps record lists some, and `producers`
-/// produce these: their own, and those of what stands behind them, through phony edges, whatever the stamps are.
+/// Adds the stamps that are seen of an edge's inputs that count: their own, and those of what is seen through phony
+/// edges, whatever the stamps are. `producers` are those of the inputs that its deps record lists.
 pub(crate) fn add_seen_stamps(
     alloc: Global,
     graph: &Graph,

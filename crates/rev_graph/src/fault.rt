@@ -23,7 +23,6 @@ pub enum GraphFault {
     Cycle(Name),
 }
 
-// Written, since a derived drop is proved again at each exit of each caller.
 impl Drop for GraphFault {
     fn drop(self) {
         match self {

@@ -27,7 +27,6 @@ pub struct Graph {
     ranks: Vec<u32>,
 }
 
-// Written, since a derived drop is proved again at each exit of each caller.
 impl Drop for Graph {
     fn drop(self) {
         let Graph {
@@ -58,7 +57,7 @@ pub struct Inputs<'a> {
     pub explicit: &'a [Name],
     /// The inputs after `|`.
     pub implicit: &'a [Name],
-    /// The inputs after `||`, which come first but are no reason to run (Ninja manual, order-only dependencies).
+    /// The inputs after `||`, which come first and never give a reason to run (Ninja manual, order-only dependencies).
     pub order_only: &'a [Name],
 }
 
@@ -77,8 +76,9 @@ impl Graph {
 
     /// The graph of a manifest, in time linear in its edges and paths up to hashing.
     ///
-    /// # Errors [`GraphFault::TooManyEdges`] where there are more than [`Graph::MAX_EDGES`] edges; else
-    /// [`GraphFault::MultipleProducers`] with the first output, in reading order, that an earlier edge has; else
+    /// # Errors
+    /// [`GraphFault::TooManyEdges`] where there are more than [`Graph::MAX_EDGES`] edges. Else
+    /// [`GraphFault::MultipleProducers`] with the first output, in reading order, that an earlier edge has. Else
     /// [`GraphFault::Cycle`] with the first output of the least edge that reaches itself. [`GraphFault::Memory`] only
     /// where an allocation was refused.
     pub fn build(alloc: Global, manifest: &Manifest) -> Result<Graph, GraphFault>
@@ -241,7 +241,7 @@ impl Graph {
         self.at(edge).restat()
     }
 
-    /// Whether a change of an edge's command is no reason to run it (Ninja manual, generator).
+    /// Whether an edge does not run for a change of its command alone (Ninja manual, generator).
     pub fn generator(&self, edge: u32) -> bool
         requires { edge < length self.now.manifest.builds }
         ensures { result ≡ (build_at self.now.manifest.builds edge).generator }
@@ -258,8 +258,8 @@ impl Graph {
         numbered(self.manifest.pools(), self.at(edge).pool())
     }
 
-    /// The depth of a pool by its number, as the manifest has it, also where it is 0 or no edge uses the pool; none
-    /// where there is no such pool (Ninja manual, pools).
+    /// The depth of a pool by its number, as the manifest has it, also where it is 0 or no edge uses the pool. `None`
+    /// where the manifest has no pool of that number (Ninja manual, pools).
     pub fn depth(&self, pool: u32) -> Option<u32>
         ensures { result ≡ depth_of self.now.manifest pool }
     {

@@ -22,11 +22,12 @@ pub(crate) fn first_accessed<'a>(
     None
 }
 
-/// Whether the event of a later kept number depends on that of an earlier one: each with the footprint of its place,
-/// one is a plan, or a cell that one writes is read or written by the other. Not where a number is not kept, or the second
-/// is not the later one.
+/// Whether the event of a later kept number depends on that of an earlier one. It does where one of the two is a plan,
+/// or one writes a cell that the other reads or writes, each with the footprint of its place. It does not where a
+/// number is not kept, or the second is not the later one.
 ///
-/// It takes no memory. Each cell that one of the two writes is looked for among those that the other reads, one by one.
+/// It takes no memory. Each cell that one of the two writes is looked for among those that the other reads, one by
+/// one.
 pub fn depends(history: &History, one: u32, other: u32) -> bool
     ensures { result ≡ depends_on history.now.timeline one other }
 {
@@ -42,12 +43,13 @@ pub fn depends(history: &History, one: u32, other: u32) -> bool
     conflict(&first, &second)
 }
 
-/// The first cell by which the event of a later kept number depends on that of an earlier one: of those that the
-/// earlier one writes, in the order of its effect, the first that the later one reads or writes; else, of those that the
-/// later one writes, the first that the earlier one reads. None where it does not depend ([`depends`]), and where it does for
-/// no named cell, since one of the two is a plan, which reads every cell.
+/// The first cell by which the event of a later kept number depends on that of an earlier one. Of those that the
+/// earlier one writes, in the order of its effect, it is the first that the later one reads or writes. Else, of those
+/// that the later one writes, it is the first that the earlier one reads. `None` where it does not depend
+/// ([`depends`]), and where it does for no named cell, since one of the two is a plan, which reads every cell.
 ///
-/// It takes no memory. Each cell that one of the two writes is looked for among those that the other names, one by one.
+/// It takes no memory. Each cell that one of the two writes is looked for among those that the other names, one by
+/// one.
 pub fn dependence<'a>(history: &'a History, one: u32, other: u32) -> Option<&'a Cell>
     ensures { option_copied result ≡ dependence_of history.now.timeline one other }
 {

@@ -12,8 +12,8 @@ pub fn cells_are_named()
     ensures { CellsAreNamed }
 {}
 
-/// What [`crate::ways_to`] finds is exactly what an event rests on, by one dependence after another: each kept number
-/// once, from the latest down, before the latest of these, or the number itself, that depends on it.
+/// What [`crate::ways_to`] finds is exactly what an event rests on, by one dependence after another. Each kept number
+/// comes once, from the latest down, beside the latest of these, or the number itself, that depends on it.
 pub fn ways_are_all()
     ensures { WaysAreAll }
 {}

@@ -24,7 +24,6 @@ pub struct Link {
     pub cell: Option<Cell>,
 }
 
-// Written, since a derived drop is proved again at each exit of each caller.
 impl Drop for Link {
     fn drop(self) {
         let Link {
@@ -43,7 +42,6 @@ struct Noted {
     cells: IndexMap<u32, IndexSet<Cell>>,
 }
 
-// Written, since a derived drop is proved again at each exit of each caller.
 impl Drop for Noted {
     fn drop(self) {
         let Noted { cells: _cells } = self;

@@ -22,7 +22,6 @@ pub(crate) struct Told {
     pub(crate) named: IndexSet<Cell>,
 }
 
-// Written, since a derived drop is proved again at each exit of each caller.
 impl Drop for Told {
     fn drop(self) {
         let Told {
@@ -38,7 +37,6 @@ pub(crate) struct Found {
     pub(crate) told: IndexMap<u32, Told>,
 }
 
-// Written, since a derived drop is proved again at each exit of each caller.
 impl Drop for Found {
     fn drop(self) {
         let Found { told: _told } = self;

@@ -1,4 +1,4 @@
-//! What a state is told as: the lines of its files, its marks, its logs, and why an edge is dirty.
+//! The lines that list a state: its files, its marks, its logs, and why an edge is dirty.
 #![tactic(auto)]
 
 mod logs;

@@ -227,9 +227,9 @@ fn push_cell(
     }
 }
 
-/// A line `mark E OUT WORD` for each edge that is not `Idle`, then `job J E` and `slot POOL S E` for what is held, then
-/// `depth POOL N` for each pool that was given a depth, also where it is that of the manifest, in rising numbers, then
-/// `halted` where the build was interrupted.
+/// A line `mark E OUT WORD` for each edge that is not `Idle`, then `job J E` and `slot POOL S E` for what is held.
+/// Then a line `depth POOL N` for each pool that was given a depth, also where it is that of the manifest, in rising
+/// numbers. Last `halted`, where the build was interrupted.
 pub fn marks_text(alloc: Global, graph: &Graph, cells: &Cells) -> Result<Vec<u8>, AllocError>
     ensures { IfOk result (λ text. text.items ≡ marks_text graph.now.manifest.builds cells.now.state) }
 {

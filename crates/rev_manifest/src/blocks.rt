@@ -33,8 +33,8 @@ pub(crate) fn are_depths(bindings: &[Binding<'_>]) -> bool
     true
 }
 
-/// The rule that has these texts, of which the later of one name counts. There is none where a name is that of no
-/// variable that a rule has.
+/// The rule that has these texts; of two with one name the later counts. `None` where a rule has no variable of such a
+/// name.
 pub(crate) fn rule_with(alloc: Global, bindings: &[Binding<'_>]) -> Result<Option<Rule>, AllocError>
     ensures { IfOk result (IsRuleWith (map seen_binding bindings.now)) }
 {

@@ -28,7 +28,6 @@ pub struct Build {
     pub(crate) line: u64,
 }
 
-// Written, since a derived drop is proved again at each exit of each caller.
 impl Drop for Build {
     fn drop(self) {
         let Build {
@@ -113,7 +112,7 @@ impl Build {
         &self.implicit
     }
 
-    /// The inputs after `||`, which come first but are no reason to run (Ninja manual, order-only dependencies).
+    /// The inputs after `||`, which come first and never give a reason to run (Ninja manual, order-only dependencies).
     pub fn order_only(&self) -> &[Name]
         ensures { result.now ≡ self.now.order_only }
     {
@@ -173,7 +172,7 @@ impl Build {
         self.restat
     }
 
-    /// Whether a change of the command is no reason to run it (Ninja manual, generator).
+    /// Whether the edge does not run for a change of its command alone (Ninja manual, generator).
     pub fn generator(&self) -> bool
         ensures { result ≡ self.now.generator }
     {

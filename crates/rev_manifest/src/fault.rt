@@ -24,7 +24,7 @@ pub enum FaultKind {
     UnknownRule,
     /// 14: a rule is declared twice, or is named `phony`.
     DoubleRule,
-    /// 15: a binding under a rule is none of a rule's variables, or one under a pool is not `depth`.
+    /// 15: a binding under a rule names something that a rule does not have, or one under a pool is not `depth`.
     UnknownVariable,
     /// 16: a rule has no command.
     NoCommand,
@@ -32,7 +32,7 @@ pub enum FaultKind {
     VariableCycle,
     /// 18: an edge is in a pool that is nowhere declared.
     UnknownPool,
-    /// 19: a pool has no depth, or one that is no decimal number of at most 1,000,000.
+    /// 19: a pool has no depth, or its depth is not a decimal number of at most 1,000,000.
     BadDepth,
     /// 20: no file was given, or a statement names none of those that were.
     NoFile,
@@ -132,7 +132,7 @@ impl From<SyntaxKind> for FaultKind {
 pub enum ReadFault {
     /// An allocation was refused.
     Memory,
-    /// The files are no manifest, and this is their first fault.
+    /// The files do not say a manifest. This is their first fault.
     Manifest(ManifestFault),
 }
 

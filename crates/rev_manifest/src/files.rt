@@ -17,7 +17,7 @@ const MAX_FILES: usize = 16_384;
 /// The most bytes that all files may have.
 const MAX_BYTES: usize = 268_435_456;
 
-/// The files that are given, of which the first of a name is found by it.
+/// The files that are given. A name finds the first file that has it.
 #[derive(Drop)]
 pub(crate) struct Files<'a> {
     files: &'a [(Vec<u8>, Vec<u8>)],

@@ -30,7 +30,6 @@ pub(crate) struct Parts {
     pub(crate) defaults: Vec<Name>,
 }
 
-// Written, since a derived drop is proved again at each exit of each caller.
 impl Drop for Parts {
     fn drop(self) {
         let Parts {
@@ -47,7 +46,6 @@ pub struct Manifest {
     parts: Arc<Parts>,
 }
 
-// Written, since a derived drop is proved again at each exit of each caller.
 impl Drop for Manifest {
     fn drop(self) {
         let Manifest { parts: _parts } = self;
@@ -115,7 +113,7 @@ impl Manifest {
 /// The greatest include depth, counting the manifest.
 const MOST_DEEP: u32 = 17;
 
-/// A place that is no line.
+/// The place of a fault about no line.
 const NOWHERE: Place = Place { file: 0, line: 0 };
 
 // What all files declare, of which so many bytes more may be read than are given.

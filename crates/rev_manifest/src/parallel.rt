@@ -1,4 +1,4 @@
-//! Edges ended on several threads, each of which takes a part of the list.
+//! Edges expanded on several threads: each thread takes a part of the list.
 ghost use Rattle.std.specs.Prelude.{◌++◌, map, IfOk, IfSome, List};
 ghost use Rattle.std.specs.Thread.{IsSync};
 ghost use Rattle.rev_scopes.specs.Scopes.{ScopeValue};

@@ -92,9 +92,9 @@ fn marks_seen(
     Ok(marks)
 }
 
-/// Under each kept number a mask whose bit i says whether it is in the cone of the event at place i of those asked:
-/// whether it is that event, or depends on a member ([`History::members`]). Under a number with no bit there may stand
-/// none.
+/// Under each kept number a mask. Bit i says whether the number's event is in the cone of the event at place i of
+/// those asked: whether it is that event, or depends on a member ([`History::members`]). A number with no bit may have
+/// no mask.
 ///
 /// The kept events are gone through once. It takes time and memory linear in what they read and write, up to hashing.
 ///
@@ -111,7 +111,7 @@ pub fn cone_marks(
     marks_seen(alloc, history, asked, false)
 }
 
-/// The same of what hangs on the events by more than jobs and slots: by a cell that is none of a job or a slot.
+/// The same of what hangs on the events by more than jobs and slots: by a cell that is neither a job's nor a slot's.
 ///
 /// # Errors
 /// [`AllocError`] only where an allocation was refused.

@@ -1,4 +1,4 @@
-//! Of which of some events each kept one is in the cone, for many at once.
+//! In which of some events' cones each kept event is, for many at once.
 #![tactic(auto)]
 
 mod cones;

@@ -22,7 +22,6 @@ pub(crate) struct Table {
     pub(crate) written: IndexMap<Cell, u64>,
 }
 
-// Written, since a derived drop is proved again at each exit of each caller.
 impl Drop for Table {
     fn drop(self) {
         let Table {

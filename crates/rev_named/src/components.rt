@@ -14,7 +14,6 @@ pub struct LastComponents {
     makers: IndexMap<Name, Option<u32>>,
 }
 
-// Written, since a derived drop is proved again at each exit of each caller.
 impl Drop for LastComponents {
     fn drop(self) {
         let LastComponents { makers: _makers } = self;

@@ -144,7 +144,7 @@ fn all_named<'a>(
 
 /// For each edge its first output that a text names, explicit before implicit ones; none where the text names none.
 ///
-/// The words of the text are what stands between bytes that are no part of a file's name, without dots at the end. An
+/// The words of the text are what stands between bytes that a file's name does not have, without dots at the end. An
 /// output is named where it is a word; or where a word is an end of it, by whole components, and no other edge, and no
 /// source, has its last component. Paths are compared in canonical form.
 ///

@@ -1,4 +1,4 @@
-//! The pieces of a text between bytes that are no part of a file's name.
+//! The pieces of a text between bytes that a file's name does not have.
 ghost use Rattle.std.specs.Prelude.{◌≡◌, IfOk};
 ghost use Rattle.rev_paths.specs.Kept.{texts};
 ghost use Rattle.rev_named.specs.Words.{begun_by as begun_by_byte, goes_on as goes_on_byte, is_name_byte as is_byte_of_name, is_part as is_part_of_name, mode_after as mode_behind, pieces as pieces_of};
@@ -14,7 +14,7 @@ pub(crate) enum Mode {
     Escape,
     /// In a control sequence, behind ESC and `[`: it ends with a letter.
     Sequence,
-    /// Behind the first byte of a character from U+2000 to U+2FFF.
+    /// After the first byte of a character from U+2000 to U+2FFF.
     Symbol,
 }
 
@@ -87,7 +87,7 @@ fn is_part(mode: Mode, byte: u8) -> bool
     }
 }
 
-/// What stands between bytes that are no part of a name, in one pass.
+/// What stands between bytes that a name does not have, in one pass.
 ///
 /// # Errors
 /// [`AllocError`] only where an allocation was refused.

@@ -15,7 +15,8 @@ pub fn place_of(numbers: &[u32], number: u32) -> Option<usize>
     numbers.binary_search(&number).ok()
 }
 
-/// Whether a number is one of those, of which the first is given: below it none is, and no search is needed.
+/// Whether a number is one of `numbers`. `first` is the first of these: a number below it is found not to be there
+/// without a search.
 pub fn is_one_of(numbers: &[u32], first: u32, number: u32) -> bool
     requires rising { IsRising numbers.now }
     requires first { slice_get numbers.now 0 ≡ Some first }

@@ -30,7 +30,6 @@ pub struct Command {
     outside: Option<u64>,
 }
 
-// Written, since a derived drop is proved again at each exit of each caller.
 impl Drop for Command {
     fn drop(self) {
         let Command {
@@ -55,7 +54,7 @@ impl Model for Command {
 }
 
 impl Command {
-    /// A command of which nothing is known yet.
+    /// A command that has done nothing yet.
     pub(crate) fn new(alloc: Global, output: Name, flags: Flags) -> Command
         ensures { result ≡ new_command output flags }
     {
@@ -67,7 +66,7 @@ impl Command {
         }
     }
 
-    /// Whether a line of this kind may stand behind the command's lines.
+    /// Whether a line of this kind may stand after the command's lines.
     pub(crate) fn may_take(&self, kind: Kind) -> bool
         ensures { result ≡ may_take kind self.now }
     {

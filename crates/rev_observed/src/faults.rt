@@ -11,8 +11,8 @@ use std::alloc::{AllocError, AllocFailed};
 pub enum FaultKind {
     /// The first line does not name the format.
     Header,
-    /// No line of the format: a field that is no text, an unknown word, a wrong count of fields, a path that is empty
-    /// or longer than 4,096 bytes, or a line that may not stand at this place.
+    /// No form reads the line: a field does not write a text, a word is unknown, the count of fields is wrong, or a
+    /// path is empty or longer than 4,096 bytes. Or the line may not stand at this place.
     Syntax,
     /// A field that has to be a number, or two with `-` between them, is none in form, or is out of its range.
     Number,
@@ -64,7 +64,7 @@ pub(crate) enum LineFault {
     Kind(FaultKind),
 }
 
-/// The line is none of those that may stand there.
+/// The line may not stand there.
 pub(crate) const BAD_LINE: LineFault = LineFault::Kind(FaultKind::Syntax);
 
 impl From<AllocError> for ReadFault {

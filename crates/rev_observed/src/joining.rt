@@ -16,7 +16,8 @@ use std::alloc::{AllocError, AllocFailed, Global};
 pub enum JoinFault {
     /// An allocation failed.
     Memory,
-    /// The command at this place, counted from 0, names an output that is no edge's first; it is the first such command.
+    /// The command at this place, counted from 0, names a path that no edge has as its first output; it is the first
+    /// such command.
     NoSuchEdge(usize),
 }
 

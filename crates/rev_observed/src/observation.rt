@@ -28,7 +28,6 @@ pub struct Observation {
     commands: Vec<Command>,
 }
 
-// Written, since a derived drop is proved again at each exit of each caller.
 impl Drop for Observation {
     fn drop(self) {
         let Observation {

@@ -91,13 +91,13 @@ fn read_lines(alloc: Global, lines: &[&[u8]]) -> Result<Observation, ReadFault>
 }
 
 /// Reads what commands did with files: the line `rebug-observed 1`, then `by NAME`, then `path PATH` for each path, by
-/// number from 0, and then for each command a line `edge OUT [FLAG...]` and behind it at most one line of each kind, in
-/// their order, with numbers and ranges of numbers that rise, and `outside N`. The last line may be without its LF. It
-/// takes time linear in the bytes, up to hashing.
+/// number from 0, and then the commands. A command is a line `edge OUT [FLAG...]`, then at most one line of each kind,
+/// in their order, with numbers and ranges of numbers that rise, and `outside N`. The last line may be without its LF.
+/// It takes time linear in the bytes, up to hashing.
 ///
 /// # Errors
-/// [`ReadFault::Numbered`] with the first fault, where the text says no observation. [`ReadFault::Memory`] only where an
-/// allocation was refused.
+/// [`ReadFault::Numbered`] with the first fault, where the text says no observation. [`ReadFault::Memory`] only where
+/// an allocation was refused.
 pub fn read(alloc: Global, text: &[u8]) -> Result<Observation, ReadFault>
     ensures said { IfOk result (λ o. LinesSay (statements_of text.now) o) }
     ensures fault { (f : Fault) → IsErrOf result (ReadFault.Numbered f) → IsFirstFault (statements_of text.now) f }

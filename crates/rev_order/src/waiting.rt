@@ -15,7 +15,6 @@ pub struct Waiting<'a, T: Eq + Hash> {
     numbers: IndexMap<&'a T, SmallVec<u32, 2>>,
 }
 
-// Written, since a derived drop is proved again at each exit of each caller.
 impl<'a, T: Eq + Hash> Drop for Waiting<'a, T> {
     fn drop(self) {
         let Waiting {

@@ -14,7 +14,6 @@ pub struct Paths {
     names: IndexSet<Name>,
 }
 
-// Written, since a derived drop is proved again at each exit of each caller.
 impl Drop for Paths {
     fn drop(self) {
         let Paths { names: _names } = self;

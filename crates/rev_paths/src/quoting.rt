@@ -41,9 +41,8 @@ pub fn is_unquoted(path: &Name) -> bool
     is_safe_text(path.as_bytes())
 }
 
-/// The path as it stands in a command that a shell reads: as it is where it
-/// has only ASCII letters, digits and `_ + - . /`, and otherwise between single
-/// quotes, with each single quote of it written `'\''`.
+/// The path as it stands in a command that a shell reads. It stands as it is where it has only ASCII letters, digits
+/// and `_ + - . /`. Otherwise it stands between single quotes, with each single quote of it written `'\''`.
 ///
 /// # Errors
 /// [`AllocError`] where an allocation failed.

@@ -14,8 +14,8 @@ use std::alloc::{AllocError, Global};
 /// How an edge's command comes to be run: from the edge by inputs to one with reasons.
 #[derive(Debug)]
 pub struct Chain {
-    /// Each edge that has no reason itself, with the position of the input by which the chain goes on: in the list of
-    /// explicit, implicit and order-only inputs and then of what the deps record lists.
+    /// Each edge that has no reason itself, with the position of the input by which the chain goes on. Positions are
+    /// in one list: explicit, implicit and order-only inputs, and then what the deps record lists.
     pub steps: Vec<(u32, u64)>,
     /// The edge at which the chain ends.
     pub last: u32,
@@ -23,7 +23,6 @@ pub struct Chain {
     pub reasons: Vec<Reason>,
 }
 
-// Written, since a derived drop is proved again at each exit of each caller.
 impl Drop for Chain {
     fn drop(self) {
         let Chain {

@@ -1,10 +1,10 @@
-//! Why there is no plan.
+//! Why a plan is refused.
 ghost use Rattle.std.specs.Prelude.{◌≡◌};
 ghost use Rattle.rev_plan.specs.declared.fault.PlanFault.TheVariants.{Memory};
 
 use std::alloc::{AllocError, AllocFailed};
 
-/// Why there is no plan. The faults are asked for in this order.
+/// Why a plan is refused. The faults are asked for in this order.
 #[derive(Clone, Copy, Debug, PartialEq, Eq)]
 pub enum PlanFault {
     /// An allocation was refused, which says nothing about the build.

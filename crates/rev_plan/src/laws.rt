@@ -11,7 +11,7 @@ pub fn marks_are_of_the_sets()
     ensures { MarksAreOfTheSets }
 {}
 
-/// A plan is refused for what a reader finds first, and is accepted exactly where there is nothing to find: no edge
+/// A plan is refused for what a reader finds first, and is accepted exactly where a reader finds nothing. Then no edge
 /// runs, each target stands on a build line, no reached edge lacks an input, and none reaches itself.
 pub fn refusals_are_first()
     ensures { RefusalsAreFirst }
@@ -22,7 +22,7 @@ pub fn cycle_is_named()
     ensures { CycleIsNamed }
 {}
 
-/// An edge has exactly one chain, and that is the one that is told.
+/// An edge has exactly one chain, which is the one that `why` gives.
 pub fn one_chain()
     ensures { OneChain }
 {}

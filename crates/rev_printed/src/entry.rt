@@ -20,7 +20,6 @@ pub struct Entry {
     pub text: Vec<u8>,
 }
 
-// Written, since a derived drop is proved again at each exit of each caller.
 impl Drop for Entry {
     fn drop(self) {
         let Entry {

@@ -20,7 +20,7 @@ fn bound_above(nodes: &[u32], numbers: &[u32]) -> usize
     bound
 }
 
-/// The least node of which a step does not fall.
+/// The least node that has a step to a node of no lesser number.
 pub(crate) fn first_level(successors: &[Vec<u32>], numbers: &[u32]) -> Option<u32>
     requires inside { All (λ v. All (λ s. s < length successors.now) v.items) successors.now }
     requires each { length numbers.now ≡ length successors.now }

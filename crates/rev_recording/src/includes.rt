@@ -27,7 +27,6 @@ struct GivenFile {
     is_settled: bool,
 }
 
-// Written, since a derived drop is proved again at each exit of each caller.
 impl Drop for GivenFile {
     fn drop(self) {
         let GivenFile {
@@ -86,7 +85,6 @@ pub struct Includes {
     value_room: usize,
 }
 
-// Written, since a derived drop is proved again at each exit of each caller.
 impl Drop for Includes {
     fn drop(self) {
         let Includes {

@@ -31,7 +31,6 @@ pub(crate) struct Ends {
     pub(crate) undone: Vec<Option<u32>>,
 }
 
-// Written, since a derived drop is proved again at each exit of each caller.
 impl Drop for Ends {
     fn drop(self) {
         let Ends {

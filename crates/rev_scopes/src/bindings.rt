@@ -13,7 +13,6 @@ pub struct Bindings {
     entries: IndexMap<Vec<u8>, SharedText>,
 }
 
-// Written, since a derived drop is proved again at each exit of each caller.
 impl Drop for Bindings {
     fn drop(self) {
         let Bindings { entries: _entries } = self;

@@ -365,9 +365,9 @@ fn response_file(
 
 /// The values of the variables that are expanded for an edge that is not phony. A name is looked up as `in`,
 /// `in_newline` and `out`, in the block, in the rule, whose texts are expanded by this same look-up, and then in the
-/// scopes. Each text of the rule is expanded at most once, and those that the edge does not need only where one that it
-/// needs, or `rspfile`, leads to them. No edge is refused for `rspfile`: there is no path of a response file where that has a
-/// value that is too large, and an empty one where it has none.
+/// scopes. Each text of the rule is expanded at most once, and those that the edge does not need only where one that
+/// it needs, or `rspfile`, leads to them. No edge is refused for `rspfile`: where its value is too large the edge has
+/// no path of a response file, and where it has no value that path is empty.
 ///
 /// # Errors
 /// [`ValueFault::NeedsItself`] where one of the variables has no value, since it needs itself. Where all have one,

@@ -21,7 +21,7 @@ pub fn what_needs_itself_has_no_value()
     ensures { WhatNeedsItselfHasNoValue }
 {}
 
-/// A name that has no value leads to one that needs itself, so there is no other reason.
+/// A name that has no value leads to one that needs itself, which is thus the only reason.
 pub fn no_value_means_a_loop()
     ensures { NoValueMeansALoop }
 {}

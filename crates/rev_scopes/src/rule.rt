@@ -85,7 +85,6 @@ pub struct Rule {
     texts: ArcSlice<RuleText>,
 }
 
-// Written, since a derived drop is proved again at each exit of each caller.
 impl Drop for Rule {
     fn drop(self) {
         let Rule { texts: _texts } = self;

@@ -15,7 +15,7 @@ pub enum RuleVariable {
     MsvcDepsPrefix,
     /// `description`: what is shown in place of the command.
     Description,
-    /// `generator`: a change of the command is no reason to run it.
+    /// `generator`: the edge does not run for a change of its command alone.
     Generator,
     /// `restat`: outputs that the command leaves alone count as unchanged.
     Restat,

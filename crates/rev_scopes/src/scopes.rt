@@ -19,7 +19,6 @@ struct Scope {
     rules: IndexMap<Vec<u8>, Rule>,
 }
 
-// Written, since a derived drop is proved again at each exit of each caller.
 impl Drop for Scope {
     fn drop(self) {
         let Scope {
@@ -105,7 +104,6 @@ pub struct Scopes {
     scopes: Vec<Scope>,
 }
 
-// Written, since a derived drop is proved again at each exit of each caller.
 impl Drop for Scopes {
     fn drop(self) {
         let Scopes { scopes: _scopes } = self;
@@ -199,9 +197,10 @@ impl Scopes {
 
     /// Adds a rule to a scope.
     ///
-    /// # Errors [`RuleFault::DoubleRule`] where the scope has a rule of that name, or the name is `phony`; a rule of
-    /// that name in a parent is no fault. [`RuleFault::Memory`] where an allocation was refused. Nothing is changed
-    /// then.
+    /// # Errors
+    /// [`RuleFault::DoubleRule`] where this very scope has a rule of that name, or the name is `phony`; a parent may
+    /// have a rule of that name. [`RuleFault::Memory`] only where an allocation was refused. After an error nothing has
+    /// changed.
     pub fn add_rule(
         &mut self,
         alloc: Global,

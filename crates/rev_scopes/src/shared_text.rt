@@ -17,7 +17,6 @@ pub struct SharedText {
     bytes: ArcSlice<u8>,
 }
 
-// Written, since a derived drop is proved again at each exit of each caller.
 impl Drop for SharedText {
     fn drop(self) {
         let SharedText { bytes: _bytes } = self;

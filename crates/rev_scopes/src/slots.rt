@@ -15,7 +15,7 @@ pub(crate) struct Slot<'a> {
     pub(crate) value: Option<Growth>,
 }
 
-/// The texts of a rule, of which no value is known yet.
+/// The texts of a rule; the value of none is known yet.
 pub(crate) fn slots_of(alloc: Global, rule: &Rule) -> Result<Vec<Slot<'_>>, AllocError>
     ensures { IfOk result (λ slots. seen_slots slots.items ≡ map unknown_slot rule.now) }
 {

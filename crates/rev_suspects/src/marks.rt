@@ -18,7 +18,6 @@ pub(crate) struct Ways {
     pub(crate) back: Vec<Vec<u32>>,
 }
 
-// Written, since a derived drop is proved again at each exit of each caller.
 impl Drop for Ways {
     fn drop(self) {
         let Ways {

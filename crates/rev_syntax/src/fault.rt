@@ -43,7 +43,7 @@ pub struct SyntaxFault {
 pub enum ReadFault {
     /// An allocation was refused.
     Memory,
-    /// The lines are no statement, and this is their first fault.
+    /// The lines do not say a statement. This is their first fault.
     Refused(SyntaxFault),
 }
 

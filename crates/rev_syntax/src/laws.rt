@@ -12,8 +12,8 @@ pub fn texts_are_read()
     ensures { TextsAreRead }
 {}
 
-/// A list of paths is read exactly where bytes stand that are such a list by the grammar, and an end of
-/// lists behind them.
+/// A list of paths is read exactly where bytes stand that are such a list by the grammar, and after them an end of
+/// lists.
 pub fn lists_are_read()
     ensures { ListsAreRead }
 {}
@@ -44,8 +44,8 @@ pub fn only_forms_are_read()
     ensures { OnlyFormsAreRead }
 {}
 
-/// A line with those under it has the fault of the first of them that goes wrong, and that of its leftmost place: what
-/// stands before that can be continued to a line that reads, and with what stands there it cannot.
+/// A line with those under it has the fault of the first of them that goes wrong, at its leftmost place. What stands
+/// before that place can be continued to a line that reads, and with what stands there it cannot.
 pub fn statements_stop_there()
     ensures { StatementsStopThere }
 {}

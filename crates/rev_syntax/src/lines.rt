@@ -185,9 +185,9 @@ fn add_line(
     }
 }
 
-/// The lines of a file, in time and memory linear in its bytes. They are split at line feeds, of
-/// which each takes one CR before it along. Lines of spaces alone and comments are dropped; a line
-/// that ends in a `$` alone goes on in the next, whose leading spaces are left out.
+/// The lines of a file, in time and memory linear in its bytes. They are split at line feeds; each takes one CR before
+/// it along. Lines of spaces alone and comments are dropped; a line that ends in a `$` alone goes on in the next,
+/// whose leading spaces are left out.
 ///
 /// # Errors
 /// [`AllocError`] where an allocation was refused.

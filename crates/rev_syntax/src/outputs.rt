@@ -3,7 +3,7 @@ ghost use Rattle.std.specs.Prelude.{◌<◌, ◌+◌, length};
 
 use crate::text::Text;
 
-/// The outputs of a build line, of which there is at least one.
+/// The outputs of a build line, which has at least one.
 #[derive(Debug, Drop)]
 pub(crate) struct Outputs<'a> {
     /// Those before `|`.

@@ -103,10 +103,11 @@ fn split_block(lines: &[Line]) -> (&[Line], &[Line])
     lines.split_at(block_len(lines))
 }
 
-/// The first statement of lines of a file, and the lines after it; none where there is no line. A caller
-/// takes the statements one by one, each with time and memory linear in its own lines.
+/// The first statement of lines of a file, and the lines after it. `None` where no line is left. A caller takes the
+/// statements one by one, each with time and memory linear in its own lines.
 ///
-/// # Errors The first fault of that statement, by its lines in order, and in a line from the left. [`SyntaxKind::Tab`]
+/// # Errors
+/// The first fault of that statement, by its lines in order, and in a line from the left. [`SyntaxKind::Tab`]
 /// where a tab stands among the blanks at the beginning of a line comes before the others of that line;
 /// [`SyntaxKind::Syntax`] at a byte, or a line's end, where no line of the grammar goes on, at a NUL or CR in a text,
 /// and at an indented line where none may stand; [`SyntaxKind::BadEscape`] at a `$` in a text that can stand before

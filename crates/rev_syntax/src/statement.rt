@@ -45,7 +45,7 @@ pub enum Form<'a> {
     Build(BuildLine<'a>, Vec<Binding<'a>>),
     /// `pool NAME` and the bindings under it, of any names.
     Pool(&'a [u8], Vec<Binding<'a>>),
-    /// `default` and its paths, of which there is at least one.
+    /// `default` and its paths, at least one.
     Default(Vec<Text<'a>>),
     /// `include` and the path of a file.
     Include(Text<'a>),

@@ -13,7 +13,7 @@ use std::marker::Model;
 /// A piece that a text begins with.
 #[derive(Clone, Copy, Debug)]
 pub enum Piece<'a> {
-    /// Bytes that stand for themselves, of which there is at least one.
+    /// Bytes that stand for themselves, at least one.
     Literal(&'a [u8]),
     /// The variable of that name.
     Variable(&'a [u8]),
@@ -46,7 +46,6 @@ pub struct StoredText {
     raw: Vec<u8>,
 }
 
-// Written, since a derived drop is proved again at each exit of each caller.
 impl Drop for StoredText {
     fn drop(self) {
         let StoredText { raw: _raw } = self;

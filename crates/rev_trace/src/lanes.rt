@@ -88,7 +88,6 @@ pub(crate) struct Lanes {
     pub(crate) named: usize,
 }
 
-// Written, since a derived drop is proved again at each exit of each caller.
 impl Drop for Lanes {
     fn drop(self) {
         let Lanes {

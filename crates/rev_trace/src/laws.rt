@@ -4,7 +4,7 @@ ghost use Rattle.rev_trace.specs.LineFaults.{EmptyLineSaysNone, LineFaultsAreTol
 ghost use Rattle.rev_trace.specs.Migrated.{MigratedStay, MigratedTracesAreRead};
 ghost use Rattle.rev_trace.specs.Says.{FaultsAreFirst, OneOrTheOther, TracesAreSaid};
 
-/// The line that says a command is read as that command, but for an empty list of stamps.
+/// The line that says a command is read as that command, unless its list of stamps is empty.
 pub fn commands_are_read()
     ensures { CommandsAreRead }
 {}
@@ -14,8 +14,8 @@ pub fn lines_say_commands()
     ensures { LinesSayCommands }
 {}
 
-/// A line has a fault exactly where that is what is wrong with it: 100 where it is the line of no command, even if any
-/// text counts as a number; 101 where it is one but for its numbers.
+/// A line has a fault exactly where that is what is wrong with it: 101 where it would be the line of a command if any
+/// text counted as a number, and 100 where it would not even then.
 pub fn line_faults_are_told()
     ensures { LineFaultsAreTold }
 {}
@@ -30,8 +30,8 @@ pub fn said_have_stamps()
     ensures { SaidHaveStamps }
 {}
 
-/// A text is read as a trace exactly where it says that trace: its first line names the format and a version, and the
-/// other lines say records and parts of lanes by the tables of lines and by what that version lets stand.
+/// A text is read as a trace exactly where it says that trace. Its first line names the format and a version. The
+/// other lines say records and parts of lanes, by the tables of lines and by what that version lets stand.
 pub fn traces_are_said()
     ensures { TracesAreSaid }
 {}

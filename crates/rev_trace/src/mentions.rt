@@ -1,4 +1,4 @@
-//! Listed paths, each of which is kept once.
+//! Listed paths, each kept once.
 ghost use Rattle.std.specs.Prelude.{◌≡◌, ◌∷◌, [], IfOk, bytes_eq};
 ghost use Rattle.std.specs.Cmp.Lexicographic.{nat_list_eq_equiv};
 ghost use Rattle.std.specs.Cmp.Rules.{comparing, hashing};
@@ -50,7 +50,6 @@ pub(crate) struct Mentions {
     names: IndexSet<Name>,
 }
 
-// Written, since a derived drop is proved again at each exit of each caller.
 impl Drop for Mentions {
     fn drop(self) {
         let Mentions { names: _names } = self;

@@ -15,7 +15,7 @@ use rev_commands::Command;
 use rev_fields::{FaultKind, ReadFault, TextFault, parts_at};
 use std::alloc::Global;
 
-/// Why a trace is not read: memory ran out, or it has a fault, which is told with its number and line.
+/// Why a trace is not read: an allocation was refused, or the trace has a fault, with its number and line.
 pub type TraceFault = ReadFault;
 
 /// What a trace says.
@@ -42,7 +42,6 @@ impl Trace {
     }
 }
 
-// Written, since a derived drop is proved again at each exit of each caller.
 impl Drop for Trace {
     fn drop(self) {
         let Trace {
@@ -164,10 +163,11 @@ fn read_lines(alloc: Global, version: Version, lines: &[&[u8]]) -> Result<Trace,
     })
 }
 
-/// Reads a trace: the line `rebug-trace 1` or `rebug-trace 2`, then opening lines (`jobs N` at most once, `stamp PATH
-/// N`, `built PATH N COMMAND`, `deps PATH N PATH...`, `target PATH`), and then lanes, each a line `lane N` and the
-/// commands after it, where N counts them from 0. Empty lines are skipped. In version 2 a line `lane N` may also name a
-/// lane that was opened before, whose commands go on behind it, and lanes may hold lines `resize POOL DEPTH`.
+/// Reads a trace: the line `rebug-trace 1` or `rebug-trace 2`, then opening lines, and then lanes. Opening lines are
+/// `jobs N` at most once, `stamp PATH N`, `built PATH N COMMAND`, `deps PATH N PATH...` and `target PATH`. A lane is a
+/// line `lane N` and the commands after it, where N counts lanes from 0. Empty lines are skipped. In version 2 a line
+/// `lane N` may also name a lane that was opened before, whose commands go on after it, and lanes may hold lines
+/// `resize POOL DEPTH`.
 pub fn read(alloc: Global, text: &[u8]) -> Result<Trace, TraceFault>
     ensures opening { IfOk result (λ trace. trace.opening ≡ (trace_of text.now).opening) }
     ensures targets { IfOk result (λ trace. trace.targets ≡ (trace_of text.now).targets) }

@@ -36,8 +36,8 @@ fn are_apart(alloc: Global, graph: &Graph, user: u32, maker: u32) -> Result<bool
 }
 
 /// What orders an edge behind another, written after `||` on its build line: the first output of that one. With it the
-/// edge waits for it, and still no edge waits for itself. None where there is no such order: the two are one, the maker
-/// waits for the user, or one of the numbers is none of an edge. It takes time and memory linear in edges and steps.
+/// edge waits for it, and still no edge waits for itself. `None` where no order can do that: the two are one, the
+/// maker waits for the user, or a number is not an edge's. It takes time and memory linear in edges and steps.
 ///
 /// # Errors
 /// [`AllocError`] only where an allocation was refused.

@@ -29,7 +29,6 @@ pub struct Witness {
     pub history: History,
 }
 
-// Written, since a derived drop is proved again at each exit of each caller.
 impl Drop for Witness {
     fn drop(self) {
         let Witness {
