@@ -10,7 +10,7 @@ ghost use Rattle.rev_manifest.specs.Manifest.{ManifestValue};
 use crate::break_key::{BreakKey, event_break_key, point_break_key};
 use crate::numbers::take_out;
 use indexmap::IndexMap;
-use rev_accesses::place_of;
+use rev_numbers::place_of;
 use rev_commands::Point;
 use rev_events::Event;
 use rev_graph::Graph;

@@ -2,7 +2,7 @@
 ghost use Rattle.std.specs.Prelude.{◌≡◌};
 ghost use Rattle.rev_causal.specs.Chosen.{IsRising, without};
 
-use rev_accesses::place_of;
+use rev_numbers::place_of;
 
 /// Takes a number out, where it is there.
 pub(crate) fn take_out(numbers: &mut Vec<u32>, number: u32)

@@ -1,34 +1,17 @@
 -- Sets of nodes as one mark for each node.
 use Rattle.std.specs.Prelude.{◌≡◌, ℕ, ◌+◌, Bool, true, false, cond, ◌||◌, List, [], ◌∷◌, length, slice_index_or, ◌<◌, ◌⊎◌}
 use Rattle.std.specs.List.{All, Contains}
-use Rattle.rev_ranks.specs.Graph.{Reaches, Steps}
+use Rattle.rev_ranks.specs.Graph.{Steps}
 use Rattle.rev_ranks.specs.Leads.{IsReachable, leads_to}
 
 -- the node has a mark
 abbrev pub IsMarked : List Bool → ℕ → Type 0
 IsMarked marks n = slice_index_or marks n false ≡ true
 
--- how many nodes have a mark
-abbrev pub marked : List Bool → ℕ
-marked [] = 0
-marked (m ∷ ms) = cond m (marked ms + 1) (marked ms)
-
 -- how many nodes have none
 abbrev pub unmarked : List Bool → ℕ
 unmarked [] = 0
 unmarked (m ∷ ms) = cond m (unmarked ms) (unmarked ms + 1)
-
--- exactly the nodes that n reaches have a mark
-pub record IsReachSet (graph : List (List ℕ)) (n : ℕ) (marks : List Bool) : Type 0 where
-  pub length_is : length marks ≡ length graph
-  pub sound : (k : ℕ) → IsMarked marks k → Reaches graph n k
-  pub complete : (k : ℕ) → Reaches graph n k → IsMarked marks k
-
--- r is how many nodes n reaches
-pub record IsReachCount (graph : List (List ℕ)) (n r : ℕ) : Type 0 where
-  pub marks : List Bool
-  pub is_set : IsReachSet graph n marks
-  pub count_is : r ≡ marked marks
 
 -- Marks and open nodes before and after the nodes of a list got their marks: those that had none are open now.
 pub record IsMarking (nodes : List ℕ) (before : List Bool) (open_before : List ℕ) (after : List Bool) (open_after : List ℕ) : Type 0 where
