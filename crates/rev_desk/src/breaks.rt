@@ -10,10 +10,10 @@ ghost use Rattle.rev_manifest.specs.Manifest.{ManifestValue};
 use crate::break_key::{BreakKey, event_break_key, point_break_key};
 use crate::numbers::take_out;
 use indexmap::IndexMap;
-use rev_numbers::place_of;
 use rev_commands::Point;
 use rev_events::Event;
 use rev_graph::Graph;
+use rev_numbers::place_of;
 use std::alloc::{AllocError, Global};
 
 // Adds a number to the entry of a key.
