@@ -32,17 +32,15 @@ use rev_order::{first_overtaken, first_overtaking};
 use std::alloc::{AllocError, Global};
 use std::marker::Model;
 
-/// Under each cell the rising numbers of the events that write it, and of those that read it; beside them those of
-/// whole events, which read and write every cell. Both lists of a cell stand under it in one map, so that a cell that
-/// is read and written is kept once. The lists that were made for a cell stay, empty or not, so that taking out takes
-/// no memory.
+/// Under each cell the rising numbers of the events that write it, and of those that read it; beside them the numbers
+/// of whole events, which read and write every cell. Both lists of a cell stand under it in one map: so a cell that is
+/// read and written is kept once. The lists of a cell stay when they are empty, so taking a number out takes no memory.
 pub struct Accesses {
     alloc: Global,
     users: IndexMap<Cell, Users>,
     whole: SortedNumbers,
 }
 
-// Written, since a derived drop is proved again at each exit of each caller.
 impl Drop for Accesses {
     fn drop(self) {
         let Accesses {
@@ -84,8 +82,11 @@ impl Accesses {
         }
     }
 
-    /// Puts the number of a whole event at its place, and gives the places of the cells that it names, of which it
-    /// writes the first ones.
+    /// Puts the number of a whole event into the list of whole events. It gives the places of `cells`, which the event
+    /// names. The event writes the first `written` of them.
+    ///
+    /// # Errors
+    /// [`AllocError`] where an allocation was refused, or a place does not fit `u32`. The lists are then as before.
     pub fn put_whole(
         &mut self,
         number: u32,
@@ -103,7 +104,7 @@ impl Accesses {
         Ok(places)
     }
 
-    /// Takes the number of a whole event out. It takes no memory.
+    /// Takes the number of a whole event out of the list of whole events. It takes no memory.
     pub fn take_whole(&mut self, number: u32)
         ensures taken { (prints : Prints) → IsRising prints → event_at number prints ≡ Some Whole
             → Shows self.old prints → Shows self.new (without number prints) }
@@ -112,8 +113,11 @@ impl Accesses {
         self.whole.take(number);
     }
 
-    /// Puts the number of an event that reads these cells, of which it writes the first ones, at its place under each,
-    /// and gives their places. Each cell is looked up once.
+    /// Puts the number of an event under each of `cells`, which the event reads, and gives their places. The event
+    /// writes the first `written` of them. Each cell is looked up once, and a second time where it has no place.
+    ///
+    /// # Errors
+    /// [`AllocError`] where an allocation was refused, or a place does not fit `u32`. The lists are then as before.
     pub fn put(&mut self, number: u32, cells: &[Cell], written: usize) -> Result<Places, AllocError>
         ensures ok { OnOk result ((prints : Prints) (f : Footprint Cell)
             → Names f cells.now (take written cells.now)
@@ -134,8 +138,8 @@ impl Accesses {
         }
     }
 
-    /// Takes the number of an event that reads and writes the cells at these places out from under each. It takes no
-    /// memory, and hashes no cell.
+    /// Takes the number of an event out of the lists of the cells that it reads and writes, which stand at the places
+    /// of `print`. It takes no memory, and hashes no cell.
     pub fn take(&mut self, number: u32, print: &Places)
         ensures taken { (prints : Prints) (f : Footprint Cell) → NamesAt f self.old.cells print.now
             → IsRising prints → event_at number prints ≡ Some f → Shows self.old prints
@@ -145,9 +149,9 @@ impl Accesses {
         self.take_from(number, print);
     }
 
-    /// Takes the number of an event that reads and writes the cells at these places out from under each; where it is one
-    /// of many members, all of these may go with it, so that each list is gone through once for all members. It takes no
-    /// memory, and hashes no cell.
+    /// Removes `number`, one of `members`, from the lists of the cells at the places of `print`. It may remove other
+    /// members from these lists too: so each list is gone through once for all members, where they are many. It takes
+    /// no memory, and hashes no cell.
     pub fn thin(&mut self, number: u32, members: &[u32], print: &Places)
         requires rising { IsRisingNumbers members.now }
         requires member { is_among members.now number ≡ true }
@@ -158,7 +162,8 @@ impl Accesses {
         self.thin_from(number, members, print);
     }
 
-    /// The same for a whole event.
+    /// Removes `number`, one of `members`, from the list of whole events. It may remove other members too. It takes no
+    /// memory.
     pub fn thin_whole(&mut self, number: u32, members: &[u32])
         requires rising { IsRisingNumbers members.now }
         requires member { is_among members.now number ≡ true }
@@ -169,8 +174,8 @@ impl Accesses {
         self.whole.take_member(number, members);
     }
 
-    /// The least number above another whose event conflicts with one that reads and writes these cells. It takes no
-    /// memory, and time linear in the cells, up to hashing, and in the logarithm of the longest list.
+    /// The least number above `number` whose event conflicts with an event that reads `reads` and writes `writes`. It
+    /// takes no memory. Its time is linear in the cells, up to hashing, and in the logarithm of the longest list.
     pub fn nearest(&self, number: u32, reads: &[Cell], writes: &[Cell]) -> Option<u32>
         ensures { (prints : Prints) (f : Footprint Cell) → Names f reads.now writes.now → IsRising prints
             → Shows self.now prints → result ≡ nearest_in cell_cmp number f prints }
@@ -182,7 +187,8 @@ impl Accesses {
         lesser(whole, lesser(lesser(written, used), source))
     }
 
-    /// The same for an event that reads and writes the cells at these places. It hashes no cell.
+    /// As [`Accesses::nearest`], for an event that reads and writes the cells at the places of `print`. It hashes no
+    /// cell.
     pub fn nearest_by(&self, number: u32, print: &Places) -> Option<u32>
         ensures { (prints : Prints) (f : Footprint Cell) → NamesAt f self.now.cells print.now
             → IsRising prints → Shows self.now prints → result ≡ nearest_in cell_cmp number f prints }
@@ -196,9 +202,9 @@ impl Accesses {
         lesser(whole, lesser(lesser(written, used), source))
     }
 
-    /// The least of the numbers that another overtakes whose event conflicts: it stands above, and before it in another
-    /// list. All numbers are given, and under each its place in that list. It takes no memory, and time linear in the
-    /// lists.
+    /// The least number that another number overtakes whose event conflicts with its own. A number overtakes another
+    /// where it stands above it, and before it in another list. `numbers` are all numbers, and `places` has the place
+    /// of each in that other list. It takes no memory, and time linear in the lists.
     pub fn first_turned(&self, places: &[u32], numbers: &[u32]) -> Option<u32>
         requires { IsRisingNumbers numbers.now }
         ensures { (prints : Prints) → IsRising prints → numbers_by (λ f. true) prints ≡ numbers.now
@@ -210,8 +216,9 @@ impl Accesses {
         lesser(before, lesser(after, first_turned(&self.users, places)))
     }
 
-    /// The least number which overtakes another whose event reads and writes the cells at these places, and conflicts
-    /// with that. The places of the numbers are those in another list.
+    /// The least number that overtakes `number` and whose event conflicts with the event of `number`. That event reads
+    /// and writes the cells at the places of `print`. `places` has the place of each number in the other list. It takes
+    /// no memory.
     pub fn partner(&self, places: &[u32], number: u32, print: &Places) -> Option<u32>
         ensures { (prints : Prints) (f : Footprint Cell) → NamesAt f self.now.cells print.now
             → IsRising prints → Shows self.now prints
@@ -226,9 +233,13 @@ impl Accesses {
         lesser(whole, lesser(lesser(written, used), source))
     }
 
-    /// Adds to the pending numbers as many of those above one whose events conflict with one that reads and writes the
-    /// cells at these places as lead to all of them: under a written cell the next writer and the readers before it,
-    /// under a read one the next writer, and the next whole event. At an error some may have been added.
+    /// Adds to `pending` numbers above `number` whose events conflict with the event of `number`, which reads and
+    /// writes the cells at the places of `print`. Each number above that conflicts is added, or conflicts with one that
+    /// is added below it. Added are the next writer of each cell that the event reads, the readers of each cell that it
+    /// writes before that cell's next writer, and the next whole event.
+    ///
+    /// # Errors
+    /// [`AllocError`] only where an allocation was refused. Some numbers may then have been added.
     pub fn follow(
         &self,
         pending: &mut Pending,
@@ -247,7 +258,11 @@ impl Accesses {
         Ok(())
     }
 
-    /// The same for a whole event, with which all events conflict: the next whole event, and all numbers before it.
+    /// As [`Accesses::follow`], for a whole event. Every event conflicts with it, so the next whole event is added, and
+    /// each of `numbers` between the two.
+    ///
+    /// # Errors
+    /// [`AllocError`] only where an allocation was refused. Some numbers may then have been added.
     pub fn follow_whole(
         &self,
         pending: &mut Pending,
@@ -265,7 +280,7 @@ impl Accesses {
         Ok(())
     }
 
-    /// The cell at a place.
+    /// The cell at a place; none where no cell has that place.
     pub fn cell(&self, place: u32) -> Option<&Cell>
         ensures { option_copied result ≡ slice_get self.now.cells place }
     {
@@ -275,7 +290,7 @@ impl Accesses {
         }
     }
 
-    // The places of cells, of which the first ones are written. Each cell gets one that has none.
+    // The places of cells, of which the first `written` ones are written. A cell that has none gets one.
     fn places(&mut self, cells: &[Cell], written: usize) -> Result<Places, AllocError>
         ensures places { IfOk result (ArePlacesOf self.new.cells cells.now written) }
         ensures grown { IsGrown self.old.cells self.new.cells }
@@ -307,7 +322,7 @@ impl Accesses {
         Ok(())
     }
 
-    // Takes a number out from under the cells at places, which is one of some members, or all of these with it.
+    // Removes `number`, one of `members`, from the lists of the cells at places; may remove other members too.
     fn thin_from(&mut self, number: u32, members: &[u32], print: &Places)
         requires rising { IsRisingNumbers members.now }
         requires member { is_among members.now number ≡ true }
@@ -324,7 +339,7 @@ impl Accesses {
         thin_all(&mut self.users, Access::Write, writes, number, members);
     }
 
-    // Takes a number out from under the cells at places.
+    // Takes a number out of the lists of the cells at places.
     fn take_from(&mut self, number: u32, print: &Places)
         ensures written { TakenFrom number (cells_at self.old.cells print.now.written)
             self.old.writers self.new.writers }

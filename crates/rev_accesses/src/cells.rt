@@ -12,7 +12,7 @@ use indexmap::IndexMap;
 use rev_cells::Cell;
 use std::alloc::{AllocError, Global};
 
-// A place as it is kept.
+// A place as it is kept. One past `u32` is reported as out of memory.
 fn as_place(place: usize) -> Result<u32, AllocError>
     ensures { IfOk result (λ kept. kept ≡ place) }
 {
@@ -33,7 +33,7 @@ fn add_cell(alloc: Global, index: &mut IndexMap<Cell, Users>, cell: &Cell) -> Re
     Ok(())
 }
 
-// The place of a cell, which gets one where it has none. The cell is looked up once, and where it is new once more.
+// The place of a cell, which gets one where it has none. The cell is looked up once, and a second time where it is new.
 fn place_of(
     alloc: Global,
     index: &mut IndexMap<Cell, Users>,
@@ -51,8 +51,8 @@ fn place_of(
     Ok(place)
 }
 
-/// The places of cells, each of which gets one where it has none, with room for these and no more. A place that is too
-/// great to be kept is answered as want of memory.
+/// Interns each cell, and gives the places in a list with room for no more. A place past `u32` is reported as out of
+/// memory.
 pub(crate) fn places_of(
     alloc: Global,
     index: &mut IndexMap<Cell, Users>,

@@ -55,8 +55,7 @@ fn take_at(index: &mut IndexMap<Cell, Users>, access: Access, place: u32, number
     }
 }
 
-// Takes a number out of one of the lists of the cell at a place, if it is there, which is one of some members, or all
-// of these with it.
+// Removes `number`, one of `members`, from one of the lists of the cell at a place; may remove other members too.
 fn thin_at(
     index: &mut IndexMap<Cell, Users>,
     access: Access,
@@ -141,8 +140,8 @@ pub(crate) fn take_all(
     }
 }
 
-/// Takes a number out of one of the lists of each of the cells at some places, which is one of some members, or all of
-/// these with it. It takes no memory.
+/// Removes `number`, one of `members`, from one of the lists of each of the cells at some places; may remove other
+/// members too. It takes no memory.
 pub(crate) fn thin_all(
     index: &mut IndexMap<Cell, Users>,
     access: Access,
@@ -180,7 +179,7 @@ pub(crate) fn nearest(
     least
 }
 
-/// The same of the cells at some places.
+/// The least number above another of those that access one of the cells at some places in one way. It takes no memory.
 pub(crate) fn nearest_at_places(
     index: &IndexMap<Cell, Users>,
     access: Access,

@@ -10,7 +10,6 @@ pub struct Places {
     written: usize,
 }
 
-// Written, since a derived drop is proved again at each exit of each caller.
 impl Drop for Places {
     fn drop(self) {
         let Places {
@@ -35,7 +34,7 @@ impl Model for Places {
 }
 
 impl Places {
-    // Of these the first ones are written.
+    // Places that are read, of which the first `written` ones are written.
     pub(crate) fn of(read: Vec<u32>, written: usize) -> Places
         ensures { result ≡ record {
           read = read.items;
@@ -45,14 +44,14 @@ impl Places {
         Places { read, written }
     }
 
-    /// Those of the cells that are read.
+    /// The places of the cells that the event reads.
     pub fn read(&self) -> &[u32]
         ensures { result.now ≡ self.now.read }
     {
         self.read.as_slice()
     }
 
-    /// Those of the cells that are written, in the order of the event's effect.
+    /// The places of the cells that the event writes, in the order of its effect.
     pub fn written(&self) -> &[u32]
         ensures { result.now ≡ self.now.written }
     {

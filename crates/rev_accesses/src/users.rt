@@ -25,7 +25,6 @@ pub(crate) struct Users {
     pub(crate) writers: SortedNumbers,
 }
 
-// Written, since a derived drop is proved again at each exit of each caller.
 impl Drop for Users {
     fn drop(self) {
         let Users {
@@ -70,7 +69,7 @@ impl Users {
         }
     }
 
-    // Takes a number out, if it is there, which is one of some members, or all of these with it. It takes no memory.
+    // Removes `number`, one of `members`, if it is there; may remove other members too. It takes no memory.
     pub(crate) fn thin(&mut self, access: Access, number: u32, members: &[u32])
         requires rising { IsRising members.now }
         requires member { is_among members.now number ≡ true }

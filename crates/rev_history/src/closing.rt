@@ -17,7 +17,8 @@ use rev_accesses::{Accesses, Pending};
 use rev_events::Event;
 use std::alloc::{AllocError, Global};
 
-// Adds to the pending numbers those that lead to all kept ones above a member whose events conflict with its own.
+// Adds to the pending numbers those that lead to each kept number above a member whose event conflicts with the
+// member's.
 fn follow_member(
     pending: &mut Pending,
     member: u32,
@@ -43,8 +44,8 @@ fn follow_member(
     }
 }
 
-/// A kept number, and each above it whose event conflicts with that of a member, in their order. The numbers that are
-/// found along the lists of a member wait until it is their turn.
+/// A kept number, and each number above it whose event conflicts with that of a member, in their order. A number that
+/// is found in the lists of a member waits until it is the least that waits.
 pub(crate) fn cone(
     alloc: Global,
     number: u32,

@@ -30,10 +30,10 @@ use rev_order::matched_places;
 use std::alloc::{AllocError, Global};
 use std::marker::Model;
 
-/// A graph, an opening, the events that were accepted since under rising numbers, and those of them that are kept. The
-/// state is that which the kept events lead to from the opening, in the order of their numbers. Beside each kept event
-/// stand its footprint, by the places of its cells, and what it replaced, so that an undo puts that back, and beside an
-/// event that is not kept nothing; and under each cell stand the kept numbers that access it.
+/// A graph, an opening, the events that were accepted under rising numbers, and those of them that are kept. The state
+/// is the one to which the kept events lead from the opening, in the order of their numbers. Beside each kept event
+/// stands a step: its footprint, by the places of its cells, and what it replaced, so that an undo can restore that.
+/// No step stands beside an event that is not kept. Under each cell stand the kept numbers whose events access it.
 pub struct History {
     alloc: Global,
     graph: Graph,
@@ -46,7 +46,6 @@ pub struct History {
     last: u32,
 }
 
-// Written, since a derived drop is proved again at each exit of each caller.
 impl Drop for History {
     fn drop(self) {
         let History {
@@ -78,7 +77,10 @@ impl Model for History {
 }
 
 impl History {
-    /// A history in which nothing was accepted yet.
+    /// A history of an opening in which nothing was accepted yet.
+    ///
+    /// # Errors
+    /// [`AllocError`] only where an allocation was refused.
     pub fn new(alloc: Global, graph: Graph, opening: &Opening) -> Result<History, AllocError>
         ensures { IfOk result (λ h. h
             ≡ record {
@@ -86,8 +88,8 @@ impl History {
               writes = 0;
             }) }
     {
-        // A build starts and ends each edge once: with room for that, and for its plans and the like, nothing is moved as
-        // the history grows.
+        // A build starts and ends each edge once: with room for that, and for its plans and the like, nothing is moved
+        // as the history grows.
         let usual = (graph.edges() as usize)
             .saturating_mul(2)
             .saturating_add(64);
@@ -111,14 +113,14 @@ impl History {
         &self.graph
     }
 
-    /// The greatest number under which an event was accepted, 0 at first.
+    /// The greatest number under which an event was accepted; 0 where none was.
     pub fn last(&self) -> u32
         ensures { result ≡ last_of self.now.timeline.accepted }
     {
         self.last
     }
 
-    /// The event that was accepted under a number, whether it is kept or not.
+    /// The event that was accepted under a number, whether it is kept or not; none where no event was.
     pub fn event(&self, number: u32) -> Option<&Event>
         ensures { option_copied result ≡ event_at self.now.timeline number }
     {
@@ -145,7 +147,7 @@ impl History {
         &self.cells
     }
 
-    /// The footprint that a kept event has in the state at its place.
+    /// The footprint that a kept event has in the state at its place; none where the number is not kept.
     pub fn footprint_of(&self, number: u32) -> Option<KeptFootprint<'_>>
         ensures { result ≡ kept_footprint self.now.timeline number }
     {
@@ -157,7 +159,7 @@ impl History {
         })
     }
 
-    /// The same as [`History::footprint_of`] in a footprint with a list of its own, as [`History::nearest`] takes one.
+    /// As [`History::footprint_of`], in a footprint with a list of its own, which [`History::nearest`] takes.
     ///
     /// # Errors
     /// [`AllocError`] only where an allocation was refused.
@@ -170,8 +172,8 @@ impl History {
         }
     }
 
-    /// The least kept number above another whose event conflicts with a footprint. It takes no memory, and looks at the
-    /// footprint's cells alone.
+    /// The least kept number above `number` whose event conflicts with a footprint. It takes no memory, and looks up
+    /// the footprint's cells alone.
     pub fn nearest(&self, number: u32, footprint: &Footprint) -> Option<u32>
         ensures same { result ≡ nearest_conflict number footprint.now self.now.timeline }
         // Of the kept events above that number, the one that is named conflicts, and none of a lower number does.
@@ -181,8 +183,8 @@ impl History {
         nearest(number, footprint, self.kept.as_slice(), &self.accesses)
     }
 
-    /// The same where the footprint is that of a kept event, which is named by its number: none where it is not kept.
-    /// No cell is hashed.
+    /// As [`History::nearest`], with the footprint of the kept event `other`; none where `other` is not kept. It takes
+    /// no memory, and hashes no cell.
     pub fn nearest_to(&self, number: u32, other: u32) -> Option<u32>
         ensures same { (f : FootprintValue) → kept_footprint self.now.timeline other ≡ Some f
             → result ≡ nearest_conflict number f self.now.timeline }
@@ -193,8 +195,11 @@ impl History {
         nearest_by(number, step, self.kept.as_slice(), &self.accesses)
     }
 
-    /// Accepts an event under a number above all others, and keeps it. Its refusal is that of the present state. Want
-    /// of memory may be answered before that is known.
+    /// Accepts an event under a number above all others, and keeps it.
+    ///
+    /// # Errors
+    /// [`Fault::Refused`] where the present state refuses the event; [`Fault::Memory`] only where an allocation was
+    /// refused, which may be before the refusal is known. The history is then as before.
     pub fn accept(&mut self, number: u32, event: &Event) -> Result<(), Fault>
         requires { last_of self.old.timeline.accepted < number }
         ensures refused { (r : Refusal) → IsErrOf result (Fault.Refused r)
@@ -223,8 +228,12 @@ impl History {
         Ok(())
     }
 
-    /// Takes a kept event out, whichever it is of those on which no later kept one depends. The other events stay, and
-    /// the state is then that of these alone. It takes no memory, and writes the cells that the event wrote.
+    /// Takes a kept event out on which no later kept event depends. The other events stay, and the state is then that
+    /// of the other events alone. It takes no memory, and writes the cells that the event wrote.
+    ///
+    /// # Errors
+    /// [`Fault::Refused`] where the number has no event, is not kept, or a later kept event depends on it. The history
+    /// is then as before.
     pub fn undo(&mut self, number: u32) -> Result<(), Fault>
         ensures refused { (r : Refusal) → IsErrOf result (Fault.Refused r)
             ↔ (undo_refusal self.old.timeline number ≡ Some r) }
@@ -242,8 +251,12 @@ impl History {
         Ok(())
     }
 
-    /// Puts an event that was undone back at its number's place. `Memory` may be answered before it is known
-    /// whether another event stands in the way.
+    /// Puts an event that was undone back at its number's place.
+    ///
+    /// # Errors
+    /// [`Fault::Refused`] where the number has no event, is kept, the present state refuses the event, or a later kept
+    /// event conflicts with it; [`Fault::Memory`] only where an allocation was refused, which may be before it is known
+    /// whether a later event conflicts. The history is then as before.
     pub fn redo(&mut self, number: u32) -> Result<(), Fault>
         ensures refused { (r : Refusal) → IsErrOf result (Fault.Refused r)
             → redo_refusal self.old.timeline number ≡ Some r }
@@ -262,6 +275,9 @@ impl History {
 
     /// Takes out the event of the greatest kept number, and gives that number. It takes no memory, and writes the cells
     /// that the event wrote.
+    ///
+    /// # Errors
+    /// [`Fault::Refused`] where no event is kept. The history is then as before.
     pub fn back(&mut self) -> Result<u32, Fault>
         ensures refused { (r : Refusal) → IsErrOf result (Fault.Refused r)
             ↔ (back_refusal self.old.timeline ≡ Some r) }
@@ -279,8 +295,12 @@ impl History {
         Ok(number)
     }
 
-    /// Takes out a kept event and all later ones that depend on it, one by way of another, and gives their numbers,
-    /// which rise. The other events stay, and the state is then that of these alone.
+    /// Takes out a kept event and each later one that depends on it, itself or by way of others, and gives their
+    /// numbers, which rise. The other events stay, and the state is then that of the other events alone.
+    ///
+    /// # Errors
+    /// [`Fault::Refused`] where the number has no event or is not kept; [`Fault::Memory`] only where an allocation was
+    /// refused. The history is then as before.
     pub fn cone(&mut self, number: u32) -> Result<Vec<u32>, Fault>
         ensures refused { (r : Refusal) → IsErrOf result (Fault.Refused r)
             ↔ (cone_refusal self.old.timeline number ≡ Some r) }
@@ -299,14 +319,17 @@ impl History {
         Ok(members)
     }
 
-    /// Why `accept` would refuse an event now, where it would.
+    /// Why [`History::accept`] would refuse an event now, where it would.
+    ///
+    /// # Errors
+    /// [`AllocError`] only where an allocation was refused.
     pub fn accept_refused(&self, event: &Event) -> Result<Option<Refusal>, AllocError>
         ensures { IfOk result (λ refused. refused ≡ accept_refusal self.now.timeline event.now) }
     {
         refusal(self.alloc, &self.graph, &self.cells, event)
     }
 
-    /// Why `back` would be refused now, where it would. It takes no memory.
+    /// Why [`History::back`] would be refused now, where it would. It takes no memory.
     pub fn back_refused(&self) -> Option<Refusal>
         ensures { result ≡ back_refusal self.now.timeline }
     {
@@ -316,7 +339,7 @@ impl History {
         }
     }
 
-    /// Why `cone` would refuse a number now, where it would. It takes no memory.
+    /// Why [`History::cone`] would refuse a number now, where it would. It takes no memory.
     pub fn cone_refused(&self, number: u32) -> Option<Refusal>
         ensures { result ≡ cone_refusal self.now.timeline number }
     {
@@ -329,7 +352,10 @@ impl History {
         None
     }
 
-    /// The numbers of the events that `cone` would take out now, which rise.
+    /// The numbers of the events that [`History::cone`] would take out now, which rise.
+    ///
+    /// # Errors
+    /// [`AllocError`] only where an allocation was refused.
     pub fn members(&self, number: u32) -> Result<Vec<u32>, AllocError>
         requires { cone_refusal self.now.timeline number ≡ None }
         ensures members { IfOk result (λ members. members.items ≡ cone_numbers number self.now.timeline) }
@@ -347,7 +373,8 @@ impl History {
         )
     }
 
-    // Takes the members of a cone out: out of each list under a cell, and out of the kept numbers, in one pass.
+    // Takes the members of a cone out of the access lists, out of the state, and out of the kept numbers. Each list is
+    // gone through once.
     fn take_down(&mut self, number: u32, members: &[u32])
         requires rising { IsRising members.now }
         requires members { members.now ≡ cone_numbers number self.old.timeline }
@@ -366,7 +393,7 @@ impl History {
         self.kept.as_slice().last().copied()
     }
 
-    /// Why `undo` would refuse a number now, where it would. It takes no memory.
+    /// Why [`History::undo`] would refuse a number now, where it would. It takes no memory.
     pub fn undo_refused(&self, number: u32) -> Option<Refusal>
         ensures { result ≡ undo_refusal self.now.timeline number }
     {
@@ -383,7 +410,10 @@ impl History {
         Some(Refusal::DependedOn(dependent))
     }
 
-    /// Why `redo` would refuse a number now, where it would.
+    /// Why [`History::redo`] would refuse a number now, where it would.
+    ///
+    /// # Errors
+    /// [`AllocError`] only where an allocation was refused.
     pub fn redo_refused(&self, number: u32) -> Result<Option<Refusal>, AllocError>
         ensures { IfOk result (λ refused. refused ≡ redo_refusal self.now.timeline number) }
     {
@@ -418,9 +448,9 @@ impl History {
         }
     }
 
-    /// Whether another history of the same graph, by what it lends, and the same opening keeps the same events in an
-    /// equivalent order. Equal events are matched by occurrence, and the other ones take the numbers of these. Time is
-    /// linear in the events and their footprints, up to hashing.
+    /// Whether another history keeps the same events in an equivalent order. The two agree only where their graphs lend
+    /// the same and their openings are the same. Equal events are matched by occurrence, and the other history's events
+    /// take the numbers of this one's. Time is linear in the events and their footprints, up to hashing.
     ///
     /// # Errors
     /// [`AllocError`] only where an allocation was refused.
@@ -488,7 +518,7 @@ impl History {
         Ok(history)
     }
 
-    // Takes a kept event out on which none depends, and with it what stands beside it.
+    // Removes a kept event that nothing depends on, with its step.
     fn put_back(&mut self, number: u32)
         requires { undo_refusal self.old.timeline number ≡ None }
         ensures timeline { self.new.timeline ≡ undone number self.old.timeline }
@@ -499,7 +529,8 @@ impl History {
         self.kept.take(number);
     }
 
-    // Keeps an event at its number's place that nothing stands in the way of, with the footprint that it has now.
+    // Keeps an event at its number's place, with the footprint that it has now. No later kept event may conflict with
+    // it.
     fn keep(&mut self, number: u32, footprint: Footprint) -> Result<(), AllocError>
         requires free { redo_refusal self.old.timeline number ≡ None }
         requires print { HasNow self.old.timeline number footprint }

@@ -14,7 +14,7 @@ use rev_footprint::{Footprint, HasCells, conflict_between};
 use std::alloc::{AllocError, Global};
 use std::marker::Model;
 
-/// Cells of a kept footprint, by their places in the history.
+/// Cells of a kept footprint, which the history lends by their places.
 #[derive(Drop)]
 pub struct KeptCells<'a> {
     places: &'a [u32],
@@ -38,14 +38,14 @@ impl<'a> Model for KeptCells<'a> {
 }
 
 impl<'a> KeptCells<'a> {
-    /// How many they are.
+    /// How many cells these are.
     pub fn len(&self) -> usize
         ensures { result ≡ length self.now }
     {
         self.places.len()
     }
 
-    /// The one at a place.
+    /// The cell at an index, which counts from 0.
     pub fn at(&self, index: usize) -> &'a Cell
         requires { index < length self.now }
         ensures { result.now ≡ slice_index_or self.now index result.now }
@@ -56,7 +56,7 @@ impl<'a> KeptCells<'a> {
         }
     }
 
-    /// Whether a cell is one of them. They are looked at one by one.
+    /// Whether a cell is one of these. They are looked at one by one.
     pub fn has(&self, cell: &Cell) -> bool
         ensures { result ≡ among cell_cmp self.now cell.now }
     {
@@ -103,8 +103,8 @@ impl<'a> Model for KeptFootprint<'a> {
 }
 
 impl<'a> KeptFootprint<'a> {
-    /// The cells that are read, each once, the written ones first; of a whole event, which reads every cell, those
-    /// alone.
+    /// The cells that the event reads, each once, the written ones first. Of a whole event, which reads every cell,
+    /// these are the written ones alone.
     pub fn reads(&self) -> KeptCells<'a>
         ensures same { cells.from_list result ≡ self.now.reads }
         ensures first { take (length self.now.writes) result ≡ self.now.writes }
@@ -116,7 +116,7 @@ impl<'a> KeptFootprint<'a> {
         }
     }
 
-    /// The cells that are written, each once, in the order of the event's effect.
+    /// The cells that the event writes, each once, in the order of its effect.
     pub fn writes(&self) -> KeptCells<'a>
         ensures same { result ≡ self.now.writes }
         ensures distinct { IsDistinct (eq_by_cmp cell_cmp) result }
@@ -134,16 +134,16 @@ impl<'a> KeptFootprint<'a> {
         self.step.whole
     }
 
-    /// Whether the event reads or writes a cell. Of a whole event, which reads every cell, that is so of the named ones
-    /// alone. They are looked at one by one.
+    /// Whether the event reads or writes a cell. Of a whole event, which reads every cell, only the named cells count.
+    /// The named cells are looked at one by one.
     pub fn has(&self, cell: &Cell) -> bool
         ensures { result ≡ is_accessed cell_cmp (Cells (cells.items self.now.reads) self.now.writes) cell.now }
     {
         self.reads().has(cell)
     }
 
-    /// A footprint with a list of its own, equal to this one: the same cells are read and written, each in its order,
-    /// and it is whole where this one is.
+    /// An equal footprint with a list of its own: it reads and writes the same cells, each in its order, and is whole
+    /// where this one is.
     ///
     /// # Errors
     /// [`AllocError`] only where an allocation was refused.

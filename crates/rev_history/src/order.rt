@@ -21,7 +21,7 @@ use rev_events::Event;
 /// other (Mazurkiewicz traces).
 #[derive(Clone, Copy, Debug, PartialEq, Eq)]
 pub enum Order {
-    /// The openings differ, or the kept events, or how often one of them stands.
+    /// The openings differ, or the kept events do, or how often one of them is kept.
     EventsDiffer,
     /// The kept events are equivalent.
     Same,

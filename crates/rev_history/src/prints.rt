@@ -65,8 +65,8 @@ fn take_print(accesses: &mut Accesses, number: u32, places: &Places, whole: bool
     accesses.take(number, places);
 }
 
-/// Takes a number out of the lists of its footprint, which is one of some members; others of these may go with it. It
-/// takes no memory.
+/// Removes `number`, one of `members`, from the lists of its footprint; may remove other members too. It takes no
+/// memory.
 pub(crate) fn thin_print(accesses: &mut Accesses, number: u32, members: &[u32], step: &Step)
     requires rising { IsRisingNumbers members.now }
     requires member { is_among members.now number ≡ true }
@@ -99,7 +99,7 @@ pub(crate) fn nearest(
     accesses.nearest(number, footprint.reads(), footprint.writes())
 }
 
-/// The same for a footprint that stands beside a kept event.
+/// The least of the kept numbers above another whose footprint conflicts with that of a step. It takes no memory.
 pub(crate) fn nearest_by(number: u32, step: &Step, kept: &[u32], accesses: &Accesses) -> Option<u32>
     requires { IsRisingNumbers kept.now }
     ensures { (prints : Prints) → IsRising prints → numbers_by (λ f. true) prints ≡ kept.now
@@ -112,7 +112,7 @@ pub(crate) fn nearest_by(number: u32, step: &Step, kept: &[u32], accesses: &Acce
     accesses.nearest_by(number, &step.places)
 }
 
-/// The least kept number that overtakes another, of those whose footprints conflict with one: it stands above, and
+/// The least kept number that overtakes another and whose footprint conflicts with that of a step: it stands above, and
 /// before it in another list. It takes no memory.
 pub(crate) fn partner(
     places: &[u32],
@@ -132,7 +132,8 @@ pub(crate) fn partner(
     accesses.partner(places, number, &step.places)
 }
 
-/// Adds to the pending numbers those that lead to all kept ones above another whose footprints conflict with one.
+/// Adds to the pending numbers those that lead to each kept number above another whose footprint conflicts with that of
+/// a step.
 pub(crate) fn follow(
     pending: &mut Pending,
     number: u32,
@@ -162,9 +163,8 @@ fn fitted(values: Vec<(Cell, Value)>) -> Vec<(Cell, Value)>
     fitted
 }
 
-/// Puts a number into the lists of its footprint and writes the cells of its event, or does neither. It gives what
-/// stands beside the event then: the places of the footprint's cells, and what the written ones held, with room for no
-/// more.
+/// Puts a number into the lists of its footprint and writes the cells of its event, or does neither. It gives the step
+/// of the event: the places of the footprint's cells, and what the written cells held, with room for no more.
 pub(crate) fn write_noted(
     accesses: &mut Accesses,
     cells: &mut Cells,

@@ -26,7 +26,7 @@ pub(crate) enum Checked {
     Free(Footprint),
 }
 
-/// Why an event is refused in the present state, where it is.
+/// Why the present state refuses an event, where it does.
 pub(crate) fn refusal(
     alloc: Global,
     graph: &Graph,
@@ -43,7 +43,7 @@ pub(crate) fn refusal(
     }
 }
 
-/// What an event writes that the present state accepts: each cell once, with its new value.
+/// What an event writes, which the present state accepts: each cell once, with its new value.
 pub(crate) fn effect(
     alloc: Global,
     graph: &Graph,
@@ -61,7 +61,8 @@ pub(crate) fn effect(
     Ok(writes)
 }
 
-/// What an event writes where the present state accepts it, each cell once, with its new value; else why it is refused.
+/// What an event writes where the present state accepts it: each cell once, with its new value. Else why the state
+/// refuses the event.
 pub(crate) fn effect_if_accepted(
     alloc: Global,
     graph: &Graph,

@@ -8,16 +8,15 @@ use rev_accesses::Places;
 use rev_cells::{Cell, Value};
 use rev_events::Event;
 
-/// What stands beside a kept event: the places of the cells that it reads and writes in the access lists, whether it
-/// reads every cell, as a plan does, and what those that it writes held before it. Beside an event that is not kept
-/// stands none: a redo makes all anew.
+/// What stands beside a kept event: the places of the cells that the event reads and writes in the access lists,
+/// whether the event reads every cell, as a plan does, and what the cells that it writes held before it. No step stands
+/// beside an event that is not kept: a redo makes one.
 pub(crate) struct Step {
     pub(crate) places: Places,
     pub(crate) whole: bool,
     pub(crate) replaced: Vec<(Cell, Value)>,
 }
 
-// Written, since a derived drop is proved again at each exit of each caller.
 impl Drop for Step {
     fn drop(self) {
         let Step {

@@ -1,4 +1,4 @@
-//! Events that are taken out.
+//! Removal of events from the fields of a history.
 ghost use Rattle.std.specs.Prelude.{◌≡◌, ℕ, Some, length, true};
 ghost use Rattle.rev_accesses.specs.Thinned.{AreThinned, IsGone};
 ghost use Rattle.rev_causal.specs.Chosen.{IsRising, is_among};
@@ -15,7 +15,7 @@ use rev_accesses::Accesses;
 use rev_cells::Cells;
 use rev_events::Event;
 
-// Takes a member out of the lists of the footprint that stands beside its event; other members may go with it.
+// Removes a member from the lists of the footprint that stands beside its event; may remove other members too.
 fn thin_member(
     number: u32,
     members: &[u32],
@@ -37,8 +37,8 @@ fn thin_member(
     }
 }
 
-/// Takes members out of the access lists of the footprints that stand beside their events. Where they are many, each
-/// list is gone through once for all of them. It takes no memory.
+/// Removes members from the access lists of the footprints that stand beside their events. Where the members are many,
+/// each list is gone through once for all of them. It takes no memory.
 pub(crate) fn thin_lists(
     members: &[u32],
     accepted: &IndexMap<u32, Event>,
@@ -58,8 +58,8 @@ pub(crate) fn thin_lists(
     }
 }
 
-/// Puts back what an event replaced on which no kept one depends, and drops what stands beside it. From among the kept
-/// numbers and out of the access lists it is the caller's to take it. It takes no memory.
+/// Restores what the event replaced and drops its step. No kept event may depend on it. The caller removes its number
+/// from the kept numbers and from the access lists. It takes no memory.
 pub(crate) fn put_back(
     number: u32,
     accepted: &IndexMap<u32, Event>,
@@ -78,8 +78,8 @@ pub(crate) fn put_back(
     cells.exchange(&mut step.replaced);
 }
 
-/// The same for the members of a cone, from the last down: on the last none depends, and without it the others are the
-/// cone.
+/// Restores what the members of a cone replaced and drops their steps, from the last down: no kept event depends on the
+/// last, and without it the others are the cone. It takes no memory.
 pub(crate) fn put_all_back(
     members: &[u32],
     accepted: &IndexMap<u32, Event>,
