@@ -9,7 +9,7 @@ use rev_paths::Name;
 use std::alloc::AllocError;
 
 /// Events of one kind: of an edge, of a path, or all of them.
-#[derive(Debug, PartialEq, Eq, Hash)]
+#[derive(PartialEq, Eq, Hash)]
 pub(crate) enum BreakKey {
     Start(u32),
     Finish(u32),

@@ -15,7 +15,7 @@ use rev_paths::Name;
 use std::alloc::{AllocError, Global};
 
 /// The paths by which edges step to the edges that produce them.
-#[derive(Clone, Copy, Debug, PartialEq, Eq)]
+#[derive(Clone, Copy)]
 pub(crate) enum Along {
     /// The inputs of all kinds.
     Inputs,

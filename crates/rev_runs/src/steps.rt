@@ -7,7 +7,7 @@ use rev_graph::Graph;
 use rev_history::History;
 
 /// What an event does to the command of an edge.
-#[derive(Clone, Copy, Debug, PartialEq, Eq)]
+#[derive(Clone, Copy)]
 pub(crate) enum Step {
     /// The command begins, on a job.
     Begin { edge: u32, job: u32 },
