@@ -10,7 +10,7 @@ use Rattle.rev_cells.specs.declared.cell.Cell.{Cell}
 use Rattle.rev_cells.specs.Keys.{cell_cmp}
 use Rattle.rev_accesses.specs.Following.{is_first, is_between, is_first_under, is_user_under}
 use Rattle.rev_accesses.specs.Places.{ArePlacesOf, AreWithin, IsGrown, NamesAt, PlacesValue, cells_at}
-use Rattle.rev_accesses.specs.Turned.{partner_at}
+use Rattle.rev_accesses.specs.Inverted.{partner_at}
 use Rattle.rev_accesses.specs.Value.{Index, Names, numbers_at, nearest_at}
 use Rattle.rev_causal.specs.AccessLists.{first_above}
 use Rattle.rev_accesses.proofs.ShowsLemmas.{lesser-assoc}

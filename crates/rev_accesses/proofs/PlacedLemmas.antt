@@ -21,7 +21,7 @@ use Rattle.rev_accesses.specs.Following.{is_first, is_between, is_first_under, i
 use Rattle.rev_accesses.specs.Places.{cells_at}
 use Rattle.rev_numbers.specs.Taken.{IsThinned}
 use Rattle.rev_accesses.specs.Thinned.{AreThinnedUnder, IsGoneUnder}
-use Rattle.rev_accesses.specs.Turned.{partner_at}
+use Rattle.rev_accesses.specs.Inverted.{partner_at}
 use Rattle.rev_accesses.specs.Users.{Entries, listed, numbers_of}
 use Rattle.rev_accesses.specs.Value.{numbers_at, nearest_at}
 use Rattle.rev_accesses.proofs.IndexLemmas.{at_some, at_write, at_write_but_for}

@@ -6,7 +6,7 @@ ghost use Rattle.rev_causal.specs.Chosen.{IsRising as IsRisingNumbers, is_among}
 ghost use Rattle.rev_causal.specs.History.{IsRising, event_at, put, without};
 ghost use Rattle.rev_causal.specs.KeptHistory.{nearest_in};
 ghost use Rattle.rev_causal.specs.Store.{Footprint, Footprint.Whole, conflict};
-ghost use Rattle.rev_order.specs.Overtaken.{first_turned_of};
+ghost use Rattle.rev_order.specs.Overtaken.{first_inverted_of};
 ghost use Rattle.rev_order.specs.Pairs.{partner_of};
 ghost use Rattle.rev_cells.specs.declared.cell.Cell.{Cell};
 ghost use Rattle.rev_cells.specs.Keys.{cell_cmp};
@@ -19,7 +19,7 @@ ghost use Rattle.rev_accesses.specs.Value.{Names, PartlyPut, Prints, PutUnder, S
 use crate::between::add_between;
 use crate::cells::places_of;
 use crate::index::{
-    add_firsts, add_users, first_turned, nearest, nearest_at_places, partner, put_all, take_all,
+    add_firsts, add_users, first_inverted, nearest, nearest_at_places, partner, put_all, take_all,
     thin_all,
 };
 use crate::pending::Pending;
@@ -205,15 +205,15 @@ impl Accesses {
     /// The least number that another number overtakes whose event conflicts with its own. A number overtakes another
     /// where it stands above it, and before it in another list. `numbers` are all numbers, and `places` has the place
     /// of each in that other list. It takes no memory, and time linear in the lists.
-    pub fn first_turned(&self, places: &[u32], numbers: &[u32]) -> Option<u32>
+    pub fn first_inverted(&self, places: &[u32], numbers: &[u32]) -> Option<u32>
         requires { IsRisingNumbers numbers.now }
         ensures { (prints : Prints) → IsRising prints → numbers_by (λ f. true) prints ≡ numbers.now
             → Shows self.now prints
-            → result ≡ first_turned_of (conflict cell_cmp) places.now prints }
+            → result ≡ first_inverted_of (conflict cell_cmp) places.now prints }
     {
         let before = first_overtaken(places, self.whole.as_slice(), numbers);
         let after = first_overtaken(places, numbers, self.whole.as_slice());
-        lesser(before, lesser(after, first_turned(&self.users, places)))
+        lesser(before, lesser(after, first_inverted(&self.users, places)))
     }
 
     /// The least number that overtakes `number` and whose event conflicts with the event of `number`. That event reads

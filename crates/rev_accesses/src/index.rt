@@ -9,7 +9,7 @@ ghost use Rattle.rev_cells.specs.Keys.{cell_cmp};
 ghost use Rattle.rev_accesses.specs.Following.{is_first_under, is_user_under};
 ghost use Rattle.rev_accesses.specs.Places.{cells_at};
 ghost use Rattle.rev_accesses.specs.Thinned.{AreThinnedUnder, IsGoneUnder};
-ghost use Rattle.rev_accesses.specs.Turned.{first_turned_among, partner_at};
+ghost use Rattle.rev_accesses.specs.Inverted.{first_inverted_among, partner_at};
 ghost use Rattle.rev_accesses.specs.Users.{IsSame, listed, other};
 ghost use Rattle.rev_accesses.specs.declared.users.Access.TheVariants.{Read, Write};
 ghost use Rattle.rev_accesses.specs.Value.{PartlyPut, PutUnder, TakenFrom, nearest_at, numbers_at};
@@ -275,14 +275,14 @@ pub(crate) fn add_users(
 
 /// The least number that another overtakes which accesses the same cell, where one of the two writes it. Time is
 /// linear in the lists of all cells.
-pub(crate) fn first_turned(index: &IndexMap<Cell, Users>, places: &[u32]) -> Option<u32>
-    ensures least { result ≡ first_turned_among places.now (map (λ e. e.1) index.now.entries) }
+pub(crate) fn first_inverted(index: &IndexMap<Cell, Users>, places: &[u32]) -> Option<u32>
+    ensures least { result ≡ first_inverted_among places.now (map (λ e. e.1) index.now.entries) }
     ensures distinct { IsDistinct (eq_by_cmp cell_cmp) (map (λ e. e.0) index.now.entries) }
 {
     let _cells = index.len();
     let mut least = None;
     for users in index.values() {
-        least = lesser(least, users.first_turned(places));
+        least = lesser(least, users.first_inverted(places));
     }
     least
 }

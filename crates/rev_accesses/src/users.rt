@@ -1,7 +1,7 @@
 //! Those that use one cell.
 ghost use Rattle.std.specs.Prelude.{◌≡◌, [], false, true, OnOk};
 ghost use Rattle.rev_causal.specs.Chosen.{IsRising, is_among, without};
-ghost use Rattle.rev_accesses.specs.Turned.{first_turned_in};
+ghost use Rattle.rev_accesses.specs.Inverted.{first_inverted_in};
 ghost use Rattle.rev_accesses.specs.Users.{numbers_of, other};
 ghost use Rattle.rev_numbers.specs.Taken.{IsThinned};
 ghost use Rattle.rev_numbers.specs.Value.{with_number};
@@ -94,8 +94,8 @@ impl Users {
     }
 
     // The least of them that another overtakes, where one of the two writes the cell.
-    pub(crate) fn first_turned(&self, places: &[u32]) -> Option<u32>
-        ensures { result ≡ first_turned_in places.now self.now }
+    pub(crate) fn first_inverted(&self, places: &[u32]) -> Option<u32>
+        ensures { result ≡ first_inverted_in places.now self.now }
     {
         let readers = self.readers.as_slice();
         let writers = self.writers.as_slice();

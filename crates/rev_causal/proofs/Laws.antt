@@ -7,7 +7,7 @@ use Rattle.rev_causal.specs.Machine.{Machine, IsLocal, Legal, run}
 use Rattle.rev_causal.specs.Order.{any_conflict, InCone, InCone.itself, InCone.depends, cone, outside, Equivalent, Equivalent.same, Equivalent.exchange, Equivalent.behind, Equivalent.back, Equivalent.follow, Free, Loose, Has, Stands, Distinct, nearest}
 use Rattle.rev_causal.specs.Entries.{Entry, entries, events, IsRun, clash, SwapEquivalent}
 use Rattle.rev_causal.specs.History.{cone_of, rest_of, IsRising, number_of, nearest_to}
-use Rattle.rev_causal.specs.Laws.{SameResult, FreeExactlyWhereLast, NoPairTurned, SameExactlyWhereNoneTurned, IsLeastDependent, NearestIsLeast}
+use Rattle.rev_causal.specs.Laws.{SameResult, FreeExactlyWhereLast, NoPairInverted, SameExactlyWhereNoneInverted, IsLeastDependent, NearestIsLeast}
 use Rattle.rev_causal.proofs.Runs.{either}
 use Rattle.rev_causal.proofs.Order
 use Rattle.rev_causal.proofs.Cones
@@ -214,19 +214,19 @@ module _ (m : Machine) (l : IsLocal m) where
   both : (a b : Entry m) → clash m a b ≡ clash m b a
   both a b = l.both_ways a.footprint b.footprint
 
-  turned_none : (s : m.State) (xs ys : List (ℕ × m.Event)) → IsRising xs → SwapEquivalent m s xs ys → NoPairTurned m s xs ys
-  turned_none s xs ys rising w a b c here there =
+  inverted_none : (s : m.State) (xs ys : List (ℕ × m.Event)) → IsRising xs → SwapEquivalent m s xs ys → NoPairInverted m s xs ys
+  inverted_none s xs ys rising w a b c here there =
       let apart : Distinct (map (number m) (entries m s xs)) = rising_distinct m s xs rising in
       let apart_there : Distinct (map (number m) (entries m s ys)) = (Order.distinct_kept nothing_clashes (mapped (clash m) (number m) w.2)).0 apart in
       let two : Has (entries m s xs) a × Has (entries m s xs) b = Order.stands_has a b (entries m s xs) here in
       let a_there : Has (entries m s ys) a = (Order.has_kept (clash m) a w.2).0 two.0 in
       let b_there : Has (entries m s ys) b = (Order.has_kept (clash m) b w.2).0 two.1 in
-      Order.none_turned (clash m) both (entries m s xs) (entries m s ys) (distinct_of_map (number m) _ apart) w.2 a b c here
+      Order.none_inverted (clash m) both (entries m s xs) (entries m s ys) (distinct_of_map (number m) _ apart) w.2 a b c here
       (stands_unmap pair (entries m s ys) b a (λ x h e. one_image (number m) (entries m s ys) apart_there x b h b_there (same_number x b e)) (λ x h e. one_image (number m) (entries m s ys) apart_there x a h a_there (same_number x a e))
       (subst (Stands (pair b) (pair a)) (sym (pairs_of s ys)) there))
 
-  none_turned_same : (s : m.State) (xs ys : List (ℕ × m.Event)) → Legal m s xs → IsRising xs → Distinct (map (λ (y : ℕ × m.Event). y.0) ys) → ((x : ℕ × m.Event) → Has xs x ↔ Has ys x) → NoPairTurned m s xs ys → SwapEquivalent m s xs ys
-  none_turned_same s xs ys legal rising apart is none =
+  none_inverted_same : (s : m.State) (xs ys : List (ℕ × m.Event)) → Legal m s xs → IsRising xs → Distinct (map (λ (y : ℕ × m.Event). y.0) ys) → ((x : ℕ × m.Event) → Has xs x ↔ Has ys x) → NoPairInverted m s xs ys → SwapEquivalent m s xs ys
+  none_inverted_same s xs ys legal rising apart is none =
       let p : Picked (entries m s xs) ys = pick s xs ys (λ y h. (is y).1 h) in
       let here : Distinct (map (number m) (entries m s xs)) = rising_distinct m s xs rising in
       let there : Distinct (map (number m) p.list) = subst Distinct (ap (map (λ (y : ℕ × m.Event). y.0)) (sym p.is) ∙ sym (numbers_are p.list)) apart in
@@ -244,8 +244,8 @@ module _ (m : Machine) (l : IsLocal m) where
         subst (Equivalent (clash m) (entries m s xs)) (sym (Entries.entries-events m s p.list r.is_run) ∙ ap (entries m s) back) steps,
       )
 
-  pub same_exactly_where_none_turned : SameExactlyWhereNoneTurned m
-  same_exactly_where_none_turned s xs ys legal rising apart is = (turned_none s xs ys rising, none_turned_same s xs ys legal rising apart is)
+  pub same_exactly_where_none_inverted : SameExactlyWhereNoneInverted m
+  same_exactly_where_none_inverted s xs ys legal rising apart is = (inverted_none s xs ys rising, none_inverted_same s xs ys legal rising apart is)
 
 -- the nearest is the least
 module _ (m : Machine) where

@@ -169,14 +169,14 @@ module _ {A : Type 0} (conflict : A → A → Bool) where
   to_front a (x ∷ xs) rest free = follow (exchange a x (xs ++ rest) free.0) (behind x (to_front a xs rest free.1))
 
   -- no two that conflict stand in the other order
-  abbrev pub NoneTurned : List A → List A → Type 0
-  NoneTurned xs ys = (a b : A) → conflict a b ≡ true → Stands a b xs → Stands b a ys → ⊥
+  abbrev pub NoneInverted : List A → List A → Type 0
+  NoneInverted xs ys = (a b : A) → conflict a b ≡ true → Stands a b xs → Stands b a ys → ⊥
 
   abbrev pub SameElements : List A → List A → Type 0
   SameElements xs ys = (a : A) → Has xs a ↔ Has ys a
 
 module _ {A : Type 0} (conflict : A → A → Bool) (both_ways : (a b : A) → conflict a b ≡ conflict b a) where
-  free_front : (y : A) (front rest ys : List A) → Distinct (front ++ y ∷ rest) → SameElements conflict (front ++ y ∷ rest) (y ∷ ys) → NoneTurned conflict (front ++ y ∷ rest) (y ∷ ys) → (x : A) → Has front x → conflict y x ≡ false
+  free_front : (y : A) (front rest ys : List A) → Distinct (front ++ y ∷ rest) → SameElements conflict (front ++ y ∷ rest) (y ∷ ys) → NoneInverted conflict (front ++ y ∷ rest) (y ∷ ys) → (x : A) → Has front x → conflict y x ≡ false
   free_front y front rest ys d is none x h = elim (either (conflict y x)) [
     | inl c ↦ elim ((is x).0 ((has_insert y front rest x).1 (inr (has_front front rest x h)))) [
       | inl p ↦ absurd ((distinct_insert y front rest d).1 (subst (Has (front ++ rest)) (sym p) (has_front front rest x h)))
@@ -198,19 +198,19 @@ module _ {A : Type 0} (conflict : A → A → Bool) (both_ways : (a b : A) → c
   )
 
   -- the same elements, no two that conflict turned round: one leads to the other
-  pub rearrange : (xs ys : List A) → Distinct xs → Distinct ys → SameElements conflict xs ys → NoneTurned conflict xs ys → Equivalent conflict xs ys
+  pub rearrange : (xs ys : List A) → Distinct xs → Distinct ys → SameElements conflict xs ys → NoneInverted conflict xs ys → Equivalent conflict xs ys
   rearrange [] [] dx dy is none = same
   rearrange (x ∷ xs) [] dx dy is none = absurd ((is x).0 (inl refl))
   rearrange xs (y ∷ ys) dx dy is none =
       let c : Cut y xs = cut_at y xs ((is y).1 (inl refl)) in
       let d : Distinct (c.front ++ y ∷ c.rest) = subst Distinct c.is dx in
       let k : SameElements conflict (c.front ++ y ∷ c.rest) (y ∷ ys) = subst (λ zs. SameElements conflict zs (y ∷ ys)) c.is is in
-      let n : NoneTurned conflict (c.front ++ y ∷ c.rest) (y ∷ ys) = subst (λ zs. NoneTurned conflict zs (y ∷ ys)) c.is none in
+      let n : NoneInverted conflict (c.front ++ y ∷ c.rest) (y ∷ ys) = subst (λ zs. NoneInverted conflict zs (y ∷ ys)) c.is none in
       let free : Free conflict y c.front = free_by conflict y c.front (free_front y c.front c.rest ys d k n) in
       let rest : Equivalent conflict (c.front ++ c.rest) ys =
       rearrange (c.front ++ c.rest) ys (distinct_insert y c.front c.rest d).0 dy.1 (same_rest y c.front c.rest ys d dy k)
       (λ a b h s t. n a b h (stands_insert y c.front c.rest a b s) (inr t)) in
       subst (λ zs. Equivalent conflict zs (y ∷ ys)) (sym c.is) (follow (back (to_front conflict y c.front c.rest free)) (behind y rest))
 
-  pub none_turned : (xs ys : List A) → Distinct xs → Equivalent conflict xs ys → NoneTurned conflict xs ys
-  none_turned xs ys d e a b c s t = one_order a b ys ((distinct_kept conflict e).0 d) ((order_kept conflict both_ways a b c e).0 s) t
+  pub none_inverted : (xs ys : List A) → Distinct xs → Equivalent conflict xs ys → NoneInverted conflict xs ys
+  none_inverted xs ys d e a b c s t = one_order a b ys ((distinct_kept conflict e).0 d) ((order_kept conflict both_ways a b c e).0 s) t

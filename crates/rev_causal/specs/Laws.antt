@@ -232,18 +232,18 @@ module _ (m : Machine) where
       ↔ ((ys : List (ℕ × m.Event)) × SwapEquivalent m s kept (ys ++ (n, e) ∷ []))
 
   -- no two that conflict in the first list stand the other way round in the second
-  abbrev pub NoPairTurned : m.State → List (ℕ × m.Event) → List (ℕ × m.Event) → Type 0
-  NoPairTurned s xs ys =
+  abbrev pub NoPairInverted : m.State → List (ℕ × m.Event) → List (ℕ × m.Event) → Type 0
+  NoPairInverted s xs ys =
       (a b : Entry m) → clash m a b ≡ true → Stands a b (entries m s xs)
       → Stands (b.number, b.event) (a.number, a.event) ys → ⊥
 
   -- Two lists of the same numbered events, of which the first is legal, are swap-equivalent exactly where no two that
-  -- conflict are turned. Only the first one's footprints are looked at, and the second need not be known to be legal.
-  abbrev pub SameExactlyWhereNoneTurned : Type 0
-  SameExactlyWhereNoneTurned =
+  -- conflict are inverted. Only the first one's footprints are looked at, and the second need not be known to be legal.
+  abbrev pub SameExactlyWhereNoneInverted : Type 0
+  SameExactlyWhereNoneInverted =
       (s : m.State) (xs ys : List (ℕ × m.Event)) → Legal m s xs → IsRising xs
       → Distinct (map (λ (y : ℕ × m.Event). y.0) ys) → ((x : ℕ × m.Event) → Has xs x ↔ Has ys x) →
-      SwapEquivalent m s xs ys ↔ NoPairTurned s xs ys
+      SwapEquivalent m s xs ys ↔ NoPairInverted s xs ys
 
 -- REPLACED VALUES
 module _ {K V E F : Type 0} {R : K → K → Ordering} (t : Table K V E F R) where

@@ -8,7 +8,7 @@ use Rattle.rev_causal.specs.Machine.{Machine, Accepts, Legal}
 use Rattle.rev_causal.specs.Order.{Has, Stands, Distinct}
 use Rattle.rev_causal.specs.Entries.{Entry, entries, clash, SwapEquivalent}
 use Rattle.rev_causal.specs.History.{IsRising, without}
-use Rattle.rev_causal.specs.Laws.{NoPairTurned}
+use Rattle.rev_causal.specs.Laws.{NoPairInverted}
 use Rattle.rev_causal.specs.Store.{Table, is_whole, is_written, conflict}
 use Rattle.std.specs.FinMap.{FinMap}
 use Rattle.std.specs.declared.cmp.Ordering.{Ordering}
@@ -62,7 +62,7 @@ module _ {E : Type 0} (same : E → E → Bool) where
   renumbered xs (y ∷ ys) =
       where_found (first_of y xs) (λ n. option_map (λ zs. (n, y) ∷ zs) (renumbered (without n xs) ys))
 
--- THE FIRST PAIR THAT IS TURNED
+-- THE FIRST PAIR THAT IS INVERTED
 -- whether n stands before k
 abbrev pub stands_before : ℕ → ℕ → List ℕ → Bool
 stands_before n k [] = false
@@ -70,30 +70,30 @@ stands_before n k (x ∷ xs) = (nat_eq x n && list_any (λ y. nat_eq y k) xs) ||
 
 module _ (m : Machine) where
   -- the number of the first of `zs` that conflicts with a and stands before it in the other list
-  abbrev pub first_turned : Entry m → List (Entry m) → List ℕ → Option ℕ
-  first_turned a [] other = None
-  first_turned a (b ∷ zs) other =
-      cond (clash m a b && stands_before b.number a.number other) (Some b.number) (first_turned a zs other)
+  abbrev pub first_inverted : Entry m → List (Entry m) → List ℕ → Option ℕ
+  first_inverted a [] other = None
+  first_inverted a (b ∷ zs) other =
+      cond (clash m a b && stands_before b.number a.number other) (Some b.number) (first_inverted a zs other)
 
   abbrev pub paired : ℕ → Option ℕ → Option (ℕ × ℕ) → Option (ℕ × ℕ)
   paired i None further = further
   paired i (Some j) further = Some (i, j)
 
   -- the first two that conflict and stand the other way round in the other list: the least first, then the least second
-  abbrev pub least_turned : List (Entry m) → List ℕ → Option (ℕ × ℕ)
-  least_turned [] other = None
-  least_turned (a ∷ zs) other = paired a.number (first_turned a zs other) (least_turned zs other)
+  abbrev pub least_inverted : List (Entry m) → List ℕ → Option (ℕ × ℕ)
+  least_inverted [] other = None
+  least_inverted (a ∷ zs) other = paired a.number (first_inverted a zs other) (least_inverted zs other)
 
   -- i stands before j in the first list and they conflict there, j stands before i in the other, and of all such pairs
   -- this has the least i, and among those the least j
-  pub record IsLeastTurned (s : m.State) (first other : List (ℕ × m.Event)) (i j : ℕ) : Type 0 where
+  pub record IsLeastInverted (s : m.State) (first other : List (ℕ × m.Event)) (i j : ℕ) : Type 0 where
     pub one : Entry m
     pub later : Entry m
     pub of_i : one.number ≡ i
     pub of_j : later.number ≡ j
     pub here : Stands one later (entries m s first)
     pub conflicts : clash m one later ≡ true
-    pub turned : Stands (later.number, later.event) (one.number, one.event) other
+    pub inverted : Stands (later.number, later.event) (one.number, one.event) other
     pub least : (a b : Entry m) → Stands a b (entries m s first) → clash m a b ≡ true
         → Stands (b.number, b.event) (a.number, a.event) other → (i < a.number) ⊎ ((i ≡ a.number) × (j ≤ b.number))
 
@@ -105,16 +105,16 @@ pub data OrderAnswer : Type 0 where
   -- the lists are equivalent
   SameOrder : OrderAnswer
   -- the first two that conflict and stand the other way round
-  Turned : (i j : ℕ) → OrderAnswer
+  Inverted : (i j : ℕ) → OrderAnswer
 
 abbrev pub pair_answer : Option (ℕ × ℕ) → OrderAnswer
 pair_answer None = SameOrder
-pair_answer (Some p) = Turned p.0 p.1
+pair_answer (Some p) = Inverted p.0 p.1
 
 module _ (m : Machine) where
   abbrev pub matched_answer : m.State → List (ℕ × m.Event) → Option (List (ℕ × m.Event)) → OrderAnswer
   matched_answer s first None = EventsDiffer
-  matched_answer s first (Some other) = pair_answer (least_turned m (entries m s first) (map number_in other))
+  matched_answer s first (Some other) = pair_answer (least_inverted m (entries m s first) (map number_in other))
 
   abbrev pub order_check : (m.Event → m.Event → Bool) → m.State → List (ℕ × m.Event) → List m.Event → OrderAnswer
   order_check same s first events = matched_answer s first (renumbered same first events)
@@ -163,10 +163,10 @@ module _ (m : Machine) where
       → IsMatched first other
 
   -- A matched list is equivalent exactly where no two that conflict stand the other way round.
-  abbrev pub MatchedExactlyWhereNoneTurned : Type 0
-  MatchedExactlyWhereNoneTurned =
+  abbrev pub MatchedExactlyWhereNoneInverted : Type 0
+  MatchedExactlyWhereNoneInverted =
       (s : m.State) (first other : List (ℕ × m.Event)) → Legal m s first → IsRising first → IsMatched first other
-      → SwapEquivalent m s first other ↔ NoPairTurned m s first other
+      → SwapEquivalent m s first other ↔ NoPairInverted m s first other
 
   -- what the order check says of events
   pub record IsOrderAnswer (same : m.Event → m.Event → Bool) (s : m.State) (first : List (ℕ × m.Event)) (events : List m.Event) : Type 0 where
@@ -175,10 +175,10 @@ module _ (m : Machine) where
     -- the same: exactly where under some numbers these events are swap-equivalent to the first list
     pub same_order : (order_check m same s first events ≡ SameOrder)
         ↔ ((other : List (ℕ × m.Event)) × (bare other ≡ events) × SwapEquivalent m s first other)
-    -- else the least pair that conflicts and is turned
-    pub turned : (i j : ℕ) → order_check m same s first events ≡ Turned i j
+    -- else the least pair that conflicts and is inverted
+    pub inverted : (i j : ℕ) → order_check m same s first events ≡ Inverted i j
         → (other : List (ℕ × m.Event)) × IsMatched first other × (bare other ≡ events)
-        × IsLeastTurned m s first other i j
+        × IsLeastInverted m s first other i j
 
   -- The order check answers exactly.
   abbrev pub OrderCheckIsExact : (m.Event → m.Event → Bool) → Type 0

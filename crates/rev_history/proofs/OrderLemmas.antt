@@ -5,9 +5,9 @@ use Rattle.rev_accesses.specs.Value.{Prints}
 use Rattle.rev_causal.specs.Chosen.{chosen, is_among, last_of}
 use Rattle.rev_causal.specs.History.{event_at}
 use Rattle.rev_causal.specs.Store.{Footprint, conflict}
-use Rattle.rev_causal.specs.OrderCheck.{IsEquality, IsOrderAnswer, OrderAnswer, EventsDiffer, SameOrder, Turned, bare, matched_answer, pair_answer, renumbered}
+use Rattle.rev_causal.specs.OrderCheck.{IsEquality, IsOrderAnswer, OrderAnswer, EventsDiffer, SameOrder, Inverted, bare, matched_answer, pair_answer, renumbered}
 use Rattle.rev_causal.proofs.Chosen.{AllAccepted, chosen-rises, event_at-below, event_at-chosen, event_at-not_chosen}
-use Rattle.rev_causal.proofs.Turned.{order_check_is_exact}
+use Rattle.rev_causal.proofs.Inverted.{order_check_is_exact}
 use Rattle.rev_cells.specs.declared.cell.Cell.{Cell}
 use Rattle.rev_cells.specs.Alike as cells
 use Rattle.rev_cells.specs.Keys.{cell_cmp}
@@ -18,8 +18,8 @@ use Rattle.rev_footprint.proofs.EqualLemmas.{equal-conflict}
 use Rattle.rev_footprint.proofs.Local.{machine-local}
 use Rattle.rev_graph.specs.Alike.{LendAlike}
 use Rattle.rev_order.specs.Matched.{ArePlacesOf}
-use Rattle.rev_order.specs.Overtaken.{first_where, first_turned_of}
-use Rattle.rev_order.specs.Pairs.{partner_of, with_partner, pair_of, turned_pair}
+use Rattle.rev_order.specs.Overtaken.{first_where, first_inverted_of}
+use Rattle.rev_order.specs.Pairs.{partner_of, with_partner, pair_of, inverted_pair}
 use Rattle.rev_order.proofs.OrderAnswers.{answer_by_places}
 use Rattle.rev_history.specs.declared.history.History.TheInside.{Inside}
 use Rattle.rev_history.specs.Sound.{IsSound, kept_prints, timeline_of}
@@ -35,7 +35,7 @@ exact_here same t u q h o =
     record {
       differ = (λ e w. a.differ.0 e w.1, λ f. a.differ.1 (λ w. f (o, w)));
       same_order = (λ e. (o, a.same_order.0 e), λ w. a.same_order.1 w.1);
-      turned = λ i j e. (o, a.turned i j e);
+      inverted = λ i j e. (o, a.inverted i j e);
     }
 
 pub exact : OrderIsExact
@@ -44,13 +44,13 @@ exact same t u false q h agree =
     record {
       differ = (λ e w. true≢false (sym (agree.1 w.0)), λ f. refl);
       same_order = (λ e. absurd (never e), λ w. absurd (true≢false (sym (agree.1 w.0))));
-      turned = λ i j e. absurd (other i j e);
+      inverted = λ i j e. absurd (other i j e);
     }
   where
     never : EventsDiffer ≡ SameOrder → ⊥
     never e = cc
 
-    other : (i j : ℕ) → EventsDiffer ≡ Turned i j → ⊥
+    other : (i j : ℕ) → EventsDiffer ≡ Inverted i j → ⊥
     other i j e = cc
 
 -- WHAT IS FOUND BY PLACES
@@ -69,9 +69,9 @@ module _ {A : Type 0} where
       by false false t u more = ap (λ b. is_some (cond b (Some p.1) (event_at n ps))) u ∙ more (sym (ap (λ b. cond b (Some p.0) (first_where x ps)) t) ∙ e)
 
 module _ (places : List ℕ) (es : List (ℕ × Event)) (steps : List Beside) (kept : List ℕ) where
-  -- the first that is turned is kept
-  turned_among : (n : ℕ) → Some n ≡ first_turned_of (conflict cell_cmp) places (chosen (prints_of es steps) kept) → is_among kept n ≡ true
-  turned_among n found = by (is_among kept n) refl
+  -- the first that is inverted is kept
+  inverted_among : (n : ℕ) → Some n ≡ first_inverted_of (conflict cell_cmp) places (chosen (prints_of es steps) kept) → is_among kept n ≡ true
+  inverted_among n found = by (is_among kept n) refl
     where
       there : IsSome (event_at n (chosen (prints_of es steps) kept))
       there = first_there _ (chosen (prints_of es steps) kept) n (sym found)
@@ -81,23 +81,23 @@ module _ (places : List ℕ) (es : List (ℕ × Event)) (steps : List Beside) (k
       by false e = absurd (true≢false (sym there ∙ ap is_some (event_at-not_chosen (prints_of es steps) kept n e)))
 
   -- so that it has a footprint
-  pub turned_print : HasFootprints es steps kept → (n : ℕ) → Some n ≡ first_turned_of (conflict cell_cmp) places (chosen (prints_of es steps) kept)
+  pub inverted_print : HasFootprints es steps kept → (n : ℕ) → Some n ≡ first_inverted_of (conflict cell_cmp) places (chosen (prints_of es steps) kept)
       → None ≡ footprint_beside n es steps → ⊥
-  turned_print all n found none =
-      true≢false (sym (all_among (λ k. IsSome (footprint_beside k es steps)) kept n all (turned_among n found)) ∙ ap is_some (sym none))
+  inverted_print all n found none =
+      true≢false (sym (all_among (λ k. IsSome (footprint_beside k es steps)) kept n all (inverted_among n found)) ∙ ap is_some (sym none))
 
-  -- none is turned
-  pub pair_none : None ≡ first_turned_of (conflict cell_cmp) places (chosen (prints_of es steps) kept) → SameOrder ≡ pair_answer (turned_pair (conflict cell_cmp) places (chosen (prints_of es steps) kept))
+  -- none is inverted
+  pub pair_none : None ≡ first_inverted_of (conflict cell_cmp) places (chosen (prints_of es steps) kept) → SameOrder ≡ pair_answer (inverted_pair (conflict cell_cmp) places (chosen (prints_of es steps) kept))
   pair_none none = ap (λ o. pair_answer (pair_of (conflict cell_cmp) places (chosen (prints_of es steps) kept) o)) none
 
-  -- the first that is turned, with the first that overtakes it
-  pub pair_some : (n : ℕ) (f : FootprintValue) (o : Option ℕ) → Some n ≡ first_turned_of (conflict cell_cmp) places (chosen (prints_of es steps) kept)
+  -- the first that is inverted, with the first that overtakes it
+  pub pair_some : (n : ℕ) (f : FootprintValue) (o : Option ℕ) → Some n ≡ first_inverted_of (conflict cell_cmp) places (chosen (prints_of es steps) kept)
       → Some f ≡ footprint_beside n es steps
       → o ≡ partner_of (conflict cell_cmp) places (chosen (prints_of es steps) kept) n (print_of f)
-      → pair_answer (option_map (λ j. (n, j)) o) ≡ pair_answer (turned_pair (conflict cell_cmp) places (chosen (prints_of es steps) kept))
+      → pair_answer (option_map (λ j. (n, j)) o) ≡ pair_answer (inverted_pair (conflict cell_cmp) places (chosen (prints_of es steps) kept))
   pair_some n f o found at is =
       let print : event_at n (chosen (prints_of es steps) kept) ≡ Some (print_of f) =
-      event_at-chosen (prints_of es steps) kept n (print_of f) (turned_among n found) (print_beside n es steps f (sym at)) in
+      event_at-chosen (prints_of es steps) kept n (print_of f) (inverted_among n found) (print_beside n es steps f (sym at)) in
       ap (λ (p : Option ℕ). pair_answer (option_map (λ j. (n, j)) p)) is
       ∙ sym (ap (λ (q : Option (Footprint Cell)). pair_answer (with_partner (conflict cell_cmp) places (chosen (prints_of es steps) kept) n q)) print)
       ∙ ap (λ (q : Option ℕ). pair_answer (pair_of (conflict cell_cmp) places (chosen (prints_of es steps) kept) q)) found
@@ -130,9 +130,9 @@ differ_found a b t u one other none =
 
 pub pair_found : (a b : Inside) (t u : Timeline) → IsSound a → timeline_of a ≡ t → timeline_of b ≡ u → (places : List ℕ)
     → ArePlacesOf event_eq (chosen a.accepted.entries a.kept.items) (bare (chosen b.accepted.entries b.kept.items)) places
-    → (answer : OrderAnswer) → answer ≡ pair_answer (turned_pair (conflict cell_cmp) places (kept_prints a)) → answer ≡ order_of event_eq true t u
+    → (answer : OrderAnswer) → answer ≡ pair_answer (inverted_pair (conflict cell_cmp) places (kept_prints a)) → answer ≡ order_of event_eq true t u
 pair_found a b t u s one other places w answer is =
-    is ∙ ap (λ (ps : Prints). pair_answer (turned_pair (conflict cell_cmp) places ps)) s.stepped.history.footprints_are
+    is ∙ ap (λ (ps : Prints). pair_answer (inverted_pair (conflict cell_cmp) places ps)) s.stepped.history.footprints_are
     ∙ sym (answer_by_places (machine_at (timeline_of a)) event_eq a.opening.state (kept_events (timeline_of a)) w.other (bare (chosen b.accepted.entries b.kept.items)) places
     (chosen-rises a.accepted.entries a.kept.items s.stepped.rising) w.found w.matched w.are)
     ∙ ap₂ (λ (v x : Timeline). order_of event_eq true v x) one other

@@ -1,7 +1,7 @@
 -- Whether the kept events of two histories are equivalent.
 use Rattle.std.specs.Prelude.{◌≡◌, ◌↔◌, ℕ, Bool, true, false, List}
 use Rattle.rev_causal.specs.Entries.{SwapEquivalent}
-use Rattle.rev_causal.specs.OrderCheck.{IsEquality, IsMatched, IsLeastTurned, SameEvents, bare, OrderAnswer, EventsDiffer, SameOrder, Turned, order_check}
+use Rattle.rev_causal.specs.OrderCheck.{IsEquality, IsMatched, IsLeastInverted, SameEvents, bare, OrderAnswer, EventsDiffer, SameOrder, Inverted, order_check}
 use Rattle.rev_events.specs.declared.event.Event.{Event}
 use Rattle.rev_graph.specs.Alike.{LendAlike}
 use Rattle.rev_history.specs.declared.order.Order.{Order}
@@ -33,10 +33,10 @@ pub record IsOrder (same : Event → Event → Bool) (t u : Timeline) (answer : 
       × ((other : List (ℕ × Event)) × (bare other ≡ kept_in_order u)
       × SwapEquivalent (machine_at t) t.opening (kept_events t) other))
   -- else the least pair that conflicts in t and stands the other way round in u
-  pub turned : (i j : ℕ) → answer ≡ Turned i j
+  pub inverted : (i j : ℕ) → answer ≡ Inverted i j
       → IsSameOpening t u
       × ((other : List (ℕ × Event)) × IsMatched (kept_events t) other × (bare other ≡ kept_in_order u)
-      × IsLeastTurned (machine_at t) t.opening (kept_events t) other i j)
+      × IsLeastInverted (machine_at t) t.opening (kept_events t) other i j)
 
 -- the answer of the order check, by whether the openings are the same, is exact
 abbrev pub OrderIsExact : Type 0
@@ -48,4 +48,4 @@ OrderIsExact =
 abbrev pub answer_of : Order → OrderAnswer
 answer_of order.EventsDiffer = EventsDiffer
 answer_of order.Same = SameOrder
-answer_of (order.Pair i j) = Turned i j
+answer_of (order.Pair i j) = Inverted i j

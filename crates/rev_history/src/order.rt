@@ -7,7 +7,7 @@ ghost use Rattle.rev_causal.specs.History.{event_at};
 ghost use Rattle.rev_causal.specs.OrderCheck.{pair_answer};
 ghost use Rattle.rev_causal.specs.Store.{conflict};
 ghost use Rattle.rev_cells.specs.Keys.{cell_cmp};
-ghost use Rattle.rev_order.specs.Pairs.{turned_pair};
+ghost use Rattle.rev_order.specs.Pairs.{inverted_pair};
 ghost use Rattle.rev_history.specs.Order.{answer_of};
 ghost use Rattle.rev_history.specs.Steps.{HasFootprints, named, prints_of};
 
@@ -43,10 +43,10 @@ pub(crate) fn first_pair(
     requires beside { HasFootprints accepted.now.entries (named accesses.now steps.now) kept.now }
     requires shown { Shows accesses.now
         (chosen (prints_of accepted.now.entries (named accesses.now steps.now)) kept.now) }
-    ensures { answer_of result ≡ pair_answer (turned_pair (conflict cell_cmp) places.now
+    ensures { answer_of result ≡ pair_answer (inverted_pair (conflict cell_cmp) places.now
         (chosen (prints_of accepted.now.entries (named accesses.now steps.now)) kept.now)) }
 {
-    let Some(first) = accesses.first_turned(places, kept) else {
+    let Some(first) = accesses.first_inverted(places, kept) else {
         return Order::Same;
     };
     let Some(step) = step_of(accepted, steps, first) else {

@@ -1,6 +1,6 @@
 -- The word `order N...`: what it writes.
 use Rattle.std.specs.Prelude.{◌≡◌, ℕ, ◌+◌, ◌==◌, List, [], ◌∷◌, ◌++◌, Option, Some, None, Result, Ok, Err, codes, decimal, true, if◌then◌else◌}
-use Rattle.rev_causal.specs.OrderCheck.{OrderAnswer, EventsDiffer, SameOrder, Turned}
+use Rattle.rev_causal.specs.OrderCheck.{OrderAnswer, EventsDiffer, SameOrder, Inverted}
 use Rattle.rev_events.specs.declared.event.Event.{Event}
 use Rattle.rev_events.specs.declared.refusal.Refusal.{Refusal}
 use Rattle.rev_events.specs.declared.refusal.Refusal.TheVariants.{NoSuchEvent}
@@ -37,7 +37,7 @@ said_again t u (n ∷ ns) = and_then (said_event u n (event_at t n)) (λ v. said
 abbrev pub answer_text : OrderAnswer → List ℕ
 answer_text EventsDiffer = codes "order differ\n"
 answer_text SameOrder = codes "order same\n"
-answer_text (Turned i j) = codes "order pair " ++ decimal i ++ codes " " ++ decimal j ++ codes "\n"
+answer_text (Inverted i j) = codes "order pair " ++ decimal i ++ codes " " ++ decimal j ++ codes "\n"
 
 abbrev pub order_line : Timeline → Said → List ℕ
 order_line t (Ok u) = answer_text (order_of event_eq true t u)

@@ -7,7 +7,7 @@ use Rattle.rev_history.specs.Steps.{footprint_at, named, prints_of}
 use Rattle.rev_history.proofs.BesideKept.{prints_accepted}
 use Rattle.rev_history.proofs.Listed.{numbers_chosen}
 use Rattle.rev_history.proofs.NamedLemmas.{none_named, some_named}
-use Rattle.rev_history.proofs.OrderLemmas.{pair_none, pair_some, turned_print}
+use Rattle.rev_history.proofs.OrderLemmas.{pair_none, pair_some, inverted_print}
 use Rattle.rev_history.proofs.order.first_pair.Goals as goal
 
 pub returns-in_default : goal.returns-in_default
@@ -24,7 +24,7 @@ unreachable-requires c =
     let kept : List ℕ = c.args.kept.now in
     let rising : causal.IsRising (chosen all kept) = chosen-rises all kept c.requires.rising in
     let numbers = numbers_chosen all kept (prints_accepted c.args.accepted.now.entries (named c.args.accesses.now c.args.steps.now) kept c.requires.beside) in
-    turned_print c.args.places.now c.args.accepted.now.entries (named c.args.accesses.now c.args.steps.now) kept c.requires.beside c.in-Some.first
+    inverted_print c.args.places.now c.args.accepted.now.entries (named c.args.accesses.now c.args.steps.now) kept c.requires.beside c.in-Some.first
     (c.in-Some.ensures (chosen all kept) rising numbers c.requires.shown) (none_named c.args.accesses.now c.in-Some.first c.args.accepted.now.entries c.args.steps.now c.in_default-step_of.ensures)
 
 pub returns-in-Some-partner : goal.returns-in-Some-partner

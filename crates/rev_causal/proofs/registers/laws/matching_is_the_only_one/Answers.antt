@@ -1,6 +1,6 @@
-use Rattle.rev_causal.proofs.Turned as turned
+use Rattle.rev_causal.proofs.Inverted as inverted
 use Rattle.rev_causal.proofs.RegistersLocal.{registers_local, equal_events_conflict}
 use Rattle.rev_causal.proofs.registers.laws.matching_is_the_only_one.Goals as goal
 
 pub returns : goal.returns
-returns c = turned.matching_is_the_only_one _ registers_local equal_events_conflict
+returns c = inverted.matching_is_the_only_one _ registers_local equal_events_conflict

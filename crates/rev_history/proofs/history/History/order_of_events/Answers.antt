@@ -8,7 +8,7 @@ use Rattle.rev_cells.specs.Keys.{cell_cmp}
 use Rattle.rev_events.specs.Same.{event_eq}
 use Rattle.rev_events.proofs.SameLemmas.{equal_events_are_one}
 use Rattle.rev_order.specs.Matched.{ArePlacesOf, MatchedPlaces}
-use Rattle.rev_order.specs.Pairs.{turned_pair}
+use Rattle.rev_order.specs.Pairs.{inverted_pair}
 use Rattle.rev_history.specs.Order.{answer_of}
 use Rattle.rev_history.specs.Steps.{HasFootprints, Placed, named, prints_of}
 use Rattle.rev_history.specs.Value.{HistoryValue}
@@ -38,4 +38,4 @@ returns-in-Some c =
     (subst₂ (λ (ks ls : List ℕ). ArePlacesOf event_eq (chosen a.accepted.entries ks) (bare (chosen b.accepted.entries ls)) c.in-Some.places.items) c.as_slice.ensures.same c.as_slice-2.ensures.same found)
     (answer_of c.first_pair.result)
     (c.first_pair.ensures
-    ∙ (λ i. pair_answer (turned_pair (conflict cell_cmp) (c.deref.ensures.value i) (chosen (prints_of a.accepted.entries (named a.accesses (c.deref-in-Some.ensures.value i))) (c.as_slice-in-Some.ensures.same i)))))
+    ∙ (λ i. pair_answer (inverted_pair (conflict cell_cmp) (c.deref.ensures.value i) (chosen (prints_of a.accepted.entries (named a.accesses (c.deref-in-Some.ensures.value i))) (c.as_slice-in-Some.ensures.same i)))))

@@ -1,4 +1,4 @@
--- The least pair that is turned, and what the order check answers.
+-- The least pair that is inverted, and what the order check answers.
 use Rattle.std.proofs.Common.{◌≡◌, ℕ, ◌<◌, ◌≤◌, Bool, true, false, cond, List, [], ◌∷◌, ◌||◌, ◌&&◌, map, sym, refl, ap, ap₂, subst, subst₂, ◌∙◌, ◌⊎◌, inl, inr, true≢false, ◌↔◌, eqb-true, eq-eqb, arith}
 use Rattle.std.specs.List.{list_any}
 use Rattle.std.specs.declared.option.Option.{Option}
@@ -8,8 +8,8 @@ use Rattle.rev_causal.specs.Machine.{Machine, IsLocal, Accepts, Legal}
 use Rattle.rev_causal.specs.Order.{Has, Stands, Distinct}
 use Rattle.rev_causal.specs.Entries.{Entry, entries, clash, SwapEquivalent}
 use Rattle.rev_causal.specs.History.{IsRising}
-use Rattle.rev_causal.specs.Laws.{NoPairTurned}
-use Rattle.rev_causal.specs.OrderCheck.{IsEquality, number_in, bare, IsMatched, SameEvents, renumbered, stands_before, first_turned, paired, least_turned, IsLeastTurned, EventsDiffer, SameOrder, Turned, pair_answer, matched_answer, order_check, EqualEventsConflict, MatchingIsTheOnlyOne, MatchedExactlyWhereNoneTurned, IsOrderAnswer, OrderCheckIsExact}
+use Rattle.rev_causal.specs.Laws.{NoPairInverted}
+use Rattle.rev_causal.specs.OrderCheck.{IsEquality, number_in, bare, IsMatched, SameEvents, renumbered, stands_before, first_inverted, paired, least_inverted, IsLeastInverted, EventsDiffer, SameOrder, Inverted, pair_answer, matched_answer, order_check, EqualEventsConflict, MatchingIsTheOnlyOne, MatchedExactlyWhereNoneInverted, IsOrderAnswer, OrderCheckIsExact}
 use Rattle.rev_causal.proofs.Runs.{either}
 use Rattle.rev_causal.proofs.Order
 use Rattle.rev_causal.proofs.Laws as laws
@@ -65,35 +65,35 @@ stands_then n k (x ∷ xs) h = elim h [
 
 module _ (m : Machine) (other : List ℕ) where
   -- a and b conflict, and b stands before a in the other list
-  abbrev IsTurned : Entry m → Entry m → Type 0
-  IsTurned a b = (clash m a b ≡ true) × (stands_before b.number a.number other ≡ true)
+  abbrev IsInverted : Entry m → Entry m → Type 0
+  IsInverted a b = (clash m a b ≡ true) × (stands_before b.number a.number other ≡ true)
 
   record LeastWith (a : Entry m) (zs : List (Entry m)) (j : ℕ) : Type 0 where
     later : Entry m
     has : Has zs later
     of_j : later.number ≡ j
-    is : IsTurned a later
-    least : (b : Entry m) → Has zs b → IsTurned a b → j ≤ b.number
+    is : IsInverted a later
+    least : (b : Entry m) → Has zs b → IsInverted a b → j ≤ b.number
 
   abbrev FirstWith : Entry m → List (Entry m) → Option ℕ → Type 0
-  FirstWith a zs None = (b : Entry m) → Has zs b → IsTurned a b → ⊥
+  FirstWith a zs None = (b : Entry m) → Has zs b → IsInverted a b → ⊥
   FirstWith a zs (Some j) = LeastWith a zs j
 
-  -- behind an entry that is not turned
-  first_behind : (a y : Entry m) (zs : List (Entry m)) → (IsTurned a y → ⊥) → (o : Option ℕ) → FirstWith a zs o → FirstWith a (y ∷ zs) o
-  first_behind a y zs out None n = λ b h w. elim h [ inl p ↦ out (subst (IsTurned a) (sym p) w) | inr r ↦ n b r w ]
+  -- behind an entry that is not inverted
+  first_behind : (a y : Entry m) (zs : List (Entry m)) → (IsInverted a y → ⊥) → (o : Option ℕ) → FirstWith a zs o → FirstWith a (y ∷ zs) o
+  first_behind a y zs out None n = λ b h w. elim h [ inl p ↦ out (subst (IsInverted a) (sym p) w) | inr r ↦ n b r w ]
   first_behind a y zs out (Some j) n = record {
     later = n.later;
     has = inr n.has;
     of_j = n.of_j;
     is = n.is;
-    least = λ b h w. elim h [ inl p ↦ absurd (out (subst (IsTurned a) (sym p) w)) | inr r ↦ n.least b r w ];
+    least = λ b h w. elim h [ inl p ↦ absurd (out (subst (IsInverted a) (sym p) w)) | inr r ↦ n.least b r w ];
   }
 
-  first_turned_is : (a : Entry m) (zs : List (Entry m)) → laws.Rises m zs → FirstWith a zs (first_turned m a zs other)
-  first_turned_is a [] rise = λ b h w. absurd h
-  first_turned_is a (y ∷ zs) rise = elim (either (clash m a y && stands_before y.number a.number other)) [
-    | inl t ↦ subst (λ b. FirstWith a (y ∷ zs) (cond b (Some y.number) (first_turned m a zs other))) (sym t) (record {
+  first_inverted_is : (a : Entry m) (zs : List (Entry m)) → laws.Rises m zs → FirstWith a zs (first_inverted m a zs other)
+  first_inverted_is a [] rise = λ b h w. absurd h
+  first_inverted_is a (y ∷ zs) rise = elim (either (clash m a y && stands_before y.number a.number other)) [
+    | inl t ↦ subst (λ b. FirstWith a (y ∷ zs) (cond b (Some y.number) (first_inverted m a zs other))) (sym t) (record {
       later = y;
       has = inl refl;
       of_j = refl;
@@ -103,8 +103,8 @@ module _ (m : Machine) (other : List ℕ) where
         | inr r ↦ let q : y.number < b.number = rise.0 b r in omega arith
       ];
     })
-    | inr f ↦ subst (λ b. FirstWith a (y ∷ zs) (cond b (Some y.number) (first_turned m a zs other))) (sym f)
-        (first_behind a y zs (λ w. and_one (clash m a y) (stands_before y.number a.number other) f w.0 w.1) (first_turned m a zs other) (first_turned_is a zs rise.1))
+    | inr f ↦ subst (λ b. FirstWith a (y ∷ zs) (cond b (Some y.number) (first_inverted m a zs other))) (sym f)
+        (first_behind a y zs (λ w. and_one (clash m a y) (stands_before y.number a.number other) f w.0 w.1) (first_inverted m a zs other) (first_inverted_is a zs rise.1))
   ]
 
   record LeastPair (zs : List (Entry m)) (i j : ℕ) : Type 0 where
@@ -113,15 +113,15 @@ module _ (m : Machine) (other : List ℕ) where
     of_i : one.number ≡ i
     of_j : later.number ≡ j
     here : Stands one later zs
-    is : IsTurned one later
-    least : (a b : Entry m) → Stands a b zs → IsTurned a b → (i < a.number) ⊎ ((i ≡ a.number) × (j ≤ b.number))
+    is : IsInverted one later
+    least : (a b : Entry m) → Stands a b zs → IsInverted a b → (i < a.number) ⊎ ((i ≡ a.number) × (j ≤ b.number))
 
   abbrev PairIn : List (Entry m) → Option (ℕ × ℕ) → Type 0
-  PairIn zs None = (a b : Entry m) → Stands a b zs → IsTurned a b → ⊥
+  PairIn zs None = (a b : Entry m) → Stands a b zs → IsInverted a b → ⊥
   PairIn zs (Some p) = LeastPair zs p.0 p.1
 
   paired_is : (a : Entry m) (zs : List (Entry m)) → laws.Rises m (a ∷ zs) → (o : Option ℕ) (r : Option (ℕ × ℕ)) → FirstWith a zs o → PairIn zs r → PairIn (a ∷ zs) (paired m a.number o r)
-  paired_is a zs rise None None f g = λ x y h w. elim h [ inl k ↦ f y k.1 (subst (λ z. IsTurned z y) (sym k.0) w) | inr k ↦ g x y k w ]
+  paired_is a zs rise None None f g = λ x y h w. elim h [ inl k ↦ f y k.1 (subst (λ z. IsInverted z y) (sym k.0) w) | inr k ↦ g x y k w ]
   paired_is a zs rise None (Some p) f g = record {
     one = g.one;
     later = g.later;
@@ -129,7 +129,7 @@ module _ (m : Machine) (other : List ℕ) where
     of_j = g.of_j;
     here = inr g.here;
     is = g.is;
-    least = λ x y h w. elim h [ inl k ↦ absurd (f y k.1 (subst (λ z. IsTurned z y) (sym k.0) w)) | inr k ↦ g.least x y k w ];
+    least = λ x y h w. elim h [ inl k ↦ absurd (f y k.1 (subst (λ z. IsInverted z y) (sym k.0) w)) | inr k ↦ g.least x y k w ];
   }
   paired_is a zs rise (Some j) r f g = record {
     one = a;
@@ -139,14 +139,14 @@ module _ (m : Machine) (other : List ℕ) where
     here = inl (refl, f.has);
     is = f.is;
     least = λ x y h w. elim h [
-      | inl k ↦ inr (ap (λ (z : Entry m). z.number) k.0, f.least y k.1 (subst (λ z. IsTurned z y) (sym k.0) w))
+      | inl k ↦ inr (ap (λ (z : Entry m). z.number) k.0, f.least y k.1 (subst (λ z. IsInverted z y) (sym k.0) w))
       | inr k ↦ inl (rise.0 x (Order.stands_has x y zs k).0)
     ];
   }
 
-  least_turned_is : (zs : List (Entry m)) → laws.Rises m zs → PairIn zs (least_turned m zs other)
-  least_turned_is [] rise = λ a b h w. absurd h
-  least_turned_is (a ∷ zs) rise = paired_is a zs rise (first_turned m a zs other) (least_turned m zs other) (first_turned_is a zs rise.1) (least_turned_is zs rise.1)
+  least_inverted_is : (zs : List (Entry m)) → laws.Rises m zs → PairIn zs (least_inverted m zs other)
+  least_inverted_is [] rise = λ a b h w. absurd h
+  least_inverted_is (a ∷ zs) rise = paired_is a zs rise (first_inverted m a zs other) (least_inverted m zs other) (first_inverted_is a zs rise.1) (least_inverted_is zs rise.1)
 
 -- of two elements of a list one is the other, or one stands first
 one_first : {A : Type 0} (a b : A) (xs : List A) → Has xs a → Has xs b → (a ≡ b) ⊎ (Stands a b xs ⊎ Stands b a xs)
@@ -241,24 +241,24 @@ module _ (m : Machine) (l : IsLocal m) where
     in_turn = in_turn same s first other rising w;
   }
 
-  pub matched_exactly_where_none_turned : MatchedExactlyWhereNoneTurned m
-  matched_exactly_where_none_turned s first other legal rising x = laws.same_exactly_where_none_turned m l s first other legal rising x.once x.same
+  pub matched_exactly_where_none_inverted : MatchedExactlyWhereNoneInverted m
+  matched_exactly_where_none_inverted s first other legal rising x = laws.same_exactly_where_none_inverted m l s first other legal rising x.once x.same
 
   -- by numbers and by events
-  turned_stands : (s : m.State) (first other : List (ℕ × m.Event)) → IsMatched first other → (a b : Entry m) → Has (entries m s first) a → Has (entries m s first) b → stands_before a.number b.number (map number_in other) ≡ true → Stands (pair m a) (pair m b) other
-  turned_stands s first other x a b ha hb h =
+  inverted_stands : (s : m.State) (first other : List (ℕ × m.Event)) → IsMatched first other → (a b : Entry m) → Has (entries m s first) a → Has (entries m s first) b → stands_before a.number b.number (map number_in other) ≡ true → Stands (pair m a) (pair m b) other
+  inverted_stands s first other x a b ha hb h =
       laws.stands_unmap number_in other (pair m a) (pair m b)
       (λ y k e. laws.one_image number_in other x.once y (pair m a) k ((x.same (pair m a)).0 (entry_has s first a ha)) e)
       (λ y k e. laws.one_image number_in other x.once y (pair m b) k ((x.same (pair m b)).0 (entry_has s first b hb)) e)
       (before_stands a.number b.number (map number_in other) h)
 
-  stands_turned : (other : List (ℕ × m.Event)) (a b : Entry m) → Stands (pair m a) (pair m b) other → stands_before a.number b.number (map number_in other) ≡ true
-  stands_turned other a b h = stands_then a.number b.number (map number_in other) (laws.stands_map number_in other (pair m a) (pair m b) h)
+  stands_inverted : (other : List (ℕ × m.Event)) (a b : Entry m) → Stands (pair m a) (pair m b) other → stands_before a.number b.number (map number_in other) ≡ true
+  stands_inverted other a b h = stands_then a.number b.number (map number_in other) (laws.stands_map number_in other (pair m a) (pair m b) h)
 
-  none_turned : (s : m.State) (first other : List (ℕ × m.Event)) → IsMatched first other → PairIn m (map number_in other) (entries m s first) None → NoPairTurned m s first other
-  none_turned s first other x none a b c here there = none a b here (c, stands_turned other b a there)
+  none_inverted : (s : m.State) (first other : List (ℕ × m.Event)) → IsMatched first other → PairIn m (map number_in other) (entries m s first) None → NoPairInverted m s first other
+  none_inverted s first other x none a b c here there = none a b here (c, stands_inverted other b a there)
 
-  least_pair : (s : m.State) (first other : List (ℕ × m.Event)) → IsMatched first other → (i j : ℕ) → LeastPair m (map number_in other) (entries m s first) i j → IsLeastTurned m s first other i j
+  least_pair : (s : m.State) (first other : List (ℕ × m.Event)) → IsMatched first other → (i j : ℕ) → LeastPair m (map number_in other) (entries m s first) i j → IsLeastInverted m s first other i j
   least_pair s first other x i j p =
       let two : Has (entries m s first) p.one × Has (entries m s first) p.later = Order.stands_has p.one p.later (entries m s first) p.here in
       record {
@@ -268,8 +268,8 @@ module _ (m : Machine) (l : IsLocal m) where
         of_j = p.of_j;
         here = p.here;
         conflicts = p.is.0;
-        turned = turned_stands s first other x p.later p.one two.1 two.0 p.is.1;
-        least = λ a b h c t. p.least a b h (c, stands_turned other b a t);
+        inverted = inverted_stands s first other x p.later p.one two.1 two.0 p.is.1;
+        least = λ a b h c t. p.least a b h (c, stands_inverted other b a t);
       }
 
 module _ (m : Machine) (l : IsLocal m) (always : EqualEventsConflict m) (same : m.Event → m.Event → Bool) (q : IsEquality same) where
@@ -285,43 +285,43 @@ module _ (m : Machine) (l : IsLocal m) (always : EqualEventsConflict m) (same : 
               let w : None ≡ Some h.0 = sym none ∙ (occurrence.matching_is_exact same q first events h.0 rising).1 (matching_is_the_only_one m l always s first h.0 rising h.2, h.1) in
               absurd (cc),
         );
-        turned = λ i j h. let w : EventsDiffer ≡ Turned i j = sym answer ∙ h in absurd (cc);
+        inverted = λ i j h. let w : EventsDiffer ≡ Inverted i j = sym answer ∙ h in absurd (cc);
       }
 
   -- where a list is matched
   matched_is : (s : m.State) (first : List (ℕ × m.Event)) (events : List m.Event) (other : List (ℕ × m.Event)) → Legal m s first → IsRising first → IsMatched first other → bare other ≡ events → renumbered same first events ≡ Some other →
-      (o : Option (ℕ × ℕ)) → least_turned m (entries m s first) (map number_in other) ≡ o → PairIn m (map number_in other) (entries m s first) o → IsOrderAnswer m same s first events
+      (o : Option (ℕ × ℕ)) → least_inverted m (entries m s first) (map number_in other) ≡ o → PairIn m (map number_in other) (entries m s first) o → IsOrderAnswer m same s first events
   matched_is s first events other legal rising x is found None e none =
       let answer : order_check m same s first events ≡ SameOrder = ap (matched_answer m s first) found ∙ ap pair_answer e in
-      let swap : SwapEquivalent m s first other = (matched_exactly_where_none_turned m l s first other legal rising x).1 (none_turned m l s first other x none) in
+      let swap : SwapEquivalent m s first other = (matched_exactly_where_none_inverted m l s first other legal rising x).1 (none_inverted m l s first other x none) in
       record {
         differ = (
           λ h. let w : SameOrder ≡ EventsDiffer = sym answer ∙ h in absurd (cc),
           λ h. absurd (h (subst (SameEvents same (bare first)) is (occurrence.matched_counts same q first other (occurrence.rising_each first rising) x))),
         );
         same_order = (λ h. (other, is, swap), λ h. answer);
-        turned = λ i j h. let w : SameOrder ≡ Turned i j = sym answer ∙ h in absurd (cc);
+        inverted = λ i j h. let w : SameOrder ≡ Inverted i j = sym answer ∙ h in absurd (cc);
       }
   matched_is s first events other legal rising x is found (Some p) e pair =
-      let answer : order_check m same s first events ≡ Turned p.0 p.1 = ap (matched_answer m s first) found ∙ ap pair_answer e in
-      let least : IsLeastTurned m s first other p.0 p.1 = least_pair m l s first other x p.0 p.1 pair in
+      let answer : order_check m same s first events ≡ Inverted p.0 p.1 = ap (matched_answer m s first) found ∙ ap pair_answer e in
+      let least : IsLeastInverted m s first other p.0 p.1 = least_pair m l s first other x p.0 p.1 pair in
       record {
         differ = (
-          λ h. let w : Turned p.0 p.1 ≡ EventsDiffer = sym answer ∙ h in absurd (cc),
+          λ h. let w : Inverted p.0 p.1 ≡ EventsDiffer = sym answer ∙ h in absurd (cc),
           λ h. absurd (h (subst (SameEvents same (bare first)) is (occurrence.matched_counts same q first other (occurrence.rising_each first rising) x))),
         );
         same_order = (
-          λ h. let w : Turned p.0 p.1 ≡ SameOrder = sym answer ∙ h in absurd (cc),
+          λ h. let w : Inverted p.0 p.1 ≡ SameOrder = sym answer ∙ h in absurd (cc),
           λ h.
               let one : h.0 ≡ other = occurrence.matched_once first h.0 other (occurrence.rising_each first rising) (matching_is_the_only_one m l always s first h.0 rising h.2) x (h.1 ∙ sym is) in
-              let none : NoPairTurned m s first other = (matched_exactly_where_none_turned m l s first other legal rising x).0 (subst (SwapEquivalent m s first) one h.2) in
-              absurd (none least.one least.later least.conflicts least.here least.turned),
+              let none : NoPairInverted m s first other = (matched_exactly_where_none_inverted m l s first other legal rising x).0 (subst (SwapEquivalent m s first) one h.2) in
+              absurd (none least.one least.later least.conflicts least.here least.inverted),
         );
-        turned = λ i j h.
-            let w : Turned p.0 p.1 ≡ Turned i j = sym answer ∙ h in
+        inverted = λ i j h.
+            let w : Inverted p.0 p.1 ≡ Inverted i j = sym answer ∙ h in
             let first_is : p.0 ≡ i = cc in
             let second_is : p.1 ≡ j = cc in
-            (other, x, is, subst₂ (IsLeastTurned m s first other) first_is second_is least);
+            (other, x, is, subst₂ (IsLeastInverted m s first other) first_is second_is least);
       }
 
   pub order_check_is_exact : OrderCheckIsExact m same
@@ -329,5 +329,5 @@ module _ (m : Machine) (l : IsLocal m) (always : EqualEventsConflict m) (same : 
     | inl none ↦ differ_answer s first events rising none
     | inr found ↦
         let x : IsMatched first found.0 × (bare found.0 ≡ events) = occurrence.renumbered_is same q events first found.0 rising found.1 in
-        matched_is s first events found.0 legal rising x.0 x.1 found.1 (least_turned m (entries m s first) (map number_in found.0)) refl (least_turned_is m (map number_in found.0) (entries m s first) (laws.rises m s first rising))
+        matched_is s first events found.0 legal rising x.0 x.1 found.1 (least_inverted m (entries m s first) (map number_in found.0)) refl (least_inverted_is m (map number_in found.0) (entries m s first) (laws.rises m s first rising))
   ]
