@@ -94,7 +94,7 @@ impl ManifestFault {
 }
 
 /// Where a statement stands.
-#[derive(Clone, Copy)]
+#[derive(Clone, Copy, Debug, PartialEq, Eq)]
 pub(crate) struct Place {
     /// The place of its file among those given, from 0.
     pub(crate) file: u64,
