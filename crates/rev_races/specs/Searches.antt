@@ -1,8 +1,9 @@
 -- Marks of producers, and what the last search found.
-use Rattle.std.specs.Prelude.{◌≡◌, ℕ, ◌<◌, Bool, List, length, Option, Some, None, IfSome, slice_index_or}
+use Rattle.std.specs.Prelude.{◌≡◌, ℕ, ◌<◌, ◌↔◌, Bool, true, false, List, length, Option, Some, None, IfSome, slice_index_or}
 use Rattle.rev_manifest.specs.Manifest.{BuildValue}
 use Rattle.rev_ranks.specs.Graph.{Steps}
 use Rattle.rev_waits.specs.Waits.{AreWaitedFor, Makes, Waits}
+use Rattle.rev_races.specs.Answer.{IsFirstPlace}
 
 -- a mark for each node; a mark with a number says that this one steps to the node
 pub record AreDirect (graph : List (List ℕ)) (marks : List (Option ℕ)) : Type 0 where
@@ -12,6 +13,11 @@ pub record AreDirect (graph : List (List ℕ)) (marks : List (Option ℕ)) : Typ
 -- an edge waits for whatever makes the path
 pub record IsQuiet (builds : List BuildValue) (user : ℕ) (path : List ℕ) : Type 0 where
   pub waits : (maker : ℕ) → Makes builds maker path → Waits builds user maker
+
+-- a mark for each place of a list: it has one exactly where the path there stands at none before it
+pub record AreFirstPlaces (paths : List (List ℕ)) (marks : List Bool) : Type 0 where
+  pub each : length marks ≡ length paths
+  pub exact : (place : ℕ) → place < length paths → (slice_index_or marks place false ≡ true) ↔ IsFirstPlace paths place
 
 -- where there was a search, its marks are those of its edge
 pub record IsKept (builds : List BuildValue) (edge : Option ℕ) (marks : List Bool) : Type 0 where

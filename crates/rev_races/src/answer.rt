@@ -7,13 +7,13 @@ ghost use Rattle.rev_waits.specs.Waits.{AreWaitedFor, phony_lists};
 ghost use Rattle.rev_races.specs.Answer.{AreRaces};
 ghost use Rattle.rev_races.specs.Keys.{AreTold, IsKeyAmong, IsKeyAt, IsKeyOf};
 ghost use Rattle.rev_races.specs.Kinds.{IsBetween};
-ghost use Rattle.rev_races.specs.Searches.{AreDirect, IsKept};
+ghost use Rattle.rev_races.specs.Searches.{AreDirect, AreFirstPlaces, IsKept};
 
 use crate::direct::{mark_direct, suspects};
 use crate::found::Found;
 use crate::kinds::with_kinds;
 use crate::listing::listed;
-use crate::order::{is_first, is_to_tell};
+use crate::order::{first_places, is_to_tell};
 use crate::race::Race;
 use crate::search::{Search, no_search, search_for};
 use crate::told::Told;
@@ -32,16 +32,18 @@ fn add_at(
     waited: &[bool],
     user: u32,
     paths: &[Name],
+    firsts: &[bool],
     place: usize,
     found: &mut Found,
 ) -> Result<(), AllocError>
+    requires firsts { AreFirstPlaces paths.now firsts.now }
     requires phony { graph_of phony.now ≡ phony_lists graph.now.manifest.builds }
     requires waited { AreWaitedFor graph.now.manifest.builds user waited.now }
     requires place { place < length paths.now }
     ensures { OnOk result ((k : List ℕ) → Contains found.new k
         ↔ (Contains found.old k ⊎ IsKeyAt graph.now.manifest.builds files.now paths.now user place k)) }
 {
-    if !is_first(paths, place) {
+    if !firsts[place] {
         return Ok(());
     }
     let makers = makers(alloc, graph, phony, &paths[place])?;
@@ -62,9 +64,11 @@ fn add_among(
     waited: &[bool],
     user: u32,
     paths: &[Name],
+    firsts: &[bool],
     places: &[usize],
     found: &mut Found,
 ) -> Result<(), AllocError>
+    requires firsts { AreFirstPlaces paths.now firsts.now }
     requires phony { graph_of phony.now ≡ phony_lists graph.now.manifest.builds }
     requires waited { AreWaitedFor graph.now.manifest.builds user waited.now }
     requires within { All (λ place. place < length paths.now) places.now }
@@ -75,7 +79,7 @@ fn add_among(
 {
     for place in places {
         add_at(
-            alloc, graph, phony, files, waited, user, paths, *place, found,
+            alloc, graph, phony, files, waited, user, paths, firsts, *place, found,
         )?;
     }
     Ok(())
@@ -113,6 +117,7 @@ fn add_of(
     if places.is_empty() {
         return Ok(());
     }
+    let firsts = first_places(alloc, paths)?;
     search_for(alloc, graph, steps, user, search)?;
     add_among(
         alloc,
@@ -122,6 +127,7 @@ fn add_of(
         &search.waited,
         user,
         paths,
+        &firsts,
         &places,
         found,
     )?;

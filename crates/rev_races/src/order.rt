@@ -1,11 +1,15 @@
 //! Whether an edge that makes what another lists may run after it.
-ghost use Rattle.std.specs.Prelude.{◌≡◌, ◌≢◌, ◌<◌, ◌↔◌, ℕ, length, IsTrue, slice_get};
+ghost use Rattle.std.specs.Prelude.{◌≡◌, ◌≢◌, ◌<◌, ◌↔◌, ℕ, List, bytes_eq, length, not, true, IfOk, IsTrue, OnOk, if◌then◌else◌};
+ghost use Rattle.indexmap.specs.IndexSet.{contains};
 ghost use Rattle.rev_waits.specs.Waits.{AreWaitedFor};
 ghost use Rattle.rev_races.specs.Races.{MakesOneOf};
-ghost use Rattle.rev_races.specs.Answer.{IsFirstPlace, IsToTell, IsUnordered};
+ghost use Rattle.rev_races.specs.Answer.{IsToTell, IsUnordered};
+ghost use Rattle.rev_races.specs.Searches.{AreFirstPlaces};
 
+use indexmap::IndexSet;
 use rev_graph::Graph;
 use rev_paths::Name;
+use std::alloc::{AllocError, Global};
 
 /// Whether an edge makes one of some files.
 pub(crate) fn makes_one_of(graph: &Graph, files: &[Name], edge: u32) -> bool
@@ -56,15 +60,28 @@ pub(crate) fn is_to_tell(
     is_unordered(graph, files, waited, user, maker)
 }
 
-/// Whether no place before this one has the path that stands there.
-pub(crate) fn is_first(paths: &[Name], place: usize) -> bool
-    requires { place < length paths.now }
-    ensures { IsTrue result ↔ IsFirstPlace paths.now place }
+// Whether a path is new among those seen, of which it is one then.
+fn is_new(seen: &mut IndexSet<Name>, path: &Name) -> Result<bool, AllocError>
+    ensures new { IfOk result (λ new. new ≡ not (contains bytes_eq seen.old path.now)) }
+    ensures seen { OnOk result ((other : List ℕ) → contains bytes_eq seen.new other
+        ≡ (if bytes_eq path.now other then true else contains bytes_eq seen.old other)) }
 {
-    for before in 0..place {
-        if paths[before] == paths[place] {
-            return false;
-        }
+    let new = seen.insert(path.copy()?)?;
+    Ok(new)
+}
+
+/// For each place of a list whether no place before it has the path that stands there, in time linear in the list, up to
+/// hashing.
+///
+/// # Errors
+/// [`AllocError`] only where an allocation was refused.
+pub(crate) fn first_places(alloc: Global, paths: &[Name]) -> Result<Vec<bool>, AllocError>
+    ensures { IfOk result (λ firsts. AreFirstPlaces paths.now firsts.items) }
+{
+    let mut seen = IndexSet::new(alloc);
+    let mut firsts = Vec::new(alloc);
+    for path in paths {
+        firsts.push(is_new(&mut seen, path)?)?;
     }
-    true
+    Ok(firsts)
 }

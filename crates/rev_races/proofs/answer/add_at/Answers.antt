@@ -1,9 +1,10 @@
-use Rattle.std.proofs.Common.{◌≡◌, ℕ, ◌+◌, List, [], length, get_or, Contains, ◌⊎◌, inl, inr, sym, subst, ◌∙◌, arith, true≢false}
+use Rattle.std.proofs.Common.{◌≡◌, ℕ, ◌+◌, List, [], length, get_or, Contains, ◌⊎◌, inl, inr, true, false, sym, subst, ◌∙◌, arith, true≢false}
 use Rattle.std.specs.Prelude.{◌↔◌}
 use Rattle.std.proofs.lemmas.List.{get_or_default}
 use Rattle.std.proofs.lemmas.List.Elements.{Contains-get_or}
 use Rattle.rev_races.specs.Keys.{SomeBelow, IsKeyBy}
 use Rattle.rev_races.proofs.KeyLemmas.{some-more, some-skip, either-more, key-by, keys-at, makers-are}
+use Rattle.rev_races.proofs.AnswerLemmas.{mark-at}
 use Rattle.rev_races.proofs.RaceLemmas.{maker-command}
 use Rattle.rev_races.proofs.answer.add_at.Goals as goal
 use Rattle.rev_races.proofs.answer.add_at.Goals.{then-is_to_tell+in_ok-add, else-is_to_tell}
@@ -27,7 +28,7 @@ loop-maker-preserved c =
       | then-is_to_tell+in_ok-add w ↦ λ k.
           subst (λ (fs : List (List ℕ)). Contains fs k ↔ (Contains c.args.found.now k ⊎ SomeBelow (λ j. IsKeyBy builds files paths user place (get_or items j 0) k) (i + 1))) (sym w.found-is)
           (some-more (λ j. IsKeyBy builds files paths user place (get_or items j 0) k) i (c.loop-maker.invariant k)
-          (either-more (w.in_ok-add.ensures k) (key-by builds files paths user place (get_or items i 0) k (c.is_to_tell.ensures.0 w.if-is_to_tell.true) (c.is_first.ensures.0 c.if-not-is_first.false))))
+          (either-more (w.in_ok-add.ensures k) (key-by builds files paths user place (get_or items i 0) k (c.is_to_tell.ensures.0 w.if-is_to_tell.true) ((c.requires.firsts.exact c.args.place c.requires.place).0 (mark-at c.args.firsts.now c.args.place _ true (omega (arith, c.requires.place, c.requires.firsts.each)) c.if-not-firsts-place.false)))))
       | else-is_to_tell w ↦ λ k.
           subst (λ (fs : List (List ℕ)). Contains fs k ↔ (Contains c.args.found.now k ⊎ SomeBelow (λ j. IsKeyBy builds files paths user place (get_or items j 0) k) (i + 1))) (sym w.found-is)
           (some-skip (λ j. IsKeyBy builds files paths user place (get_or items j 0) k) i (c.loop-maker.invariant k)
@@ -35,10 +36,10 @@ loop-maker-preserved c =
     ]
 
 -- a place that is not the first gives nothing
-pub returns-then-not-is_first : goal.returns-then-not-is_first
-returns-then-not-is_first c = λ k. (
+pub returns-then-not-firsts-place : goal.returns-then-not-firsts-place
+returns-then-not-firsts-place c = λ k. (
   λ h. inl h,
-  λ e. elim e [ inl h ↦ h | inr key ↦ absurd (true≢false (sym (c.is_first.ensures.1 key.key.first) ∙ c.if-not-is_first.true)) ],
+  λ e. elim e [ inl h ↦ h | inr key ↦ absurd (true≢false (sym ((c.requires.firsts.exact c.args.place c.requires.place).1 key.key.first) ∙ mark-at c.args.firsts.now c.args.place _ false (omega (arith, c.requires.place, c.requires.firsts.each)) c.if-not-firsts-place.true)) ],
 )
 
 pub returns : goal.returns

@@ -15,8 +15,8 @@ pub add_among-requires-clause-rest : goal.add_among-requires-clause-rest
 add_among-requires-clause-rest c =
     let builds = c.graph-graph.result.now.manifest.builds in
     let paths = c.in-Some.paths.now in
-    rest-untold c.graph-graph.result.now c.args.files.now paths c.args.user c.deref-3.result.now c.edges-edges.ensures.graph
-    (subst (λ (ps : List ℕ). (place : ℕ) → place < length paths → Contains ps place ⊎ IsQuiet builds c.args.user (get_or paths place [])) (sym c.deref-3.ensures.value) c.in_ok-places.ensures.quiet)
+    rest-untold c.graph-graph.result.now c.args.files.now paths c.args.user c.deref-4.result.now c.edges-edges.ensures.graph
+    (subst (λ (ps : List ℕ). (place : ℕ) → place < length paths → Contains ps place ⊎ IsQuiet builds c.args.user (get_or paths place [])) (sym c.deref-4.ensures.value) c.in_ok-places.ensures.quiet)
 
 pub returns-then-is_empty-clause-found : goal.returns-then-is_empty-clause-found
 returns-then-is_empty-clause-found c = λ k.
