@@ -38,7 +38,7 @@ lists-within manifest opening events b all is = elim (cases_lt b (length manifes
 none-in : {X : Type 0} (x : X) → Contains [] x → ⊥
 none-in x (k, within, at) = omega (arith, within)
 
-abbrev no-keys : List (List ℕ)
+abbrev pub no-keys : List (List ℕ)
 no-keys = []
 
 -- numbers of edges fit

@@ -1,7 +1,8 @@
--- Marks of producers, and what the last search found.
-use Rattle.std.specs.Prelude.{◌≡◌, ℕ, ◌<◌, ◌↔◌, Bool, true, false, List, length, Option, Some, None, IfSome, slice_index_or}
+-- Marks of producers, and what the last searches found.
+use Rattle.std.specs.Prelude.{◌≡◌, ℕ, ◌<◌, ◌↔◌, Bool, true, false, List, length, Option, Some, None, IfSome, Contains, slice_index_or}
 use Rattle.rev_manifest.specs.Manifest.{BuildValue}
 use Rattle.rev_ranks.specs.Graph.{Steps}
+use Rattle.rev_graph.specs.Graph.{producer_of}
 use Rattle.rev_waits.specs.Waits.{AreWaitedFor, Makes, Waits}
 use Rattle.rev_races.specs.Answer.{IsFirstPlace}
 
@@ -23,3 +24,8 @@ pub record AreFirstPlaces (paths : List (List ℕ)) (marks : List Bool) : Type 0
 pub record IsKept (builds : List BuildValue) (edge : Option ℕ) (marks : List Bool) : Type 0 where
   pub within : IfSome edge (λ e. e < length builds)
   pub waited : IfSome edge (λ e. AreWaitedFor builds e marks)
+
+-- where makers were looked for behind a phony edge, they are those of each path that it produces
+pub record AreKeptMakers (builds : List BuildValue) (phony : Option ℕ) (makers : List ℕ) : Type 0 where
+  pub makers_are : IfSome phony (λ edge. (path : List ℕ) → producer_of builds path ≡ Some edge
+      → (maker : ℕ) → Contains makers maker ↔ Makes builds maker path)

@@ -7,20 +7,21 @@ ghost use Rattle.rev_waits.specs.Waits.{AreWaitedFor, phony_lists};
 ghost use Rattle.rev_races.specs.Answer.{AreRaces};
 ghost use Rattle.rev_races.specs.Keys.{AreTold, IsKeyAmong, IsKeyAt, IsKeyOf};
 ghost use Rattle.rev_races.specs.Kinds.{IsBetween};
-ghost use Rattle.rev_races.specs.Searches.{AreDirect, AreFirstPlaces, IsKept};
+ghost use Rattle.rev_races.specs.Searches.{AreDirect, AreFirstPlaces, AreKeptMakers, IsKept};
 
 use crate::direct::{mark_direct, suspects};
 use crate::found::Found;
 use crate::kinds::with_kinds;
 use crate::listing::listed;
+use crate::making::{KeptMakers, makers_of, no_makers};
 use crate::order::{first_places, is_to_tell};
 use crate::race::Race;
-use crate::search::{Search, no_search, search_for};
+use crate::search::{Search, grouped, no_search, search_for};
 use crate::told::Told;
 use rev_graph::Graph;
 use rev_history::History;
 use rev_paths::Name;
-use rev_waits::{makers, phony_steps, steps};
+use rev_waits::{phony_steps, steps};
 use std::alloc::{AllocError, Global};
 
 // Adds what is told of a user at one place of its list.
@@ -34,19 +35,22 @@ fn add_at(
     paths: &[Name],
     firsts: &[bool],
     place: usize,
+    behind: &mut KeptMakers,
     found: &mut Found,
 ) -> Result<(), AllocError>
     requires firsts { AreFirstPlaces paths.now firsts.now }
     requires phony { graph_of phony.now ≡ phony_lists graph.now.manifest.builds }
     requires waited { AreWaitedFor graph.now.manifest.builds user waited.now }
     requires place { place < length paths.now }
-    ensures { OnOk result ((k : List ℕ) → Contains found.new k
+    requires behind { AreKeptMakers graph.now.manifest.builds behind.old.phony behind.old.makers.items }
+    ensures behind { OnOk result (AreKeptMakers graph.now.manifest.builds behind.new.phony behind.new.makers.items) }
+    ensures found { OnOk result ((k : List ℕ) → Contains found.new k
         ↔ (Contains found.old k ⊎ IsKeyAt graph.now.manifest.builds files.now paths.now user place k)) }
 {
     if !firsts[place] {
         return Ok(());
     }
-    let makers = makers(alloc, graph, phony, &paths[place])?;
+    let makers = makers_of(alloc, graph, phony, &paths[place], behind)?;
     for maker in &makers {
         if is_to_tell(graph, files, waited, user, *maker) {
             found.add(*maker, user, place as u64)?;
@@ -66,6 +70,7 @@ fn add_among(
     paths: &[Name],
     firsts: &[bool],
     places: &[usize],
+    behind: &mut KeptMakers,
     found: &mut Found,
 ) -> Result<(), AllocError>
     requires firsts { AreFirstPlaces paths.now firsts.now }
@@ -74,12 +79,14 @@ fn add_among(
     requires within { All (λ place. place < length paths.now) places.now }
     requires rest { (place : ℕ) → place < length paths.now → Contains places.now place
         ⊎ ((k : List ℕ) → IsKeyAt graph.now.manifest.builds files.now paths.now user place k → ⊥) }
-    ensures { OnOk result ((k : List ℕ) → Contains found.new k
+    requires behind { AreKeptMakers graph.now.manifest.builds behind.old.phony behind.old.makers.items }
+    ensures behind { OnOk result (AreKeptMakers graph.now.manifest.builds behind.new.phony behind.new.makers.items) }
+    ensures found { OnOk result ((k : List ℕ) → Contains found.new k
         ↔ (Contains found.old k ⊎ IsKeyAmong graph.now.manifest.builds files.now paths.now user k)) }
 {
     for place in places {
         add_at(
-            alloc, graph, phony, files, waited, user, paths, firsts, *place, found,
+            alloc, graph, phony, files, waited, user, paths, firsts, *place, behind, found,
         )?;
     }
     Ok(())
@@ -94,6 +101,7 @@ fn add_of(
     files: &[Name],
     direct: &mut Vec<Option<u32>>,
     search: &mut Search,
+    behind: &mut KeptMakers,
     user: u32,
     found: &mut Found,
 ) -> Result<(), AllocError>
@@ -102,8 +110,11 @@ fn add_of(
     requires phony { graph_of phony.now ≡ phony_lists history.now.timeline.manifest.builds }
     requires direct { AreDirect (graph_of steps.now) direct.old.items }
     requires kept { IsKept history.now.timeline.manifest.builds search.old.edge search.old.waited.items }
+    requires behind { AreKeptMakers history.now.timeline.manifest.builds behind.old.phony behind.old.makers.items }
     ensures direct { OnOk result (AreDirect (graph_of steps.now) direct.new.items) }
     ensures kept { OnOk result (IsKept history.now.timeline.manifest.builds search.new.edge search.new.waited.items) }
+    ensures behind { OnOk result
+        (AreKeptMakers history.now.timeline.manifest.builds behind.new.phony behind.new.makers.items) }
     ensures found { OnOk result ((k : List ℕ) → Contains found.new k
         ↔ (Contains found.old k ⊎ IsKeyOf history.now.timeline files.now user k)) }
 {
@@ -129,6 +140,7 @@ fn add_of(
         paths,
         &firsts,
         &places,
+        behind,
         found,
     )?;
     Ok(())
@@ -149,8 +161,10 @@ fn found_in(
     let phony = phony_steps(alloc, graph)?;
     let mut direct = vec![in alloc; None; graph.edges() as usize]?;
     let mut search = no_search(alloc);
+    let mut behind = no_makers(alloc);
     let mut found = Found::new(alloc);
-    for user in 0..graph.edges() {
+    let users = grouped(alloc, steps)?;
+    for user in &users {
         add_of(
             alloc,
             history,
@@ -159,7 +173,8 @@ fn found_in(
             files,
             &mut direct,
             &mut search,
-            user,
+            &mut behind,
+            *user,
             &mut found,
         )?;
     }
@@ -172,7 +187,7 @@ fn found_in(
 /// that make one of `files`, from which the manifest was read, run before all else, and race with none.
 ///
 /// Each listed path is looked up once, and once more where it is made by an edge that the user does not step to. Only
-/// then is that one searched for what it waits for, unless it steps to the same edges as the last that was.
+/// then is that one searched for what it waits for: once for all that step to the same edges.
 ///
 /// # Errors
 /// [`AllocError`] only where an allocation was refused.

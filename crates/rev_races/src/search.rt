@@ -1,5 +1,6 @@
-//! Searches for what an edge waits for, of which the last one is kept.
-ghost use Rattle.std.specs.Prelude.{◌≡◌, ◌<◌, length, None, OnOk};
+//! Searches for what an edge waits for, of which the last one is kept, and an order of edges that makes them few.
+ghost use Rattle.std.specs.Prelude.{◌≡◌, ◌<◌, ◌^◌, ◌↔◌, ℕ, length, None, Contains, IfOk, OnOk};
+ghost use Rattle.std.specs.List.{range_with_len};
 ghost use Rattle.rev_graph.specs.Graph.{successor_lists};
 ghost use Rattle.rev_ranks.specs.Graph.{graph_of};
 ghost use Rattle.rev_waits.specs.Waits.{AreWaitedFor};
@@ -55,4 +56,34 @@ pub fn search_for(
     search.waited = waited_for(alloc, graph, steps, edge)?;
     search.edge = Some(edge);
     Ok(())
+}
+
+// The edges that an edge steps to; none of a number past the last edge.
+fn steps_of(steps: &[Vec<u32>], edge: u32) -> &[u32] {
+    match steps.get(edge as usize) {
+        Some(found) => found.as_slice(),
+        None => &[],
+    }
+}
+
+// The numbers below a count, in their order.
+fn numbers_below(alloc: Global, count: u32) -> Result<Vec<u32>, AllocError>
+    ensures { IfOk result (λ numbers. numbers.items ≡ range_with_len 0 count) }
+{
+    (0..count).collect(alloc)
+}
+
+/// The edges in an order in which all that step to the same edges stand together, each once: so [`search_for`], asked
+/// along it, searches once for each set of steps. It takes a sort by the steps.
+///
+/// # Errors
+/// [`AllocError`] only where an allocation was refused.
+pub fn grouped(alloc: Global, steps: &[Vec<u32>]) -> Result<Vec<u32>, AllocError>
+    requires { length steps.now < 2 ^ 32 }
+    ensures { IfOk result (λ edges. (edge : ℕ) → Contains edges.items edge ↔ (edge < length steps.now)) }
+{
+    let count = steps.len() as u32;
+    let mut edges = numbers_below(alloc, count)?;
+    edges.sort_by(|one, other| steps_of(steps, *one).cmp(&steps_of(steps, *other)))?;
+    Ok(edges)
 }

@@ -12,7 +12,7 @@ use Rattle.rev_races.proofs.answer.add_at.Goals.{then-is_to_tell+in_ok-add, else
 pub is_to_tell-requires-clause-maker : goal.is_to_tell-requires-clause-maker
 is_to_tell-requires-clause-maker c =
     let are = makers-are c.args.graph.now.manifest.builds c.deref-maker-items.result.now c.in_ok-makers.makers.items c.index-paths-place.result (get_or c.args.paths.now c.args.place []) c.deref-maker-items.ensures.value
-    (c.index-paths-place.is ∙ get_or_default c.args.paths.now c.args.place c.index-paths-place.result [] c.requires.place) c.in_ok-makers.ensures in
+    (c.index-paths-place.is ∙ get_or_default c.args.paths.now c.args.place c.index-paths-place.result [] c.requires.place) c.in_ok-makers.ensures.makers in
     (maker-command ((are (get_or c.deref-maker-items.result.now c.loop-maker.maker-index 0)).0 (Contains-get_or c.deref-maker-items.result.now c.loop-maker.maker-index 0 c.loop-maker-test.true))).0
 
 pub loop-maker-preserved : goal.loop-maker-preserved
@@ -36,14 +36,14 @@ loop-maker-preserved c =
     ]
 
 -- a place that is not the first gives nothing
-pub returns-then-not-firsts-place : goal.returns-then-not-firsts-place
-returns-then-not-firsts-place c = λ k. (
+pub returns-then-not-firsts-place-clause-found : goal.returns-then-not-firsts-place-clause-found
+returns-then-not-firsts-place-clause-found c = λ k. (
   λ h. inl h,
   λ e. elim e [ inl h ↦ h | inr key ↦ absurd (true≢false (sym ((c.requires.firsts.exact c.args.place c.requires.place).1 key.key.first) ∙ mark-at c.args.firsts.now c.args.place _ false (omega (arith, c.requires.place, c.requires.firsts.each)) c.if-not-firsts-place.true)) ],
 )
 
-pub returns : goal.returns
-returns c = λ k.
+pub returns-clause-found : goal.returns-clause-found
+returns-clause-found c = λ k.
     let builds = c.args.graph.now.manifest.builds in
     let files = c.args.files.now in
     let paths = c.args.paths.now in
@@ -51,7 +51,7 @@ returns c = λ k.
     let place = c.args.place in
     let items = c.deref-maker-items.result.now in
     let are = makers-are builds items c.in_ok-makers.makers.items c.index-paths-place.result (get_or paths place []) c.deref-maker-items.ensures.value
-    (c.index-paths-place.is ∙ get_or_default paths place c.index-paths-place.result [] c.requires.place) c.in_ok-makers.ensures in
+    (c.index-paths-place.is ∙ get_or_default paths place c.index-paths-place.result [] c.requires.place) c.in_ok-makers.ensures.makers in
     let all : c.loop-maker.maker-index ≡ length c.deref-maker-items.result.now = omega (arith, c.loop-maker-test.false, c.loop-maker.auto.maker-index-end) in
     either-more
     (subst (λ n. Contains c.loop-maker.found k ↔ (Contains c.args.found.now k ⊎ SomeBelow (λ j. IsKeyBy builds files paths user place (get_or items j 0) k) n)) all (c.loop-maker.invariant k))

@@ -37,4 +37,4 @@ returns-clause-found c = λ k.
     let t = c.args.history.now.timeline in
     let are : lists c.args.history.now.timeline.manifest c.args.history.now.timeline.opening (kept_events c.args.history.now.timeline) c.args.user ≡ Some c.in-Some.paths.now =
     sym c.in-Some.ensures in
-    either-more (c.in_ok-add_among.ensures k) (keys-of t c.args.files.now c.args.user c.in-Some.paths.now c.graph-graph.result.now.manifest c.graph-graph.ensures are k)
+    either-more (c.in_ok-add_among.ensures.found k) (keys-of t c.args.files.now c.args.user c.in-Some.paths.now c.graph-graph.result.now.manifest c.graph-graph.ensures are k)
