@@ -1,0 +1,5 @@
+pub mod FollowLemmas
+pub mod FoundLemmas
+pub mod MakerLemmas
+pub mod ReadLemmas
+pub mod AnswerLemmas

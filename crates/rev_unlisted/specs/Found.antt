@@ -1,0 +1,160 @@
+-- What is found, as it is found.
+use Rattle.std.specs.Prelude.{◌≡◌, ◌≢◌, ◌↔◌, ◌⊎◌, ℕ, ◌+◌, ◌<◌, ◌^◌, ◌==◌, Bool, true, false, if◌then◌else◌, List, [], ◌∷◌, map, length, Option, Some, None, slice_index_or}
+use Rattle.std.specs.Global.{Vec}
+use Rattle.std.specs.List.{All, Contains, list_all}
+use Rattle.std.specs.List.Sorted.{IsStrictlySortedBy}
+use Rattle.std.specs.Ordering.{nat_cmp}
+use Rattle.std.specs.Cmp.Lexicographic.{slice_cmp}
+use Rattle.std.specs.Borrow.{Bor}
+use Rattle.rev_manifest.specs.Manifest.{BuildValue}
+use Rattle.rev_graph.specs.Graph.{producer_of}
+use Rattle.rev_observed.specs.CommandValues.{CommandValue}
+use Rattle.rev_observed.specs.declared.kind.Kind.TheVariants.{Reads, Writes}
+use Rattle.rev_conflicts.specs.Places.{does}
+use Rattle.rev_conflicts.specs.Conflicts.{Scene}
+use Rattle.rev_undeclared.specs.Undeclared.{IsOpen, path_at}
+use Rattle.rev_unlisted.specs.Answer.{unlisted_key}
+use Rattle.rev_unlisted.specs.Unlisted.{IsCover, IsUnlisted}
+use Rattle.rev_unlisted.specs.declared.input.Unlisted.{Unlisted}
+use Rattle.rev_ranks.specs.Graph.{Reaches, Steps, successors_of}
+use Rattle.rev_unlisted.specs.declared.input.Cover.{Cover}
+use Rattle.rev_unlisted.specs.declared.input.Cover.TheVariants.{Covered, HeldBack, Neither}
+
+-- the paths of slices of names
+abbrev pub names_of : List (Bor (List (List ℕ))) → List (List (List ℕ))
+names_of slices = map (λ s. s.now) slices
+
+-- a mark for each node, set exactly where a node reaches it
+pub record AreReached (graph : List (List ℕ)) (node : ℕ) (marks : List Bool) : Type 0 where
+  pub each : length marks ≡ length graph
+  pub exact : (other : ℕ) → (slice_index_or marks other false ≡ true) ↔ Reaches graph node other
+
+-- who makes a file is marked, or nobody makes it, and its own node is marked
+abbrev pub met_by : List ℕ → ℕ → List Bool → Bool
+met_by [] node marks = slice_index_or marks node false
+met_by (maker ∷ makers) node marks = list_all (λ e. slice_index_or marks e false) (maker ∷ makers)
+
+abbrev pub cover_by : Bool → Bool → Cover
+cover_by sure met = if sure then Covered else if met then HeldBack else Neither
+
+-- one more edge at these places of a table
+pub record PutsWhere (old new : List (List ℕ)) (edge : ℕ) (places : List ℕ) : Type 0 where
+  pub each : length new ≡ length old
+  pub exact : (p a : ℕ) → p < length old → Steps new p a ↔ (Steps old p a ⊎ ((a ≡ edge) × Contains places p))
+
+-- a mark for each node; a mark with this number says exactly that it steps to the node
+pub record AreStepsOf (graph : List (List ℕ)) (node : ℕ) (marks : List (Option ℕ)) : Type 0 where
+  pub each : length marks ≡ length graph
+  pub exact : (other : ℕ) → (slice_index_or marks other None ≡ Some node) ↔ Steps graph node other
+
+-- a mark with a number says that this one steps to the node
+pub record AreStepsAtMost (graph : List (List ℕ)) (marks : List (Option ℕ)) : Type 0 where
+  pub each : length marks ≡ length graph
+  pub sound : (node other : ℕ) → slice_index_or marks other None ≡ Some node → Steps graph node other
+
+-- A file that a command reads is unlisted by a test of what counts, and nothing stronger is told of it.
+pub record IsReadBy
+    (builds : List BuildValue) (paths : List (List ℕ)) (hidden : List Bool) (sides : List BuildValue)
+    (told : List (List ℕ)) (counts : ℕ → Type 0) (user : ℕ) (used : CommandValue) (path : ℕ)
+    : Type 0 where
+  pub finds : does Writes used path ≡ false
+  pub is_open : IsOpen paths hidden sides user path
+  pub foreign : producer_of builds (path_at paths path) ≢ Some user
+  pub uncounted : counts path → ⊥
+  pub alone : Contains told (user ∷ path ∷ []) → ⊥
+
+-- `marks` has the user's number at the nodes of the paths that count for it
+abbrev pub IsReadAt :
+    List BuildValue → List (List ℕ) → List Bool → List BuildValue → List (List ℕ) → List (Option ℕ) → ℕ
+    → CommandValue → ℕ → Type 0
+IsReadAt builds paths hidden sides told marks user used path =
+    IsReadBy builds paths hidden sides told (λ p. slice_index_or marks (length builds + p) None ≡ Some user) user used
+    path
+
+-- the user steps to the nodes of the paths that count for it
+abbrev pub IsReadOf :
+    List BuildValue → List (List ℕ) → List Bool → List BuildValue → List (List ℕ) → List (List ℕ) → ℕ → CommandValue
+    → ℕ → Type 0
+IsReadOf builds paths hidden sides told steps user used path =
+    IsReadBy builds paths hidden sides told (λ p. Steps steps user (length builds + p)) user used path
+
+-- A file is met, by who makes it and by what the user reaches.
+pub data IsMetIn (count : ℕ) (graph : List (List ℕ)) (makers : List ℕ) (user path : ℕ) : Type 0 where
+  by_makers : {maker : ℕ} → Contains makers maker
+      → ((other : ℕ) → Contains makers other → Reaches graph user other) → IsMetIn count graph makers user path
+  as_source : ((maker : ℕ) → Contains makers maker → ⊥) → Reaches graph user (count + path)
+      → IsMetIn count graph makers user path
+
+pub data IsCoverIn (count : ℕ) (steps sure : List (List ℕ)) (makers : List ℕ) (user path : ℕ) : Cover → Type 0 where
+  covers : IsMetIn count sure makers user path → IsCoverIn count steps sure makers user path Covered
+  holds_back : IsMetIn count steps makers user path → (IsMetIn count sure makers user path → ⊥)
+      → IsCoverIn count steps sure makers user path HeldBack
+  neither : (IsMetIn count steps makers user path → ⊥) → (IsMetIn count sure makers user path → ⊥)
+      → IsCoverIn count steps sure makers user path Neither
+
+-- what is told of one of these files, which a user's command reads
+pub record IsKeyAmong
+    (count : ℕ) (makers : List (List ℕ)) (sure met : List Bool) (user used_by : ℕ) (files k : List ℕ)
+    : Type 0 where
+  pub path : ℕ
+  pub among : Contains files path
+  pub is : k ≡ unlisted_key (record {
+    cover = cover_by (met_by (successors_of makers path) (count + path) sure)
+        (met_by (successors_of makers path) (count + path) met);
+    user = user;
+    path = path;
+    used_by = used_by;
+  })
+
+-- a graph of so many nodes
+pub record IsFollow (count : ℕ) (steps : List (Vec ℕ)) : Type 0 where
+  pub each : length steps ≡ count
+  pub inside : All (λ (v : Vec ℕ). All (λ s. s < count) v.items) steps
+
+-- what is told of a user's command, by what its edge reaches
+pub record IsKeyOf
+    (builds : List BuildValue) (paths : List (List ℕ)) (hidden : List Bool) (sides : List BuildValue)
+    (told steps sure makers : List (List ℕ)) (user used_by : ℕ) (used : CommandValue) (k : List ℕ)
+    : Type 0 where
+  pub path : ℕ
+  pub reads : does Reads used path ≡ true
+  pub read : IsReadOf builds paths hidden sides told steps user used path
+  pub cover : Cover
+  pub cover_is : IsCoverIn (length builds) steps sure (successors_of makers path) user path cover
+  pub is : k ≡ unlisted_key (record { cover = cover; user = user; path = path; used_by = used_by })
+
+-- numbers of what is told, of which the first fits that of an edge
+pub record IsOfUnlisted (k : List ℕ) : Type 0 where
+  pub told : Unlisted
+  pub is : k ≡ unlisted_key told
+  pub user : told.user < 2 ^ 32
+
+abbrev pub cover_of_number : ℕ → Cover
+cover_of_number n = if n == 0 then Covered else if n == 1 then HeldBack else Neither
+
+-- the file of this path is unlisted for a user's command, with its cover, and nothing stronger is told of it
+pub record IsFound
+    (s : Scene) (sides : List BuildValue) (lists : List (List (List ℕ))) (told : List (List ℕ)) (u : Unlisted)
+    : Type 0 where
+  pub is : IsUnlisted s sides lists u.user u.path u.used_by
+  pub cover_is : IsCover s lists u.user u.path u.cover
+  pub alone : Contains told (u.user ∷ u.path ∷ []) → ⊥
+
+pub record AreFound
+    (s : Scene) (sides : List BuildValue) (lists : List (List (List ℕ))) (told : List (List ℕ))
+    (unlisted : List Unlisted)
+    : Type 0 where
+  pub exact : (u : Unlisted) → Contains unlisted u ↔ IsFound s sides lists told u
+  pub rising : IsStrictlySortedBy (slice_cmp nat_cmp) (map unlisted_key unlisted)
+
+-- what is told of one of the first commands
+pub record IsKeyBelow
+    (builds : List BuildValue) (paths : List (List ℕ)) (hidden : List Bool) (sides : List BuildValue)
+    (told steps sure makers : List (List ℕ)) (commands : List CommandValue) (edges : List ℕ) (n : ℕ) (k : List ℕ)
+    : Type 0 where
+  pub number : ℕ
+  pub command : CommandValue
+  pub below : number < n
+  pub within : number < length commands
+  pub is : slice_index_or commands number command ≡ command
+  pub key : IsKeyOf builds paths hidden sides told steps sure makers (slice_index_or edges number 0) number command k

@@ -1,0 +1,4 @@
+pub mod Follows
+pub mod Unlisted
+pub mod Answer
+pub mod Found
