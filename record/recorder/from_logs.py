@@ -46,15 +46,16 @@ _LACKS = ("Ninja's logs have no command that failed or was interrupted, nothing 
 class LoggedRun:
     """The lines that one run of Ninja appended to the build log.
 
-    `told` has when Ninja began (nanoseconds of the disk's clock), by each line whose stamp tells it. `near` has what the
-    stamps of `restat` lines tell: these may be of a file that was left alone, or written late. `ends` has the end of
-    each edge, and of a phony edge the last end of those that it stands for.
+    `told` has when Ninja began (nanoseconds of the disk's clock), by each line whose stamp tells it. `near` has what
+    the stamps of `restat` lines tell: these may be of a file that was left alone, or written late. `latest` is the greatest
+    of `told`. `ends` has the end of each edge, and of a phony edge the last end of those that it stands for.
     """
 
     stamps_are_of_outputs: bool
     entries: list[LogEntry] = field(default_factory=list)
     told: list[int] = field(default_factory=list)
     near: list[int] = field(default_factory=list)
+    latest: Optional[int] = None
     known: dict[bytes, tuple[int, int]] = field(default_factory=dict)
     ends: dict[int, int] = field(default_factory=dict)
 
@@ -99,8 +100,11 @@ class _Splitter:
         run = self.found[-1]
         run.entries.append(entry)
         run.known[entry.output] = entry.start, entry.end
-        if told is not None:
-            (run.near if is_near else run.told).append(told)
+        if told is not None and is_near:
+            run.near.append(told)
+        elif told is not None:
+            run.told.append(told)
+            run.latest = told if run.latest is None else max(run.latest, told)
         self.note_end(run, edge, entry.end)
 
     def told_beginning(self, entry: LogEntry, edge: Edge) -> Optional[int]:
@@ -117,7 +121,9 @@ class _Splitter:
             return True
         if any(run.ends.get(maker.number, 0) > entry.start for maker in _makers(self.manifest, edge)):
             return True
-        return told is not None and bool(run.told) and told > max(run.told) + run.last_end * _NANOSECONDS + _LATE
+        if told is None or run.latest is None:
+            return False
+        return told > run.latest + run.last_end * _NANOSECONDS + _LATE
 
     def note_end(self, run: LoggedRun, edge: Edge, end: int) -> None:
         """The end of an edge is one of the phony edges that stand for it."""
