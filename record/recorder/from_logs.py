@@ -46,9 +46,9 @@ _LACKS = ("Ninja's logs have no command that failed or was interrupted, nothing 
 class LoggedRun:
     """The lines that one run of Ninja appended to the build log.
 
-    `told` has when Ninja began (nanoseconds of the disk's clock), by each line whose stamp tells it. `near` has what
-    the stamps of `restat` lines tell: these may be of a file that was left alone, or written late. `latest` is the greatest
-    of `told`. `ends` has the end of each edge, and of a phony edge the last end of those that it stands for.
+    `told` has when Ninja began (nanoseconds of the disk's clock), by each line whose stamp tells it; `latest` is the
+    greatest of them. `near` has what the stamps of `restat` lines tell: these may be of a file that was left alone, or
+    written late. `ends` has the end of each edge, and of a phony edge the last end of those that it stands for.
     """
 
     stamps_are_of_outputs: bool
