@@ -2,7 +2,9 @@
 use crate::shown::{push_cell, push_value};
 use crate::small::{Build, build_of, cut, named, names, number};
 use rev_cells::{Names, Text};
-use rev_events::{Event, Fault, Listing, Refusal, Stamps, check, effect, effect_if_accepted};
+use rev_events::{
+    Event, Fault, ListedPaths, Listing, Refusal, Stamps, check, effect, effect_if_accepted,
+};
 use std::alloc::{AllocError, Global};
 use std::test::Fail;
 
@@ -85,7 +87,7 @@ fn stamps(alloc: Global, text: &[u8]) -> Result<Stamps, AllocError> {
 fn listing(alloc: Global, said: &[u8]) -> Result<Listing, Fail> {
     let (word, rest) = cut(said, b' ');
     match word {
-        b"list" => Ok(Listing::Paths(Names::new(names(alloc, rest)?)?)),
+        b"list" => Ok(Listing::Paths(ListedPaths::new(Names::new(names(alloc, rest)?)?))),
         b"depfile" => Ok(Listing::Depfile(Text::new(Vec::from_slice(alloc, rest)?)?)),
         _ => Ok(Listing::Nothing),
     }

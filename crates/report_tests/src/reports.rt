@@ -252,6 +252,14 @@ const OLD_DEPS: Row = Row {
     status: Status::Success,
 };
 
+const LISTED_TWICE: Row = Row {
+    manifest: "rule cc\n  command = cc $in\n  deps = gcc\nbuild a.o: cc a.c\nbuild b.o: cc b.c\n",
+    trace: "rebug-trace 1\nstamp a.c 10\nstamp b.c 10\nstamp h.h 5\nlane 0\nplan\nstart a.o 0\nfinish a.o 100 list h.h ./h.h a.c h.h\nstart b.o 0\nfinish b.o 101 list h.h b.c\n",
+    script: "run\nlogs\n",
+    report: "1 0 ok\n2 0 ok\n3 0 ok\n4 0 ok\n5 0 ok\nbuilt a.o 100 cc\\sa.c\nbuilt b.o 101 cc\\sb.c\ndeps a.o 100 h.h a.c\ndeps b.o 101 h.h b.c\n",
+    status: Status::Success,
+};
+
 const LIST_WITHOUT_DEPS: Row = Row {
     manifest: "rule cc\n  command = cc -c $in -o $out\nrule ld\n  command = ld $in -o $out\nbuild a.o: cc a.c\nbuild b.o: cc b.c\nbuild app: ld a.o b.o\n",
     trace: "rebug-trace 1\njobs 2\nstamp a.c 10\nstamp b.c 20\nlane 0\nplan app\nstart a.o 0\nfinish a.o 100 list h.h\n",
@@ -495,6 +503,7 @@ const RECORDS: &[Row] = &[
     VALIDATION,
     DEPFILE,
     OLD_DEPS,
+    LISTED_TWICE,
     LIST_WITHOUT_DEPS,
 ];
 

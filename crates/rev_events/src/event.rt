@@ -1,6 +1,7 @@
 //! Events.
 ghost use Rattle.std.specs.Prelude.{◌≡◌, IfOk};
 
+use crate::listed_paths::ListedPaths;
 use crate::stamps::Stamps;
 use rev_cells::{Names, Text};
 use rev_paths::Name;
@@ -14,7 +15,7 @@ pub enum Listing {
     /// The text of the depfile that the command wrote (Ninja manual, depfile).
     Depfile(Text),
     /// The paths as they were listed, repeated ones too.
-    Paths(Names),
+    Paths(ListedPaths),
 }
 
 impl Drop for Listing {

@@ -10,6 +10,7 @@ ghost use Rattle.indexmap.specs.IndexSet.{insert_all};
 use crate::edge::all_outputs;
 use crate::event::Listing;
 use crate::fault::Fault;
+use crate::listed_paths::ListedPaths;
 use crate::refusal::Refusal;
 use indexmap::IndexSet;
 use rev_cells::Names;
@@ -35,15 +36,19 @@ fn names_in_order(alloc: Global, set: IndexSet<Name>) -> Result<Vec<Name>, Alloc
     set.into_iter().collect(alloc)
 }
 
-// The paths, each where it is mentioned first. A list without a repeated path is shared.
-fn mentioned(alloc: Global, paths: &Names) -> Result<Names, AllocError>
+// The paths, each where it is mentioned first. A list without a repeated path is shared. Where that is known of it, no
+// path is looked up.
+fn mentioned(alloc: Global, paths: &ListedPaths) -> Result<Names, AllocError>
     ensures { IfOk result (λ names. names ≡ first_mentions paths.now) }
 {
+    if paths.are_distinct() {
+        return Ok(paths.names().copy()?);
+    }
     let listed = paths.as_slice();
     let mut set = IndexSet::new(alloc);
     add_names(&mut set, listed)?;
     if set.len() == listed.len() {
-        return Ok(paths.copy()?);
+        return Ok(paths.names().copy()?);
     }
     let names = names_in_order(alloc, set)?;
     Ok(Names::new(names)?)

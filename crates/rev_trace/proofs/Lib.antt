@@ -9,3 +9,4 @@ pub mod JudgeLemmas
 pub mod LineLemmas
 pub mod SaysLemmas
 pub mod MigrateLemmas
+pub mod MentionedLemmas

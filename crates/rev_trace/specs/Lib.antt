@@ -5,6 +5,7 @@ pub mod Lanes
 pub mod LineFaults
 pub mod Lists
 pub mod Laws
+pub mod Mentioned
 pub mod Migrated
 pub mod Records
 pub mod Says

@@ -89,8 +89,7 @@ fn list(
 ) -> Result<Listing, LineFault>
     ensures { Answers result (λ l. l) (list_of (lent_of texts.now)) }
 {
-    let paths = mentions.paths(alloc, texts)?;
-    Ok(Listing::Paths(Names::new(paths)?))
+    Ok(Listing::Paths(mentions.listed(alloc, texts)?))
 }
 
 // Nothing, `depfile TEXT` or `list PATH...`

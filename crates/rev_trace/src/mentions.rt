@@ -1,5 +1,6 @@
 //! Listed paths, each kept once.
-ghost use Rattle.std.specs.Prelude.{◌≡◌, ◌∷◌, [], IfOk, bytes_eq};
+ghost use Rattle.std.specs.Prelude.{◌≡◌, ◌∷◌, [], ◌||◌, ◌<◌, false, slice_get, IfOk, bytes_eq};
+ghost use Rattle.std.specs.List.{IsDistinct};
 ghost use Rattle.std.specs.Cmp.Lexicographic.{nat_list_eq_equiv};
 ghost use Rattle.std.specs.Cmp.Rules.{comparing, hashing};
 ghost use Rattle.std.proofs.Common.{ap, rules};
@@ -7,8 +8,12 @@ ghost use Rattle.std.proofs.lemmas.Slice.Eq.{bytes_eq-Decides};
 ghost use Rattle.rev_fields.specs.Faults.{Answers};
 ghost use Rattle.rev_fields.specs.Lines.{path_of, paths_of};
 ghost use Rattle.rev_fields.specs.Parts.{lent_of};
+ghost use Rattle.rev_trace.specs.Mentioned.{IsMentioned};
+ghost use Rattle.indexmap.specs.IndexMap.{index_map_len, keys};
 
-use indexmap::{Equivalent, IndexSet};
+use indexmap::{Equivalent, IndexMap};
+use rev_cells::Names;
+use rev_events::ListedPaths;
 use rev_fields::{LineFault, path};
 use rev_paths::Name;
 use std::alloc::{AllocError, Global};
@@ -44,61 +49,115 @@ impl Equivalent<Name> for Mention<'_> {
     }
 }
 
-/// The paths that lists have mentioned so far, each once. A later mention shares the bytes of the first, since the same
-/// header is listed by thousands of edges.
+/// The paths that lists have mentioned so far, each once, and beside each the number of the list that mentioned it last.
+/// A later mention shares the bytes of the first, since the same header is listed by thousands of edges. A path that a
+/// list mentions twice is known by that number.
 pub(crate) struct Mentions {
-    names: IndexSet<Name>,
+    last_lists: IndexMap<Name, u32>,
+    list: u32,
 }
 
 impl Drop for Mentions {
     fn drop(self) {
-        let Mentions { names: _names } = self;
+        let Mentions {
+            last_lists: _last_lists,
+            list: _list,
+        } = self;
     }
 }
 
-// A name once more, which is what its own bytes name.
-fn once_more(name: &Name) -> Result<Name, LineFault>
-    ensures { Answers result (λ copy. copy) (path_of name.now) }
+// An equal name, which is what its own bytes name.
+fn once_more(name: &Name) -> Result<Name, AllocError>
+    ensures equal { IfOk result (λ copy. copy ≡ name.now) }
+    ensures named { path_of name.now ≡ Ok name.now }
 {
     let _canonical = name.as_bytes();
-    Ok(name.copy()?)
+    name.copy()
+}
+
+// Whether one of the two holds.
+fn either(one: bool, other: bool) -> bool
+    ensures { result ≡ (one || other) }
+{
+    one || other
 }
 
 impl Mentions {
     /// No paths. It takes no memory.
     pub(crate) fn new(alloc: Global) -> Mentions {
         Mentions {
-            names: IndexSet::new(alloc),
+            last_lists: IndexMap::new(alloc),
+            list: 0,
         }
     }
 
-    // An equal name, which shares the bytes of the one that was mentioned first.
-    fn share(&mut self, name: Name) -> Result<Name, AllocError>
-        ensures { IfOk result (λ shared. shared ≡ name) }
+    // The path at a place, mentioned by the list, and whether the list mentioned it before.
+    fn mention_at(&mut self, place: usize) -> Result<(Name, bool), AllocError>
+        requires { place < index_map_len self.old.last_lists }
+        ensures path { IfOk result (λ m. slice_get (keys self.old.last_lists) place ≡ Some m.0) }
+        ensures named { IfOk result (λ m. path_of m.0 ≡ Ok m.0) }
+        ensures list { self.new.list ≡ self.old.list }
+        ensures mentioned { IfOk result (λ m. IsMentioned self.old.last_lists.entries self.new.last_lists.entries
+            self.old.list m.0 m.1) }
     {
-        let own = name.copy()?;
-        let (place, is_new) = self.names.insert_full(name)?;
-        if is_new {
-            return Ok(own);
-        }
-        match self.names.get_index(place) {
-            Some(first) => first.copy(),
-            None => unreachable!(),
-        }
+        let list = self.list;
+        let (name, last) = self.last_lists.pair_mut(place);
+        let again = *last == list;
+        *last = list;
+        let path = once_more(name)?;
+        Ok((path, again))
     }
 
-    // The path that a text names.
-    fn path(&mut self, alloc: Global, text: &[u8]) -> Result<Name, LineFault>
-        ensures { Answers result (λ name. name) (path_of text.now) }
+    // A path, mentioned by the list, and whether the list mentioned it before.
+    fn mention_path(&mut self, path: Name) -> Result<(Name, bool), AllocError>
+        ensures path { IfOk result (λ m. m.0 ≡ path) }
+        ensures list { self.new.list ≡ self.old.list }
+        ensures mentioned { IfOk result (λ m. IsMentioned self.old.last_lists.entries self.new.last_lists.entries
+            self.old.list m.0 m.1) }
     {
-        if let Some(name) = self.names.get(Mention { text }) {
-            return once_more(name);
+        if let Some(place) = self.last_lists.get_index_of(&path) {
+            return self.mention_at(place);
         }
-        let name = path(alloc, text)?;
-        Ok(self.share(name)?)
+        let own = path.copy()?;
+        self.last_lists.insert(path, self.list)?;
+        Ok((own, false))
     }
 
-    /// The paths that the texts of a list name.
+    // The path that a text names, mentioned by the list, and whether the list mentioned it before.
+    fn mention(&mut self, alloc: Global, text: &[u8]) -> Result<(Name, bool), LineFault>
+        ensures path { Answers result (λ m. m.0) (path_of text.now) }
+        ensures list { self.new.list ≡ self.old.list }
+        ensures mentioned { IfOk result (λ m. IsMentioned self.old.last_lists.entries self.new.last_lists.entries
+            self.old.list m.0 m.1) }
+    {
+        if let Some(place) = self.last_lists.get_index_of(Mention { text }) {
+            return Ok(self.mention_at(place)?);
+        }
+        let path = path(alloc, text)?;
+        Ok(self.mention_path(path)?)
+    }
+
+    // The paths that the texts of a list name, and whether it mentions one more than once.
+    fn mentioned(
+        &mut self,
+        alloc: Global,
+        texts: &[CowSlice<'_, u8>],
+    ) -> Result<(Vec<Name>, bool), LineFault>
+        ensures paths { Answers result (λ m. m.0.items) (paths_of (lent_of texts.now)) }
+        ensures once { IfOk result (λ m. m.1 ≡ false → IsDistinct bytes_eq m.0.items) }
+    {
+        self.list = self.list.saturating_add(1);
+        let mut names = Vec::with_capacity(alloc, texts.len())?;
+        let mut repeats = false;
+        for text in texts {
+            let (name, again) = self.mention(alloc, text)?;
+            names.push(name)?;
+            repeats = either(repeats, again);
+        }
+        Ok((names, repeats))
+    }
+
+    /// The paths that the texts of a record name.
     pub(crate) fn paths(
         &mut self,
         alloc: Global,
@@ -106,11 +165,23 @@ impl Mentions {
     ) -> Result<Vec<Name>, LineFault>
         ensures { Answers result (λ names. names.items) (paths_of (lent_of texts.now)) }
     {
-        let mut names = Vec::with_capacity(alloc, texts.len())?;
-        for text in texts {
-            let name = self.path(alloc, text)?;
-            names.push(name)?;
-        }
+        let (names, _) = self.mentioned(alloc, texts)?;
         Ok(names)
+    }
+
+    /// The paths that the texts of a list name.
+    pub(crate) fn listed(
+        &mut self,
+        alloc: Global,
+        texts: &[CowSlice<'_, u8>],
+    ) -> Result<ListedPaths, LineFault>
+        ensures { Answers result (λ paths. paths) (paths_of (lent_of texts.now)) }
+    {
+        let (names, repeats) = self.mentioned(alloc, texts)?;
+        let names = Names::new(names)?;
+        if repeats {
+            return Ok(ListedPaths::new(names));
+        }
+        Ok(ListedPaths::distinct(names))
     }
 }
