@@ -17,7 +17,7 @@ _rebug() {
     certify) COMPREPLY=($(compgen -W "--json" -- "$word")) ;;
     ask) COMPREPLY=($(compgen -W "--json" -- "$word")) ;;
     picture) COMPREPLY=($(compgen -W "--html --event" -- "$word")) ;;
-    record) COMPREPLY=($(compgen -W "--check --rebug --help -j --jobs-as-run --lanes --anyway --force --verbose --output --observe --observe=if-possible --observer --keep-log" -- "$word")) ;;
+    record) COMPREPLY=($(compgen -W "--check --rebug --help -j --from-logs --jobs-as-run --lanes --anyway --force --verbose --output --observe --observe=if-possible --observer --keep-log" -- "$word")) ;;
     provoke) COMPREPLY=($(compgen -W "--help --all --stale --in-place --rebug" -- "$word")) ;;
     -*) COMPREPLY=($(compgen -W "--try --manifest --trace --script --workers --migrate --help --version" -- "$word")) ;;
   esac

@@ -27,6 +27,7 @@ complete -c rebug -n '__fish_seen_subcommand_from record' -l check -d 'Run rebug
 complete -c rebug -n '__fish_seen_subcommand_from record' -l rebug -x -d 'The program to check with, in place of the launcher beside this script'
 complete -c rebug -n '__fish_seen_subcommand_from record' -l help -d 'Tell these words'
 complete -c rebug -n '__fish_seen_subcommand_from record' -s j -x -d 'Run N commands side by side, as Ninja'\''s -j'
+complete -c rebug -n '__fish_seen_subcommand_from record' -l from-logs -d 'Run nothing: record the build that Ninja'\''s logs in BUILD_DIR tell, as of a job of CI that has ended; it lacks commands that failed, and what was there before'
 complete -c rebug -n '__fish_seen_subcommand_from record' -l jobs-as-run -d 'As few jobs as Ninja ran side by side, in place of one for each command'
 complete -c rebug -n '__fish_seen_subcommand_from record' -l lanes -d 'One lane for each job that ran, for a run with rebug --workers'
 complete -c rebug -n '__fish_seen_subcommand_from record' -l anyway -d 'Record what rebug will refuse, too'

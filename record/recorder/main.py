@@ -5,6 +5,7 @@ import os
 from .checking import check
 from .depslog import BrokenLog
 from .folders import BadFolder
+from .from_logs import FromLogs
 from .installed import launcher
 from .manifest import BadManifest
 from .options import BadOptions, Checking, HelpWanted, read_words
@@ -45,7 +46,8 @@ def main(words):
         if isinstance(asked, Checking):
             return check(asked.out, asked.rebug, show, launcher())
         signals.install()
-        return Session(asked, signals, say, launcher()).run()
+        recorder = FromLogs if asked.from_logs else Session
+        return recorder(asked, signals, say, launcher()).run()
     except HelpWanted as why:
         show(why)
         return 0

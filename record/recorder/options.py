@@ -10,6 +10,7 @@ from .observed.observers import OBSERVERS
 
 _NAME = "rebug record"
 _USAGE = """%(prog)s BUILD_DIR OUT_DIR [OPTIONS] [-- NINJA_WORDS...]
+       %(prog)s --from-logs BUILD_DIR OUT_DIR [OPTIONS] [-- TARGETS...]
        %(prog)s --check OUT_DIR [--rebug PROGRAM]"""
 _ABOUT = """Runs Ninja in BUILD_DIR and writes to OUT_DIR what rebug needs to replay that build: the manifest and the
 files that it includes, trace, script, times, names, output, and replay, which runs rebug on them."""
@@ -30,6 +31,7 @@ exit status:
 
 examples:
   rebug record build recorded -j 4 -- app
+  rebug record --from-logs build recorded
   rebug record --check recorded"""
 
 
@@ -48,6 +50,7 @@ class Options:
     build: str
     out: str
     for_ninja: list[str] = field(default_factory=list)
+    from_logs: bool = False
     lanes: bool = False
     jobs_as_run: bool = False
     anyway: bool = False
@@ -112,6 +115,9 @@ def _recording_words() -> argparse.ArgumentParser:
     words.add_argument("out", metavar="OUT_DIR", help="the folder of the recording, which is made where it is missing")
     words.add_argument("-j", dest="jobs", metavar="N", type=_number_of_jobs,
                        help="run N commands side by side, as Ninja's -j")
+    words.add_argument("--from-logs", action="store_true",
+                       help="run nothing: record the build that Ninja's logs in BUILD_DIR tell, as of a job of CI that "
+                            "has ended; it lacks commands that failed, and what was there before")
     words.add_argument("--jobs-as-run", action="store_true",
                        help="as few jobs as Ninja ran side by side, in place of one for each command")
     words.add_argument("--lanes", action="store_true",
@@ -170,11 +176,21 @@ def _read_recording(own: Sequence[str], for_ninja: Sequence[str]) -> Options:
         raise BadOptions("--rebug goes with --check")
     if not found.observe and (found.observer or found.keep_log):
         raise BadOptions(f"{'--observer' if found.observer else '--keep-log'} goes with --observe")
+    _refuse_beside_logs(found)
     named = vars(found)
     jobs = named.pop("jobs")
     for word in ("check", "rebug"):
         del named[word]
     return Options(for_ninja=[*(["-j", jobs] if jobs else []), *for_ninja], **named)
+
+
+def _refuse_beside_logs(found: argparse.Namespace) -> None:
+    """What asks for a Ninja that runs does not go with its logs."""
+    if not found.from_logs:
+        return
+    for word, is_given in (("--observe", bool(found.observe)), ("--output", found.output != FAILED)):
+        if is_given:
+            raise BadOptions(f"{word} does not go with --from-logs, which runs nothing")
 
 
 def _read_check(own: Sequence[str]) -> Checking:

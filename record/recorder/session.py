@@ -37,16 +37,52 @@ class Failure(Exception):
         self.status = status
 
 
-class Session:
-    """Records one build, as the options say."""
+class OneBuild:
+    """One build that is to be recorded: the options, Ninja's words, and the build folder."""
+
+    stops = "Ninja was not run"
+    """What a refusal means, as the end of a sentence."""
 
     def __init__(self, options, signals, say, launcher):
         self.options, self.signals, self.say, self.launcher = options, signals, say, launcher
         self.words = read_words(options.for_ninja)
-        self.ninja, self.build = _ninja(), os.fsencode(options.build)
-        self.program = self.ninja.program
+        self.build = os.fsencode(options.build)
         if not os.path.isdir(self.build):
             raise Failure(f"{options.build} is no folder")
+
+    def run(self):
+        """Records it; gives the exit status."""
+        raise NotImplementedError
+
+    def look_at_limits(self, manifest):
+        """Says what makes a recording useless, before anything is done."""
+        refused = what_is_refused(manifest)
+        for it in refused:
+            self.say(it)
+        if refused and not self.options.anyway:
+            raise Failure(f"rebug refuses a recording of this manifest, so {self.stops} (--anyway records it all the "
+                          f"same)")
+
+    def manifest(self):
+        return Manifest(self.words.manifest, lambda name: _content(os.path.join(self.build, name)))
+
+    def tell_notes(self, found):
+        """What is to be known of a recording that was written, and what can be done with it next."""
+        for note in found.notes + (found.remarks if self.options.verbose else []):
+            self.say(note)
+        out = self.options.out
+        check = " ".join(map(shlex.quote, [*words_of_recorder(), "--check", out]))
+        self.say(f"{out} has {len(found.found.events)} events of this build. Next: {check}, or "
+                 f"{shlex.quote(os.path.join(out, 'replay'))}")
+
+
+class Session(OneBuild):
+    """Records one build while Ninja runs it, as the options say."""
+
+    def __init__(self, options, signals, say, launcher):
+        self.ninja = _ninja()
+        self.program = self.ninja.program
+        super().__init__(options, signals, say, launcher)
 
     def run(self):
         """The whole of it; gives the exit status."""
@@ -131,21 +167,7 @@ class Session:
         elif ran.died:
             self.say("Ninja ended in the middle of the build: its commands may have gone on, and the recording has "
                      "what was there right after")
-        for note in found.notes + (found.remarks if self.options.verbose else []):
-            self.say(note)
-        out = self.options.out
-        check = " ".join(map(shlex.quote, [*words_of_recorder(), "--check", out]))
-        self.say(f"{out} has {len(found.found.events)} events of this build. Next: {check}, or "
-                 f"{shlex.quote(os.path.join(out, 'replay'))}")
-
-    def look_at_limits(self, manifest):
-        """Says what makes a recording useless before Ninja runs."""
-        refused = what_is_refused(manifest)
-        for it in refused:
-            self.say(it)
-        if refused and not self.options.anyway:
-            raise Failure("rebug refuses a recording of this manifest, so Ninja was not run (--anyway records it all "
-                          "the same)")
+        self.tell_notes(found)
 
     def up_to_date_manifest(self):
         """Reads the manifest, once Ninja has brought it up to date where an edge of it makes it."""
@@ -163,9 +185,6 @@ class Session:
             return manifest
         self.say("that was the manifest, brought up to date before the recording begins")
         return self.manifest()
-
-    def manifest(self):
-        return Manifest(self.words.manifest, lambda name: _content(os.path.join(self.build, name)))
 
 
 def _has_started(found, ran):

@@ -3,6 +3,7 @@
 The headers are made before the recording begins, so that what lacks a dependency is built all the same."""
 
 import subprocess
+import sys
 
 import builds
 from projects import CMAKE, HAND, Project, c_sources, write_sources
@@ -14,12 +15,20 @@ HAND_TAKEN = "build w3.o: cc ../src/w3.c || headers\n"
 HAND_RACES = [("version.h", "w3.o")]
 
 
+def record(it):
+    """Records the build as it runs (`passed`), and then again from its logs (`logs`)."""
+    it.record("passed")
+    words = [sys.executable, builds.RECORDER, "--from-logs", it.build, it.folder / "logs"]
+    with open(it.folder / "logs.said", "wb") as said:
+        subprocess.run(words, check=True, stdout=said, stderr=subprocess.STDOUT)
+
+
 def cmake(name, text):
     it = Project(name, "build")
     write_sources(it, "../src", {"CMakeLists.txt": text, **c_sources()})
     subprocess.run(["cmake", "-G", "Ninja", "-S", it.build / "../src", "-B", it.build], check=True, capture_output=True)
     subprocess.run(["ninja", "steps"], cwd=it.build, check=True, capture_output=True)
-    it.record("passed")
+    record(it)
 
 
 def hand(name, text):
@@ -29,7 +38,7 @@ def hand(name, text):
     it.write("build.in", text.replace("command = cc -MD", "command = cc -I. -MD"))
     it.write("build.ninja", text.replace("command = cc -MD", "command = cc -I. -MD"))
     subprocess.run(["ninja", "build.ninja", "headers"], cwd=it.build, check=True, capture_output=True)
-    it.record("passed")
+    record(it)
 
 
 def without(text, taken, left=""):

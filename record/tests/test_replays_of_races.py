@@ -1,4 +1,5 @@
-"""Real projects race in nothing; with one dependency taken out, in exactly what that ordered."""
+"""Real projects race in nothing; with one dependency taken out, in exactly what that ordered. So they do by recordings
+that were made while Ninja ran, and by those of its logs."""
 
 import json
 import os
@@ -43,10 +44,10 @@ def _shown(name):
     return text.replace(r"\x20", r"\s")
 
 
-def _taken(chain, tools, due):
+def _taken(chain, name, tools, due):
     def test(self):
         due_shown = sorted((_shown(maker), _shown(user)) for maker, user in due)
-        self.assertEqual(self.races((chain, "passed"), tools), (due_shown, False, 4 if due else 0))
+        self.assertEqual(self.races((chain, name), tools), (due_shown, False, 4 if due else 0))
 
     return test
 
@@ -59,7 +60,8 @@ def _whole(chain, name):
 
 
 for _chain, (_, _tools, _due) in taken.RECORDED.items():
-    setattr(RacesOfProjects, f"test_{_chain}", _taken(_chain, _tools, _due))
+    for _name in ("passed", "logs"):
+        setattr(RacesOfProjects, f"test_{_chain}_{_name}", _taken(_chain, _name, _tools, _due))
 for _chain, (_, _, _names) in projects.PROJECTS.items():
     for _name in _names:
         setattr(RacesOfProjects, f"test_{_chain}_{_name}", _whole(_chain, _name))
