@@ -1,7 +1,6 @@
 -- What is found is what is to be told.
-use Rattle.std.proofs.Common.{◌≡◌, ◌≢◌, ℕ, zero, suc, ◌+◌, ◌<◌, ◌^◌, Bool, true, false, List, [], ◌∷◌, ◌++◌, length, get_or, map, take, Option, Some, None, ◌⊎◌, inl, inr, refl, sym, ap, subst, ◌∙◌, arith, Contains, true≢false, bytes_eq}
+use Rattle.std.proofs.Common.{◌≡◌, ℕ, zero, suc, ◌+◌, ◌<◌, ◌^◌, Bool, true, false, List, [], ◌∷◌, ◌++◌, length, get_or, map, take, Option, ◌⊎◌, inl, inr, refl, sym, ap, subst, ◌∙◌, arith, Contains, true≢false, bytes_eq}
 use Rattle.std.specs.Prelude.{All, ◌↔◌, Result, Ok, Err, IfOk}
-use Rattle.std.specs.Global.{Vec}
 use Rattle.std.specs.List.{IsDistinct, list_all}
 use Rattle.std.specs.List.Sorted.{IsStrictlySortedBy}
 use Rattle.std.specs.Ordering.{nat_cmp}
@@ -11,21 +10,20 @@ use Rattle.std.proofs.lemmas.Bool.{and_from, and_parts, cases_eq, false_from_ne_
 use Rattle.std.proofs.lemmas.List.{get_or_default, length-map, take_more}
 use Rattle.std.proofs.lemmas.List.Elements.{All-get_or, Contains-get_or}
 use Rattle.rev_manifest.specs.Manifest.{BuildValue}
-use Rattle.rev_ranks.specs.Graph.{Reaches, Steps, successors_of}
+use Rattle.rev_ranks.specs.Graph.{Steps, successors_of}
 use Rattle.rev_observed.specs.CommandValues.{CommandValue}
 use Rattle.rev_observed.specs.declared.kind.Kind.TheVariants.{Reads}
 use Rattle.rev_conflicts.specs.declared.conflict.Conflict.{Conflict}
 use Rattle.rev_conflicts.specs.Places.{does}
-use Rattle.rev_conflicts.specs.Conflicts.{Ran, Scene}
+use Rattle.rev_conflicts.specs.Conflicts.{Scene}
 use Rattle.rev_conflicts.specs.Tables.{SomeBelow}
 use Rattle.rev_undeclared.specs.declared.kind.Undeclared.{Undeclared}
 use Rattle.rev_undeclared.specs.Stronger.{is_told}
-use Rattle.rev_undeclared.specs.Undeclared.{path_at}
 use Rattle.rev_unlisted.specs.declared.input.Cover.{Cover}
 use Rattle.rev_unlisted.specs.declared.input.Cover.TheVariants.{Covered, HeldBack, Neither}
 use Rattle.rev_unlisted.specs.declared.input.Unlisted.{Unlisted}
-use Rattle.rev_unlisted.specs.Follows.{counted_of, follow_lists}
-use Rattle.rev_unlisted.specs.Unlisted.{IsCover, IsCover.covers as is_covered, IsCover.holds_back as is_held, IsCover.neither as is_neither, IsMaker, IsMet, IsMet.by_makers as met_makers, IsMet.as_source as met_source, IsUnlisted, MakerIn}
+use Rattle.rev_unlisted.specs.Follows.{follow_lists}
+use Rattle.rev_unlisted.specs.Unlisted.{IsCover, IsCover.covers as is_covered, IsCover.holds_back as is_held, IsCover.neither as is_neither, IsMet, IsMet.by_makers as met_makers, IsMet.as_source as met_source, MakerIn}
 use Rattle.rev_unlisted.specs.Answer.{AreUnlisted, IsToldOf, unlisted_key}
 use Rattle.rev_unlisted.specs.Found.{AreFound, AreReached, AreStepsOf, IsCoverIn, IsCoverIn.covers as in_covered, IsCoverIn.holds_back as in_held, IsCoverIn.neither as in_neither, IsFound, IsKeyAmong, IsKeyBelow, IsKeyOf, IsMetIn, IsMetIn.by_makers as in_makers, IsMetIn.as_source as in_source, IsOfUnlisted, IsReadAt, IsReadOf, cover_by, met_by}
 use Rattle.rev_conflicts.proofs.NumberLemmas.{pushed}

@@ -1,9 +1,9 @@
-use Rattle.std.proofs.Common.{◌≡◌, ◌+◌, ◌<◌, List, ℕ, [], get_or, length, Contains, ◌⊎◌, sym, ap, subst, ◌∙◌, arith}
+use Rattle.std.proofs.Common.{◌≡◌, ◌+◌, ◌<◌, ℕ, get_or, length, Contains, ◌⊎◌, sym, ap, subst, ◌∙◌, arith}
 use Rattle.std.specs.Prelude.{All, ◌↔◌}
 use Rattle.rev_ranks.specs.Graph.{graph_of, successors_of}
 use Rattle.rev_conflicts.specs.Tables.{SomeBelow}
 use Rattle.rev_conflicts.proofs.MeetLemmas.{all-at, at-number}
-use Rattle.rev_conflicts.proofs.Some.{either-more, some-more, some-none}
+use Rattle.rev_conflicts.proofs.Some.{either-more, some-more}
 use Rattle.rev_unlisted.specs.declared.input.Cover.{Cover}
 use Rattle.rev_unlisted.specs.Answer.{unlisted_key}
 use Rattle.rev_unlisted.specs.Found.{cover_by, met_by}

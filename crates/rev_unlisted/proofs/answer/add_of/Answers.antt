@@ -1,4 +1,4 @@
-use Rattle.std.proofs.Common.{◌≡◌, ◌<◌, List, ℕ, Option, Bool, true, get_or, length, Contains, ◌⊎◌, sym, subst, arith}
+use Rattle.std.proofs.Common.{◌≡◌, List, ℕ, Option, Bool, true, get_or, length, Contains, ◌⊎◌, sym, subst, arith}
 use Rattle.std.specs.Prelude.{◌↔◌}
 use Rattle.std.proofs.lemmas.List.Elements.{Contains-get_or}
 use Rattle.rev_ranks.specs.Graph.{graph_of}

@@ -1,4 +1,4 @@
-use Rattle.std.proofs.Common.{◌≡◌, List, ℕ, [], map}
+use Rattle.std.proofs.Common.{◌≡◌, ℕ, [], map}
 use Rattle.std.specs.Prelude.{unwrap_or}
 use Rattle.std.specs.List.{range_with_len}
 use Rattle.rev_history.specs.Timeline.{kept_events}

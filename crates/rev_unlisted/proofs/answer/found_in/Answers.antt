@@ -1,4 +1,4 @@
-use Rattle.std.proofs.Common.{◌≡◌, ◌+◌, ◌<◌, ◌^◌, true, false, List, ℕ, [], get_or, length, map, Contains, ◌⊎◌, refl, sym, ap, subst, ◌∙◌, arith}
+use Rattle.std.proofs.Common.{◌≡◌, ◌+◌, ◌<◌, ◌^◌, true, false, List, ℕ, get_or, length, map, Contains, ◌⊎◌, refl, sym, subst, ◌∙◌, arith}
 use Rattle.std.specs.Prelude.{All, ◌↔◌}
 use Rattle.std.specs.Global.{Vec}
 use Rattle.std.specs.List.Sorted.{IsStrictlySortedBy}

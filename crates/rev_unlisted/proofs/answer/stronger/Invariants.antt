@@ -1,4 +1,4 @@
-use Rattle.std.proofs.Common.{◌≡◌, ℕ, List, ◌∷◌, [], true, take, Contains, ◌⊎◌}
+use Rattle.std.proofs.Common.{◌≡◌, ℕ, ◌∷◌, [], true, take, Contains, ◌⊎◌}
 use Rattle.std.specs.Prelude.{◌↔◌}
 use Rattle.rev_undeclared.specs.Stronger.{is_told}
 use Rattle.rev_unlisted.specs.Answer.{IsToldOf}

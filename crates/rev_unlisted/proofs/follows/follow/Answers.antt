@@ -1,4 +1,4 @@
-use Rattle.std.proofs.Common.{◌≡◌, ◌++◌, List, ℕ, ap, ◌∙◌}
+use Rattle.std.proofs.Common.{◌++◌, List, ℕ, ◌∙◌}
 use Rattle.rev_graph.specs.Graph.{build_at}
 use Rattle.rev_unlisted.specs.Follows.{makers_of, path_nodes}
 use Rattle.rev_unlisted.proofs.FollowLemmas.{makers-append, nodes-append, six}

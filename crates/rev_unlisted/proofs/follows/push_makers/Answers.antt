@@ -1,4 +1,4 @@
-use Rattle.std.proofs.Common.{◌≡◌, List, [], sym, arith}
+use Rattle.std.proofs.Common.{sym, arith}
 use Rattle.std.proofs.lemmas.List.{append-nil}
 use Rattle.rev_unlisted.specs.Follows.{makers_of}
 use Rattle.rev_unlisted.proofs.FollowLemmas.{grown, grown-all, makers-append}
