@@ -9,3 +9,4 @@ mod matching;
 pub use faults::{Fault, FaultKind, MAX_BYTES, ReadFault};
 pub use filters::{Filters, read};
 pub use hiding::hidden;
+pub use matching::matches;

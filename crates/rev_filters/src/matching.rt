@@ -78,8 +78,13 @@ fn matches_by_rows(alloc: Global, part: &[u8], bytes: &[u8]) -> Result<bool, All
     Ok(row[0])
 }
 
-// Whether a part matches bytes. What stands before the first `*` needs no row.
-fn matches(alloc: Global, part: &[u8], bytes: &[u8]) -> Result<bool, AllocError>
+/// Whether a pattern matches all of some bytes: in it `*` stands for any bytes, also for none, and every other byte for
+/// itself. What stands before the first `*` is compared byte by byte; the rest takes time linear in the bytes of the
+/// pattern times those that are matched.
+///
+/// # Errors
+/// [`AllocError`] only where an allocation was refused.
+pub fn matches(alloc: Global, part: &[u8], bytes: &[u8]) -> Result<bool, AllocError>
     ensures { IfOk result (λ found. found ≡ matches_of part.now bytes.now) }
 {
     for (place, byte) in part.iter().enumerate() {

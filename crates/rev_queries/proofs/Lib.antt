@@ -1,0 +1,4 @@
+pub mod ListLemmas
+pub mod CopyLemmas
+pub mod ChainLemmas
+pub mod RebuildLemmas

@@ -1,0 +1,5 @@
+pub mod Critical
+pub mod Edges
+pub mod Readings
+pub mod Rebuilds
+pub mod Times
