@@ -6,14 +6,18 @@ ghost use Rattle.rev_observed.specs.Observations.{outputs_of};
 
 use crate::observed::{Observed, hidden_in, observed_in};
 use rev_conflicts::{Conflict, conflicts};
-use rev_conflicts_text::{Finding, conflict_findings, conflicts_left, races_left, seen_in};
+use rev_conflicts_text::{
+    Finding, add_undeclared, conflict_findings, conflicts_left, races_left, seen_in,
+};
 use rev_graph::Graph;
 use rev_history::History;
+use rev_manifest::Build;
 use rev_observed::Observation;
 use rev_paths::Name;
 use rev_races::{Kind, Race, stories};
 use rev_races_text::{Report, Story, Told};
 use rev_recording::RecordingFault;
+use rev_undeclared::{Undeclared, undeclared_files};
 use std::alloc::{AllocError, Global};
 
 /// What commands were seen to do, and what follows.
@@ -22,6 +26,8 @@ pub struct Sight {
     pub observed: Observed,
     /// What two commands do at one place.
     pub conflicts: Vec<Conflict>,
+    /// What commands leave that is no output of theirs.
+    pub undeclared: Vec<Undeclared>,
     /// For each edge whether its command was observed whole.
     pub whole: Vec<bool>,
 }
@@ -32,6 +38,7 @@ impl Drop for Sight {
         let Sight {
             observed: _observed,
             conflicts: _conflicts,
+            undeclared: _undeclared,
             whole: _whole,
         } = self;
     }
@@ -72,25 +79,55 @@ fn conflicts_of(
     )
 }
 
-/// What the bytes of the file `observed` say of the commands of a graph, whose manifest was read from these files, but
-/// for what the filters hide that other bytes say.
+// The files that commands leave and that are no outputs of theirs, beside conflicts.
+fn undeclared_in(
+    alloc: Global,
+    graph: &Graph,
+    sources: (&[Name], &[Build]),
+    observed: &Observed,
+    hidden: &[bool],
+    conflicts: &[Conflict],
+) -> Result<Vec<Undeclared>, AllocError>
+    requires edges { map Some observed.now.edges.items
+        ≡ map (edge_of graph.now.manifest.builds) (outputs_of observed.now.observation.commands) }
+    requires within { AllByRecursion (λ edge. edge < length graph.now.manifest.builds) observed.now.edges.items }
+    requires hidden { length hidden.now ≡ length observed.now.observation.paths }
+{
+    let (files, builds) = sources;
+    let observation = &observed.observation;
+    undeclared_files(
+        alloc,
+        graph,
+        files,
+        builds,
+        observation,
+        &observed.edges,
+        hidden,
+        conflicts,
+    )
+}
+
+/// What the bytes of the file `observed` say of the commands of a graph, but for what the filters hide that other bytes
+/// say. `sources` has the files that the manifest was read from, and its edges.
 ///
 /// # Errors
 /// As [`observed_in`].
 pub fn sight_in(
     alloc: Global,
     graph: &Graph,
-    files: &[Name],
+    sources: (&[Name], &[Build]),
     bytes: &[u8],
     filters: Option<&[u8]>,
 ) -> Result<Sight, RecordingFault> {
     let observed = observed_in(alloc, graph, bytes)?;
     let hidden = hidden_in(alloc, &observed.observation, filters)?;
-    let conflicts = conflicts_of(alloc, graph, files, &observed, &hidden)?;
+    let conflicts = conflicts_of(alloc, graph, sources.0, &observed, &hidden)?;
+    let undeclared = undeclared_in(alloc, graph, sources, &observed, &hidden, &conflicts)?;
     let whole = whole_edges(alloc, graph.edges(), &observed)?;
     Ok(Sight {
         observed,
         conflicts,
+        undeclared,
         whole,
     })
 }
@@ -146,7 +183,14 @@ pub fn seen_findings<'a>(
     };
     let observation = &sight.observed.observation;
     let conflicts = conflicts_left(alloc, &sight.conflicts, observation.paths(), races)?;
-    conflict_findings_in(alloc, history, observation, &conflicts)
+    let mut findings = conflict_findings_in(alloc, history, observation, &conflicts)?;
+    add_undeclared(
+        history.graph(),
+        observation,
+        &sight.undeclared,
+        &mut findings,
+    )?;
+    Ok(findings)
 }
 
 /// Conflicts of commands of a history, as they are told.

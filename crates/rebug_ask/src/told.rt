@@ -227,12 +227,19 @@ pub fn command_count(trace: &Trace) -> u64 {
 fn sight_of(
     alloc: Global,
     inquiry: Inquiry<'_>,
+    manifest: &Manifest,
     graph: &Graph,
 ) -> Result<Option<Sight>, RecordingFault> {
     match inquiry.observed {
         Some(bytes) if inquiry.how != How::Replay => {
             let files = names_of(alloc, &inquiry.read.files)?;
-            Ok(Some(sight_in(alloc, graph, &files, bytes, inquiry.filters)?))
+            Ok(Some(sight_in(
+                alloc,
+                graph,
+                (&files, manifest.builds()),
+                bytes,
+                inquiry.filters,
+            )?))
         }
         _ => Ok(None),
     }
@@ -278,7 +285,7 @@ fn answer_from(
     if inquiry.how == How::Certify || inquiry.how == How::CertifyJson {
         return certified_answer(alloc, inquiry, manifest, desk, command_count(trace));
     }
-    let sight = sight_of(alloc, inquiry, desk.history().graph())?;
+    let sight = sight_of(alloc, inquiry, manifest, desk.history().graph())?;
     match answer_of(
         alloc,
         inquiry,

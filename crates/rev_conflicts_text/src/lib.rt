@@ -13,5 +13,5 @@ pub use certificate::{CertainLine, Way};
 pub use certified::{Certified, NOT_CERTAIN};
 pub use finding::{Finding, Kind};
 pub use json::findings_json;
-pub use told::{conflict_findings, conflicts_left, pair_of, races_left, seen_in};
+pub use told::{add_undeclared, conflict_findings, conflicts_left, pair_of, races_left, seen_in};
 pub use words::findings_words;
