@@ -8,4 +8,4 @@ mod matching;
 
 pub use faults::{Fault, FaultKind, MAX_BYTES, ReadFault};
 pub use filters::{Filters, read};
-pub use hiding::hidden;
+pub use hiding::{hidden, is_hidden};
