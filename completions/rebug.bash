@@ -13,8 +13,8 @@ _rebug() {
   fi
   case $word in -*) ;; *) return ;; esac
   case $first in
-    races) COMPREPLY=($(compgen -W "--all --json --mend --witness --provoke" -- "$word")) ;;
-    certify) COMPREPLY=($(compgen -W "--json" -- "$word")) ;;
+    races) COMPREPLY=($(compgen -W "--all --json --mend --witness --provoke --filters --format --baseline --write-baseline" -- "$word")) ;;
+    certify) COMPREPLY=($(compgen -W "--json --filters --format --baseline --write-baseline" -- "$word")) ;;
     ask) COMPREPLY=($(compgen -W "--json" -- "$word")) ;;
     picture) COMPREPLY=($(compgen -W "--html --event" -- "$word")) ;;
     record) COMPREPLY=($(compgen -W "--check --rebug --help -j --from-logs --jobs-as-run --lanes --anyway --force --verbose --output --observe --observe=if-possible --observer --keep-log" -- "$word")) ;;

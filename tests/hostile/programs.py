@@ -28,13 +28,15 @@ REPORT_LINE = re.compile(
 # What no terminal should get.
 RAW = re.compile(rb"[^\n -\x7e]")
 KINDS_OF_RACES = {"replayed", "failed", "race", "cycle", "own", "suspect", "not judged", "clash", "hint", "change",
-                  "unstable", "undeclared", "unlisted", "observed"}
+                  "command", "ran", "unstable", "undeclared", "unlisted", "observed"}
 # The words of the second program in front of the recording, and the statuses that it may end with there.
 ASKED: list[tuple[list[str], tuple[int, ...]]] = [
     (["races"], (0, 1, 4, 5)), (["certify"], (0, 1, 3, 4, 5)), (["certify", "--json"], (0, 1, 3, 4, 5)),
     (["races"], (0, 1, 4, 5)), (["races", "--all"], (0, 1, 4, 5)), (["races", "--json"], (0, 1, 4, 5)),
     (["races", "--mend"], (0, 1, 4, 5)), (["races", "--witness", "1"], (0, 1, 2)),
-    (["races", "--witness", "9"], (0, 1, 2)), (["races", "--provoke", "1"], (0, 1, 2)), (["replay"], (0, 1, 4)),
+    (["races", "--format", "github"], (0, 1, 4, 5)), (["races", "--format", "sarif"], (0, 1, 4, 5)),
+    (["certify", "--format", "junit"], (0, 1, 3, 4, 5)), (["races", "--witness", "9"], (0, 1, 2)),
+    (["races", "--provoke", "1"], (0, 1, 2)), (["replay"], (0, 1, 4)),
     (["ask"], (0, 1)), (["ask", "--json"], (0, 1)), (["picture"], (0, 1)), (["picture", "--html"], (0, 1)),
     (["picture", "--event", "3"], (0, 1, 2))]
 # What is asked at the prompt, with the name of an output or of another path.

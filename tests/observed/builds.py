@@ -133,6 +133,26 @@ build late: sh user
         {"in": "x\n"},
         ("cycle late made by late (build.ninja:5)", "used by user (build.ninja:3), for which the maker waits"),
         (("cycle", None, "miss"),)),
+    "a file that is no output, behind its maker": Planted(
+        """build stamp: sh in
+  do = cp in extra; touch stamp
+build user: sh in || stamp
+  do = cat extra in > user
+""",
+        {"in": "x\n"},
+        ("undeclared extra: stamp (build.ninja:3) writes it, though no line says so", "used by user (build.ninja:5) [1]",
+         "mend: build.ninja:3: build stamp | extra: ..."),
+        (("undeclared", None, "read"),), pair=False, certain=True),
+    "another's output": Planted(
+        """build lib: sh in
+  do = cat in > lib
+build stamp: sh lib
+  do = cat in >> lib; touch stamp
+""",
+        {"in": "x\n"},
+        ("undeclared lib: stamp (build.ninja:5) writes it", "an output of lib (build.ninja:3), whose line says so [1]",
+         "mend: another path for what it writes there"),
+        (("undeclared", None, None),), pair=False, certain=True),
     "everything is declared": Planted(
         """build table: sh in
   do = cp in table

@@ -4,13 +4,15 @@ ghost use Rattle.std.specs.List.{AllByRecursion};
 ghost use Rattle.rev_observed.specs.Joins.{edge_of};
 ghost use Rattle.rev_observed.specs.Observations.{outputs_of};
 
+use crate::answering::{Answer, answer_with};
+use crate::forms::{Form, certified_items, items_text};
 use crate::found::told_clashes;
-use crate::observed::{Observed, hidden_in, observed_in};
-use crate::reporting::replayed_of;
-use crate::seen::conflict_findings_in;
+use crate::leaving::{Choice, Leaving};
+use crate::observed::{Observed, hidden_by, observed_in};
+use crate::seen::{conflict_findings_in, hidden_count, undeclared_in, unfiltered};
 use rev_certified::{Certificate, Marks, certify};
-use rev_conflicts::{Conflict, Place, conflicts, early_edges};
-use rev_conflicts_text::{Certified, Way};
+use rev_conflicts::early_edges;
+use rev_conflicts_text::{Certified, Stale, Way};
 use rev_desk::Desk;
 use rev_events::Event;
 use rev_graph::{Graph, edges_among};
@@ -18,7 +20,7 @@ use rev_history::History;
 use rev_observed::Flags;
 use rev_paths::Name;
 use rev_races::{finished_edges, started_edges};
-use rev_races_text::{Replayed, Sources};
+use rev_races_text::{Clash, Replayed, Sources};
 use rev_recording::RecordingFault;
 use std::alloc::{AllocError, Global};
 
@@ -168,58 +170,6 @@ fn certificate_of(
     )
 }
 
-// A place: a file, or the entries of a folder, by the number of the path.
-#[derive(Clone, Copy, PartialEq, Eq, PartialOrd, Ord)]
-struct Spot {
-    is_folder: bool,
-    path: u64,
-}
-
-// The places of conflicts, each once.
-fn spots_of(alloc: Global, conflicts: &[Conflict]) -> Result<Vec<Spot>, AllocError> {
-    let mut spots = Vec::new(alloc);
-    for conflict in conflicts {
-        spots.push(match conflict.place {
-            Place::File(path) => Spot {
-                is_folder: false,
-                path,
-            },
-            Place::Entries(path) => Spot {
-                is_folder: true,
-                path,
-            },
-        })?;
-    }
-    spots.sort_unstable();
-    spots.dedup();
-    Ok(spots)
-}
-
-// In how many places commands meet that filters hide.
-fn hidden_count(
-    alloc: Global,
-    graph: &Graph,
-    files: &[Name],
-    observed: &Observed,
-    hidden: &[bool],
-    told: &[Conflict],
-) -> Result<u64, AllocError>
-    requires edges { map Some observed.now.edges.items
-        ≡ map (edge_of graph.now.manifest.builds) (outputs_of observed.now.observation.commands) }
-    requires within { AllByRecursion (λ edge. edge < length graph.now.manifest.builds) observed.now.edges.items }
-    requires hidden { length hidden.now ≡ length observed.now.observation.paths }
-{
-    if !hidden.iter().any(|mark| *mark) {
-        return Ok(0);
-    }
-    let none = vec![in alloc; false; hidden.len()]?;
-    let observation = &observed.observation;
-    let all = conflicts(alloc, graph, files, observation, &observed.edges, &none)?;
-    let all = spots_of(alloc, &all)?;
-    let told = spots_of(alloc, told)?;
-    Ok((all.len() as u64).saturating_sub(told.len() as u64))
-}
-
 // How many marks there are.
 fn count_of(marks: &[bool]) -> u64 {
     marks.iter().filter(|mark| **mark).count() as u64
@@ -234,8 +184,20 @@ pub struct Grounds<'a> {
     pub files: &'a [Name],
     /// How much of the recording counts.
     pub replayed: Replayed,
-    /// Whether JSON is wanted.
-    pub json: bool,
+    /// The form of the answer.
+    pub form: Form,
+    /// What is left out.
+    pub choice: Choice<'a>,
+}
+
+// What was found of a certificate.
+#[derive(Clone, Copy)]
+struct Found<'a> {
+    certificate: &'a Certificate,
+    ways: &'a [(u32, Way)],
+    commands: u64,
+    hidden: u64,
+    stale: Stale,
 }
 
 // What is told of a certificate.
@@ -244,27 +206,31 @@ fn told_of<'a>(
     history: &'a History,
     grounds: Grounds<'a>,
     observed: &'a Observed,
-    certificate: &Certificate,
-    ways: Vec<(u32, Way)>,
-    commands: u64,
-    hidden: u64,
-) -> Result<Certified<'a>, AllocError> {
+    found: &Found<'_>,
+) -> Result<(Certified<'a>, Vec<Clash>), RecordingFault> {
+    let mut leaving = Leaving::new(alloc, grounds.choice)?;
+    let sources = &grounds.sources;
+    let certificate = found.certificate;
     let observation = &observed.observation;
     let findings = conflict_findings_in(alloc, history, observation, &certificate.conflicts)?;
-    let clashes = told_clashes(alloc, grounds.sources.builds)?;
-    let mut missing = Vec::new(alloc);
-    missing.extend_from_slice(&certificate.missing)?;
-    Ok(Certified {
+    let findings = leaving.findings(alloc, sources, &findings)?;
+    let clashes = told_clashes(alloc, sources.builds)?;
+    let clashes = leaving.clashes(alloc, sources, &clashes)?;
+    let unsure = leaving.ways(alloc, sources, found.ways)?;
+    let missing = leaving.missing(alloc, sources, &certificate.missing)?;
+    let told = Certified {
         is_certain: certificate.is_certain,
         replayed: grounds.replayed,
-        commands,
+        commands: found.commands,
         whole: count_of(&certificate.whole),
-        hidden,
+        left_out: leaving.left_out(found.hidden),
+        stale: found.stale,
         findings,
         side_files: clashes.len() as u64,
-        unsure: ways,
+        unsure,
         missing,
-    })
+    };
+    Ok((told, clashes))
 }
 
 // What is written of what is told, and the status.
@@ -272,31 +238,35 @@ fn written(
     alloc: Global,
     grounds: Grounds<'_>,
     told: &Certified<'_>,
-) -> Result<(Vec<u8>, u8), AllocError> {
-    let text = if grounds.json {
-        told.json(alloc, &grounds.sources)?
+    clashes: &[Clash],
+) -> Result<Answer, AllocError> {
+    let sources = &grounds.sources;
+    let items = certified_items(alloc, sources, told, clashes)?;
+    let text = if grounds.form == Form::Json {
+        told.json(alloc, sources)?
+    } else if grounds.form.is_of_items() {
+        items_text(alloc, grounds.form, &items, &told.summary(alloc)?)?
     } else {
-        told.words(alloc, &grounds.sources)?
+        told.words(alloc, sources)?
     };
-    Ok((text, told.status()))
+    answer_with(alloc, grounds.choice, &items, text, told.status())
 }
 
-/// Whether no schedule of the commands of a history gives any of them other inputs, by the bytes of the file `observed`
-/// and those of the filters: what is written, and the status.
+/// Whether no schedule of the commands of a history gives any of them other inputs, by the bytes of the file `observed`.
 ///
 /// # Errors
-/// As [`observed_in`].
-pub fn certified_text(
+/// As [`observed_in`], [`hidden_by`] and [`Leaving::new`].
+pub fn certified_answer(
     alloc: Global,
     desk: &Desk,
     grounds: Grounds<'_>,
     bytes: &[u8],
-    filters: Option<&[u8]>,
-) -> Result<(Vec<u8>, u8), RecordingFault> {
+) -> Result<Answer, RecordingFault> {
     let history = desk.history();
     let graph = history.graph();
+    let files = grounds.files;
     let observed = observed_in(alloc, graph, bytes)?;
-    let hidden = hidden_in(alloc, &observed.observation, filters)?;
+    let hidden = hidden_by(alloc, &observed.observation, grounds.choice.filters)?;
     let needed = needed_edges(alloc, history)?;
     let began = started_edges(alloc, history)?;
     let ended = finished_edges(alloc, history)?;
@@ -305,27 +275,25 @@ pub fn certified_text(
         began: &began,
         ended: &ended,
     };
-    let certificate = certificate_of(alloc, graph, grounds.files, &observed, &hidden, marks)?;
-    let early = early_edges(alloc, graph, grounds.files)?;
+    let certificate = certificate_of(alloc, graph, files, &observed, &hidden, marks)?;
+    let early = early_edges(alloc, graph, files)?;
     let flags = flags_by_edge(alloc, graph.edges(), &observed)?;
     let ways = ways_of(alloc, &certificate.unsure, &ended, &early, &flags)?;
-    let met = hidden_count(
-        alloc,
-        graph,
-        grounds.files,
-        &observed,
-        &hidden,
-        &certificate.conflicts,
-    )?;
-    let told = told_of(
-        alloc,
-        history,
-        grounds,
-        &observed,
-        &certificate,
-        ways,
-        count_of(&began),
-        met,
-    )?;
-    Ok(written(alloc, grounds, &told)?)
+    let conflicts = &certificate.conflicts;
+    let all = unfiltered(alloc, graph, files, &observed, &hidden)?;
+    let met = hidden_count(alloc, &all, conflicts)?;
+    let sources = (files, grounds.sources.builds);
+    let undeclared = undeclared_in(alloc, graph, sources, &observed, &hidden, conflicts)?;
+    let found = Found {
+        certificate: &certificate,
+        ways: &ways,
+        commands: count_of(&began),
+        hidden: met,
+        stale: Stale {
+            undeclared: undeclared.len() as u64,
+            unlisted: 0,
+        },
+    };
+    let (told, clashes) = told_of(alloc, history, grounds, &observed, &found)?;
+    Ok(written(alloc, grounds, &told, &clashes)?)
 }

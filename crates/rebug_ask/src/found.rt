@@ -13,8 +13,8 @@ use rev_paths::Name;
 use rev_printed::Entry;
 use rev_races::{Race, path_of, races, stories};
 use rev_races_text::{
-    Basis, Change, Clash, Edge, Evidence, Failure, Kind, ListedBefore, Printed, Progress, Run,
-    Shown, Sources, Story, Suspect, Told, Untold,
+    Basis, Change, Clash, Evidence, Failure, Kind, ListedBefore, Printed, Progress, Run, Shown,
+    Sources, Story, Suspect, Told, Untold,
 };
 use rev_runs::runs;
 use rev_shown::first_output;
@@ -406,15 +406,11 @@ pub fn told_clashes(alloc: Global, builds: &[Build]) -> Result<Vec<Clash>, Alloc
     Ok(told)
 }
 
-// The edges of the first of some numbers.
-fn edges_of<'a>(
-    alloc: Global,
-    sources: &Sources<'a>,
-    numbers: &[u32],
-) -> Result<Vec<Edge<'a>>, AllocError> {
+// The first of some edges, at most as many as are told of one change.
+fn first_edges(alloc: Global, numbers: &[u32]) -> Result<Vec<u32>, AllocError> {
     let mut edges = Vec::new(alloc);
     for number in numbers.iter().take(Change::MOST) {
-        edges.push(sources.edge(*number))?;
+        edges.push(*number)?;
     }
     Ok(edges)
 }
@@ -438,7 +434,8 @@ pub fn told_changes<'a>(
                 at: hint.number,
                 commands: hint.ran.len() as u64,
                 path: Shown(path.as_bytes()),
-                ran: edges_of(alloc, sources, &hint.ran)?,
+                first: hint.ran.first().map(|edge| sources.edge(*edge)),
+                ran: first_edges(alloc, &hint.ran)?,
                 user: sources.edge(hint.user),
             })?;
         }

@@ -1,11 +1,14 @@
 //! Answers questions about a recorded Ninja build.
 #![tactic(auto)]
 
+mod answering;
 mod asking;
 mod certifying;
 mod files;
+mod forms;
 mod found;
 mod hinted;
+mod leaving;
 mod mended;
 mod observed;
 mod page;
@@ -18,6 +21,7 @@ mod times;
 mod told;
 
 use asking::{Manner, ask};
+use forms::Form;
 use picturing::picture;
 use rev_asking::{Asked, Word, read_words};
 use rev_fields::wide_number;
@@ -25,12 +29,40 @@ use rev_program::{ProgramFault, USAGE, explain, fail, words};
 use std::io::IsTerminal;
 use std::process::ExitCode;
 use std::rt::Files;
-use told::{How, say, tell};
+use told::{How, Question, say, tell};
+
+// The form of the answer of `races` or `certify`, or a sentence that says why that is not asked well.
+fn form_of(asked: &Asked<'_>) -> Result<Form, &'static str> {
+    let Some(name) = asked.format else {
+        return Ok(if asked.json {
+            Form::Json
+        } else if asked.all {
+            Form::AllWords
+        } else {
+            Form::Words
+        });
+    };
+    match Form::named(name) {
+        None => Err("--format takes words, json, github, sarif or junit"),
+        Some(form) if asked.json && form != Form::Json => {
+            Err("--json is --format json: one form is written")
+        }
+        Some(Form::Words) if asked.all => Ok(Form::AllWords),
+        Some(form) => Ok(form),
+    }
+}
 
 // How races are told, or a sentence that says why that is not asked well.
 fn races_how(asked: &Asked<'_>) -> Result<How, &'static str> {
-    if asked.json && (asked.mend || asked.witness.is_some() || asked.provoke.is_some()) {
+    let form = form_of(asked)?;
+    let is_other = asked.mend || asked.witness.is_some() || asked.provoke.is_some();
+    if is_other && !matches!(form, Form::Words | Form::AllWords) {
         return Err("--json tells the races; a patch or a witness is written without it");
+    }
+    if is_other && asked.write_baseline.is_some() {
+        return Err(
+            "--write-baseline is written with the races; a patch or a witness is written without it",
+        );
     }
     if let Some(number) = asked.witness {
         return match wide_number(number.as_bytes()) {
@@ -45,14 +77,25 @@ fn races_how(asked: &Asked<'_>) -> Result<How, &'static str> {
         };
     }
     if asked.mend {
-        Ok(How::Mend)
-    } else if asked.json {
-        Ok(How::Json)
-    } else if asked.all {
-        Ok(How::All)
-    } else {
-        Ok(How::Some)
+        return Ok(How::Mend);
     }
+    Ok(How::Races(form))
+}
+
+// What is asked of a recording in one go, or a sentence that says why that is not asked well.
+fn question_of<'a>(asked: &Asked<'a>) -> Result<Question<'a>, &'static str> {
+    let how = match asked.word {
+        Word::Races => races_how(asked)?,
+        Word::Certify => How::Certify(form_of(asked)?),
+        _ => How::Replay,
+    };
+    Ok(Question {
+        recording: asked.recording,
+        how,
+        filters: asked.filters,
+        baseline: asked.baseline,
+        write_baseline: asked.write_baseline,
+    })
 }
 
 // Answers what is asked, and gives the status.
@@ -61,27 +104,23 @@ fn answer<'a, R: Files + Input + Print + Eprint + AllocGlobal>(
     asked: Asked<'a>,
     is_terminal: bool,
 ) -> Result<u8, ProgramFault<'a>> {
-    let how = match asked.word {
-        Word::Ask => {
-            let manner = Manner {
-                prompts: is_terminal && !asked.json,
-                json: asked.json,
-            };
-            return ask(rt, asked.recording, manner);
+    if asked.word == Word::Ask {
+        let manner = Manner {
+            prompts: is_terminal && !asked.json,
+            json: asked.json,
+        };
+        return ask(rt, asked.recording, manner);
+    }
+    if asked.word == Word::Picture {
+        return picture(rt, &asked);
+    }
+    match question_of(&asked) {
+        Ok(question) => tell(rt, question),
+        Err(sentence) => {
+            say(rt, sentence);
+            Ok(USAGE)
         }
-        Word::Picture => return picture(rt, &asked),
-        Word::Replay => How::Replay,
-        Word::Certify if asked.json => How::CertifyJson,
-        Word::Certify => How::Certify,
-        Word::Races => match races_how(&asked) {
-            Ok(how) => how,
-            Err(sentence) => {
-                say(rt, sentence);
-                return Ok(USAGE);
-            }
-        },
-    };
-    tell(rt, asked.recording, how)
+    }
 }
 
 fn main(rt: HostRuntime) -> ExitCode {

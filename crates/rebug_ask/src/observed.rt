@@ -58,14 +58,28 @@ pub fn read_filters<'a, R: Files + AllocGlobal>(
     read_beside(rt, recording, place, "filters", OBSERVED_BYTES)
 }
 
-// The filters that bytes say.
-fn filters_of(alloc: Global, bytes: &[u8]) -> Result<Filters, RecordingFault> {
-    match rev_filters::read(alloc, bytes) {
+/// The texts that say of which paths nothing is to be told: that of the file beside the trace, and that of the file which
+/// the user names, where there are such files.
+#[derive(Clone, Copy)]
+pub struct FilterTexts<'a> {
+    /// The file beside the trace.
+    pub beside: Option<&'a [u8]>,
+    /// The file that the user names.
+    pub named: Option<&'a [u8]>,
+}
+
+// The filters that the bytes of a file say, which faults name so.
+fn filters_of(
+    alloc: Global,
+    file: &'static str,
+    bytes: Option<&[u8]>,
+) -> Result<Filters, RecordingFault> {
+    match rev_filters::read(alloc, bytes.unwrap_or(b"")) {
         Ok(filters) => Ok(filters),
         Err(rev_filters::ReadFault::Memory) => Err(RecordingFault::Memory),
         Err(rev_filters::ReadFault::Numbered(fault)) => {
             Err(RecordingFault::Observed(ObservedFault {
-                file: "filters",
+                file,
                 line: fault.line,
                 code: fault.kind.code(),
             }))
@@ -73,11 +87,38 @@ fn filters_of(alloc: Global, bytes: &[u8]) -> Result<Filters, RecordingFault> {
     }
 }
 
-/// A mark for each path of an observation: nothing is told of what the filters hide that these bytes say.
+/// The filters that texts say.
 ///
 /// # Errors
 /// [`RecordingFault::Observed`] with the first fault of the filters; [`RecordingFault::Memory`] only where an allocation
 /// was refused.
+pub fn filters_in(alloc: Global, texts: FilterTexts<'_>) -> Result<Vec<Filters>, RecordingFault> {
+    let mut filters = Vec::new(alloc);
+    filters.push(filters_of(alloc, "filters", texts.beside)?)?;
+    filters.push(filters_of(alloc, "--filters", texts.named)?)?;
+    Ok(filters)
+}
+
+/// A mark for each path of an observation: nothing is told of what the filters hide that these texts say.
+///
+/// # Errors
+/// As [`filters_in`].
+pub fn hidden_by(
+    alloc: Global,
+    observation: &Observation,
+    texts: FilterTexts<'_>,
+) -> Result<Vec<bool>, RecordingFault>
+    ensures { IfOk result (λ hidden. length hidden.items ≡ length observation.now.paths) }
+{
+    let filters = filters_in(alloc, texts)?;
+    let hidden = rev_filters::hidden(alloc, &filters, observation.paths())?;
+    Ok(hidden)
+}
+
+/// The same of the file beside the trace alone.
+///
+/// # Errors
+/// As [`hidden_by`].
 pub fn hidden_in(
     alloc: Global,
     observation: &Observation,
@@ -85,9 +126,11 @@ pub fn hidden_in(
 ) -> Result<Vec<bool>, RecordingFault>
     ensures { IfOk result (λ hidden. length hidden.items ≡ length observation.now.paths) }
 {
-    let filters = filters_of(alloc, filters.unwrap_or(b""))?;
-    let hidden = rev_filters::hidden(alloc, &[filters], observation.paths())?;
-    Ok(hidden)
+    let texts = FilterTexts {
+        beside: filters,
+        named: None,
+    };
+    hidden_by(alloc, observation, texts)
 }
 
 // The line of a command of the file by its place among the commands, which counts from 0; lines count from 1.

@@ -7,7 +7,7 @@ use rev_desk::Desk;
 use rev_judged::{Unjudged, not_judged};
 use rev_paths::Name;
 use rev_printed::Entry;
-use rev_races_text::{Replayed, Report, Run, Sources};
+use rev_races_text::{LeftOut, Replayed, Report, Run, Sources};
 use rev_recording::refused_count;
 use std::alloc::{AllocError, Global};
 
@@ -76,6 +76,7 @@ fn report_with<'a>(
         collectors,
         hints: Vec::new(alloc),
         changes: Vec::new(alloc),
+        left_out: LeftOut::NOTHING,
     })
 }
 

@@ -1,21 +1,24 @@
 //! What is told of a recording.
 ghost use Rattle.std.specs.Prelude.{◌≡◌, ◌+◌, ◌≤◌, length, IfOk};
 
-use crate::certifying::{Grounds, certified_text};
+use crate::answering::{Answer, USAGE, answer_with, not_understood};
+use crate::certifying::{Grounds, certified_answer};
 use crate::files::{Place, Recording, place_of, read_beside, read_names, read_recording};
+use crate::forms::{Form, items_text, report_items};
 use crate::found::{last_runs, witness_of};
 use crate::hinted::names_in;
+use crate::leaving::{Choice, Leaving};
 use crate::mended::mend_text;
-use crate::observed::{observed_sentence, read_filters, read_observed};
+use crate::observed::{FilterTexts, observed_sentence, read_filters, read_observed};
 use crate::provoked::provoke_text;
 use crate::reporting::{Basis, add_hints, replayed_of, report_of};
-use crate::seen::{Sight, count_findings, seen_findings, sight_in};
+use crate::seen::{Sight, count_findings, hidden_places, seen_findings, sight_in};
 use rev_conflicts_text::{Finding, findings_json, findings_words, pair_of};
 use rev_desk::Desk;
 use rev_graph::Graph;
 use rev_manifest::Manifest;
 use rev_paths::{Name, PathFault};
-use rev_program::ProgramFault;
+use rev_program::{ProgramFault, ReadFault, read_named};
 use rev_races_text::{Report, Sources};
 use rev_recording::{RecordingFault, fault_line, open, replay, replay_text};
 use rev_script::send;
@@ -23,12 +26,12 @@ use rev_sentences::{Inputs, sentence};
 use rev_trace::Trace;
 use std::alloc::{AllocError, Global};
 use std::rt::Files;
-use std::{io, mem};
+use std::{fs, io, mem};
 
 // The status of a recording that has a fault.
 const FAULT: u8 = 1;
-// The status of a question that was not understood.
-const USAGE: u8 = 2;
+// The most bytes of a file by which findings are left out.
+const CHOICE_BYTES: usize = 67_108_864;
 
 // The most bytes of the file of what failed commands printed.
 const PRINTED_BYTES: usize = 268_435_456;
@@ -36,12 +39,8 @@ const PRINTED_BYTES: usize = 268_435_456;
 /// What is asked, and how it is told.
 #[derive(Clone, Copy, PartialEq, Eq)]
 pub enum How {
-    /// The races, of each maker the first users.
-    Some,
-    /// The races, with all users.
-    All,
-    /// The races, as JSON.
-    Json,
+    /// The races.
+    Races(Form),
     /// A patch that mends the races.
     Mend,
     /// A witness of the race of this number, from 1.
@@ -51,9 +50,22 @@ pub enum How {
     /// How many commands there were, and the first that was refused.
     Replay,
     /// Whether no schedule gives the commands other inputs.
-    Certify,
-    /// The same as JSON.
-    CertifyJson,
+    Certify(Form),
+}
+
+/// A question about a recording, with the files by which findings are left out.
+#[derive(Clone, Copy)]
+pub struct Question<'a> {
+    /// The recorder's folder, or its manifest.
+    pub recording: &'a str,
+    /// What is asked.
+    pub how: How,
+    /// The file of further filters, if it was named.
+    pub filters: Option<&'a str>,
+    /// The baseline, if it was named.
+    pub baseline: Option<&'a str>,
+    /// The file for a baseline that knows all that is found, if it was named.
+    pub write_baseline: Option<&'a str>,
 }
 
 // What is asked of the bytes of a recording, the file of other names, that of what failed commands printed, and that of
@@ -64,16 +76,8 @@ struct Inquiry<'a> {
     names: &'a [u8],
     printed: &'a [u8],
     observed: Option<&'a [u8]>,
-    filters: Option<&'a [u8]>,
+    choice: Choice<'a>,
     how: How,
-}
-
-/// An answer: what is written, and the status. With the status of a question that was not understood that is a sentence
-/// for the standard error.
-#[derive(Drop)]
-struct Answer {
-    text: Vec<u8>,
-    status: u8,
 }
 
 /// The names of the files that the manifest was read from.
@@ -97,10 +101,10 @@ fn answer_of(
     desk: &Desk,
     sight: Option<&Sight>,
     commands: u64,
-) -> Result<Answer, AllocError> {
+) -> Result<Answer, RecordingFault> {
     if inquiry.how == How::Replay {
         let text = replay_text(alloc, desk)?;
-        return Ok(Answer { text, status: 0 });
+        return Ok(Answer::new(text, 0));
     }
     let files = names_of(alloc, &inquiry.read.files)?;
     let runs = last_runs(alloc, desk.history())?;
@@ -118,7 +122,7 @@ fn answer_of(
         sight,
         commands,
     };
-    found_answer(alloc, inquiry.how, manifest, desk, &basis)
+    found_answer(alloc, inquiry, manifest, desk, &basis)
 }
 
 // The answer that has a race of a user and a maker happen, or the sentence that says why there is none.
@@ -130,61 +134,86 @@ fn provoke_answer(
     race: Option<(u32, u32)>,
 ) -> Result<Answer, AllocError> {
     match provoke_text(alloc, manifest, desk.history().graph(), sources, race)? {
-        Ok(text) => Ok(Answer { text, status: 0 }),
+        Ok(text) => Ok(Answer::new(text, 0)),
         Err(why) => not_understood(alloc, why.sentence()),
     }
 }
 
-// The answer to a question that was not understood.
-fn not_understood(alloc: Global, sentence: &str) -> Result<Answer, AllocError> {
-    Ok(Answer {
-        text: Vec::from_slice(alloc, sentence.as_bytes())?,
-        status: USAGE,
-    })
+// Leaves out of findings and of a report what filters hide and a baseline knows or ignores.
+fn leave_out<'a>(
+    alloc: Global,
+    choice: Choice<'_>,
+    sources: &Sources<'a>,
+    findings: &mut Vec<Finding<'a>>,
+    report: &mut Report<'a>,
+) -> Result<(), RecordingFault> {
+    let mut leaving = Leaving::new(alloc, choice)?;
+    *findings = leaving.findings(alloc, sources, findings)?;
+    report.races = leaving.races(alloc, sources, &report.races)?;
+    report.clashes = leaving.clashes(alloc, sources, &report.clashes)?;
+    report.left_out = leaving.left_out(report.left_out.hidden);
+    Ok(())
 }
 
 // The answer that tells what was found.
 fn found_answer<'a>(
     alloc: Global,
-    how: How,
+    inquiry: Inquiry<'_>,
     manifest: &Manifest,
     desk: &'a Desk,
     basis: &Basis<'a>,
-) -> Result<Answer, AllocError> {
+) -> Result<Answer, RecordingFault> {
+    let sources = &basis.sources;
     let mut report = report_of(alloc, desk, basis)?;
-    let findings = seen_findings(alloc, desk.history(), basis.sight, &report.races)?;
+    let mut findings = seen_findings(alloc, desk.history(), basis.sight, &report.races)?;
+    report.left_out.hidden = hidden_places(basis.sight);
+    leave_out(alloc, inquiry.choice, sources, &mut findings, &mut report)?;
     count_findings(basis.sight, &findings, &mut report);
-    let status = report.status();
-    let text = match how {
-        How::Witness(number) => {
-            return witness_answer(alloc, desk, pair_with(&findings, &report, number));
-        }
+    match inquiry.how {
+        How::Witness(number) => Ok(witness_answer(
+            alloc,
+            desk,
+            pair_with(&findings, &report, number),
+        )?),
         How::Provoke(number) => {
             let pair = pair_with(&findings, &report, number);
-            return provoke_answer(alloc, manifest, desk, &basis.sources, pair);
+            Ok(provoke_answer(alloc, manifest, desk, sources, pair)?)
         }
-        How::Mend => mend_text(
-            alloc,
-            manifest,
-            desk.history().graph(),
-            &basis.sources,
-            &report.races,
-            &report.clashes,
-            &findings,
-        )?,
-        How::Json => {
+        How::Mend => {
+            let graph = desk.history().graph();
+            let (races, clashes) = (&report.races, &report.clashes);
+            let text = mend_text(alloc, manifest, graph, sources, races, clashes, &findings)?;
+            Ok(Answer::new(text, report.status()))
+        }
+        How::Races(form) => {
             add_hints(alloc, desk, basis, &mut report)?;
-            let observed = findings_json(alloc, &basis.sources, &findings)?;
-            report.json(alloc, &basis.sources, &observed)?
+            Ok(races_answer(alloc, inquiry.choice, form, sources, &findings, &report)?)
         }
-        _ => {
-            add_hints(alloc, desk, basis, &mut report)?;
-            let all = how == How::All;
-            let observed = findings_words(alloc, &basis.sources, &findings, all)?;
-            report.words(alloc, &basis.sources, &observed, all)?
-        }
+        _ => Ok(Answer::new(Vec::new(alloc), 0)),
+    }
+}
+
+// The answer that tells races in a form.
+fn races_answer<'a>(
+    alloc: Global,
+    choice: Choice<'_>,
+    form: Form,
+    sources: &Sources<'a>,
+    findings: &[Finding<'a>],
+    report: &Report<'a>,
+) -> Result<Answer, AllocError> {
+    let items = report_items(alloc, sources, findings, report)?;
+    let text = if form == Form::Json {
+        let observed = findings_json(alloc, sources, findings)?;
+        report.json(alloc, sources, &observed)?
+    } else if form.is_of_items() {
+        items_text(alloc, form, &items, &report.summary(alloc, sources)?)?
+    } else {
+        let all = form == Form::AllWords;
+        let observed = findings_words(alloc, sources, findings, all)?;
+        report.words(alloc, sources, &observed, all)?
     };
-    Ok(Answer { text, status })
+    answer_with(alloc, choice, &items, text, report.status())
 }
 
 // The user and the maker of what has a number, whose order a schedule can change.
@@ -206,7 +235,7 @@ fn witness_answer(
         None => None,
     };
     match witness {
-        Some(text) => Ok(Answer { text, status: 0 }),
+        Some(text) => Ok(Answer::new(text, 0)),
         None => not_understood(
             alloc,
             "no race has that number; `races` tells the number of each, and own outputs have no witness",
@@ -227,24 +256,32 @@ pub fn command_count(trace: &Trace) -> u64 {
 fn sight_of(
     alloc: Global,
     inquiry: Inquiry<'_>,
+    manifest: &Manifest,
     graph: &Graph,
 ) -> Result<Option<Sight>, RecordingFault> {
     match inquiry.observed {
         Some(bytes) if inquiry.how != How::Replay => {
             let files = names_of(alloc, &inquiry.read.files)?;
-            Ok(Some(sight_in(alloc, graph, &files, bytes, inquiry.filters)?))
+            Ok(Some(sight_in(
+                alloc,
+                graph,
+                (&files, manifest.builds()),
+                bytes,
+                inquiry.choice.filters,
+            )?))
         }
         _ => Ok(None),
     }
 }
 
-// The answer whether it is certain that no schedule gives the commands of a desk other inputs.
-fn certified_answer(
+// The answer whether it is certain that no schedule gives the commands of a desk other inputs, in a form.
+fn certificate_answer(
     alloc: Global,
     inquiry: Inquiry<'_>,
     manifest: &Manifest,
     desk: &Desk,
     commands: u64,
+    form: Form,
 ) -> Result<Answer, RecordingFault> {
     let files = names_of(alloc, &inquiry.read.files)?;
     let runs = last_runs(alloc, desk.history())?;
@@ -256,11 +293,10 @@ fn certified_answer(
         },
         files: &files,
         replayed: replayed_of(desk, &runs, commands),
-        json: inquiry.how == How::CertifyJson,
+        form,
+        choice: inquiry.choice,
     };
-    let bytes = inquiry.observed.unwrap_or(b"");
-    let (text, status) = certified_text(alloc, desk, grounds, bytes, inquiry.filters)?;
-    Ok(Answer { text, status })
+    certified_answer(alloc, desk, grounds, inquiry.observed.unwrap_or(b""))
 }
 
 // The answer about a trace, by the desk of its recording.
@@ -275,21 +311,12 @@ fn answer_from(
     requires lanes { desk.old.lanes ≡ length trace.now.lanes.items + 1 }
 {
     replay(alloc, desk, trace)?;
-    if inquiry.how == How::Certify || inquiry.how == How::CertifyJson {
-        return certified_answer(alloc, inquiry, manifest, desk, command_count(trace));
+    let commands = command_count(trace);
+    if let How::Certify(form) = inquiry.how {
+        return certificate_answer(alloc, inquiry, manifest, desk, commands, form);
     }
-    let sight = sight_of(alloc, inquiry, desk.history().graph())?;
-    match answer_of(
-        alloc,
-        inquiry,
-        manifest,
-        desk,
-        sight.as_ref(),
-        command_count(trace),
-    ) {
-        Ok(answer) => Ok(answer),
-        Err(_) => Err(RecordingFault::Memory),
-    }
+    let sight = sight_of(alloc, inquiry, manifest, desk.history().graph())?;
+    answer_of(alloc, inquiry, manifest, desk, sight.as_ref(), commands)
 }
 
 // The answer about a trace that was read.
@@ -384,9 +411,10 @@ pub fn write<'a, R: Print>(rt: &R, bytes: &[u8]) -> Result<(), ProgramFault<'a>>
     Ok(send(&mut io::writer(rt), bytes)?)
 }
 
-// Writes an answer, and gives the program's status.
-fn put<'a, R: Print + Eprint + AllocGlobal>(
+// Writes an answer, and the baseline of it, and gives the program's status.
+fn put<'a, R: Files + Print + Eprint + AllocGlobal>(
     rt: &R,
+    question: Question<'a>,
     answer: &Answer,
 ) -> Result<u8, ProgramFault<'a>> {
     if answer.status == USAGE {
@@ -394,7 +422,27 @@ fn put<'a, R: Print + Eprint + AllocGlobal>(
         return Ok(USAGE);
     }
     write(rt, &answer.text)?;
+    if let (Some(name), Some(text)) = (question.write_baseline, &answer.baseline) {
+        if fs::write(rt, name, text).is_err() {
+            return Err(ProgramFault::Out(name));
+        }
+    }
     Ok(answer.status)
+}
+
+// The bytes of a file that the command line names, if it does.
+fn read_choice<'a, R: Files + AllocGlobal>(
+    rt: &R,
+    name: Option<&'a str>,
+) -> Result<Option<Vec<u8>>, ProgramFault<'a>> {
+    let Some(name) = name else {
+        return Ok(None);
+    };
+    match read_named(rt, name, CHOICE_BYTES) {
+        Ok(bytes) => Ok(Some(bytes)),
+        Err(ReadFault::Memory) => Err(ProgramFault::Memory),
+        Err(ReadFault::Unread(why)) => Err(ProgramFault::File(name, why)),
+    }
 }
 
 // The file of what failed commands printed; empty where there is none.
@@ -412,28 +460,37 @@ fn read_printed<'a, R: Files + AllocGlobal>(
 /// Writes what is asked of a recording to the standard output, and gives the program's status.
 pub fn tell<'a, R: Files + Print + Eprint + AllocGlobal>(
     rt: &R,
-    recording: &'a str,
-    how: How,
+    question: Question<'a>,
 ) -> Result<u8, ProgramFault<'a>> {
+    let recording = question.recording;
     let place = place_of(rt, recording);
     let read = read_recording(rt, recording, place)?;
     let names = read_names(rt, recording, place)?;
     let printed = read_printed(rt, recording, place)?;
     let observed = read_observed(rt, recording, place)?;
-    if observed.is_none() && (how == How::Certify || how == How::CertifyJson) {
+    if observed.is_none() && matches!(question.how, How::Certify(_)) {
         return Err(ProgramFault::NotObserved(recording));
     }
-    let filters = read_filters(rt, recording, place)?;
+    let beside = read_filters(rt, recording, place)?;
+    let named = read_choice(rt, question.filters)?;
+    let baseline = read_choice(rt, question.baseline)?;
     let inquiry = Inquiry {
         read: &read,
         names: &names,
         printed: &printed,
         observed: observed.as_deref(),
-        filters: filters.as_deref(),
-        how,
+        choice: Choice {
+            filters: FilterTexts {
+                beside: beside.as_deref(),
+                named: named.as_deref(),
+            },
+            baseline: baseline.as_deref(),
+            writes: question.write_baseline.is_some(),
+        },
+        how: question.how,
     };
     match answer_about(rt.alloc(), inquiry) {
-        Ok(answer) => put(rt, &answer),
+        Ok(answer) => put(rt, question, &answer),
         Err(fault) => refuse(rt, &read, &fault),
     }
 }

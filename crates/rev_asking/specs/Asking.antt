@@ -1,6 +1,6 @@
 -- What the words of a command line ask for.
 use Rattle.std.specs.Prelude.{true, codes, bytes_eq, if◌then◌else◌, List, [], ◌∷◌, Option, Some, unwrap_or, option_map}
-use Rattle.clap.specs.Words.{App, Row, Rule, Shape, Text, first_of, new_app, new_rule, subcommand_of, with_subcommand}
+use Rattle.clap.specs.Words.{App, Row, Rule, Shape, Text, first_of, new_app, new_rule, subcommand_of, with_rule, with_subcommand}
 use Rattle.clap.specs.Simple.{new_shape, on_top}
 use Rattle.clap.specs.declared.builder.action.ArgAction.TheVariants.{Set, SetTrue}
 use Rattle.rev_asking.specs.declared.words.Word.{Word}
@@ -14,24 +14,44 @@ recording_rule = record (new_rule (codes "RECORDING")) { required = true; action
 abbrev pub flag_rule : Text → Rule
 flag_rule name = record (new_rule name) { long = Some name; action = Some SetTrue }
 
--- `--NAME N`
-abbrev pub number_rule : Text → Rule
-number_rule name = record (new_rule name) { long = Some name; value_names = 1; action = Some Set }
+-- `--NAME VALUE`
+abbrev pub value_rule : Text → Rule
+value_rule name = record (new_rule name) { long = Some name; value_names = 1; action = Some Set }
 
 -- a command of this name with these arguments
 abbrev pub shape_with : Text → List Rule → Shape
 shape_with name rules = record (new_shape name) { rules = rules }
 
--- `races [--all] [--json] [--mend] [--witness N] [--provoke N] RECORDING`
-abbrev pub races_shape : Shape
-races_shape =
-    shape_with (codes "races")
-    (flag_rule (codes "all") ∷ flag_rule (codes "json") ∷ flag_rule (codes "mend") ∷ number_rule (codes "witness")
-    ∷ number_rule (codes "provoke") ∷ recording_rule ∷ [])
+-- what `races` and `certify` take alike: `[--filters FILE] [--format FORMAT] [--baseline FILE] [--write-baseline FILE]`
+abbrev pub with_findings : App → App
+with_findings app =
+    with_rule
+    (with_rule (with_rule (with_rule app (value_rule (codes "filters"))) (value_rule (codes "format")))
+    (value_rule (codes "baseline")))
+    (value_rule (codes "write-baseline"))
 
--- `certify [--json] RECORDING`
+-- `races [--all] [--json] [--mend] [--witness N] [--provoke N] RECORDING`, and what both take
+abbrev pub bare_races : App
+bare_races =
+    with_rule
+    (with_rule
+    (with_rule
+    (with_rule
+    (with_rule (with_rule (new_app (codes "races")) (flag_rule (codes "all"))) (flag_rule (codes "json")))
+    (flag_rule (codes "mend")))
+    (value_rule (codes "witness")))
+    (value_rule (codes "provoke")))
+    recording_rule
+
+abbrev pub races_shape : Shape
+races_shape = (with_findings bare_races).top
+
+-- `certify [--json] RECORDING`, and what both take
+abbrev pub bare_certify : App
+bare_certify = with_rule (with_rule (new_app (codes "certify")) (flag_rule (codes "json"))) recording_rule
+
 abbrev pub certify_shape : Shape
-certify_shape = shape_with (codes "certify") (flag_rule (codes "json") ∷ recording_rule ∷ [])
+certify_shape = (with_findings bare_certify).top
 
 -- `replay RECORDING`
 abbrev pub replay_shape : Shape
@@ -49,7 +69,7 @@ out_rule = record (new_rule (codes "OUT")) { action = Some Set }
 abbrev pub picture_shape : Shape
 picture_shape =
     shape_with (codes "picture")
-    (flag_rule (codes "html") ∷ number_rule (codes "event") ∷ recording_rule ∷ out_rule ∷ [])
+    (flag_rule (codes "html") ∷ value_rule (codes "event") ∷ recording_rule ∷ out_rule ∷ [])
 
 -- the program without its words: one has to be given
 abbrev pub bare_program : App

@@ -2,7 +2,7 @@
 ghost use Rattle.std.specs.Prelude.{◌≡◌, false, IfOk, IsOkAnd};
 ghost use Rattle.clap.specs.Words.{AddsSubcommand, app_of, rule_of, shape_of};
 ghost use Rattle.clap.specs.declared.builder.command.Command.TheViews.{out-Command};
-ghost use Rattle.rev_asking.specs.Asking.{ask_shape, bare_program, certify_shape, flag_rule, number_rule, out_rule, picture_shape, program, races_shape, recording_rule, replay_shape};
+ghost use Rattle.rev_asking.specs.Asking.{ask_shape, bare_certify, bare_program, bare_races, certify_shape, flag_rule, out_rule, picture_shape, program, races_shape, recording_rule, replay_shape, value_rule, with_findings};
 
 use clap::{Arg, ArgAction, Command};
 use std::alloc::{AllocError, Global};
@@ -39,9 +39,9 @@ fn flag<'a>(alloc: Global, name: &'a str, help: &'a str) -> Arg<'a>
         .action(ArgAction::SetTrue)
 }
 
-// An option that takes a number.
-fn number<'a>(alloc: Global, name: &'a str, value: &'a str, help: &'a str) -> Arg<'a>
-    ensures rule { rule_of result ≡ number_rule name.entry.now }
+// An option that takes a value.
+fn valued<'a>(alloc: Global, name: &'a str, value: &'a str, help: &'a str) -> Arg<'a>
+    ensures rule { rule_of result ≡ value_rule name.entry.now }
     ensures alone { result.global ≡ false }
 {
     Arg::new(alloc, name)
@@ -51,9 +51,42 @@ fn number<'a>(alloc: Global, name: &'a str, value: &'a str, help: &'a str) -> Ar
         .action(ArgAction::Set)
 }
 
-// `races RECORDING`
-fn races<'a>(alloc: Global) -> Result<Command<'a>, AllocError>
-    ensures shape { IfOk result (λ c. shape_of c ≡ races_shape) }
+// Adds what `races` and `certify` take alike: which findings are left out, and the form of the answer.
+fn with_findings<'a>(alloc: Global, command: Command<'a>) -> Result<Command<'a>, AllocError>
+    ensures shape { IfOk result (λ c. app_of c ≡ with_findings (app_of command.entry)) }
+    ensures local { (out-Command command.entry).has_globals ≡ false
+        → IfOk result (λ c. (out-Command c).has_globals ≡ false) }
+{
+    command
+        .arg(valued(
+            alloc,
+            "filters",
+            "FILE",
+            "Leaves out the places that the patterns of this file hide, as those of the file filters",
+        ))?
+        .arg(valued(
+            alloc,
+            "format",
+            "FORMAT",
+            "The form of the answer: words, json, github, sarif or junit",
+        ))?
+        .arg(valued(
+            alloc,
+            "baseline",
+            "FILE",
+            "Leaves out the findings that this file knows or ignores; only others count for the status",
+        ))?
+        .arg(valued(
+            alloc,
+            "write-baseline",
+            "FILE",
+            "Writes a file that knows all that is found",
+        ))
+}
+
+// The arguments of `races`, but for what `certify` takes too.
+fn bare_races<'a>(alloc: Global) -> Result<Command<'a>, AllocError>
+    ensures shape { IfOk result (λ c. app_of c ≡ bare_races) }
     ensures local { IfOk result (λ c. (out-Command c).has_globals ≡ false) }
 {
     Command::new(alloc, "races")
@@ -75,13 +108,13 @@ fn races<'a>(alloc: Global) -> Result<Command<'a>, AllocError>
             "mend",
             "Writes a patch of the manifest that mends the races, or says what does where it is generated",
         ))?
-        .arg(number(
+        .arg(valued(
             alloc,
             "witness",
             "N",
             "Writes a trace from nothing in which the user of race N, as --json counts, starts before its maker",
         ))?
-        .arg(number(
+        .arg(valued(
             alloc,
             "provoke",
             "N",
@@ -90,9 +123,18 @@ fn races<'a>(alloc: Global) -> Result<Command<'a>, AllocError>
         .arg(recording(alloc))
 }
 
-// `certify [--json] RECORDING`
-fn certify<'a>(alloc: Global) -> Result<Command<'a>, AllocError>
-    ensures shape { IfOk result (λ c. shape_of c ≡ certify_shape) }
+// `races RECORDING`
+fn races<'a>(alloc: Global) -> Result<Command<'a>, AllocError>
+    ensures shape { IfOk result (λ c. shape_of c ≡ races_shape) }
+    ensures local { IfOk result (λ c. (out-Command c).has_globals ≡ false) }
+{
+    let races = bare_races(alloc)?;
+    with_findings(alloc, races)
+}
+
+// `certify [--json] RECORDING`, but for what `races` takes too.
+fn bare_certify<'a>(alloc: Global) -> Result<Command<'a>, AllocError>
+    ensures shape { IfOk result (λ c. app_of c ≡ bare_certify) }
     ensures local { IfOk result (λ c. (out-Command c).has_globals ≡ false) }
 {
     Command::new(alloc, "certify")
@@ -105,6 +147,15 @@ fn certify<'a>(alloc: Global) -> Result<Command<'a>, AllocError>
             "Writes a JSON object a line in place of words",
         ))?
         .arg(recording(alloc))
+}
+
+// `certify RECORDING`
+fn certify<'a>(alloc: Global) -> Result<Command<'a>, AllocError>
+    ensures shape { IfOk result (λ c. shape_of c ≡ certify_shape) }
+    ensures local { IfOk result (λ c. (out-Command c).has_globals ≡ false) }
+{
+    let certify = bare_certify(alloc)?;
+    with_findings(alloc, certify)
 }
 
 // `replay RECORDING`
@@ -156,7 +207,7 @@ fn picture<'a>(alloc: Global) -> Result<Command<'a>, AllocError>
             "html",
             "Writes a page that folds and zooms, without a network, in place of SVG",
         ))?
-        .arg(number(
+        .arg(valued(
             alloc,
             "event",
             "N",

@@ -45,6 +45,14 @@ pub struct Asked<'a> {
     pub witness: Option<&'a str>,
     /// The number of the race that a patch has happen in each build, as it was given.
     pub provoke: Option<&'a str>,
+    /// The file of further places that are left out, if it was named.
+    pub filters: Option<&'a str>,
+    /// The form of the answer, as it was given, if it was.
+    pub format: Option<&'a str>,
+    /// The file of known and ignored findings, if it was named.
+    pub baseline: Option<&'a str>,
+    /// The file to write that knows all findings, if it was named.
+    pub write_baseline: Option<&'a str>,
 }
 
 /// What the words of a command line ask for, the first of which is the program's name.
@@ -72,6 +80,14 @@ pub fn read_words<'a>(alloc: Global, words: &'a [String]) -> Result<Asked<'a>, E
         ≡ value_in (map string_bytes words.entry.now) (codes "witness")) }
     ensures provoke { IfOk result (λ a. option_map (λ s. s.now) a.provoke
         ≡ value_in (map string_bytes words.entry.now) (codes "provoke")) }
+    ensures filters { IfOk result (λ a. option_map (λ s. s.now) a.filters
+        ≡ value_in (map string_bytes words.entry.now) (codes "filters")) }
+    ensures format { IfOk result (λ a. option_map (λ s. s.now) a.format
+        ≡ value_in (map string_bytes words.entry.now) (codes "format")) }
+    ensures baseline { IfOk result (λ a. option_map (λ s. s.now) a.baseline
+        ≡ value_in (map string_bytes words.entry.now) (codes "baseline")) }
+    ensures write_baseline { IfOk result (λ a. option_map (λ s. s.now) a.write_baseline
+        ≡ value_in (map string_bytes words.entry.now) (codes "write-baseline")) }
     ensures fails { FailsBy (fault_of program (map string_bytes words.entry.now)) result }
 {
     let matches = matches_of(alloc, words)?;
@@ -103,6 +119,10 @@ fn asked_of<'a>(name: &str, given: &ArgMatches<'a>) -> Asked<'a>
     ensures mend { IsTrue result.mend ↔ first_value (found_of given.now) (codes "mend") ≡ Some (codes "true") }
     ensures witness { option_map (λ s. s.now) result.witness ≡ first_value (found_of given.now) (codes "witness") }
     ensures provoke { option_map (λ s. s.now) result.provoke ≡ first_value (found_of given.now) (codes "provoke") }
+    ensures filters { option_map (λ s. s.now) result.filters ≡ first_value (found_of given.now) (codes "filters") }
+    ensures format { option_map (λ s. s.now) result.format ≡ first_value (found_of given.now) (codes "format") }
+    ensures baseline { option_map (λ s. s.now) result.baseline ≡ first_value (found_of given.now) (codes "baseline") }
+    ensures write_baseline { option_map (λ s. s.now) result.write_baseline ≡ first_value (found_of given.now) (codes "write-baseline") }
 {
     Asked {
         word: word_named(name),
@@ -115,6 +135,10 @@ fn asked_of<'a>(name: &str, given: &ArgMatches<'a>) -> Asked<'a>
         mend: is_on(given, "mend"),
         witness: given.get_str("witness"),
         provoke: given.get_str("provoke"),
+        filters: given.get_str("filters"),
+        format: given.get_str("format"),
+        baseline: given.get_str("baseline"),
+        write_baseline: given.get_str("write-baseline"),
     }
 }
 
@@ -130,6 +154,10 @@ fn nothing_asked<'a>() -> Asked<'a>
     ensures mend { result.mend ≡ false }
     ensures witness { result.witness ≡ None }
     ensures provoke { result.provoke ≡ None }
+    ensures filters { result.filters ≡ None }
+    ensures format { result.format ≡ None }
+    ensures baseline { result.baseline ≡ None }
+    ensures write_baseline { result.write_baseline ≡ None }
 {
     Asked {
         word: Word::Races,
@@ -142,6 +170,10 @@ fn nothing_asked<'a>() -> Asked<'a>
         mend: false,
         witness: None,
         provoke: None,
+        filters: None,
+        format: None,
+        baseline: None,
+        write_baseline: None,
     }
 }
 

@@ -66,7 +66,7 @@ user_ends kind.Race look change = race_ends look change
 user_ends kind.Cycle look change = codes ", for which the maker waits: no order mends that"
 user_ends kind.Clash look change = codes ": both write, and neither waits for the other"
 user_ends kind.Unstable look change = codes ", which looked at it before: the next build shows it another file"
-user_ends kind.Undeclared look change = codes ", which waits for that: Ninja does not build it again where the file changes"
+user_ends kind.Undeclared look change = []
 user_ends kind.Anothers look change = codes ", whose line says so"
 user_ends kind.Unlisted look change = codes ", whose line and list do not have it"
 

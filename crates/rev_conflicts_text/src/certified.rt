@@ -1,10 +1,10 @@
 //! What is told of a certificate.
-use crate::certificate::{AlsoLine, CertainLine, MissingLine, Way, WayLine};
+use crate::certificate::{AlsoLine, CertainLine, MissingLine, Stale, Way, WayLine};
 use crate::finding::Finding;
 use crate::json::findings_json;
 use crate::words::findings_words;
 use rev_observed::Flags;
-use rev_races_text::{Counted, Edge, More, Replayed, Sources, push_object};
+use rev_races_text::{Counted, Edge, LeftOut, More, Replayed, Sources, push_object};
 use serde::Serialize;
 use std::alloc::{AllocError, Global};
 
@@ -25,8 +25,10 @@ pub struct Certified<'a> {
     pub commands: u64,
     /// How many of them were observed whole.
     pub whole: u64,
-    /// In how many places commands meet that filters hide.
-    pub hidden: u64,
+    /// How much is left out.
+    pub left_out: LeftOut,
+    /// What makes a next build other than a build from nothing, and gives no schedule of this one another input.
+    pub stale: Stale,
     /// What the observation shows.
     pub findings: Vec<Finding<'a>>,
     /// How many edges share a depfile or a response file with an earlier one.
@@ -45,6 +47,10 @@ struct CertificateObject {
     whole: u64,
     hidden: u64,
     side_files: u64,
+    undeclared: u64,
+    unlisted: u64,
+    known: u64,
+    ignored: u64,
 }
 
 // A command that stands in the way.
@@ -120,19 +126,65 @@ fn push_more(text: &mut String, count: usize, after: &'static str) -> Result<(),
 }
 
 impl<'a> Certified<'a> {
-    /// Whether it is certain: the certificate is, the recording counts whole, and no two commands share a side file.
+    /// Whether it is certain: the certificate is, the recording counts whole, no two commands share a side file, and no
+    /// baseline leaves anything out.
     pub fn is_certain(&self) -> bool {
-        self.is_certain && self.replayed.is_whole() && self.side_files == 0 && self.commands > 0
+        self.is_certain
+            && self.replayed.is_whole()
+            && self.side_files == 0
+            && self.commands > 0
+            && !self.left_out.is_by_baseline()
     }
 
-    /// The exit status: 0 where it is certain, else 4.
+    /// The exit status: 0 where it is certain, or where the baseline knows or ignores all that stands in the way; else 4.
     pub fn status(&self) -> u8 {
-        if self.is_certain() { 0 } else { NOT_CERTAIN }
+        if self.is_certain() || (self.left_out.is_by_baseline() && self.is_certain_beside()) {
+            return 0;
+        }
+        NOT_CERTAIN
+    }
+
+    // Whether nothing is told that stands in the way.
+    fn is_certain_beside(&self) -> bool {
+        self.is_certain_of_what_ran() && self.missing.is_empty()
+    }
+
+    /// The line of a command that ran and stands in the way, and the edge.
+    ///
+    /// # Errors
+    /// [`AllocError`] only where an allocation was refused.
+    pub fn way_words(
+        alloc: Global,
+        sources: &Sources<'a>,
+        way: &(u32, Way),
+    ) -> Result<String, AllocError> {
+        let (edge, way) = *way;
+        let user = sources.edge(edge);
+        let mut text = String::new(alloc);
+        write!(text, "{}", WayLine { user, way })?;
+        Ok(text)
+    }
+
+    /// The line of a command that the targets need and that did not run.
+    ///
+    /// # Errors
+    /// [`AllocError`] only where an allocation was refused.
+    pub fn missing_words(
+        alloc: Global,
+        sources: &Sources<'a>,
+        edge: u32,
+    ) -> Result<String, AllocError> {
+        let mut text = String::new(alloc);
+        write!(text, "{}", MissingLine(sources.edge(edge)))?;
+        Ok(text)
     }
 
     // Adds what stands in the way, counted.
     fn push_counts(&self, text: &mut String) -> Result<(), AllocError> {
-        let conflicts = self.findings.len() as u64;
+        let conflicts = self
+            .left_out
+            .findings()
+            .saturating_add(self.findings.len() as u64);
         let first = push_count(text, true, conflicts, "conflict", "conflicts")?;
         let first = push_count(
             text,
@@ -195,27 +247,49 @@ impl<'a> Certified<'a> {
     /// # Errors
     /// [`AllocError`] only where an allocation was refused.
     pub fn words(&self, alloc: Global, sources: &Sources<'a>) -> Result<Vec<u8>, AllocError> {
+        let mut text = self.head(alloc)?;
+        if self.is_certain() {
+            return Ok(text.into_bytes());
+        }
+        let findings = findings_words(alloc, sources, &self.findings, true)?;
+        text.push_str(&findings)?;
+        self.push_ways(&mut text, sources)?;
+        if self.is_certain_of_what_ran() && !self.left_out.is_by_baseline() {
+            write!(text, "{}", AlsoLine(self.commands))?;
+        }
+        write!(text, "{}", self.left_out)?;
+        Ok(text.into_bytes())
+    }
+
+    // How much of the recording counts, and what is certain, or how much stands in the way.
+    fn head(&self, alloc: Global) -> Result<String, AllocError> {
         let mut text = String::new(alloc);
         write!(text, "{}", self.replayed)?;
         if self.is_certain() {
             let line = CertainLine {
                 commands: self.commands,
-                hidden: self.hidden,
+                hidden: self.left_out.hidden,
             };
-            write!(text, "{line}")?;
-            return Ok(text.into_bytes());
+            write!(text, "{line}{}", self.stale)?;
+            return Ok(text);
         }
         self.push_counts(&mut text)?;
-        let findings = findings_words(alloc, sources, &self.findings, true)?;
-        text.push_str(&findings)?;
-        self.push_ways(&mut text, sources)?;
-        if self.is_certain_of_what_ran() {
-            write!(text, "{}", AlsoLine(self.commands))?;
-        }
-        Ok(text.into_bytes())
+        Ok(text)
     }
 
-    // Whether commands that did not run are all that stands in the way.
+    /// What is certain, or how much stands in the way, and how much is left out.
+    ///
+    /// # Errors
+    /// [`AllocError`] only where an allocation was refused.
+    pub fn summary(&self, alloc: Global) -> Result<String, AllocError> {
+        let mut text = self.head(alloc)?;
+        if !self.is_certain() {
+            write!(text, "{}", self.left_out)?;
+        }
+        Ok(text)
+    }
+
+    // Whether commands that did not run are all that is told, and that stands in the way.
     fn is_certain_of_what_ran(&self) -> bool {
         self.replayed.is_whole()
             && self.side_files == 0
@@ -234,8 +308,12 @@ impl<'a> Certified<'a> {
             certain: self.is_certain(),
             commands: self.commands,
             whole: self.whole,
-            hidden: self.hidden,
+            hidden: self.left_out.hidden,
             side_files: self.side_files,
+            undeclared: self.stale.undeclared,
+            unlisted: self.stale.unlisted,
+            known: self.left_out.known,
+            ignored: self.left_out.ignored,
         };
         push_object(alloc, &mut text, "certificate", &object)?;
         if !self.replayed.is_whole() {

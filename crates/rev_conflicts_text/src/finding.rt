@@ -1,8 +1,9 @@
 //! One finding.
 
+use crate::lines::kind_word;
 use rev_conflicts::{Change, Look};
 use rev_paths::Name;
-use rev_races_text::{Edge, Shown, Sources, Story};
+use rev_races_text::{Edge, Id, Shown, Sources, Story};
 
 /// What a finding is (docs/RACES.md, "By observation").
 #[derive(Clone, Copy, Debug, PartialEq, Eq)]
@@ -64,6 +65,36 @@ impl<'a> Finding<'a> {
             Some(story) => sources.edge_in(self.user, story.user),
             None => sources.edge(self.user),
         }
+    }
+
+    /// Its stable name. That of a place which is a folder's entries is not that of the folder itself, and of a clash
+    /// neither edge comes first.
+    pub fn id(&self, sources: &Sources<'a>) -> Id {
+        let path = self.path.as_bytes();
+        match self.kind {
+            Kind::Clash => sources.pair_id("clash", path, self.maker, self.user),
+            Kind::Anothers => sources.id("another's output", path, self.maker, self.user),
+            Kind::Race if self.change == Change::Entry => {
+                sources.id("race in a folder", path, self.maker, self.user)
+            }
+            kind => sources.id(kind_word(kind), path, self.maker, self.user),
+        }
+    }
+
+    /// The edge whose build statement is to be mended: the user's, unless the maker alone is to be changed.
+    pub fn place(&self, sources: &Sources<'a>) -> Edge<'a> {
+        match self.kind {
+            Kind::Undeclared | Kind::Anothers | Kind::Unstable => self.maker_in(sources),
+            _ => self.user_in(sources),
+        }
+    }
+
+    /// Whether it makes a next build stale alone: the order of this build's commands does not matter for it.
+    pub fn is_of_next_build(&self) -> bool {
+        matches!(
+            self.kind,
+            Kind::Undeclared | Kind::Anothers | Kind::Unlisted
+        )
     }
 
     /// Whether an order mends it: the user is to wait for the maker.

@@ -3,7 +3,7 @@ use crate::finding::{Finding, Kind};
 use crate::lines::kind_word;
 use rev_conflicts::{Change, Look};
 use rev_paths::Name;
-use rev_races_text::{Edge, Shown, Sources, happened_word, push_object};
+use rev_races_text::{Edge, Id, Shown, Sources, happened_word, push_object};
 use serde::Serialize;
 use std::alloc::{AllocError, Global};
 
@@ -11,6 +11,7 @@ use std::alloc::{AllocError, Global};
 #[derive(Clone, Copy, Serialize)]
 struct FindingObject<'a> {
     number: u64,
+    id: Id,
     path: Shown<'a>,
     maker: Option<Edge<'a>>,
     user: Edge<'a>,
@@ -26,6 +27,7 @@ struct FindingObject<'a> {
 #[derive(Clone, Copy, Serialize)]
 struct ClashObject<'a> {
     number: u64,
+    id: Id,
     of: &'static str,
     path: Shown<'a>,
     first: Edge<'a>,
@@ -98,6 +100,7 @@ fn push_clash<'a>(
 ) -> Result<(), AllocError> {
     let clash = ClashObject {
         number,
+        id: finding.id(sources),
         of: "file",
         path: finding.shown(),
         first: finding.maker_in(sources),
@@ -129,6 +132,7 @@ fn push_finding<'a>(
     };
     let object = FindingObject {
         number,
+        id: finding.id(sources),
         path: finding.shown(),
         maker,
         user: finding.user_in(sources),

@@ -9,9 +9,9 @@ mod lines;
 mod told;
 mod words;
 
-pub use certificate::{CertainLine, Way};
+pub use certificate::{CertainLine, Stale, Way};
 pub use certified::{Certified, NOT_CERTAIN};
 pub use finding::{Finding, Kind};
 pub use json::findings_json;
-pub use told::{conflict_findings, conflicts_left, pair_of, races_left, seen_in};
-pub use words::findings_words;
+pub use told::{add_undeclared, conflict_findings, conflicts_left, pair_of, races_left, seen_in};
+pub use words::{findings_words, numbered_words};

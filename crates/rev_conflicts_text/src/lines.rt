@@ -162,9 +162,7 @@ fn user_ends(kind: Kind, look: Look, change: Change) -> &'static str
         Kind::Cycle => ", for which the maker waits: no order mends that",
         Kind::Clash => ": both write, and neither waits for the other",
         Kind::Unstable => ", which looked at it before: the next build shows it another file",
-        Kind::Undeclared => {
-            ", which waits for that: Ninja does not build it again where the file changes"
-        }
+        Kind::Undeclared => "",
         Kind::Anothers => ", whose line says so",
         Kind::Unlisted => ", whose line and list do not have it",
     }

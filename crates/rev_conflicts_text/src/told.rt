@@ -6,6 +6,7 @@ use rev_observed::{Command, Observation};
 use rev_paths::{Name, Paths};
 use rev_races_text::{Evidence, Seen, Story, Told};
 use rev_shown::first_output;
+use rev_undeclared::{Undeclared, UndeclaredKind};
 use std::alloc::{AllocError, Global};
 
 // Two edges and a file at which something is told of them, the lesser edge first.
@@ -188,6 +189,42 @@ pub fn conflict_findings<'a>(
         }
     }
     Ok(findings)
+}
+
+// What an undeclared file is told as, and how its user looks at it.
+fn undeclared_parts(kind: UndeclaredKind) -> (Kind, Look, Change) {
+    match kind {
+        UndeclaredKind::Anothers => (Kind::Anothers, Look::Read, Change::Output),
+        UndeclaredKind::LookedAt { look, .. } => (Kind::Undeclared, look, Change::Undeclared),
+    }
+}
+
+/// Adds undeclared files to findings, in their order.
+///
+/// # Errors
+/// [`AllocError`] only where an allocation was refused.
+pub fn add_undeclared<'a>(
+    graph: &'a Graph,
+    observation: &'a Observation,
+    undeclared: &[Undeclared],
+    findings: &mut Vec<Finding<'a>>,
+) -> Result<(), AllocError> {
+    for file in undeclared {
+        if let Some(path) = path_of(observation.paths(), Place::File(file.path)) {
+            let (kind, look, change) = undeclared_parts(file.kind);
+            findings.push(Finding {
+                kind,
+                maker: file.maker,
+                user: file.user,
+                path,
+                look,
+                change,
+                story: None,
+                output: first_output(graph, file.maker),
+            })?;
+        }
+    }
+    Ok(())
 }
 
 /// How many findings there are of each kind, beside commands of which so many were observed whole.

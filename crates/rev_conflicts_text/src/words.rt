@@ -185,9 +185,23 @@ pub fn findings_words<'a>(
     findings: &[Finding<'a>],
     all: bool,
 ) -> Result<String, AllocError> {
+    numbered_words(alloc, sources, findings, 1, all)
+}
+
+/// The same of findings that are numbered from another number.
+///
+/// # Errors
+/// [`AllocError`] only where an allocation was refused.
+pub fn numbered_words<'a>(
+    alloc: Global,
+    sources: &Sources<'a>,
+    findings: &[Finding<'a>],
+    first: u64,
+    all: bool,
+) -> Result<String, AllocError> {
     let mut text = String::new(alloc);
     let most = if all { usize::MAX } else { FEW };
-    let mut number = 1;
+    let mut number = first;
     for maker in findings.chunk_by(|one, other| one.maker == other.maker) {
         for kind in KINDS {
             for change in CHANGES {

@@ -28,8 +28,11 @@ fn is_hidden_by(
     Ok(false)
 }
 
-// Whether one of the filters hides a path.
-fn is_hidden(alloc: Global, filters: &[Filters], path: &[u8]) -> Result<bool, AllocError>
+/// Whether one of the filters hides a path. It takes time linear in the bytes of the patterns times those of the path.
+///
+/// # Errors
+/// [`AllocError`] only where an allocation was refused.
+pub fn is_hidden(alloc: Global, filters: &[Filters], path: &[u8]) -> Result<bool, AllocError>
     ensures { IfOk result (λ hidden. hidden ≡ list_any (λ (f : List (List ℕ)). is_hidden_of f path.now) filters.now) }
 {
     let components = parts_at(alloc, path, b'/')?;

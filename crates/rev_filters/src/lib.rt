@@ -8,5 +8,5 @@ mod matching;
 
 pub use faults::{Fault, FaultKind, MAX_BYTES, ReadFault};
 pub use filters::{Filters, read};
-pub use hiding::hidden;
+pub use hiding::{hidden, is_hidden};
 pub use matching::matches;

@@ -5,3 +5,4 @@ pub mod Lines
 pub mod Counts
 pub mod Failed
 pub mod Status
+pub mod LeftOut

@@ -144,9 +144,9 @@ abbrev pub hint_line : Hint → List ℕ
 hint_line h = lists_words h.user h.path.0.now ++ made_words h.output.0.now h.maker
 
 -- which commands ran when a file changed: the first of so many
-unfoldable pub ran_words : List Edge → ℕ → List ℕ
-ran_words [] n = codes "nothing ran\n"
-ran_words (e ∷ es) n =
+unfoldable pub ran_words : Option Edge → ℕ → List ℕ
+ran_words None n = codes "nothing ran\n"
+ran_words (Some e) n =
     if nat_le n 1 then placed e ++ codes " ran: the user does not wait for it\n"
     else placed e ++ codes " and " ++ decimal (n - 1) ++ codes " more ran: the user waits for none of them\n"
 
@@ -155,4 +155,4 @@ unfoldable pub changed_words : ℕ → List ℕ
 changed_words at = codes ", which no edge makes\n  it changed at " ++ decimal at ++ codes ", while "
 
 abbrev pub change_line : Change → List ℕ
-change_line c = lists_words c.user c.path.0.now ++ changed_words c.at ++ ran_words c.ran.items c.commands
+change_line c = lists_words c.user c.path.0.now ++ changed_words c.at ++ ran_words c.first c.commands

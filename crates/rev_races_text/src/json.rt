@@ -2,9 +2,10 @@
 use crate::edges::{Edge, Sources};
 use crate::failed::{Failure, Suspect};
 use crate::names::{Shown, Text};
-use crate::others::Clash;
+use crate::others::{Change, Clash};
 use crate::race::{Evidence, Told};
 use crate::report::Report;
+use rev_baseline::Id;
 use rev_clashes::SideFile;
 use rev_paths::Name;
 use rev_races::{Happened, Kind};
@@ -36,6 +37,7 @@ impl<T: Serialize> Serialize for Object<'_, T> {
 #[derive(Clone, Copy, Serialize)]
 struct RaceObject<'a> {
     number: u64,
+    id: Option<Id>,
     path: Option<Shown<'a>>,
     maker: Edge<'a>,
     user: Edge<'a>,
@@ -65,10 +67,34 @@ struct UnjudgedObject<'a> {
 // A clash.
 #[derive(Clone, Copy, Serialize)]
 struct ClashObject<'a> {
+    id: Id,
     of: &'static str,
     path: Option<Shown<'a>>,
     first: Edge<'a>,
     other: Edge<'a>,
+}
+
+// A command that ran at a change, and the number of its edge.
+#[derive(Clone, Copy, Serialize)]
+struct CommandObject<'a> {
+    edge: u32,
+    user: Edge<'a>,
+}
+
+// What ran at a change, by the numbers of the edges.
+#[derive(Drop, Serialize)]
+struct RanObject {
+    at: u32,
+    edges: Vec<u32>,
+}
+
+// A changed file. What ran then is told once.
+#[derive(Clone, Copy, Serialize)]
+struct ChangeObject<'a> {
+    at: u32,
+    commands: u64,
+    path: Shown<'a>,
+    user: Edge<'a>,
 }
 
 /// Adds an object of a kind, with the members of a value, and a line's end.
@@ -161,6 +187,7 @@ fn push_race<'a>(
 ) -> Result<(), AllocError> {
     let race = RaceObject {
         number,
+        id: Some(sources.race_id(told)),
         path: Some(Shown(told.path.as_bytes())),
         maker: sources.maker(told),
         user: sources.user(told),
@@ -184,6 +211,7 @@ fn push_suspect<'a>(
     let maker = sources.edge(suspect.maker);
     let race = RaceObject {
         number,
+        id: None,
         path: None,
         maker,
         user: sources.edge(failure.edge),
@@ -271,6 +299,7 @@ fn push_clash<'a>(
 ) -> Result<(), AllocError> {
     let line = sources.clash(clash);
     let clash = ClashObject {
+        id: sources.clash_id(clash),
         of: match line.file {
             SideFile::Depfile => "depfile",
             SideFile::ResponseFile => "rspfile",
@@ -280,6 +309,76 @@ fn push_clash<'a>(
         other: line.other,
     };
     push_object(alloc, text, "clash", &clash)
+}
+
+// The edges that ran at changes, each once, and each behind the number of the event of the change.
+fn ran_pairs(alloc: Global, changes: &[Change<'_>]) -> Result<Vec<(u32, u32)>, AllocError> {
+    let mut pairs = Vec::new(alloc);
+    for change in changes {
+        for edge in &change.ran {
+            pairs.push((change.at, *edge))?;
+        }
+    }
+    pairs.sort_unstable();
+    pairs.dedup();
+    Ok(pairs)
+}
+
+// Adds the commands that ran at changes, each once.
+fn push_commands<'a>(
+    alloc: Global,
+    text: &mut Vec<u8>,
+    sources: &Sources<'a>,
+    pairs: &[(u32, u32)],
+) -> Result<(), AllocError> {
+    let mut edges = Vec::new(alloc);
+    for pair in pairs {
+        edges.push(pair.1)?;
+    }
+    edges.sort_unstable();
+    edges.dedup();
+    for edge in &edges {
+        let user = sources.edge(*edge);
+        let command = CommandObject { edge: *edge, user };
+        push_object(alloc, text, "command", &command)?;
+    }
+    Ok(())
+}
+
+// Adds what ran at each change.
+fn push_ran(alloc: Global, text: &mut Vec<u8>, pairs: &[(u32, u32)]) -> Result<(), AllocError> {
+    for of in pairs.chunk_by(|one, other| one.0 == other.0) {
+        let mut edges = Vec::new(alloc);
+        let mut at = 0;
+        for pair in of {
+            at = pair.0;
+            edges.push(pair.1)?;
+        }
+        push_object(alloc, text, "ran", &RanObject { at, edges })?;
+    }
+    Ok(())
+}
+
+// Adds the changes, behind what ran then.
+fn push_changes<'a>(
+    alloc: Global,
+    text: &mut Vec<u8>,
+    sources: &Sources<'a>,
+    changes: &[Change<'a>],
+) -> Result<(), AllocError> {
+    let pairs = ran_pairs(alloc, changes)?;
+    push_commands(alloc, text, sources, &pairs)?;
+    push_ran(alloc, text, &pairs)?;
+    for change in changes {
+        let object = ChangeObject {
+            at: change.at,
+            commands: change.commands,
+            path: change.path,
+            user: change.user,
+        };
+        push_object(alloc, text, "change", &object)?;
+    }
+    Ok(())
 }
 
 impl<'a> Report<'a> {
@@ -311,8 +410,9 @@ impl<'a> Report<'a> {
         for hint in &self.hints {
             push_object(alloc, &mut text, "hint", hint)?;
         }
-        for change in &self.changes {
-            push_object(alloc, &mut text, "change", change)?;
+        push_changes(alloc, &mut text, sources, &self.changes)?;
+        if self.left_out.is_any() {
+            push_object(alloc, &mut text, "left out", &self.left_out)?;
         }
         Ok(text)
     }

@@ -49,7 +49,7 @@ pub struct Hint<'a> {
 }
 
 /// A path that an edge lists, that no edge makes, and that changed while commands ran, for none of which the edge waits.
-#[derive(Drop, Serialize)]
+#[derive(Drop)]
 pub struct Change<'a> {
     /// The number of the event that changed it.
     pub at: u32,
@@ -57,8 +57,10 @@ pub struct Change<'a> {
     pub commands: u64,
     /// The path.
     pub path: Shown<'a>,
-    /// The edges of the first of these commands, at most [`Change::MOST`].
-    pub ran: Vec<Edge<'a>>,
+    /// The edge of the first of these commands.
+    pub first: Option<Edge<'a>>,
+    /// The edges of the first of these commands by their numbers, at most [`Change::MOST`].
+    pub ran: Vec<u32>,
     /// The edge that lists the path.
     pub user: Edge<'a>,
 }
@@ -92,7 +94,7 @@ struct Changed(u32);
 // Which commands ran when a file changed.
 #[derive(Clone, Copy)]
 struct RanThen<'a> {
-    ran: &'a [Edge<'a>],
+    first: Option<Edge<'a>>,
     commands: u64,
 }
 
@@ -231,14 +233,14 @@ impl fmt::Display for Hint<'_> {
 }
 
 impl fmt::Display for RanThen<'_> {
-    ghost output = { λ r. Some (ran_words r.ran.now r.commands) };
+    ghost output = { λ r. Some (ran_words r.first r.commands) };
 
     #[tactic(auto, unfolding(crate::specs::Lines::ran_words))]
     fn fmt<W: fmt::Write>(&self, f: &mut fmt::Formatter<W>) -> fmt::Result {
         let commands = self.commands;
-        match self.ran {
-            [] => write!(f, "nothing ran\n"),
-            [first, ..] => {
+        match self.first {
+            None => write!(f, "nothing ran\n"),
+            Some(first) => {
                 if commands <= 1 {
                     return write!(f, "{first} ran: the user does not wait for it\n");
                 }
@@ -262,7 +264,7 @@ impl fmt::Display for Change<'_> {
         };
         let changed = Changed(self.at);
         let ran = RanThen {
-            ran: &self.ran,
+            first: self.first,
             commands: self.commands,
         };
         write!(f, "{lists}{changed}{ran}")

@@ -4,6 +4,7 @@ ghost use Rattle.rev_races_text.specs.Status.{status_of};
 
 use crate::counts::{Seen, Tally};
 use crate::failed::{Failure, Replayed};
+use crate::left_out::LeftOut;
 use crate::others::{Change, Clash, Hint};
 use crate::race::{Evidence, Told};
 use rev_races::Kind;
@@ -40,6 +41,8 @@ pub struct Report<'a> {
     pub hints: Vec<Hint<'a>>,
     /// Hints by files that no edge makes.
     pub changes: Vec<Change<'a>>,
+    /// How much is left out.
+    pub left_out: LeftOut,
 }
 
 // The edges of a race or a suspect, as user and maker; none of a command that lists its own output.

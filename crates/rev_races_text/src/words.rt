@@ -119,6 +119,23 @@ fn push_kind<'a>(
     push_more(text, "  and by ", users, most, " more (--all tells them)\n")
 }
 
+/// What is told of one race, which has a number, in words.
+///
+/// # Errors
+/// [`AllocError`] only where an allocation was refused.
+pub fn race_words<'a>(
+    alloc: Global,
+    sources: &Sources<'a>,
+    told: &Told<'a>,
+    number: u64,
+) -> Result<String, AllocError> {
+    let mut text = String::new(alloc);
+    push_maker(&mut text, sources, told)?;
+    let path = Shown(told.path.as_bytes());
+    push_user(&mut text, sources, path, &[*told], number)?;
+    Ok(text)
+}
+
 // Adds the races, which are numbered from `first`, of each maker in a group for each kind.
 fn push_races<'a>(
     text: &mut String,
@@ -367,9 +384,21 @@ fn push_clashes<'a>(
 }
 
 impl<'a> Report<'a> {
+    /// The line that counts, and how much is left out.
+    ///
+    /// # Errors
+    /// [`AllocError`] only where an allocation was refused.
+    pub fn summary(&self, alloc: Global, sources: &Sources<'a>) -> Result<String, AllocError> {
+        let mut text = String::new(alloc);
+        write!(text, "{}", self.replayed)?;
+        push_counts(alloc, &mut text, sources, self, false)?;
+        write!(text, "{}", self.left_out)?;
+        Ok(text)
+    }
+
     /// What is told, in words: how much of the recording counts, what failed, what an observation shows (`observed`, in
-    /// words already), the races of each maker, how many there are and what was not judged, the clashes and the hints. Of
-    /// much the first is told, or all of it.
+    /// words already), the races of each maker, how many there are and what was not judged, the clashes, the hints, and
+    /// how much is left out. Of much the first is told, or all of it.
     ///
     /// # Errors
     /// [`AllocError`] only where an allocation was refused.
@@ -395,6 +424,7 @@ impl<'a> Report<'a> {
         for change in &self.changes {
             write!(text, "{change}")?;
         }
+        write!(text, "{}", self.left_out)?;
         Ok(text.into_bytes())
     }
 }

@@ -67,3 +67,27 @@ returns-in-Some-clause-provoke c =
     let words = map string_bytes c.args.words.now in
     let rows = rows-given words c.in_ok-matches.matches (rows_of (found_of c.in-Some.given.now)) c.in_ok-matches.ensures.rows c.in-Some.ensures.rows in
     c.asked_of.ensures.provoke ∙ same words c.in-Some.given.now (codes "provoke") rows
+
+pub returns-in-Some-clause-filters : goal.returns-in-Some-clause-filters
+returns-in-Some-clause-filters c =
+    let words = map string_bytes c.args.words.now in
+    let rows = rows-given words c.in_ok-matches.matches (rows_of (found_of c.in-Some.given.now)) c.in_ok-matches.ensures.rows c.in-Some.ensures.rows in
+    c.asked_of.ensures.filters ∙ same words c.in-Some.given.now (codes "filters") rows
+
+pub returns-in-Some-clause-format : goal.returns-in-Some-clause-format
+returns-in-Some-clause-format c =
+    let words = map string_bytes c.args.words.now in
+    let rows = rows-given words c.in_ok-matches.matches (rows_of (found_of c.in-Some.given.now)) c.in_ok-matches.ensures.rows c.in-Some.ensures.rows in
+    c.asked_of.ensures.format ∙ same words c.in-Some.given.now (codes "format") rows
+
+pub returns-in-Some-clause-baseline : goal.returns-in-Some-clause-baseline
+returns-in-Some-clause-baseline c =
+    let words = map string_bytes c.args.words.now in
+    let rows = rows-given words c.in_ok-matches.matches (rows_of (found_of c.in-Some.given.now)) c.in_ok-matches.ensures.rows c.in-Some.ensures.rows in
+    c.asked_of.ensures.baseline ∙ same words c.in-Some.given.now (codes "baseline") rows
+
+pub returns-in-Some-clause-write_baseline : goal.returns-in-Some-clause-write_baseline
+returns-in-Some-clause-write_baseline c =
+    let words = map string_bytes c.args.words.now in
+    let rows = rows-given words c.in_ok-matches.matches (rows_of (found_of c.in-Some.given.now)) c.in_ok-matches.ensures.rows c.in-Some.ensures.rows in
+    c.asked_of.ensures.write_baseline ∙ same words c.in-Some.given.now (codes "write-baseline") rows

@@ -2,23 +2,23 @@ use Rattle.std.proofs.Common.{◌≡◌, ◌∙◌, ap, ap₂, false, refl}
 use Rattle.std.proofs.lemmas.Result.{IfOk-weaker}
 use Rattle.clap.specs.Built.{AddsArg}
 use Rattle.clap.specs.Simple.{app_of_fields}
-use Rattle.clap.specs.Words.{App, shape_of, with_rule}
+use Rattle.clap.specs.Words.{app_of, with_rule}
 use Rattle.clap.specs.declared.builder.command.Command.{Command}
 use Rattle.clap.specs.declared.builder.command.Command.TheViews.{out-Command}
-use Rattle.rev_asking.specs.Asking.{races_shape}
-use Rattle.rev_asking.proofs.command.races.Goals as goal
+use Rattle.rev_asking.specs.Asking.{bare_races}
+use Rattle.rev_asking.proofs.command.bare_races.Goals as goal
 
 pub returns-clause-shape : goal.returns-clause-shape
 returns-clause-shape c =
     let bare = ap app_of_fields c.about.ensures ∙ c.new.ensures.app in
-    let five = c.in_ok-arg-5.ensures.shape c.number-2.ensures.alone
-    ∙ ap₂ with_rule (c.in_ok-arg-4.ensures.shape c.number.ensures.alone
+    let five = c.in_ok-arg-5.ensures.shape c.valued-2.ensures.alone
+    ∙ ap₂ with_rule (c.in_ok-arg-4.ensures.shape c.valued.ensures.alone
     ∙ ap₂ with_rule (c.in_ok-arg-3.ensures.shape c.flag-3.ensures.alone
     ∙ ap₂ with_rule (c.in_ok-arg-2.ensures.shape c.flag-2.ensures.alone
     ∙ ap₂ with_rule (c.in_ok-arg.ensures.shape c.flag.ensures.alone
-    ∙ ap₂ with_rule bare c.flag.ensures.rule) c.flag-2.ensures.rule) c.flag-3.ensures.rule) c.number.ensures.rule) c.number-2.ensures.rule in
-    IfOk-weaker c.arg-6.result (AddsArg c.in_ok-arg-5.field-0 c.recording.result) (λ (k : Command). shape_of k ≡ races_shape)
-    (λ k added. ap (λ (a : App). a.top) (added.shape c.recording.ensures.alone ∙ ap₂ with_rule five c.recording.ensures.rule)) c.arg-6.ensures
+    ∙ ap₂ with_rule bare c.flag.ensures.rule) c.flag-2.ensures.rule) c.flag-3.ensures.rule) c.valued.ensures.rule) c.valued-2.ensures.rule in
+    IfOk-weaker c.arg-6.result (AddsArg c.in_ok-arg-5.field-0 c.recording.result) (λ (k : Command). app_of k ≡ bare_races)
+    (λ k added. added.shape c.recording.ensures.alone ∙ ap₂ with_rule five c.recording.ensures.rule) c.arg-6.ensures
 
 pub returns-clause-local : goal.returns-clause-local
 returns-clause-local c =
@@ -31,8 +31,8 @@ returns-clause-local c =
       c.in_ok-arg-2.ensures.globals,
       c.in_ok-arg.ensures.globals,
       c.recording.ensures.alone,
-      c.number-2.ensures.alone,
-      c.number.ensures.alone,
+      c.valued-2.ensures.alone,
+      c.valued.ensures.alone,
       c.flag-3.ensures.alone,
       c.flag-2.ensures.alone,
       c.flag.ensures.alone,

@@ -1,0 +1,8 @@
+use Rattle.std.proofs.Common.{◌≡◌, ◌++◌, take}
+use Rattle.std.specs.List.{flat_map}
+use Rattle.rev_formats.specs.Escapes.{xml_byte}
+use Rattle.rev_formats.proofs.escapes.push_xml.Given as goal
+
+-- the bytes so far were added
+abbrev pub invariant-loop-byte : goal.invariant-loop-byte
+invariant-loop-byte l = l.text.items ≡ l.initial.text.items ++ flat_map xml_byte (take l.byte-index l.bytes)

@@ -1,0 +1,75 @@
+//! How much is left out of what is told.
+ghost use Rattle.std.specs.Prelude.{Some};
+ghost use Rattle.rev_races_text.specs.LeftOut.{known_words, left_out_line};
+
+use crate::counts::Counted;
+use serde::Serialize;
+use std::fmt;
+
+/// How much is left out of what is told, since the user asked for that.
+#[derive(Clone, Copy, Debug, PartialEq, Eq, Serialize)]
+pub struct LeftOut {
+    /// At how many places filters hide that commands meet.
+    pub hidden: u64,
+    /// How many findings the baseline knows.
+    pub known: u64,
+    /// How many other findings it ignores.
+    pub ignored: u64,
+}
+
+// How many findings are left out by a baseline.
+#[derive(Clone, Copy)]
+struct KnownWords(LeftOut);
+
+impl LeftOut {
+    /// Nothing.
+    pub const NOTHING: LeftOut = LeftOut {
+        hidden: 0,
+        known: 0,
+        ignored: 0,
+    };
+
+    /// Whether something is left out.
+    pub fn is_any(&self) -> bool {
+        *self != LeftOut::NOTHING
+    }
+
+    /// How many findings a baseline leaves out.
+    pub fn findings(&self) -> u64 {
+        u64::saturating_add(self.known, self.ignored)
+    }
+
+    /// Whether a baseline leaves findings out.
+    pub fn is_by_baseline(&self) -> bool {
+        self.findings() != 0
+    }
+}
+
+impl fmt::Display for KnownWords {
+    ghost output = { λ w. Some (known_words w.0.known w.0.ignored) };
+
+    fn fmt<W: fmt::Write>(&self, f: &mut fmt::Formatter<W>) -> fmt::Result {
+        let LeftOut { known, ignored, .. } = self.0;
+        if known == 0 && ignored == 0 {
+            return Ok(());
+        }
+        write!(f, "baseline: {known} known, {ignored} ignored\n")
+    }
+}
+
+impl fmt::Display for LeftOut {
+    ghost output = { λ l. Some (left_out_line l) };
+
+    fn fmt<W: fmt::Write>(&self, f: &mut fmt::Formatter<W>) -> fmt::Result {
+        let known = KnownWords(*self);
+        if self.hidden == 0 {
+            return write!(f, "{known}");
+        }
+        let places = Counted {
+            count: self.hidden,
+            one: "place",
+            many: "places",
+        };
+        write!(f, "filters hide {places} where commands meet\n{known}")
+    }
+}
