@@ -8,6 +8,7 @@ ghost use Rattle.rev_graph.specs.Graph.{successor_lists};
 ghost use Rattle.rev_history.specs.Timeline.{kept_events};
 ghost use Rattle.rev_ranks.specs.Graph.{graph_of};
 ghost use Rattle.rev_waits.specs.Waits.{AreWaitedFor};
+ghost use Rattle.rev_races.specs.Searches.{IsKept};
 ghost use Rattle.rev_hints.specs.Changes.{change_in, change_value};
 ghost use Rattle.rev_hints.specs.Hints.{AreHints, AreHintsBefore, AreHintsBy, hint_at, hint_by, hint_value, listed, recorded_paths};
 
@@ -18,7 +19,8 @@ use rev_dirty::listed_inputs;
 use rev_graph::Graph;
 use rev_history::History;
 use rev_paths::Name;
-use rev_waits::{steps, waited_for};
+use rev_races::{Search, no_search, search_for};
+use rev_waits::steps;
 use std::alloc::{AllocError, Global};
 
 /// An edge lists a file that nobody makes and that changed while other commands ran, and it waits for none of them.
@@ -172,7 +174,7 @@ fn has_changed(changes: &IndexMap<Name, Changed>, paths: &[Name]) -> bool
     paths.iter().any(|path| changes.contains_key(path))
 }
 
-// Adds the hints of a user.
+// Adds the hints of a user. `search` has what the last search found.
 fn add_hints_of(
     alloc: Global,
     graph: &Graph,
@@ -180,22 +182,25 @@ fn add_hints_of(
     changes: &IndexMap<Name, Changed>,
     steps: &[Vec<u32>],
     user: u32,
+    search: &mut Search,
     hints: &mut Vec<ChangeHint>,
 ) -> Result<(), AllocError>
     requires user { user < length graph.now.manifest.builds }
     requires steps { graph_of steps.now ≡ successor_lists graph.now.manifest.builds }
+    requires kept { IsKept graph.now.manifest.builds search.old.edge search.old.waited.items }
     requires before { AreHintsBefore graph.now.manifest.builds
         (recorded_paths graph.now.manifest.builds cells.now.state) (change_in changes.now.entries) user 0
         (map hint_value hints.old.items) }
-    ensures { OnOk result (AreHintsBefore graph.now.manifest.builds
+    ensures kept { OnOk result (IsKept graph.now.manifest.builds search.new.edge search.new.waited.items) }
+    ensures hints { OnOk result (AreHintsBefore graph.now.manifest.builds
         (recorded_paths graph.now.manifest.builds cells.now.state) (change_in changes.now.entries)
         (user + 1) 0 (map hint_value hints.new.items)) }
 {
     if !has_changed(changes, listed_inputs(graph, cells, user)) {
         return Ok(());
     }
-    let waited = waited_for(alloc, graph, steps, user)?;
-    add_hints(alloc, graph, cells, changes, &waited, user, hints)?;
+    search_for(alloc, graph, steps, user, search)?;
+    add_hints(alloc, graph, cells, changes, &search.waited, user, hints)?;
     Ok(())
 }
 
@@ -215,8 +220,18 @@ fn hints_by(
         return Ok(hints);
     }
     let steps = steps(alloc, graph)?;
+    let mut search = no_search(alloc);
     for user in 0..graph.edges() {
-        add_hints_of(alloc, graph, cells, changes, &steps, user, &mut hints)?;
+        add_hints_of(
+            alloc,
+            graph,
+            cells,
+            changes,
+            &steps,
+            user,
+            &mut search,
+            &mut hints,
+        )?;
     }
     Ok(hints)
 }
@@ -228,7 +243,7 @@ fn hints_by(
 ///
 /// The kept events are gone through once, and each listed path is looked up once, or twice where its list has a path
 /// that changed; up to hashing, that takes time linear in both. An edge with such a path is searched for what it waits
-/// for.
+/// for, unless it steps to the same edges as the last one that was.
 ///
 /// # Errors
 /// [`AllocError`] only where an allocation was refused.

@@ -7,4 +7,4 @@ use Rattle.rev_hints.proofs.hints.hints_by.Goals as goal
 pub returns : goal.returns
 returns c =
     all-users c.args.graph.now.manifest.builds c.args.cells.now.state (change_in c.args.changes.now.entries) c.loop-user.user (map hint_value c.loop-user.hints.items)
-    (omega (arith, c.loop-user-test.false, c.loop-user.auto.user-end, c.edges-user-end.ensures.edges)) c.loop-user.invariant
+    (omega (arith, c.loop-user-test.false, c.loop-user.auto.user-end, c.edges-user-end.ensures.edges)) c.loop-user.invariant.hints
