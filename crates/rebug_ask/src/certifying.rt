@@ -291,7 +291,6 @@ pub fn certified_answer(
         hidden: met,
         stale: Stale {
             undeclared: undeclared.len() as u64,
-            unlisted: 0,
         },
     };
     let (told, clashes) = told_of(alloc, history, grounds, &observed, &found)?;

@@ -1,5 +1,5 @@
 -- The lines of a certificate.
-use Rattle.std.specs.Prelude.{ℕ, ◌==◌, ◌&&◌, Bool, List, [], ◌++◌, codes, decimal, if◌then◌else◌}
+use Rattle.std.specs.Prelude.{ℕ, ◌==◌, Bool, List, [], ◌++◌, codes, decimal, if◌then◌else◌}
 use Rattle.rev_observed.specs.declared.flags.Flags.{Flags}
 use Rattle.rev_races_text.specs.Counts.{counted}
 use Rattle.rev_races_text.specs.Edges.{placed}
@@ -54,17 +54,11 @@ abbrev pub certain_line : ℕ → ℕ → List ℕ
 certain_line commands hidden = certain_words commands ++ assumed_words hidden
 
 -- what can be stale after a next build
-abbrev pub stale_words : ℕ → ℕ → List ℕ
-stale_words undeclared unlisted =
-    if unlisted == 0 then counted undeclared (codes "undeclared output") (codes "undeclared outputs")
-    else if undeclared == 0 then counted unlisted (codes "unlisted input") (codes "unlisted inputs")
-    else counted undeclared (codes "undeclared output") (codes "undeclared outputs") ++ codes " and "
-    ++ counted unlisted (codes "unlisted input") (codes "unlisted inputs")
-
-abbrev pub stale_line : ℕ → ℕ → List ℕ
-stale_line undeclared unlisted =
-    if undeclared == 0 && unlisted == 0 then []
-    else codes "  not certified: what a next build makes, which " ++ stale_words undeclared unlisted
+abbrev pub stale_line : ℕ → List ℕ
+stale_line undeclared =
+    if undeclared == 0 then []
+    else codes "  not certified: what a next build makes, which "
+    ++ counted undeclared (codes "undeclared output") (codes "undeclared outputs")
     ++ codes " can leave stale (rebug races)\n"
 
 -- what is certain where not all ran that the targets need

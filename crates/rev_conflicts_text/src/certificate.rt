@@ -1,6 +1,6 @@
 //! Whether it is certain that no schedule gives a build's commands other inputs, as it is told.
 ghost use Rattle.std.specs.Prelude.{◌≡◌, Some};
-ghost use Rattle.rev_conflicts_text.specs.Certified.{also_line, assumed_words, certain_line, certain_words, flag_if, flags_words, hidden_words, missing_line, stale_line, stale_words, way_line, way_words};
+ghost use Rattle.rev_conflicts_text.specs.Certified.{also_line, assumed_words, certain_line, certain_words, flag_if, flags_words, hidden_words, missing_line, stale_line, way_line, way_words};
 
 use rev_observed::Flags;
 use rev_races_text::{Counted, Edge};
@@ -34,8 +34,6 @@ pub struct CertainLine {
 pub struct Stale {
     /// How many files that commands leave are no outputs of theirs, though others look at them or make them too.
     pub undeclared: u64,
-    /// How many files that commands read are on no line and no list of theirs.
-    pub unlisted: u64,
 }
 
 /// The sentence that says what is certain of a recording in which not all ran that the targets need.
@@ -52,10 +50,6 @@ pub(crate) struct WayLine<'a> {
 /// The line of a command that the targets need and that did not run.
 #[derive(Clone, Copy)]
 pub(crate) struct MissingLine<'a>(pub(crate) Edge<'a>);
-
-// The two counts, or the one that is not zero.
-#[derive(Clone, Copy)]
-struct StaleWords(Stale);
 
 // The word of a flag, where it is set.
 #[derive(Clone, Copy)]
@@ -228,45 +222,21 @@ impl fmt::Display for AssumedWords {
     }
 }
 
-impl fmt::Display for StaleWords {
-    ghost output = { λ w. Some (stale_words w.0.undeclared w.0.unlisted) };
+impl fmt::Display for Stale {
+    ghost output = { λ s. Some (stale_line s.undeclared) };
 
     fn fmt<W: fmt::Write>(&self, f: &mut fmt::Formatter<W>) -> fmt::Result {
-        let Stale {
-            undeclared,
-            unlisted,
-        } = self.0;
+        if self.undeclared == 0 {
+            return Ok(());
+        }
         let outputs = Counted {
-            count: undeclared,
+            count: self.undeclared,
             one: "undeclared output",
             many: "undeclared outputs",
         };
-        let inputs = Counted {
-            count: unlisted,
-            one: "unlisted input",
-            many: "unlisted inputs",
-        };
-        if unlisted == 0 {
-            return write!(f, "{outputs}");
-        }
-        if undeclared == 0 {
-            return write!(f, "{inputs}");
-        }
-        write!(f, "{outputs} and {inputs}")
-    }
-}
-
-impl fmt::Display for Stale {
-    ghost output = { λ s. Some (stale_line s.undeclared s.unlisted) };
-
-    fn fmt<W: fmt::Write>(&self, f: &mut fmt::Formatter<W>) -> fmt::Result {
-        let words = StaleWords(*self);
-        if self.undeclared == 0 && self.unlisted == 0 {
-            return Ok(());
-        }
         write!(
             f,
-            "  not certified: what a next build makes, which {words} can leave stale (rebug races)\n"
+            "  not certified: what a next build makes, which {outputs} can leave stale (rebug races)\n"
         )
     }
 }

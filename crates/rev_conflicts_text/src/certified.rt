@@ -48,7 +48,6 @@ struct CertificateObject {
     hidden: u64,
     side_files: u64,
     undeclared: u64,
-    unlisted: u64,
     known: u64,
     ignored: u64,
 }
@@ -311,7 +310,6 @@ impl<'a> Certified<'a> {
             hidden: self.left_out.hidden,
             side_files: self.side_files,
             undeclared: self.stale.undeclared,
-            unlisted: self.stale.unlisted,
             known: self.left_out.known,
             ignored: self.left_out.ignored,
         };
