@@ -103,7 +103,7 @@ answer_wish() {
 }
 
 # Gives the files that a word names, one a line: also that of --manifest=FILE and the like, and those of a recording,
-# of which the times are for a picture alone.
+# without the times, which pictures and timelines alone need.
 files_of_word() {
   local file=$1 left_out=(! -name times)
   if [ -n "$is_picture" ]; then left_out=(); fi

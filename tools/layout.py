@@ -38,6 +38,7 @@ def placed(top: Path) -> list[Placed]:
     """The files that are taken as they stand in the sources; pages are those whose targets end in .md."""
     found = [Placed("rebug", "bin/rebug"), Placed("install", f"{LIBEXEC}/install"),
              Placed("docs/rebug.1", "share/man/man1/rebug.1"),
+             *(Placed(f"tools/{name}", f"{LIBEXEC}/{name}") for name in ("session", "colours.sed")),
              Placed("record/observer/observer.c", f"{LIBEXEC}/record/observer/observer.c")]
     found += [Placed(f"record/{name}", f"{LIBEXEC}/record/{name}") for name in ("rebug-record", "rebug-provoke")]
     found += [Placed(it, f"{LIBEXEC}/{it}") for it in below(top, "record/recorder") if it.endswith(".py")]

@@ -1,17 +1,22 @@
 #!/usr/bin/env python3
-"""Writes a recording of a generated build, of which races are to be told.
+"""Writes a recording of a generated build, in which `races` is to find races.
 
-    generate.py EDGES HEADERS SETS RACES FOLDER
+    generate.py EDGES HEADERS SETS RACES FOLDER [OBSERVED]
 
 A tenth of EDGES, at most 2,000, make a header each; the others compile, and each lists HEADERS paths, of which eight
 are made headers. There are SETS phony groups of eight made headers, and each compile waits for one of them, so for the made
 headers that it lists. RACES of the compiles wait for no group: each of these has eight races.
+
+With OBSERVED the recording has the file `observed` too: each command read what it lists, or what its line names, and left
+its outputs. OBSERVED is `runs` where the numbers of the paths that a command read stand in few ranges, as a recorder
+gives them that numbers paths as it meets them, or `apart` where no two of these numbers meet, so that each is a word.
 """
 import os
 import sys
 
 edges, headers, sets, races = map(int, sys.argv[1:5])
 folder = sys.argv[5]
+observed = sys.argv[6] if len(sys.argv) > 6 else None
 makers = max(8, min(2000, edges // 10))
 sets = min(sets, makers)
 GROUP = 8
@@ -50,3 +55,39 @@ with open(f"{folder}/trace", "w") as trace:
     for edge in range(edges - makers):
         listed = " ".join(group(edge % sets))
         trace.write(f"start o{edge} {edge % 4}\nfinish o{edge} {10000 + edge} list {common} {listed}\n")
+
+
+def ranges(numbers):
+    """A set of numbers, as the file `observed` has it."""
+    words, at = [], sorted(numbers)
+    first = 0
+    for place in range(1, len(at) + 1):
+        if place == len(at) or at[place] != at[place - 1] + 1:
+            words.append(str(at[first]) if first == place - 1 else f"{at[first]}-{at[place - 1]}")
+            first = place
+    return " ".join(words)
+
+
+def write_observed(file):
+    """The file `observed`: what the makers and the compiles read and left."""
+    named = [f"include/deep/header{number}.h" for number in range(headers - GROUP)]
+    if observed == "apart":
+        named = [name for it in named for name in (it, f"{it}.other")]
+    paths = {name: number for number, name in enumerate(named)}
+    commands = [(f"gen/g{maker}.h", [f"in{maker % 50}"], [f"gen/g{maker}.h"]) for maker in range(makers)]
+    common = [f"include/deep/header{number}.h" for number in range(headers - GROUP)]
+    for edge in range(edges - makers):
+        commands.append((f"o{edge}", [*common, *group(edge % sets), f"s{edge}"], [f"o{edge}"]))
+    for _, reads, writes in commands:
+        for name in (*reads, *writes):
+            paths.setdefault(name, len(paths))
+    file.write("rebug-observed 1\nby generate\n")
+    file.writelines(f"path {name}\n" for name in paths)
+    for output, reads, writes in commands:
+        file.write(f"edge {output}\nreads {ranges({paths[name] for name in reads})}\n")
+        file.write(f"writes {ranges({paths[name] for name in writes})}\n")
+
+
+if observed:
+    with open(f"{folder}/observed", "w") as file:
+        write_observed(file)

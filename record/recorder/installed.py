@@ -3,7 +3,6 @@
 import os
 import pathlib
 import shutil
-import sys
 
 TOP = pathlib.Path(__file__).resolve().parents[2]
 """The checkout, or PREFIX/libexec/rebug."""
@@ -16,10 +15,11 @@ def launcher() -> str:
     return str(TOP.parents[1] / "bin" / "rebug" if IS_INSTALLED else TOP / "rebug")
 
 
-def words_of_recorder() -> list[str]:
-    """The words that call this recorder again, for a sentence to the user."""
-    if not IS_INSTALLED:
-        return [sys.argv[0]]
-    on_path = shutil.which("rebug")
-    is_found = on_path is not None and os.path.realpath(on_path) == os.path.realpath(launcher())
-    return ["rebug" if is_found else launcher(), "record"]
+def word_of_launcher() -> str:
+    """The word that calls rebug from the working folder, for a sentence to the user."""
+    if IS_INSTALLED:
+        on_path = shutil.which("rebug")
+        is_found = on_path is not None and os.path.realpath(on_path) == os.path.realpath(launcher())
+        return "rebug" if is_found else launcher()
+    near = os.path.relpath(launcher())
+    return launcher() if near.startswith("..") else f"./{near}"

@@ -52,8 +52,12 @@ class Ran:
 
     @property
     def died(self):
-        """Whether Ninja ended in the middle of a build: it was killed, or met what it calls fatal."""
-        return self.status < 0 or self.status > 0 and bool(self.children) and not self.said_stopped
+        """Whether Ninja ended in the middle of a build: it was killed, or met what it calls fatal.
+
+        Where Ninja said why it stops, it has waited for its commands. It may end by the interrupt all the same: before
+        1.13 one that comes while a command ends stays pending until Ninja is about to exit.
+        """
+        return not self.said_stopped and (self.status < 0 or self.status > 0 and bool(self.children))
 
     @property
     def interrupted(self):
@@ -160,8 +164,8 @@ def run_ninja(ninja, words, folder, signals, manifest, keeps_all=False):
             early.append(number)
         for process, watcher in started:
             if process.poll() is not None:
-                return number == signal.SIGINT and process.returncode == ninja.status_of_interrupt and \
-                    _has_the_terminal()
+                ended_by_it = process.returncode in (ninja.status_of_interrupt, -signal.SIGINT)
+                return number == signal.SIGINT and ended_by_it and _has_the_terminal()
             watcher.look()
             if number != signal.SIGINT or not _has_the_terminal():
                 process.send_signal(number)
@@ -174,7 +178,8 @@ def run_ninja(ninja, words, folder, signals, manifest, keeps_all=False):
         watcher = _Watcher(process.pid, ran, words[0])
         watcher.start()
         started.append((process, watcher))
-        for number in early:
+        for number in early:  # while the process began, which may have commands already
+            watcher.look()
             process.send_signal(number)
         _pass_on(outer, said, process)
         ran.failed, ran.jobserver = said.failed, said.jobserver

@@ -10,7 +10,7 @@ from .events import Start
 from .fields import canonical, shown
 from .files import WRITTEN, names_of_files, write_recording
 from .folders import OPTIONAL, BadFolder, NotInPlace, OutFolder
-from .installed import words_of_recorder
+from .installed import word_of_launcher
 from .limits import what_is_refused
 from .manifest import Manifest
 from .ninja import NoNinja, changed_commands, found_ninja
@@ -70,10 +70,9 @@ class OneBuild:
         """What is to be known of a recording that was written, and what can be done with it next."""
         for note in found.notes + (found.remarks if self.options.verbose else []):
             self.say(note)
-        out = self.options.out
-        check = " ".join(map(shlex.quote, [*words_of_recorder(), "--check", out]))
-        self.say(f"{out} has {len(found.found.events)} events of this build. Next: {check}, or "
-                 f"{shlex.quote(os.path.join(out, 'replay'))}")
+        out, count = self.options.out, len(found.found.events)
+        races, ask = (" ".join(map(shlex.quote, [word_of_launcher(), word, out])) for word in ("races", "ask"))
+        self.say(f"{out} has {count} event{'s' * (count != 1)} of this build. Next: {races}, or {ask}")
 
 
 class Session(OneBuild):
@@ -161,7 +160,7 @@ class Session(OneBuild):
         return 128 + self.signals.held[0] if self.signals.held else status
 
     def tell(self, found, ran):
-        if ran.status < 0:
+        if ran.died and ran.status < 0:
             self.say(f"Ninja was killed by {name_of(-ran.status)}: its commands may have gone on, and the recording "
                      f"has what was there right after")
         elif ran.died:

@@ -21,7 +21,7 @@ sys.dont_write_bytecode = True
 HERE = pathlib.Path(__file__).resolve().parent
 sys.path[:0] = [str(HERE.parent), str(HERE)]
 
-from builds import unescaped  # noqa: E402
+from builds import LONGEST_SECONDS, unescaped  # noqa: E402
 from recorder.depslog import paths_of  # noqa: E402
 from recorder.events import WORDS, Event  # noqa: E402
 from recorder.fields import line  # noqa: E402
@@ -137,7 +137,8 @@ def replayed(it: Recorded, events: list[tuple], program: str) -> list[bytes]:
         others = [os.fsdecode(name) for name, _, _ in it.manifest.files[1:]]
         words = [program, "--manifest", "build.ninja", "--trace", str(folder / "trace"), "--script",
                  str(folder / "script"), *others]
-        done = subprocess.run(words, cwd=it.folder, stdin=subprocess.DEVNULL, capture_output=True, timeout=600)
+        done = subprocess.run(words, cwd=it.folder, stdin=subprocess.DEVNULL, capture_output=True,
+                              timeout=LONGEST_SECONDS)
     return [text for text in done.stdout.split(b"\n")[:-1] if not text.startswith(b"depth ")]
 
 

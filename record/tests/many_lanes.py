@@ -111,7 +111,7 @@ def report_of(program, manifest, trace, script, *options):
         for name, lines in (("m", manifest), ("trace", trace), ("script", script)):
             (pathlib.Path(folder) / name).write_text("".join(f"{line}\n" for line in lines))
         words = [program, "--manifest", "m", "--trace", "trace", "--script", "script", *options]
-        done = subprocess.run(words, cwd=folder, stdin=subprocess.DEVNULL, capture_output=True, timeout=60)
+        done = subprocess.run(words, cwd=folder, stdin=subprocess.DEVNULL, capture_output=True, timeout=600)
     return done.stdout.decode().splitlines(), done.returncode
 
 

@@ -10,6 +10,7 @@ from collections.abc import Callable, Sequence
 from dataclasses import dataclass, field
 from typing import Any
 
+from builds import LONGEST_SECONDS
 from recorder.observed.calls import Call, Kind, Observer
 
 PROGRAMS = pathlib.Path(__file__).resolve().parent / "programs"
@@ -66,7 +67,7 @@ class Log:
         self.process = subprocess.Popen(words, stdin=subprocess.DEVNULL, **options)
         poll = select.poll()
         poll.register(self.reader, select.POLLIN)
-        assert poll.poll(60_000), "the observer writes nothing"
+        assert poll.poll(1000 * LONGEST_SECONDS), "the observer writes nothing"
 
     def beside(self) -> int:
         """The number of the process that observes."""
@@ -78,7 +79,7 @@ class Log:
         with os.fdopen(self.reader, "rb") as file:
             return list(self.observer.events(file))
 
-    def end(self, timeout: float = 300) -> int:
+    def end(self, timeout: float = LONGEST_SECONDS) -> int:
         """Waits for the process; gives its status."""
         status = self.process.wait(timeout)
         shutil.rmtree(self.folder, ignore_errors=True)

@@ -7,7 +7,6 @@ import shutil
 import subprocess
 import sys
 import tempfile
-import time
 from collections.abc import Callable, Iterable, Mapping
 from dataclasses import dataclass, field
 
@@ -61,14 +60,6 @@ def _numbers(words: Iterable[bytes]) -> Iterable[int]:
     for word in words:
         first, _, last = word.partition(b"-")
         yield from range(int(first), int(last or first) + 1)
-
-
-def wait_for(path: pathlib.Path, seconds: float = 300) -> None:
-    """Waits for a file that a process makes."""
-    until = time.monotonic() + seconds
-    while not path.exists():
-        assert time.monotonic() < until, f"{path} did not come"
-        time.sleep(0.02)
 
 
 def refusal(observer: str) -> str | None:

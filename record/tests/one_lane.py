@@ -66,7 +66,8 @@ def reports(program, case):
     with tempfile.TemporaryDirectory() as folder:
         names = write(case, folder)
         words = [program, "--manifest", names[0], "--trace", "trace", "--script", "script", *names[1:]]
-        runs = [subprocess.run([*words, *options], cwd=folder, stdin=subprocess.DEVNULL, capture_output=True, timeout=60)
+        runs = [subprocess.run([*words, *options], cwd=folder, stdin=subprocess.DEVNULL, capture_output=True,
+                               timeout=600)
                 for options in ([], ["--workers"])]
     return [(done.stdout, done.returncode) for done in runs]
 

@@ -12,11 +12,10 @@ import subprocess
 
 import builds
 from builds import Chain
-from versions import NINJA
 
 STEPS = ("clean", "header_touched", "broken", "mended", "interrupted", "resumed")
 QUICK = "printf '#define STEP 1\\n' >\"$1\"\n"
-SLOW = "touch \"$(dirname \"$1\")/begun\"; sleep 20\n"
+SLOW = "touch \"$(dirname \"$1\")/begun\"; sleep 900\n"
 
 
 class Project(Chain):
@@ -57,7 +56,7 @@ class Project(Chain):
         self.step("mended")
         self.write(slow, SLOW)
         self.write(source, good + b"\n")
-        self.step("interrupted", status=NINJA.status_of_interrupt, interrupt_when="begun")
+        self.step("interrupted", interrupt_when="begun")
         self.write(slow, QUICK)
         self.step("resumed")
 

@@ -30,6 +30,7 @@ sys.dont_write_bytecode = True
 HERE = pathlib.Path(__file__).resolve().parent
 sys.path[:0] = [str(HERE.parent), str(HERE)]
 
+from builds import LONGEST_SECONDS  # noqa: E402
 from held import differences  # noqa: E402
 from recorder.checking import check  # noqa: E402
 
@@ -186,7 +187,7 @@ def record(folder: pathlib.Path, out: pathlib.Path, words: list[str], ninja: str
     shutil.rmtree(out, ignore_errors=True)
     done = subprocess.run([sys.executable, RECORDER, folder, out, "--verbose", "--force", "--", *words],
                           env={**os.environ, "NINJA": ninja}, stdin=subprocess.DEVNULL, stdout=subprocess.PIPE,
-                          stderr=subprocess.STDOUT, text=True, timeout=300)
+                          stderr=subprocess.STDOUT, text=True, timeout=LONGEST_SECONDS)
     return done.returncode, done.stdout
 
 

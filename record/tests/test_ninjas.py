@@ -7,6 +7,7 @@ import os
 import pathlib
 import re
 import shutil
+import signal
 import subprocess
 import tempfile
 import time
@@ -207,7 +208,7 @@ class Stamps(Recorded):
         self.touch("s")
         self.write(f"{TOUCH}rule dep\n  command = touch $out; echo $out: s > $out.d\n  deps = gcc\n  depfile = $out.d\n"
                    "rule made\n  command = touch $out\n  generator = 1\n"
-                   f"rule strip\n  command = sleep .2; {change}; sleep .1; touch $out\n"
+                   f"rule strip\n  command = sleep 1; {change}; sleep .1; touch $out\n"
                    f"build first: touch\nbuild o: {kind} s\nbuild p: strip o\n")
         self.record(own=["--verbose"])
         found = [it.split(" ") for it in self.trace if it.split(" ")[1:2] == ["o"]]
@@ -221,7 +222,7 @@ class Stamps(Recorded):
                 self.assertEqual([it for it in self.events("start", "touch", "finish") if not it.endswith("first")],
                                  ["start o", "finish o", "start p", "touch o", "finish p"])
                 self.assertEqual(stamps["touch"], (self.build / "o").stat().st_mtime_ns)
-                self.assertLess(stamps["finish"], stamps["touch"] - 150_000_000)
+                self.assertLess(stamps["finish"], stamps["touch"] - 500_000_000)
                 self.assertEqual("no log has its stamp" in self.said, kind == "touch" and since((1, 12)), self.said)
 
     def test_what_changed_again_is_built_again_where_ninja_does_that(self):
@@ -265,6 +266,17 @@ class Statuses(Recorded):
         self.record(status=130 if since((1, 13)) else 1)
         self.assertEqual(self.events("interrupt", "fail", "abort"),
                          ["interrupt", "abort o"] if since((1, 13)) else ["fail o"])
+
+    def test_a_ninja_that_stops_in_order_and_then_ends_by_the_interrupt(self):
+        """As it does where the interrupt comes while a command ends: nothing of it was killed in the middle."""
+        late = self.room / "late"
+        late.write_text(f"#!/bin/sh\n'{shutil.which('ninja')}' \"$@\"\n[ \"$1\" = --version ] || kill -INT $$\n")
+        late.chmod(0o755)
+        self.write("rule r\n  command = touch $out; kill -INT $$$$\nbuild o: r s\n")
+        self.record(status=128 + signal.SIGINT, env={**os.environ, "NINJA": str(late)})
+        self.assertIn("ninja: build stopped: interrupted by user.", self.said)
+        self.assertNotIn("killed", self.said)
+        self.assertEqual(self.events("interrupt", "fail", "abort"), ["interrupt", "abort o"])
 
 
 class Preliminaries(Recorded):

@@ -10,7 +10,7 @@ import unittest
 import unittest.mock
 
 import builds
-from observing import Room, read_observed, refusal, wait_for
+from observing import Room, read_observed, refusal
 from recorder.observed import log_pipe
 from versions import NINJA
 
@@ -242,7 +242,7 @@ class Cases:
                  self.observer]
         process = subprocess.Popen(words, stdin=subprocess.DEVNULL, stdout=subprocess.DEVNULL,
                                    stderr=subprocess.DEVNULL, env={**os.environ, "TMPDIR": str(rest)})
-        wait_for(folder / "build/begun")
+        builds.wait_for(folder / "build/begun")
         process.kill()
         process.wait()
         self.assertEqual(os.listdir(rest), [])

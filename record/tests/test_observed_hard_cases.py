@@ -9,7 +9,7 @@ import unittest
 
 import builds
 from observed_calls import NO_SUCH_CALL, built
-from observing import Room, refusal, wait_for
+from observing import Room, refusal
 from versions import NINJA
 
 WITHOUT_COMPILER = builds.missing_tools("cc")
@@ -148,11 +148,13 @@ class Cases:
         self.assertEqual(it.flags, {"cut"}, found.said)
         self.assertFalse((found.folder / "late").exists())  # nobody waited for it
         (found.folder / "when").touch()
-        wait_for(found.folder / "late")  # and nobody ended it
+        builds.wait_for(found.folder / "late")  # and nobody ended it
 
     def test_a_process_that_outlives_its_command_and_not_ninja(self):
-        ninja = ("rule c\n  command = $cmd\nbuild out: c\n  cmd = (sleep 1; cat a > late) >/dev/null 2>&1 & : > out\n"
-                 "build all: c | out\n  cmd = while ! test -e late; do sleep 0.1; done; sleep 1; : > all\n")
+        ninja = ("rule c\n  command = $cmd\n"
+                 "build out: c\n  cmd = (sleep 1; cat a > late) >/dev/null 2>&1 & echo $$! > out\n"
+                 "build all: c | out\n"
+                 "  cmd = while test -e /proc/$$(cat out)/exe; do sleep 0.1; done; sleep 1; : > all\n")
         found = self.room.build(self.observer, ninja, {"a": "1"})
         it = found.commands[b"out"]
         reads, writes = it.reads - {b"/dev/null"}, it.writes - {b"/dev/null"}

@@ -64,11 +64,12 @@ class Signals(unittest.TestCase):
         return status
 
     def by_pipe(self, words, number, delay):
-        process = subprocess.Popen(words, stdin=subprocess.DEVNULL, stdout=subprocess.PIPE, stderr=subprocess.STDOUT)
+        process = subprocess.Popen(words, stdin=subprocess.DEVNULL, stdout=subprocess.PIPE, stderr=subprocess.STDOUT,
+                                   start_new_session=True)
         if number is not None:
             time.sleep(delay)
             process.send_signal(number)
-        said, _ = process.communicate(timeout=600)
+        said, _ = process.communicate(timeout=builds.LONGEST_SECONDS)
         return process.returncode, said.decode()
 
     def by_terminal(self, words, number, delay):
@@ -89,7 +90,7 @@ class Signals(unittest.TestCase):
             if part == b"":
                 break
             said += part or b""
-            self.assertLess(time.monotonic() - begin, 600)
+            self.assertLess(time.monotonic() - begin, builds.LONGEST_SECONDS)
         os.close(terminal)
         _, status = os.waitpid(child, 0)
         return os.waitstatus_to_exitcode(status), said.decode()
@@ -103,16 +104,14 @@ class Signals(unittest.TestCase):
         self.assertNotIn("fault of the recorder", said)
         allowed = {0} if number is None else {0, 2, 130, 128 + number, -number, *([1] if is_early else [])}
         self.assertIn(status, allowed, said)
-        begin = time.monotonic()
-        while left := processes_of(folder):
-            self.assertLess(time.monotonic() - begin, 300, left)
-            time.sleep(0.05)
+        builds.wait_until(lambda: not processes_of(folder), f"a process goes on in {folder}", every=0.05)
         for output in build.glob("o*"):  # whole, or taken away by Ninja
             if "." not in output.name:
                 self.assertEqual(output.read_text(), "a\nb\n")
         if (out / "trace").exists():
             self.look_at_recording(build, out, observer, said)
-        ran = subprocess.run(["ninja", "--quiet"], cwd=build, capture_output=True, timeout=600)
+        ran = subprocess.run(["ninja", "--quiet"], cwd=build, capture_output=True,
+                             timeout=builds.LONGEST_SECONDS)
         self.assertEqual((ran.returncode, len(list(build.glob("o*[0-9]")))), (0, SOME), ran)
 
     def look_at_recording(self, build, out, observer, said):

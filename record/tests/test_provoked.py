@@ -15,7 +15,7 @@ import tempfile
 import time
 import unittest
 
-from builds import missing_tools
+from builds import LONGEST_SECONDS, missing_tools, wait_until
 from provoked import FAINT, GEN, PLANTED, PROVOKE, STAND_IN, USE, Made, Planted
 from recorder.manifest import Manifest
 from recorder.provoke.copies import Refused, in_copy
@@ -392,7 +392,7 @@ class UnderSignals(unittest.TestCase):
                                        stderr=subprocess.DEVNULL, start_new_session=True)
             time.sleep(dice.uniform(0.05, longest))
             process.send_signal(number)
-            statuses.append(process.wait(timeout=60))
+            statuses.append(process.wait(LONGEST_SECONDS))
             self.wait_until_put_back(it)
             self.assertEqual(it.everything(), before, f"{more} {statuses}")
         return statuses
@@ -400,11 +400,8 @@ class UnderSignals(unittest.TestCase):
     def wait_until_put_back(self, it):
         """Waits until no process is at work there any more: the one that puts things back has ended."""
         room = str(it.room).encode()
-        for _ in range(600):
-            if not any(room in self.words_of(process) for process in pathlib.Path("/proc").glob("[0-9]*")):
-                return
-            time.sleep(0.02)
-        self.fail("a process goes on")
+        wait_until(lambda: not any(room in self.words_of(it) for it in pathlib.Path("/proc").glob("[0-9]*")),
+                   "a process goes on", every=0.02)
 
     def words_of(self, process):
         try:

@@ -12,7 +12,6 @@ import unittest
 import builds
 import projects  # noqa: F401, adds its chains
 from builds import CHAINS, missing_tools, unescaped
-from versions import NINJA
 
 
 class Recordings(unittest.TestCase):
@@ -27,7 +26,7 @@ def _test(chain, name):
         folder = builds.made(chain)
         said = (folder / f"{name}.said").read_bytes()
         self.assertNotIn(b"rules differ", said)
-        self.assertIn(b"events of this build", said)
+        self.assertRegex(said, rb" has \d+ events? of this build\.")
         lines = (folder / name / "trace").read_bytes().split(b"\n")
         self.assertEqual(lines[0], b"rebug-trace 1")
         self.assertTrue(os.access(folder / name / "replay", os.X_OK))
@@ -128,9 +127,9 @@ class Commands(unittest.TestCase):
 
 
 AT_A_TERMINAL = """rule slow
-  command = touch begun$n; sleep 20; touch $out
+  command = touch begun$n; sleep 900; touch $out
 rule shown
-  command = touch begun$n; sleep 20; touch $out
+  command = touch begun$n; sleep 900; touch $out
   pool = console
 build a: slow
   n = 1
@@ -148,18 +147,24 @@ class Terminals(unittest.TestCase):
             self.skipTest(lacking)
 
     def run_at_a_terminal(self, folder, keys):
+        """The status, and what was shown, of a recording at which the keys are pressed once both commands run, Ninja
+        has shown so and the recorder has seen them. What is not read yet as Ctrl-C is pressed the terminal forgets."""
         child, terminal = pty.fork()
         if not child:
             os.environ["TERM"] = "xterm"
             os.execv(sys.executable, [sys.executable, builds.RECORDER, folder / "build", folder / "recorded"])
-        end = threading.Timer(120, os.kill, (child, signal.SIGKILL))
+        end = threading.Timer(builds.LONGEST_SECONDS, os.kill, (child, signal.SIGKILL))
         end.daemon = True
         end.start()
+        shown = b""
+        while b"touch begun2; sleep 900; touch b" not in shown:
+            data = _read(terminal)
+            self.assertTrue(data, shown)
+            shown += data
         for name in ("begun1", "begun2"):
             builds.wait_for(folder / "build" / name)
-        builds.time.sleep(0.5)
+        builds.wait_until_it_has_looked(child)
         os.write(terminal, keys)
-        shown = b""
         while data := _read(terminal):
             shown += data
         os.close(terminal)
@@ -174,8 +179,8 @@ class Terminals(unittest.TestCase):
             (folder / "build/build.ninja").write_text(AT_A_TERMINAL)
             status, shown = self.run_at_a_terminal(folder, b"\x03")
             trace = (folder / "recorded/trace").read_text()
-        self.assertEqual(status, NINJA.status_of_interrupt)
-        self.assertIn(b"[0/2] touch begun1; sleep 20; touch a\x1b[K", shown)
+        self.assertIn(status, builds.STATUSES_OF_INTERRUPT)
+        self.assertIn(b"[0/2] touch begun1; sleep 900; touch a\x1b[K", shown)
         self.assertNotIn(b"\x1e", shown)
         self.assertTrue(trace.endswith("interrupt\nabort a 0\nabort b 0\n"), trace)
 

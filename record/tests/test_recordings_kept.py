@@ -14,6 +14,7 @@ import time
 import unittest
 
 import builds
+from builds import LONGEST_SECONDS
 from recorder.folders import OutFolder
 from recorder.main import main
 from versions import NINJA
@@ -22,9 +23,7 @@ TOUCH = "rule touch\n  command = touch $out\n"
 ONE = TOUCH + "build o: touch s\n"
 # The recorder reads what the edge left as its depfile, and waits for a writer.
 WAITING = "rule wait\n  command = test -p o.d || mkfifo o.d; touch $out\n  depfile = o.d\nbuild o: wait s\n"
-# A recorder that has not ended by then never will: it is killed, and its test fails.
-LONGEST_SECONDS = 120
-SLOW = "rule slow\n  command = echo $$$$ > pid; touch begun; sleep 30; touch $out\nbuild o: slow s\n"
+SLOW = "rule slow\n  command = echo $$$$ > pid; touch begun; sleep 900; touch $out\nbuild o: slow s\n"
 
 
 class Kept(unittest.TestCase):
@@ -75,8 +74,9 @@ class Kept(unittest.TestCase):
                          ["build.ninja", "names", "ninja", "output", "questions", "replay", "script", "times", "trace"])
 
     def started(self, *words, own=()):
+        # without the terminal of the tests, from which the recorder would take Ninja to have each SIGINT already
         process = subprocess.Popen(self.words(*words, own=own), stdin=subprocess.DEVNULL, stdout=subprocess.PIPE,
-                                   stderr=subprocess.STDOUT, text=True)
+                                   stderr=subprocess.STDOUT, text=True, start_new_session=True)
         end = threading.Timer(LONGEST_SECONDS, process.kill)
         end.daemon = True
         end.start()
@@ -131,7 +131,7 @@ class Refused(Kept):
     def test_a_build_of_nothing_is_a_recording(self):
         self.record_first()
         status, said = self.run_recorder()
-        self.assertEqual((status, "1 events" in said), (0, True), said)
+        self.assertEqual((status, "has 1 event of" in said), (0, True), said)
         self.assertNotIn(b"\nstart ", (self.out / "trace").read_bytes())
 
     def test_what_both_refuse_is_no_difference(self):
@@ -253,8 +253,8 @@ class Folders(Kept):
         self.assertEqual((status, "targets and other words for Ninja go behind --, as in `-- app`" in said), (2, True))
 
     def test_the_next_command_is_quoted(self):
-        _, said = self.run_recorder(out=self.room / "an out")
-        self.assertIn(f"--check '{self.room}/an out', or '{self.room}/an out/replay'", said)
+        _, said = self.run_recorder(out=self.room / "an out", cwd=builds.RECORDER.parents[1])
+        self.assertIn(f"races '{self.room}/an out', or ./rebug ask '{self.room}/an out'", said)
 
     def test_a_second_recorder_waits_for_nobody(self):
         with OutFolder(str(self.out)):
@@ -306,15 +306,18 @@ class Ended(Kept):
         A signal that comes between its opening of the file and its reading is looked at when the reading ends, since
         Python runs handlers between system calls: so the recorder must be asleep in the reading before one is sent.
         """
-        for _ in range(1000):
+        ends = []
+
+        def is_read():
             try:
-                end = os.open(fifo, os.O_WRONLY | os.O_NONBLOCK)
+                ends.append(os.open(fifo, os.O_WRONLY | os.O_NONBLOCK))
             except OSError:
-                time.sleep(0.01)
-                continue
-            builds.wait_until_asleep(process.pid)
-            return end
-        raise AssertionError(f"the recorder did not come to {fifo}")
+                return False
+            return True
+
+        builds.wait_until(is_read, f"the recorder did not come to {fifo}")
+        builds.wait_until_asleep(process.pid)
+        return ends[0]
 
     def lines_until(self, text):
         for line in self.process.stdout:
@@ -333,7 +336,7 @@ class Ended(Kept):
                 self.assertIn("held until", self.lines_until(number.name))
                 os.close(end)
                 said = self.process.stdout.read()
-                self.assertEqual(self.process.wait(60), 128 + number, said)
+                self.assertEqual(self.process.wait(LONGEST_SECONDS), 128 + number, said)
                 self.assertNotIn("Traceback", said)
                 self.assertIn(b"rule wait", (self.out / "build.ninja").read_bytes())
                 self.assertIn(b"finish o ", (self.out / "trace").read_bytes())
@@ -353,7 +356,7 @@ class Ended(Kept):
         process.send_signal(signal.SIGTERM)
         said = process.stdout.read()
         os.close(end)
-        self.assertEqual((process.wait(60), said), (
+        self.assertEqual((process.wait(LONGEST_SECONDS), said), (
             143, "rebug-record: ended by SIGTERM: nothing was recorded, and what was there stays\n"))
         self.assertFalse((self.build / "o").exists())
         self.assert_kept()
@@ -362,10 +365,13 @@ class Ended(Kept):
         end = self.waiting()
         self.process.send_signal(signal.SIGTERM)
         self.lines_until("held until")
-        self.process.send_signal(signal.SIGINT)
-        said = self.process.stdout.read()
+        said = "held until"
+        while "held until" in said:  # a busy machine may need two seconds for this, and the second one is a late one
+            self.process.send_signal(signal.SIGINT)
+            said = self.process.stdout.readline()
+        said += self.process.stdout.read()
         os.close(end)
-        self.assertEqual((self.process.wait(60), said), (
+        self.assertEqual((self.process.wait(LONGEST_SECONDS), said), (
             130, "rebug-record: ended by SIGINT: nothing was recorded, and what was there stays\n"))
         self.assert_kept()
 
@@ -377,28 +383,31 @@ class Ended(Kept):
             time.sleep(2.1)
         os.close(end)
         self.assertIn("events of this build", self.process.stdout.read())
-        self.assertEqual(self.process.wait(60), 130)
+        self.assertEqual(self.process.wait(LONGEST_SECONDS), 130)
 
     def test_a_killed_ninja_is_said(self):
         self.record_first()
         self.write(SLOW)
         process = self.started()
         builds.wait_for(self.build / "begun")
-        time.sleep(0.3)
+        builds.wait_until_it_has_looked(process.pid)
         ninja = pathlib.Path(f"/proc/{process.pid}/task/{process.pid}/children").read_text().split()
         os.kill(int(ninja[0]), signal.SIGKILL)
-        time.sleep(0.2)
-        os.killpg(int((self.build / "pid").read_text()), signal.SIGKILL)
         said = process.stdout.read()
-        self.assertEqual(process.wait(60), 137)
+        os.killpg(int((self.build / "pid").read_text()), signal.SIGKILL)
+        self.assertEqual(process.wait(LONGEST_SECONDS), 137)
         self.assertIn("Ninja was killed by SIGKILL", said)
         self.assertRegex((self.out / "trace").read_text(), r"lane 0\nplan\nstart o 0\ninterrupt\nabort o \d+\n$")
 
     def test_a_ninja_that_ends_in_the_middle_is_said(self):
-        self.write("rule slow\n  command = echo $$$$ > pid; touch begun; sleep 30\nbuild o: slow s\n"
-                   "rule quick\n  command = sleep 0.5; touch $out\nbuild q: quick s\n"
-                   "rule long\n  command = touch $out # " + "x" * 200_000 + "\nbuild p: long q\n")
-        status, said = self.run_recorder()
+        self.write(SLOW + "rule quick\n  command = while ! test -e seen; do sleep 0.05; done; touch $out\n"
+                   "build q: quick s\nrule long\n  command = touch $out # " + "x" * 200_000 + "\nbuild p: long q\n")
+        process = self.started()
+        builds.wait_for(self.build / "begun")
+        builds.wait_until_it_has_looked(process.pid)
+        (self.build / "seen").touch()
+        said = process.stdout.read()
+        status = process.wait(LONGEST_SECONDS)
         os.killpg(int((self.build / "pid").read_text()), signal.SIGKILL)
         self.assertEqual(status, 1)
         self.assertIn("Ninja ended in the middle of the build", said)
@@ -409,11 +418,10 @@ class Ended(Kept):
             with self.subTest(number=number):
                 self.write(SLOW)
                 process = self.started()
-                builds.wait_for(self.build / "begun")
-                time.sleep(0.3)
+                builds.wait_for(self.build / "begun")  # the recorder looks at Ninja's children before it hands one on
                 process.send_signal(number)
                 said = process.stdout.read()
-                self.assertEqual(process.wait(60), NINJA.status_of_interrupt, said)
+                self.assertEqual(process.wait(LONGEST_SECONDS), NINJA.status_of_interrupt, said)
                 self.assertIn(b"interrupt\nabort o 0\n", (self.out / "trace").read_bytes())
                 (self.build / "begun").unlink()
 
@@ -426,7 +434,7 @@ class Ended(Kept):
         self.record_first()
         process = self.started("-v", own=["--verbose"])
         process.stdout.close()
-        self.assertEqual(process.wait(60), 0)
+        self.assertEqual(process.wait(LONGEST_SECONDS), 0)
         self.assertEqual((self.out / "trace").read_text().split("lane 0\n")[1], "plan\n")
 
 

@@ -36,7 +36,10 @@ class RecordingsOfProjects(unittest.TestCase):
                 self.assertTrue(0 < counts["header_touched"][1] < counts["clean"][1])
                 self.assertEqual(counts["broken"][2], 1)
                 self.assertEqual(counts["mended"][2:], [0, 0])
-                self.assertEqual(counts["interrupted"][3], 1)
+                events = [it.split(b" ") for it in self.recording(project, "interrupted")[0]]
+                aborted = {it[1] for it in events if it[0] == b"abort"}
+                self.assertIn(b"step.h", aborted)
+                self.assertNotIn(b"greet", aborted)  # which waits for it; a slow machine may still run another one
                 self.assertGreater(counts["resumed"][1], 1)
 
 

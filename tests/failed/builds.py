@@ -179,11 +179,11 @@ def record(name: str, room: pathlib.Path) -> pathlib.Path:
     it, build, recorded = BUILDS[name], room / name / "build", room / name / "recorded"
     if it.before is not None:
         write(build, it.files | it.before)
-        subprocess.run(["ninja", "-C", build, "-j", "1"], stdin=subprocess.DEVNULL, stdout=subprocess.DEVNULL, timeout=120,
-                       check=True)
+        subprocess.run(["ninja", "-C", build, "-j", "1"], stdin=subprocess.DEVNULL, stdout=subprocess.DEVNULL,
+                       timeout=600, check=True)
     write(build, it.files)
     words = [sys.executable, RECORDER, build, recorded, "-j", "4"]
     done = subprocess.run(words, stdin=subprocess.DEVNULL, stdout=subprocess.PIPE, stderr=subprocess.STDOUT,
-                          timeout=120, env={**os.environ, "LC_ALL": "C"})
+                          timeout=600, env={**os.environ, "LC_ALL": "C"})
     assert done.returncode, f"{name}: the build does not fail:\n{done.stdout.decode(errors='replace')}"
     return recorded

@@ -43,7 +43,9 @@ ASKED: list[tuple[list[str], tuple[int, ...]]] = [
 QUESTIONS = [b"run", b"next", b"next 3", b"kept", b"marks", b"stamps", b"logs", b"help", b"", b"nonsense", b"who %b",
              b"why %b", b"with %b", b"what finish %b", b"needs %b all", b"dependents %b", b"would cone %b",
              b"without %b", b"until %b", b"undo start %b", b"marks %b", b"stamps %b", b"needs %b observed",
-             b"who reads %b", b"who writes %b", b"undo finish %b"]
+             b"who reads %b", b"who writes %b", b"undo finish %b", b"edge %b", b"edge * --all", b"edges", b"edges %b",
+             b"reads %b", b"makes %b", b"rebuilds %b", b"slowest", b"critical", b"races", b"history all", b"why *",
+             b"help why", b"back"]
 # How standard error names a fault of a recording.
 _FAULT = re.compile(rb"\(\d+, docs/CODES\.md\)")
 # How it names a file that the manifest includes and that is not read: a folder, say, or a file outside.
@@ -175,13 +177,16 @@ class RebugAsk:
         for words, statuses in rng.sample(ASKED, 3):
             said = self._questions(case, rng) if words[0] == "ask" else b""
             answer = ask(self.path, [*words, "."], folder, seconds, said)
-            self.runs, self.faults = self.runs + 1, self.faults + (answer.status == 1)
+            # The last line at the prompt was no question, or named what is not there: status 1 without a sentence.
+            is_unanswered = words[0] == "ask" and answer.status == 1 and not answer.err
+            is_fault = answer.status == 1 and not is_unanswered
+            self.runs, self.faults = self.runs + 1, self.faults + is_fault
             faults = [*_bounds(case, answer)]
             if answer.status is not None:
                 is_unread = answer.status == 3 and _UNREAD.search(answer.err)
-                if (answer.status not in statuses and not is_unread) or (answer.status == 1) != bool(_FAULT.search(answer.err)):
+                if (answer.status not in statuses and not is_unread) or is_fault != bool(_FAULT.search(answer.err)):
                     faults.append(f"status {answer.status} and {answer.err[-200:]!r}")
-                if answer.status in (0, 4, 5):
+                if answer.status in (0, 4, 5) or is_unanswered:
                     faults += self._form(words, answer.out, said)
                 if not ask(self.path, [*words, "."], folder, seconds, said).same_as(answer):
                     faults.append("a second run answers otherwise")

@@ -140,7 +140,8 @@ build user: sh in || stamp
   do = cat extra in > user
 """,
         {"in": "x\n"},
-        ("undeclared extra: stamp (build.ninja:3) writes it, though no line says so", "used by user (build.ninja:5) [1]",
+        ("undeclared extra: stamp (build.ninja:3) writes it, though no line says so",
+         "used by user (build.ninja:5) [1]",
          "mend: build.ninja:3: build stamp | extra: ..."),
         (("undeclared", None, "read"),), pair=False, certain=True),
     "another's output": Planted(
@@ -153,10 +154,84 @@ build stamp: sh lib
         ("undeclared lib: stamp (build.ninja:5) writes it", "an output of lib (build.ninja:3), whose line says so [1]",
          "mend: another path for what it writes there"),
         (("undeclared", None, None),), pair=False, certain=True),
-    "everything is declared": Planted(
+    "a file that no line lists": Planted(
+        """build user: sh in
+  do = cat in settings > user
+build other: sh in
+  do = cp in other
+""",
+        {"in": "x\n", "settings": "y\n"},
+        ("unlisted settings: commands read it, though neither their lines nor their lists have it\n"
+         "  read by user (build.ninja:3) [1]",
+         "mend: build.ninja:3: build user: ... | settings, or a depfile that lists it"),
+        (("unlisted", None, "read"),), pair=False, certain=True),
+    "an output that comes first, and is read": Planted(
         """build table: sh in
   do = cp in table
 build user: sh in || table
+  do = cat in table > user
+""",
+        {"in": "x\n"},
+        ("unlisted table: commands read it, though", "  read by user (build.ninja:5) [1]"),
+        (("unlisted", None, "read"),), pair=False, certain=True),
+    "a file that the maker of an order-only input lists": Planted(
+        """build table: sh in settings
+  do = cat in settings > table
+build user: sh in || table
+  do = cat in settings > user
+""",
+        {"in": "x\n", "settings": "y\n"},
+        ("unlisted settings: commands read it, though", "  read by user (build.ninja:5) [1]"),
+        (("unlisted", None, "read"),), pair=False, certain=True),
+    "a file that the maker of an input lists": Planted(
+        """build table: sh in settings
+  do = cat in settings > table
+build user: sh in table
+  do = cat in settings table > user
+""",
+        {"in": "x\n", "settings": "y\n"}, certain=True),
+    "a file that the maker of an input lists, which can leave its output": Planted(
+        """build table: sh in settings
+  do = cat in settings > table
+  restat = 1
+build user: sh in table
+  do = cat in settings table > user
+""",
+        {"in": "x\n", "settings": "y\n"}, certain=True),
+    "a race, and a file that no line lists": Planted(
+        """build table: sh in
+  do = cp in table
+build user: sh in
+  do = until [ -e table ]; do sleep 0.05; done; cat in settings table > user
+""",
+        {"in": "x\n", "settings": "y\n"},
+        ("race table made by table (build.ninja:3)", "unlisted settings: ", "  read by user (build.ninja:5) [2]",
+         "1 race; 1 unlisted input; 2 commands ran"),
+        (("race", "output", "read"), ("unlisted", None, "read"))),
+    "a file that is no output, and two that no line lists": Planted(
+        """build stamp: sh in
+  do = cp in extra; touch stamp
+build user: sh in || stamp
+  do = cat extra in settings more > user
+""",
+        {"in": "x\n", "settings": "y\n", "more": "z\n"},
+        ("undeclared extra: stamp (build.ninja:3)", "  used by user (build.ninja:5) [1]",
+         "unlisted settings: ", "  read by user (build.ninja:5) [2]",
+         "unlisted more: ", "  read by user (build.ninja:5) [3]",
+         "no race; 1 undeclared output; 2 unlisted inputs; 2 commands ran"),
+        (("undeclared", None, "read"), ("unlisted", None, "read"), ("unlisted", None, "read")), pair=False,
+        certain=True),
+    "a file that no line lists, and more read than the words have": Planted(
+        "".join(f"build user{k}: sh\n  do = cat settings > user{k}\n" for k in range(5)),
+        {"settings": "y\n"},
+        ("unlisted settings: commands read it, though", "  read by user0 (build.ninja:3) [1]",
+         "  read by user2 (build.ninja:7) [3]", "  and by 2 more (--all tells them)\n",
+         "no race; 5 unlisted inputs; 5 commands ran"),
+        (("unlisted", None, "read"),) * 5, pair=False, certain=True),
+    "everything is declared": Planted(
+        """build table: sh in
+  do = cp in table
+build user: sh in | table
   do = cat table in > user
 build both: sh user table
   do = cat user table > both
@@ -182,7 +257,7 @@ def write_files(folder: pathlib.Path, files: dict[str, str]) -> None:
 def record(folder: pathlib.Path, recorded: pathlib.Path, *words: str) -> None:
     """Records the build in a folder, and says so where that fails."""
     ran = subprocess.run([sys.executable, RECORDER, folder, recorded, "--observe", *words], capture_output=True,
-                         text=True, timeout=120, check=False, stdin=subprocess.DEVNULL,
+                         text=True, timeout=600, check=False, stdin=subprocess.DEVNULL,
                          env={**os.environ, "LC_ALL": "C"})
     if ran.returncode != 0:
         raise RuntimeError(f"rebug-record ends with {ran.returncode}\n{ran.stdout}{ran.stderr}")

@@ -1,5 +1,5 @@
 //! Runs a call of each library while memory is refused once, and says what came of it. `tests/growth/run` refuses the
-//! first allocation behind the line `made`, then the second, and so on, until a run meets no refusal.
+//! first allocation after the line `made`, then the second, and so on, until a run meets no refusal.
 //!
 //! The word is the part to run: `history`, `desk`, `lane`, `workers`, `report`, or a call that changes nothing:
 //! `manifest`, `graph`, `trace`, `migrate`, `script`, `depfile`, `plan`, `why`, `same_order`, `order`. What changes

@@ -43,7 +43,7 @@ pub(crate) enum Stop {
     Io,
     /// The word names no part.
     Usage,
-    /// A line is no command, or the build is none.
+    /// A line is not a command, or the text is not a build.
     Build,
     /// A call was not accepted.
     NotAccepted(&'static str),

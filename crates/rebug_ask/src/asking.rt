@@ -1,15 +1,23 @@
 //! Questions about a recording, a line of standard input each.
 ghost use Rattle.std.specs.Prelude.{◌≤◌, length};
 
-use crate::files::{Recording, place_of, read_recording};
+use crate::files::{Place, Recording, place_of, read_recording, read_times};
+use crate::forms::Form;
 use crate::observed::{Observed, observed_in, read_observed};
-use crate::told::{leave, manifest_of, refuse, trace_of, write};
-use rev_answers::{Told, answer_json, answer_words, fault_json, opening_json, opening_words};
+use crate::times::{KnownTimes, LabelTime, label_times};
+use crate::told::{leave, manifest_of, races_in, refuse, trace_of, write};
+use rev_answers::{
+    Many, Told, answer_json, answer_words, each_json, each_words, fault_json, not_asked_words,
+    objects_json, opening_json, opening_words, screen_of,
+};
 use rev_desk::Desk;
 use rev_manifest::Manifest;
 use rev_observed::Observation;
 use rev_program::ProgramFault;
-use rev_prompt::{Answer, LineFault, Question, Session, answer_to, question_of, texts_of};
+use rev_prompt::{
+    Answer, LineFault, Question, Session, Several, answer_to, has_answer, only_asks, outputs_meant,
+    question_of, texts_of,
+};
 use rev_recording::{RecordingFault, open};
 use rev_script::turns_of;
 use rev_trace::Trace;
@@ -19,12 +27,15 @@ use std::rt::Files;
 
 // Stands before each line that is typed at a terminal.
 const PROMPT: &[u8] = b"rebug> ";
-// What is told of a line that asks nothing.
-const NOT_ASKED: &[u8] = b"this is no question: `help` lists the words\n";
 // What is told of a line whose quote is not closed.
 const OPEN_QUOTE: &[u8] = b"a quote is not closed\n";
 // What is told of a line that is no text.
 const NO_TEXT: &[u8] = b"this line is no UTF-8 text: write a byte of a name as \\xff\n";
+// What is told where the races are asked and a file of the recording is not there any more.
+const UNREAD: &[u8] = b"the recording is not as it was: a file of it cannot be read\n";
+
+// What is told where the races are asked and a file beside the trace has a fault.
+const FAULTY: &[u8] = b"a file beside the trace has a fault: `rebug races` names it\n";
 
 // How questions end early.
 enum Ended {
@@ -39,22 +50,39 @@ impl From<AllocError> for Ended {
     }
 }
 
-// What is written for a line, how many commands of the recording were said by then, and whether this is the end.
+// What is written for a line, how many commands of the recording were said by then, whether an empty line now asks for
+// the next one, whether the line had an answer, and whether this is the end.
 #[derive(Drop)]
 struct Answered {
     text: Vec<u8>,
     taken: usize,
+    repeats: bool,
+    is_answer: bool,
     ends: bool,
 }
 
-// What is written for a line that asks nothing.
+// How a line is answered: as JSON or in words, by which times of events, whether an empty line asks for the next command
+// of the recording, and whether all is told and not a screen.
+#[derive(Clone, Copy)]
+struct Style<'a> {
+    json: bool,
+    times: &'a [Option<u32>],
+    repeats: bool,
+    all: bool,
+}
+
+// How many outputs are told of a pattern, or of a phony name.
+const MOST_OUTPUTS: usize = 20;
+
+// What is written for a line that has no answer, behind which an empty line asks for the next command or not.
 fn told(
     alloc: Global,
     session: &Session<'_>,
     text: &[u8],
-    json: bool,
+    style: Style<'_>,
+    repeats: bool,
 ) -> Result<Answered, AllocError> {
-    let text = if json {
+    let text = if style.json {
         fault_json(alloc, text)?
     } else {
         Vec::from_slice(alloc, text)?
@@ -62,6 +90,8 @@ fn told(
     Ok(Answered {
         text,
         taken: session.taken,
+        repeats,
+        is_answer: false,
         ends: false,
     })
 }
@@ -80,55 +110,284 @@ fn answer_text(
     }
 }
 
+// Whether all of an answer is told: where the question asks for all, and where it is `help` or `next` with a number.
+fn wants_all(question: &Question) -> bool {
+    match question {
+        Question::Query(_, all) | Question::Kept(all) | Question::Races(all) => *all,
+        Question::Help | Question::Next(_) => true,
+        _ => false,
+    }
+}
+
+// An answer as it is written: all of it, or a screen.
+fn cut(
+    alloc: Global,
+    text: Vec<u8>,
+    question: &Question,
+    style: Style<'_>,
+) -> Result<Vec<u8>, AllocError> {
+    if style.json || style.all || wants_all(question) {
+        return Ok(text);
+    }
+    screen_of(alloc, &text, only_asks(question))
+}
+
 // What is written for a question.
 fn written_for(
     alloc: Global,
     session: &Session<'_>,
     desk: &mut Desk,
     question: &Question,
-    json: bool,
+    style: Style<'_>,
 ) -> Result<Answered, AllocError> {
-    let reply = answer_to(alloc, session, desk, question)?;
+    let times = Vec::from_slice(alloc, style.times)?;
+    let session = Session {
+        times: &times,
+        ..*session
+    };
+    let reply = answer_to(alloc, &session, desk, question)?;
     let told = Told {
-        session,
+        session: &session,
         desk,
         question,
     };
-    let text = answer_text(alloc, told, &reply.answer, json)?;
+    let text = answer_text(alloc, told, &reply.answer, style.json)?;
     Ok(Answered {
-        text,
+        text: cut(alloc, text, question, style)?,
         taken: reply.taken,
+        repeats: matches!(question, Question::Next(_)),
+        is_answer: has_answer(&reply.answer),
         ends: reply.ends,
     })
 }
 
-// What is written for a line.
-fn reply_to(
+// The texts of a line whose first word is asked about an output.
+fn line_about(alloc: Global, texts: &[Vec<u8>], output: &[u8]) -> Result<Vec<Vec<u8>>, AllocError> {
+    let mut line = Vec::new(alloc);
+    if let Some(word) = texts.first() {
+        line.push(Vec::from_slice(alloc, word)?)?;
+    }
+    line.push(Vec::from_slice(alloc, output)?)?;
+    Ok(line)
+}
+
+// The answers to one question about each of the first outputs of some.
+fn answers_for_each(
     alloc: Global,
     session: &Session<'_>,
     desk: &mut Desk,
-    line: &[u8],
-    json: bool,
+    texts: &[Vec<u8>],
+    outputs: &[Vec<u8>],
+    style: Style<'_>,
+) -> Result<Vec<Vec<u8>>, AllocError> {
+    let most = if style.all {
+        outputs.len()
+    } else {
+        MOST_OUTPUTS
+    };
+    let mut answers = Vec::new(alloc);
+    for output in outputs.iter().take(most) {
+        let line = line_about(alloc, texts, output)?;
+        let answered = written_for_words(alloc, session, desk, &line, style)?;
+        answers.push(Vec::from_slice(alloc, &answered.text)?)?;
+    }
+    Ok(answers)
+}
+
+// The answers about some outputs in words, up to a screen, or as an object.
+fn each_text(
+    alloc: Global,
+    many: Many<'_>,
+    answers: &[Vec<u8>],
+    style: Style<'_>,
+) -> Result<Vec<u8>, AllocError> {
+    if style.json {
+        return each_json(alloc, many, answers);
+    }
+    let text = each_words(alloc, many, answers)?;
+    if style.all {
+        return Ok(text);
+    }
+    screen_of(alloc, &text, true)
+}
+
+// What is written for the same question about each of some outputs.
+fn written_for_each(
+    alloc: Global,
+    session: &Session<'_>,
+    desk: &mut Desk,
+    texts: &[Vec<u8>],
+    several: &Several,
+    style: Style<'_>,
 ) -> Result<Answered, AllocError> {
-    match texts_of(alloc, line) {
-        Ok(texts) => reply_to_words(alloc, session, desk, &texts, json),
-        Err(LineFault::Memory) => Err(AllocError),
-        Err(LineFault::OpenQuote) => told(alloc, session, OPEN_QUOTE, json),
+    let outputs = &several.outputs;
+    let answers = answers_for_each(alloc, session, desk, texts, outputs, style)?;
+    let many = Many {
+        name: match texts.get(1) {
+            Some(name) => name,
+            None => &[],
+        },
+        is_phony: several.is_phony,
+        count: outputs.len(),
+    };
+    Ok(Answered {
+        text: each_text(alloc, many, &answers, style)?,
+        taken: session.taken,
+        repeats: false,
+        is_answer: !outputs.is_empty(),
+        ends: false,
+    })
+}
+
+// The texts before `--all`, where that stands behind others, and whether it does.
+fn before_all(texts: &[Vec<u8>]) -> (&[Vec<u8>], bool) {
+    match texts {
+        [rest @ .., last] if !rest.is_empty() && last.as_slice() == b"--all".as_slice() => {
+            (rest, true)
+        }
+        _ => (texts, false),
     }
 }
 
-// What is written for the words of a line.
+// What is written for the words of a line: for each output where one stands for several.
 fn reply_to_words(
     alloc: Global,
     session: &Session<'_>,
     desk: &mut Desk,
     texts: &[Vec<u8>],
-    json: bool,
+    style: Style<'_>,
+) -> Result<Answered, AllocError> {
+    let (texts, all) = before_all(texts);
+    let style = Style { all, ..style };
+    match outputs_meant(alloc, desk, texts)? {
+        Some(several) => written_for_each(alloc, session, desk, texts, &several, style),
+        None => written_for_words(alloc, session, desk, texts, style),
+    }
+}
+
+// Whether a line asks nothing since it is empty.
+fn is_nothing(question: &Question) -> bool {
+    matches!(question, Question::Nothing)
+}
+
+// What is written for the words of one question.
+fn written_for_words(
+    alloc: Global,
+    session: &Session<'_>,
+    desk: &mut Desk,
+    texts: &[Vec<u8>],
+    style: Style<'_>,
 ) -> Result<Answered, AllocError> {
     match question_of(alloc, texts) {
-        Ok(question) => written_for(alloc, session, desk, &question, json),
+        Ok(question) => {
+            let repeated = Question::Next(1);
+            let asked = if style.repeats && is_nothing(&question) {
+                &repeated
+            } else {
+                &question
+            };
+            written_for(alloc, session, desk, asked, style)
+        }
         Err(rev_fields::LineFault::Memory) => Err(AllocError),
-        Err(_) => told(alloc, session, NOT_ASKED, json),
+        Err(_) => {
+            let words = not_asked_words(alloc, texts)?;
+            told(alloc, session, &words, style, false)
+        }
+    }
+}
+
+// Whether all is asked, where a question asks for the races; none where it does not.
+fn races_in_question(question: &Question) -> Option<bool> {
+    match question {
+        Question::Races(all) => Some(*all),
+        _ => None,
+    }
+}
+
+// Whether all is asked, where texts ask for the races; none where they do not.
+fn races_asked(alloc: Global, texts: &[Vec<u8>]) -> Result<Option<bool>, AllocError> {
+    match question_of(alloc, texts) {
+        Ok(question) => Ok(races_in_question(&question)),
+        Err(rev_fields::LineFault::Memory) => Err(AllocError),
+        _ => Ok(None),
+    }
+}
+
+// The races of a recording as an answer has them.
+fn races_text(alloc: Global, text: &[u8], all: bool, json: bool) -> Result<Vec<u8>, AllocError> {
+    if json {
+        return objects_json(alloc, b"races", b"findings", text);
+    }
+    if all {
+        return Vec::from_slice(alloc, text);
+    }
+    screen_of(alloc, text, true)
+}
+
+// What is written where the races of the recording are asked.
+fn written_for_races<R: Files + AllocGlobal>(
+    rt: &R,
+    session: &Session<'_>,
+    beside: Beside<'_>,
+    all: bool,
+    style: Style<'_>,
+) -> Result<Answered, Ended> {
+    let form = if style.json {
+        Form::Json
+    } else if all {
+        Form::AllWords
+    } else {
+        Form::Words
+    };
+    match races_in(rt, beside.recording, beside.place, beside.read, form) {
+        Ok(Some(text)) => Ok(Answered {
+            text: races_text(rt.alloc(), &text, all, style.json)?,
+            taken: session.taken,
+            repeats: false,
+            is_answer: true,
+            ends: false,
+        }),
+        Ok(None) => Ok(told(rt.alloc(), session, UNREAD, style, false)?),
+        Err(RecordingFault::Memory) => Err(Ended::Recording(RecordingFault::Memory)),
+        Err(_) => Ok(told(rt.alloc(), session, FAULTY, style, false)?),
+    }
+}
+
+// What is written for the words of a line, the races of the recording among them.
+fn written_for_texts<R: Files + AllocGlobal>(
+    rt: &R,
+    session: &Session<'_>,
+    desk: &mut Desk,
+    beside: Beside<'_>,
+    texts: &[Vec<u8>],
+    style: Style<'_>,
+) -> Result<Answered, Ended> {
+    let (asked, all) = before_all(texts);
+    match races_asked(rt.alloc(), asked)? {
+        Some(of_all) => written_for_races(rt, session, beside, all || of_all, style),
+        None => Ok(reply_to_words(rt.alloc(), session, desk, texts, style)?),
+    }
+}
+
+// What is written for a line.
+fn reply_to<R: Files + AllocGlobal>(
+    rt: &R,
+    session: &Session<'_>,
+    desk: &mut Desk,
+    beside: Beside<'_>,
+    line: &[u8],
+    style: Style<'_>,
+) -> Result<Answered, Ended> {
+    match texts_of(rt.alloc(), line) {
+        Ok(texts) => written_for_texts(rt, session, desk, beside, &texts, style),
+        Err(LineFault::Memory) => Err(Ended::from(AllocError)),
+        Err(LineFault::OpenQuote) => Ok(told(
+            rt.alloc(),
+            session,
+            OPEN_QUOTE,
+            style,
+            style.repeats,
+        )?),
     }
 }
 
@@ -162,43 +421,83 @@ fn read_typed<R: Input>(rt: &R, line: &mut String) -> Typed {
     }
 }
 
+// What is so behind a line: whether an empty line now asks for the next command, and whether the line had an answer.
+#[derive(Clone, Copy)]
+struct Since {
+    repeats: bool,
+    is_answer: bool,
+}
+
 // Answers a line that is no text.
 fn answer_no_text<R: Print + AllocGlobal>(
     rt: &R,
     session: &Session<'_>,
-    json: bool,
-) -> Result<bool, Ended> {
-    let no_text = told(rt.alloc(), session, NO_TEXT, json)?;
+    style: Style<'_>,
+) -> Result<Option<Since>, Ended> {
+    let no_text = told(rt.alloc(), session, NO_TEXT, style, false)?;
     put(rt, &no_text.text)?;
-    Ok(true)
+    Ok(Some(Since {
+        repeats: false,
+        is_answer: false,
+    }))
 }
 
-// Answers a line; whether it asked for no end.
-fn answer_line<R: Print + AllocGlobal>(
+// Answers a line; none where it asked for the end.
+fn answer_line<R: Files + Print + AllocGlobal>(
     rt: &R,
     session: &mut Session<'_>,
     desk: &mut Desk,
+    beside: Beside<'_>,
     line: &[u8],
-    json: bool,
-) -> Result<bool, Ended> {
-    let reply = reply_to(rt.alloc(), session, desk, line, json)?;
+    style: Style<'_>,
+) -> Result<Option<Since>, Ended> {
+    let reply = reply_to(rt, session, desk, beside, line, style)?;
     session.taken = reply.taken;
     put(rt, &reply.text)?;
-    Ok(!reply.ends)
+    if reply.ends {
+        return Ok(None);
+    }
+    Ok(Some(Since {
+        repeats: reply.repeats,
+        is_answer: reply.is_answer,
+    }))
 }
 
-// Takes a line of the standard input and answers it; whether there was one, and it asked for no end.
-fn turn<R: Input + Print + AllocGlobal>(
+// What comes of a line of the standard input.
+#[derive(Clone, Copy)]
+enum Turn {
+    // It was answered.
+    Answered(Since),
+    // It asked for the end.
+    Quit,
+    // There was none.
+    End,
+}
+
+// The turn of a line that was answered, or asked for the end.
+fn turn_of(since: Option<Since>) -> Turn {
+    match since {
+        Some(since) => Turn::Answered(since),
+        None => Turn::Quit,
+    }
+}
+
+// Takes a line of the standard input and answers it.
+fn take_turn<R: Files + Input + Print + AllocGlobal>(
     rt: &R,
     session: &mut Session<'_>,
     desk: &mut Desk,
-    json: bool,
-) -> Result<bool, Ended> {
+    beside: Beside<'_>,
+    style: Style<'_>,
+) -> Result<Turn, Ended> {
     let mut line = String::new(rt.alloc());
     match read_typed(rt, &mut line) {
-        Typed::Line => answer_line(rt, session, desk, line.trim().as_bytes(), json),
-        Typed::End => Ok(false),
-        Typed::NoText => answer_no_text(rt, session, json),
+        Typed::Line => {
+            let since = answer_line(rt, session, desk, beside, line.trim().as_bytes(), style)?;
+            Ok(turn_of(since))
+        }
+        Typed::End => Ok(Turn::End),
+        Typed::NoText => Ok(turn_of(answer_no_text(rt, session, style)?)),
         Typed::Memory => Err(Ended::from(AllocError)),
         Typed::Failed => Err(Ended::Read),
     }
@@ -213,22 +512,40 @@ pub struct Manner {
     pub json: bool,
 }
 
-// Answers lines of the standard input up to its end.
-fn converse<R: Input + Print + AllocGlobal>(
+// The status where the last line of the input had no answer, or was no question.
+const NO_ANSWER: u8 = 1;
+
+// Answers lines of the standard input up to its end, and gives the program's status.
+fn converse<R: Files + Input + Print + AllocGlobal>(
     rt: &R,
     session: &mut Session<'_>,
     desk: &mut Desk,
     manner: Manner,
-) -> Result<(), Ended> {
+    beside: Beside<'_>,
+) -> Result<u8, Ended> {
+    let mut since = Since {
+        repeats: false,
+        is_answer: true,
+    };
+    let mut known = KnownTimes::new(rt.alloc(), desk, beside.times)?;
     for _ in 0..u64::MAX {
         if manner.prompts {
             put(rt, PROMPT)?;
         }
-        if !turn(rt, session, desk, manner.json)? {
-            break;
+        let style = Style {
+            json: manner.json,
+            times: known.times(),
+            repeats: since.repeats && !manner.json,
+            all: false,
+        };
+        match take_turn(rt, session, desk, beside, style)? {
+            Turn::Answered(next) => since = next,
+            Turn::Quit => return Ok(0),
+            Turn::End => break,
         }
+        known.renew(rt.alloc(), desk, beside.times)?;
     }
-    Ok(())
+    Ok(if since.is_answer { 0 } else { NO_ANSWER })
 }
 
 // Tells what the recording has.
@@ -255,15 +572,27 @@ fn parts_of(observed: Option<&Observed>) -> (Option<&Observation>, &[u32]) {
     }
 }
 
+// A recording, and what was read of it: the files of the manifest and the trace, the bytes of what was observed, if it
+// was, and the times of labels.
+#[derive(Clone, Copy)]
+struct Beside<'a> {
+    recording: &'a str,
+    place: Place<'a>,
+    read: &'a Recording,
+    observed: Option<&'a [u8]>,
+    times: &'a [LabelTime],
+}
+
 // Tells what the recording has, and answers lines about it.
-fn asked<R: Input + Print + AllocGlobal>(
+fn asked<R: Files + Input + Print + AllocGlobal>(
     rt: &R,
     manifest: &Manifest,
     trace: &Trace,
+    beside: Beside<'_>,
     observed: Option<&Observed>,
     desk: &mut Desk,
     manner: Manner,
-) -> Result<(), Ended>
+) -> Result<u8, Ended>
     requires { length trace.now.lanes.items ≤ Trace.MAX_LANES }
 {
     let alloc = rt.alloc();
@@ -278,10 +607,13 @@ fn asked<R: Input + Print + AllocGlobal>(
         opening: &trace.opening,
         observation,
         edges,
+        times: &[],
+        files: &beside.read.files,
+        pools: manifest.pools(),
     };
     let edges = desk.history().graph().edges();
     put_opening(rt, turns.len(), edges, lanes, manner.json)?;
-    converse(rt, &mut session, desk, manner)
+    converse(rt, &mut session, desk, manner, beside)
 }
 
 // What the bytes of a file say of the commands of a desk's graph, if there is one.
@@ -297,59 +629,59 @@ fn seen_in(
 }
 
 // Answers lines about a trace and a desk of it.
-fn asked_at<R: Input + Print + AllocGlobal>(
+fn asked_at<R: Files + Input + Print + AllocGlobal>(
     rt: &R,
     manifest: &Manifest,
     trace: &Trace,
-    bytes: Option<&[u8]>,
+    beside: Beside<'_>,
     desk: &mut Desk,
     manner: Manner,
-) -> Result<(), Ended>
+) -> Result<u8, Ended>
     requires { length trace.now.lanes.items ≤ Trace.MAX_LANES }
 {
-    match seen_in(rt.alloc(), desk, bytes) {
-        Ok(observed) => asked(rt, manifest, trace, observed.as_ref(), desk, manner),
+    match seen_in(rt.alloc(), desk, beside.observed) {
+        Ok(observed) => asked(rt, manifest, trace, beside, observed.as_ref(), desk, manner),
         Err(fault) => Err(Ended::Recording(fault)),
     }
 }
 
 // Answers lines about a trace that was read.
-fn asked_of<R: Input + Print + AllocGlobal>(
+fn asked_of<R: Files + Input + Print + AllocGlobal>(
     rt: &R,
     manifest: &Manifest,
     trace: &Trace,
-    bytes: Option<&[u8]>,
+    beside: Beside<'_>,
     manner: Manner,
-) -> Result<(), Ended>
+) -> Result<u8, Ended>
     requires { length trace.now.lanes.items ≤ Trace.MAX_LANES }
 {
     let mut desk = match open(rt.alloc(), manifest, trace) {
         Ok(desk) => desk,
         Err(fault) => return Err(Ended::Recording(fault)),
     };
-    let ended = asked_at(rt, manifest, trace, bytes, &mut desk, manner);
+    let ended = asked_at(rt, manifest, trace, beside, &mut desk, manner);
     leave(desk);
     ended
 }
 
 // Answers lines about the bytes of a recording.
-fn asked_about<R: Input + Print + AllocGlobal>(
+fn asked_about<R: Files + Input + Print + AllocGlobal>(
     rt: &R,
-    read: &Recording,
-    bytes: Option<&[u8]>,
+    beside: Beside<'_>,
     manner: Manner,
-) -> Result<(), Ended> {
-    let manifest = match manifest_of(rt.alloc(), &read.files) {
+) -> Result<u8, Ended> {
+    let manifest = match manifest_of(rt.alloc(), &beside.read.files) {
         Ok(manifest) => manifest,
         Err(fault) => return Err(Ended::Recording(fault)),
     };
-    match trace_of(rt.alloc(), &read.trace) {
-        Ok(trace) => asked_of(rt, &manifest, &trace, bytes, manner),
+    match trace_of(rt.alloc(), &beside.read.trace) {
+        Ok(trace) => asked_of(rt, &manifest, &trace, beside, manner),
         Err(fault) => Err(Ended::Recording(fault)),
     }
 }
 
-/// Answers the lines of the standard input about a recording, up to `quit` or its end, and gives the program's status.
+/// Answers the lines of the standard input about a recording, up to `quit` or its end, and gives the program's status: 1
+/// where the last line of the input had no answer.
 pub fn ask<'a, R: Files + Input + Print + Eprint + AllocGlobal>(
     rt: &R,
     recording: &'a str,
@@ -358,8 +690,17 @@ pub fn ask<'a, R: Files + Input + Print + Eprint + AllocGlobal>(
     let place = place_of(rt, recording);
     let read = read_recording(rt, recording, place)?;
     let observed = read_observed(rt, recording, place)?;
-    match asked_about(rt, &read, observed.as_deref(), manner) {
-        Ok(()) => Ok(0),
+    let times = read_times(rt, recording, place)?;
+    let labels = label_times(rt.alloc(), &times)?;
+    let beside = Beside {
+        recording,
+        place,
+        read: &read,
+        observed: observed.as_deref(),
+        times: &labels,
+    };
+    match asked_about(rt, beside, manner) {
+        Ok(status) => Ok(status),
         Err(Ended::Write) => Err(ProgramFault::Write),
         Err(Ended::Read) => Err(ProgramFault::Read),
         Err(Ended::Recording(fault)) => refuse(rt, &read, &fault),

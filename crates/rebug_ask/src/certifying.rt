@@ -9,7 +9,9 @@ use crate::forms::{Form, certified_items, items_text};
 use crate::found::told_clashes;
 use crate::leaving::{Choice, Leaving};
 use crate::observed::{Observed, hidden_by, observed_in};
-use crate::seen::{conflict_findings_in, hidden_count, undeclared_in, unfiltered};
+use crate::seen::{
+    conflict_findings_in, hidden_count, undeclared_in, unfiltered, unlisted_count, unlisted_in,
+};
 use rev_certified::{Certificate, Marks, certify};
 use rev_conflicts::early_edges;
 use rev_conflicts_text::{Certified, Stale, Way};
@@ -178,7 +180,7 @@ fn count_of(marks: &[bool]) -> u64 {
 /// What a certificate is of, beside the bytes of the file `observed`.
 #[derive(Clone, Copy)]
 pub struct Grounds<'a> {
-    /// What is told of edges beside their numbers.
+    /// What answers say of edges beside their numbers.
     pub sources: Sources<'a>,
     /// The names of the files that the manifest was read from.
     pub files: &'a [Name],
@@ -213,7 +215,7 @@ fn told_of<'a>(
     let certificate = found.certificate;
     let observation = &observed.observation;
     let findings = conflict_findings_in(alloc, history, observation, &certificate.conflicts)?;
-    let findings = leaving.findings(alloc, sources, &findings)?;
+    let findings = leaving.findings(alloc, sources, findings)?;
     let clashes = told_clashes(alloc, sources.builds)?;
     let clashes = leaving.clashes(alloc, sources, &clashes)?;
     let unsure = leaving.ways(alloc, sources, found.ways)?;
@@ -234,14 +236,18 @@ fn told_of<'a>(
 }
 
 // What is written of what is told, and the status.
-fn written(
+fn written<'a>(
     alloc: Global,
-    grounds: Grounds<'_>,
-    told: &Certified<'_>,
+    grounds: Grounds<'a>,
+    told: &Certified<'a>,
     clashes: &[Clash],
 ) -> Result<Answer, AllocError> {
     let sources = &grounds.sources;
-    let items = certified_items(alloc, sources, told, clashes)?;
+    let items = if grounds.form.is_of_items() || grounds.choice.writes {
+        certified_items(alloc, sources, told, clashes)?
+    } else {
+        Vec::new(alloc)
+    };
     let text = if grounds.form == Form::Json {
         told.json(alloc, sources)?
     } else if grounds.form.is_of_items() {
@@ -284,6 +290,16 @@ pub fn certified_answer(
     let met = hidden_count(alloc, &all, conflicts)?;
     let sources = (files, grounds.sources.builds);
     let undeclared = undeclared_in(alloc, graph, sources, &observed, &hidden, conflicts)?;
+    let unlisted = unlisted_in(
+        alloc,
+        history,
+        sources,
+        &observed,
+        &hidden,
+        conflicts,
+        &undeclared,
+    )?;
+    let inputs = unlisted_count(alloc, graph, &observed, &unlisted)?;
     let found = Found {
         certificate: &certificate,
         ways: &ways,
@@ -291,6 +307,7 @@ pub fn certified_answer(
         hidden: met,
         stale: Stale {
             undeclared: undeclared.len() as u64,
+            unlisted: inputs,
         },
     };
     let (told, clashes) = told_of(alloc, history, grounds, &observed, &found)?;

@@ -142,11 +142,11 @@ fn read_trace<'a, R: Files + AllocGlobal>(
     }
 }
 
-/// The bytes of a file that may stand beside a trace, where there are no more than `most`; none where it is not there.
+/// The bytes of a file that may stand beside a trace, or nothing where it is not there.
 ///
 /// # Errors
-/// [`ProgramFault::Beside`] where it is there and is not read: it is no regular file of the recording's folder, it is
-/// too long, or the system refuses it; else [`ProgramFault::Memory`].
+/// [`ProgramFault::Beside`] where it is there and is not read: it is not a regular file of the recording's folder, it
+/// has more than `most` bytes, or the system refuses it; else [`ProgramFault::Memory`].
 pub fn read_beside<'a, R: Files + AllocGlobal>(
     rt: &R,
     recording: &'a str,

@@ -34,7 +34,7 @@ impl Form {
         }
     }
 
-    /// Whether items are told in this form.
+    /// Whether this form has items.
     pub fn is_of_items(self) -> bool {
         matches!(self, Form::Github | Form::Sarif | Form::Junit)
     }
@@ -108,7 +108,7 @@ pub fn push_findings<'a>(
             kind: finding_word(finding.kind),
             is_error: !finding.is_of_next_build(),
             path: finding.path.as_bytes(),
-            maker: sources.output(finding.maker),
+            maker: finding.maker_output(sources),
             user: sources.output(finding.user),
             file: file_of(place),
             line: place.line.unwrap_or(1),

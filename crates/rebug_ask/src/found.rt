@@ -1,4 +1,4 @@
-//! What a recording shows of races, as it is told.
+//! The races, clashes and failed commands of a recording, as answers have them.
 ghost use Rattle.rev_named.specs.Named.{AreLastComponents};
 
 use crate::hinted::are_whole;
@@ -348,16 +348,16 @@ fn is_named(named: &IndexMap<u64, &Name>, race: &Told<'_>) -> bool {
     }
 }
 
-/// What is told of races and of commands that failed.
+/// The races and the failed commands.
 #[derive(Drop)]
 pub struct Findings<'a> {
-    /// The races by lists, and then those that errors name. What is both is told once, as the error names it.
+    /// The races by lists, and then those that errors name. One that is both stands here once, as the error names it.
     pub races: Vec<Told<'a>>,
     /// The commands that failed.
     pub failures: Vec<Failure<'a>>,
 }
 
-/// What is told of a history, whose manifest was read from these files, with what its failed commands printed.
+/// The findings of a history, whose manifest was read from these files, with what its failed commands printed.
 pub fn findings_in<'a>(
     alloc: Global,
     history: &'a History,
@@ -397,8 +397,8 @@ fn push_clashes(
     Ok(())
 }
 
-/// The edges that have their depfile where an earlier one has its own, each with the first that has, and then those of
-/// which that is so of response files.
+/// The edges that have their depfile where an earlier one has its own, each with the first that has it there, and then
+/// the same of response files.
 pub fn told_clashes(alloc: Global, builds: &[Build]) -> Result<Vec<Clash>, AllocError> {
     let mut told = Vec::new(alloc);
     push_clashes(&mut told, alloc, SideFile::Depfile, builds)?;

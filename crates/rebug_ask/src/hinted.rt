@@ -1,6 +1,7 @@
 //! Hints: paths that a list has, and that were other names of outputs.
-ghost use Rattle.std.specs.Prelude.{◌≡◌, ◌<◌, length};
+ghost use Rattle.std.specs.Prelude.{◌≡◌, ◌<◌, length, OnOk};
 ghost use Rattle.rev_graph.specs.Graph.{successor_lists};
+ghost use Rattle.rev_races.specs.Searches.{AreKeptMakers, IsKept};
 ghost use Rattle.rev_ranks.specs.Graph.{graph_of};
 ghost use Rattle.rev_waits.specs.Waits.{phony_lists};
 
@@ -9,9 +10,9 @@ use rev_fields::{LineFault, path, read_fields};
 use rev_graph::Graph;
 use rev_history::History;
 use rev_paths::Name;
-use rev_races::listed;
+use rev_races::{KeptMakers, Search, listed, makers_of, no_makers, no_search, search_for};
 use rev_races_text::{Hint, Shown, Sources};
-use rev_waits::{makers, phony_steps, steps, waited_for};
+use rev_waits::{makers, phony_steps, steps};
 use std::alloc::{AllocError, Global};
 
 // The first line of a file of names.
@@ -109,7 +110,7 @@ fn makers_of_files(
 
 /// What hints by other names are looked for in.
 #[derive(Clone, Copy)]
-struct Search<'a, 'b> {
+struct Scope<'a, 'b> {
     history: &'a History,
     names: &'a IndexMap<Name, Name>,
     sources: &'b Sources<'a>,
@@ -118,46 +119,86 @@ struct Search<'a, 'b> {
     whole: &'b [bool],
 }
 
+// Adds the hints of an edge by a path that it lists, another name of an output: one for each edge that makes this for
+// which it does not wait.
+fn add_hints_by<'a>(
+    alloc: Global,
+    scope: &Scope<'a, '_>,
+    phony: &[Vec<u32>],
+    waited: &[bool],
+    user: u32,
+    path: &'a Name,
+    output: &'a Name,
+    kept: &mut KeptMakers,
+    hints: &mut Vec<Hint<'a>>,
+) -> Result<(), AllocError>
+    requires phony { graph_of phony.now ≡ phony_lists scope.now.history.now.timeline.manifest.builds }
+    requires kept { AreKeptMakers scope.now.history.now.timeline.manifest.builds kept.old.phony kept.old.makers.items }
+    ensures { OnOk result
+        (AreKeptMakers scope.now.history.now.timeline.manifest.builds kept.new.phony kept.new.makers.items) }
+{
+    let makers = makers_of(alloc, scope.history.graph(), phony, output, kept)?;
+    for maker in &makers {
+        let maker = *maker;
+        if maker != user
+            && !is_marked(waited, maker)
+            && !is_marked(scope.early, maker)
+            && !are_whole(scope.whole, user, &[maker])
+        {
+            hints.push(Hint {
+                maker: scope.sources.edge(maker),
+                output: Shown(output.as_bytes()),
+                path: Shown(path.as_bytes()),
+                user: scope.sources.edge(user),
+            })?;
+        }
+    }
+    Ok(())
+}
+
 // Adds the hints of an edge: each listed path that is another name of what an edge makes for which it does not wait.
 fn add_hints<'a>(
     alloc: Global,
-    search: &Search<'a, '_>,
+    scope: &Scope<'a, '_>,
     steps: &[Vec<u32>],
     phony: &[Vec<u32>],
     user: u32,
+    search: &mut Search,
+    kept: &mut KeptMakers,
     hints: &mut Vec<Hint<'a>>,
 ) -> Result<(), AllocError>
-    requires user { user < length search.now.history.now.timeline.manifest.builds }
-    requires steps { graph_of steps.now ≡ successor_lists search.now.history.now.timeline.manifest.builds }
-    requires phony { graph_of phony.now ≡ phony_lists search.now.history.now.timeline.manifest.builds }
+    requires user { user < length scope.now.history.now.timeline.manifest.builds }
+    requires steps { graph_of steps.now ≡ successor_lists scope.now.history.now.timeline.manifest.builds }
+    requires phony { graph_of phony.now ≡ phony_lists scope.now.history.now.timeline.manifest.builds }
+    requires search { IsKept scope.now.history.now.timeline.manifest.builds search.old.edge search.old.waited.items }
+    requires kept { AreKeptMakers scope.now.history.now.timeline.manifest.builds kept.old.phony kept.old.makers.items }
+    ensures search { OnOk result
+        (IsKept scope.now.history.now.timeline.manifest.builds search.new.edge search.new.waited.items) }
+    ensures kept { OnOk result
+        (AreKeptMakers scope.now.history.now.timeline.manifest.builds kept.new.phony kept.new.makers.items) }
 {
-    let graph = search.history.graph();
-    let Some(paths) = listed(search.history, user) else {
+    let Some(paths) = listed(scope.history, user) else {
         return Ok(());
     };
-    if !has_other(search.names, paths) {
+    if !has_other(scope.names, paths) {
         return Ok(());
     }
-    let waited = waited_for(alloc, graph, steps, user)?;
+    search_for(alloc, scope.history.graph(), steps, user, search)?;
     let mut seen = IndexSet::new(alloc);
     for path in paths {
-        if let Some(output) = search.names.get(path) {
+        if let Some(output) = scope.names.get(path) {
             if seen.insert(path.as_bytes())? {
-                for maker in &makers(alloc, graph, phony, output)? {
-                    let maker = *maker;
-                    if maker != user
-                        && !is_marked(&waited, maker)
-                        && !is_marked(search.early, maker)
-                        && !are_whole(search.whole, user, &[maker])
-                    {
-                        hints.push(Hint {
-                            maker: search.sources.edge(maker),
-                            output: Shown(output.as_bytes()),
-                            path: Shown(path.as_bytes()),
-                            user: search.sources.edge(user),
-                        })?;
-                    }
-                }
+                add_hints_by(
+                    alloc,
+                    scope,
+                    phony,
+                    &search.waited,
+                    user,
+                    path,
+                    output,
+                    kept,
+                    hints,
+                )?;
             }
         }
     }
@@ -183,15 +224,26 @@ pub fn hints_in<'a>(
     let steps = steps(alloc, graph)?;
     let phony = phony_steps(alloc, graph)?;
     let early = makers_of_files(alloc, graph, &phony, files)?;
-    let search = Search {
+    let scope = Scope {
         history,
         names,
         sources,
         early: &early,
         whole,
     };
+    let mut search = no_search(alloc);
+    let mut kept = no_makers(alloc);
     for user in 0..graph.edges() {
-        add_hints(alloc, &search, &steps, &phony, user, &mut hints)?;
+        add_hints(
+            alloc,
+            &scope,
+            &steps,
+            &phony,
+            user,
+            &mut search,
+            &mut kept,
+            &mut hints,
+        )?;
     }
     Ok(hints)
 }

@@ -1,4 +1,4 @@
-//! Which findings filters and a baseline leave out of what is told.
+//! Which findings filters and a baseline leave out of an answer.
 use crate::observed::{FilterTexts, filters_in};
 use indexmap::IndexSet;
 use rev_baseline::{Baseline, Fault, ReadFault};
@@ -19,10 +19,18 @@ pub struct Choice<'a> {
     pub writes: bool,
 }
 
+impl Choice<'_> {
+    // Whether there is a text of filters.
+    fn has_filters(&self) -> bool {
+        self.filters.beside.is_some() || self.filters.named.is_some()
+    }
+}
+
 /// Filters and a baseline, and how many findings they left out.
 pub struct Leaving {
     filters: Vec<Filters>,
-    baseline: Baseline,
+    has_filters: bool,
+    baseline: Option<Baseline>,
     hidden: u64,
     known: u64,
     ignored: u64,
@@ -33,6 +41,7 @@ impl Drop for Leaving {
     fn drop(self) {
         let Leaving {
             filters: _filters,
+            has_filters: _has_filters,
             baseline: _baseline,
             hidden: _hidden,
             known: _known,
@@ -41,13 +50,16 @@ impl Drop for Leaving {
     }
 }
 
-// The baseline that a text says; one that knows nothing where there is no text.
-fn baseline_of(alloc: Global, text: Option<&[u8]>) -> Result<Baseline, RecordingFault> {
-    let Some(text) = text else {
-        return Ok(Baseline::nothing(alloc));
-    };
+// The baseline that a text says. Where `writes` holds, a baseline is to be written that knows all that is found, so this
+// one only ignores.
+fn baseline_of(alloc: Global, text: &[u8], writes: bool) -> Result<Baseline, RecordingFault> {
     match Baseline::read(alloc, text) {
-        Ok(baseline) => Ok(baseline),
+        Ok(mut baseline) => {
+            if writes {
+                baseline.forget();
+            }
+            Ok(baseline)
+        }
         Err(ReadFault::Memory) => Err(RecordingFault::Memory),
         Err(ReadFault::Numbered(Fault { kind, line })) => {
             Err(RecordingFault::Observed(ObservedFault {
@@ -72,12 +84,13 @@ impl Leaving {
     /// [`RecordingFault::Observed`] with the first fault of a text; [`RecordingFault::Memory`] only where an allocation
     /// was refused.
     pub fn new(alloc: Global, choice: Choice<'_>) -> Result<Leaving, RecordingFault> {
-        let mut baseline = baseline_of(alloc, choice.baseline)?;
-        if choice.writes {
-            baseline.forget();
-        }
+        let baseline = match choice.baseline {
+            Some(text) => Some(baseline_of(alloc, text, choice.writes)?),
+            None => None,
+        };
         Ok(Leaving {
             filters: filters_in(alloc, choice.filters)?,
+            has_filters: choice.has_filters(),
             baseline,
             hidden: 0,
             known: 0,
@@ -85,20 +98,46 @@ impl Leaving {
         })
     }
 
+    // Whether there is a baseline. A stable name costs a digest, so without a baseline no finding is named here.
+    fn has_baseline(&self) -> bool {
+        self.baseline.is_some()
+    }
+
+    // Whether races by lists can be left out: there is a baseline, or a text of filters.
+    fn can_leave_races(&self) -> bool {
+        self.has_filters || self.has_baseline()
+    }
+
+    // Whether the baseline knows a finding.
+    fn knows(&self, id: Id) -> bool {
+        match &self.baseline {
+            Some(baseline) => baseline.knows(id),
+            None => false,
+        }
+    }
+
+    // Whether the baseline ignores findings about a path.
+    fn ignores(&self, alloc: Global, path: &[u8]) -> Result<bool, AllocError> {
+        match &self.baseline {
+            Some(baseline) => baseline.ignores(alloc, path),
+            None => Ok(false),
+        }
+    }
+
     // Whether a finding about a path is left out; counts it then.
     fn leaves(&mut self, alloc: Global, id: Id, path: &[u8]) -> Result<bool, AllocError> {
-        if self.baseline.knows(id) {
+        if self.knows(id) {
             self.known = u64::saturating_add(self.known, 1);
             return Ok(true);
         }
-        if self.baseline.ignores(alloc, path)? {
+        if self.ignores(alloc, path)? {
             self.ignored = u64::saturating_add(self.ignored, 1);
             return Ok(true);
         }
         Ok(false)
     }
 
-    /// The findings by an observation that are told.
+    /// The findings by an observation that are left.
     ///
     /// # Errors
     /// [`AllocError`] only where an allocation was refused.
@@ -106,10 +145,13 @@ impl Leaving {
         &mut self,
         alloc: Global,
         sources: &Sources<'a>,
-        findings: &[Finding<'a>],
+        findings: Vec<Finding<'a>>,
     ) -> Result<Vec<Finding<'a>>, AllocError> {
+        if !self.has_baseline() {
+            return Ok(findings);
+        }
         let mut told = Vec::new(alloc);
-        for finding in findings {
+        for finding in &findings {
             if !self.leaves(alloc, finding.id(sources), finding.path.as_bytes())? {
                 told.push(*finding)?;
             }
@@ -138,7 +180,21 @@ impl Leaving {
         Ok(told)
     }
 
-    /// The races that are told. Each is told that the error of a failed command names.
+    // Whether a race that no filter hides is left. Counts it where it is not.
+    fn is_told(
+        &mut self,
+        alloc: Global,
+        sources: &Sources<'_>,
+        race: &Told<'_>,
+    ) -> Result<bool, AllocError> {
+        if is_named(race) || !self.has_baseline() {
+            return Ok(true);
+        }
+        let is_left = self.leaves(alloc, sources.race_id(race), race.path.as_bytes())?;
+        Ok(!is_left)
+    }
+
+    /// The races that are left. A race that the error of a failed command names is never left out.
     ///
     /// # Errors
     /// [`AllocError`] only where an allocation was refused.
@@ -146,18 +202,21 @@ impl Leaving {
         &mut self,
         alloc: Global,
         sources: &Sources<'a>,
-        races: &[Told<'a>],
+        races: Vec<Told<'a>>,
     ) -> Result<Vec<Told<'a>>, AllocError> {
+        if !self.can_leave_races() {
+            return Ok(races);
+        }
         let mut told = Vec::new(alloc);
-        for race in &self.unhidden(alloc, races)? {
-            if is_named(race) || !self.leaves(alloc, sources.race_id(race), race.path.as_bytes())? {
+        for race in &self.unhidden(alloc, &races)? {
+            if self.is_told(alloc, sources, race)? {
                 told.push(*race)?;
             }
         }
         Ok(told)
     }
 
-    /// The clashes of side files that are told.
+    /// The clashes of side files that are left.
     ///
     /// # Errors
     /// [`AllocError`] only where an allocation was refused.
@@ -173,7 +232,8 @@ impl Leaving {
                 Some(path) => path.0,
                 None => b"",
             };
-            if !self.leaves(alloc, sources.clash_id(clash), path)? {
+            let is_left = self.has_baseline() && self.leaves(alloc, sources.clash_id(clash), path)?;
+            if !is_left {
                 told.push(*clash)?;
             }
         }
@@ -182,14 +242,14 @@ impl Leaving {
 
     // Whether it is known that a command stands in the way of a certificate; counts it then.
     fn knows_way(&mut self, sources: &Sources<'_>, edge: u32) -> bool {
-        let is_known = self.baseline.knows(sources.way_id(edge));
+        let is_known = self.has_baseline() && self.knows(sources.way_id(edge));
         if is_known {
             self.known = u64::saturating_add(self.known, 1);
         }
         is_known
     }
 
-    /// The commands that are told of those that ran and stand in the way of a certificate.
+    /// The commands that ran and stand in the way of a certificate, those that are left.
     ///
     /// # Errors
     /// [`AllocError`] only where an allocation was refused.
@@ -208,7 +268,7 @@ impl Leaving {
         Ok(told)
     }
 
-    /// The commands that are told of those that did not run and stand in the way of a certificate.
+    /// The commands that did not run and stand in the way of a certificate, those that are left.
     ///
     /// # Errors
     /// [`AllocError`] only where an allocation was refused.

@@ -17,6 +17,7 @@ mod provoked;
 mod reporting;
 mod seen;
 mod statements;
+mod timelining;
 mod times;
 mod told;
 
@@ -29,6 +30,7 @@ use rev_program::{ProgramFault, USAGE, explain, fail, words};
 use std::io::IsTerminal;
 use std::process::ExitCode;
 use std::rt::Files;
+use timelining::timelined;
 use told::{How, Question, say, tell};
 
 // The form of the answer of `races` or `certify`, or a sentence that says why that is not asked well.
@@ -113,6 +115,9 @@ fn answer<'a, R: Files + Input + Print + Eprint + AllocGlobal>(
     }
     if asked.word == Word::Picture {
         return picture(rt, &asked);
+    }
+    if asked.word == Word::Timeline {
+        return timelined(rt, &asked);
     }
     match question_of(&asked) {
         Ok(question) => tell(rt, question),

@@ -1,4 +1,9 @@
 //! What mends the races of a recording: a patch of its manifest, or what to tell the generator that wrote it.
+ghost use Rattle.std.specs.Prelude.{◌≡◌, OnOk};
+ghost use Rattle.rev_graph.specs.Graph.{successor_lists};
+ghost use Rattle.rev_races.specs.Searches.{IsKept};
+ghost use Rattle.rev_ranks.specs.Graph.{graph_of};
+
 use crate::statements::{Statement, patch_name, push_patches, statement_at, statements_of};
 use rev_clashes::SideFile;
 use rev_conflicts_text::Finding;
@@ -7,9 +12,10 @@ use rev_manifest::Manifest;
 use rev_patch::{Author, Change, author_of};
 use rev_patched::{Order, patch_for, writable_output};
 use rev_paths::Name;
+use rev_races::{Search, no_search, search_for};
 use rev_races_text::{Clash, Kind, Sources, Told, push_clash, push_edge, push_placed};
 use rev_shown::push_shown;
-use rev_waits::{steps, waited_for};
+use rev_waits::steps;
 use std::alloc::{AllocError, Global};
 
 // The most mends that are tried one after the other where all of them together make a cycle.
@@ -96,20 +102,52 @@ fn once(alloc: Global, all: &[Mend]) -> Result<Vec<Mend>, AllocError> {
 fn waits_back(
     alloc: Global,
     graph: &Graph,
+    steps: &[Vec<u32>],
     maker: u32,
     statement: &[Statement],
-) -> Result<bool, AllocError> {
+    search: &mut Search,
+) -> Result<bool, AllocError>
+    requires steps { graph_of steps.now ≡ successor_lists graph.now.manifest.builds }
+    requires kept { IsKept graph.now.manifest.builds search.old.edge search.old.waited.items }
+    ensures { OnOk result (IsKept graph.now.manifest.builds search.new.edge search.new.waited.items) }
+{
     if maker >= graph.edges() {
         return Ok(false);
     }
-    let steps = steps(alloc, graph)?;
-    let waited = waited_for(alloc, graph, &steps, maker)?;
+    search_for(alloc, graph, steps, maker, search)?;
     for other in statement {
-        if other.edge == maker || waited.get(other.edge as usize).copied().unwrap_or(false) {
+        if other.edge == maker
+            || search
+                .waited
+                .get(other.edge as usize)
+                .copied()
+                .unwrap_or(false)
+        {
             return Ok(true);
         }
     }
     Ok(false)
+}
+
+// For each mend whether its statement makes several edges, for one of which the maker waits, or which it is.
+fn shared(
+    alloc: Global,
+    graph: &Graph,
+    statements: &[Statement],
+    mends: &[Mend],
+) -> Result<Vec<bool>, AllocError> {
+    let steps = steps(alloc, graph)?;
+    let mut search = no_search(alloc);
+    let mut marks = Vec::new(alloc);
+    for mend in mends {
+        let statement = statement_at(statements, mend.file, mend.line);
+        let mut back = false;
+        if statement.len() > 1 {
+            back = waits_back(alloc, graph, &steps, mend.maker, statement, &mut search)?;
+        }
+        marks.push(back)?;
+    }
+    Ok(marks)
 }
 
 // What a patch is made of: the files, the manifest that they say, its graph, and the statements of its edges.
@@ -122,16 +160,16 @@ struct Patched<'a> {
 }
 
 impl<'a> Patched<'a> {
-    // Why a mend is in no patch, whatever other mends there are.
-    fn left(self, alloc: Global, mend: Mend) -> Result<Option<Left>, AllocError> {
+    // Why a mend is in no patch, whatever other mends there are. `shared` says that its statement makes an edge for
+    // which the maker waits.
+    fn left(self, alloc: Global, mend: Mend, shared: bool) -> Result<Option<Left>, AllocError> {
         if self.output(mend.maker).is_none() {
             return Ok(Some(Left::Unwritable));
         }
         if !self.is_found(alloc, mend.file)? {
             return Ok(Some(Left::Elsewhere));
         }
-        let statement = statement_at(self.statements, mend.file, mend.line);
-        if statement.len() > 1 && waits_back(alloc, self.graph, mend.maker, statement)? {
+        if shared {
             return Ok(Some(Left::Shared));
         }
         Ok(None)
@@ -205,9 +243,10 @@ impl<'a> Patched<'a> {
         text: &mut Vec<u8>,
         mends: &[Mend],
     ) -> Result<Vec<Mend>, AllocError> {
+        let shared = shared(alloc, self.graph, self.statements, mends)?;
         let mut taken = Vec::new(alloc);
-        for mend in mends {
-            match self.left(alloc, *mend)? {
+        for (mend, shared) in mends.iter().zip(shared.iter()) {
+            match self.left(alloc, *mend, *shared)? {
                 Some(left) => self.push_left(text, *mend, left)?,
                 None => taken.push(*mend)?,
             }
@@ -319,7 +358,13 @@ fn push_findings(
     findings: &[Finding<'_>],
 ) -> Result<(), AllocError> {
     for finding in findings {
-        if !finding.is_mended_by_order() {
+        if finding.is_to_be_listed() {
+            text.extend_from_slice(b"# behind a | among its inputs, ")?;
+            push_placed(text, sources, finding.user)?;
+            text.extend_from_slice(b" is to name ")?;
+            push_shown(text, finding.path.as_bytes())?;
+            text.extend_from_slice(b"\n")?;
+        } else if !finding.is_mended_by_order() {
             text.extend_from_slice(b"# no order mends that ")?;
             push_placed(text, sources, finding.user)?;
             text.extend_from_slice(b" meets ")?;
@@ -374,9 +419,10 @@ fn push_patch(
     patched.push(alloc, text, mends)
 }
 
-/// What mends races, where an order does: a patch of the manifest's files, or, where a generator wrote them, what it is
-/// to be told. A line that is no part of the patch begins with `#`: what no order mends, clashes among it, and which
-/// orders the patch cannot have. The patched files say the manifest with the orders of the patch and nothing else.
+/// What mends races, where an order does: a patch of the manifest's files, or, where a generator wrote them, the lines
+/// that the generator has to write. A line outside of the patch begins with `#`: what no order mends, clashes among it,
+/// and which orders the patch cannot have. The patched files say the manifest with the orders of the patch and nothing
+/// else.
 ///
 /// # Errors
 /// [`AllocError`] only where an allocation was refused.

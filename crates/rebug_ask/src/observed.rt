@@ -7,7 +7,7 @@ ghost use Rattle.rev_observed.specs.Observations.{outputs_of};
 use crate::files::{Place, read_beside};
 use rev_filters::Filters;
 use rev_graph::Graph;
-use rev_observed::{JoinFault, Observation, ReadFault, edges, read};
+use rev_observed::{JoinFault, Observation, ReadFault, command_line, edges, read};
 use rev_program::ProgramFault;
 use rev_recording::{ObservedFault, RecordingFault};
 use std::alloc::{AllocError, Global};
@@ -46,7 +46,7 @@ pub fn read_observed<'a, R: Files + AllocGlobal>(
     read_beside(rt, recording, place, "observed", OBSERVED_BYTES)
 }
 
-/// The bytes of the file that says of which paths nothing is to be told; none where there is no such file.
+/// The bytes of the file that says which paths answers leave out, or nothing where there is not such a file.
 ///
 /// # Errors
 /// As [`read_beside`].
@@ -58,8 +58,8 @@ pub fn read_filters<'a, R: Files + AllocGlobal>(
     read_beside(rt, recording, place, "filters", OBSERVED_BYTES)
 }
 
-/// The texts that say of which paths nothing is to be told: that of the file beside the trace, and that of the file which
-/// the user names, where there are such files.
+/// The texts that say which paths answers leave out: that of the file beside the trace, and that of the file which the
+/// user names, where there are such files.
 #[derive(Clone, Copy)]
 pub struct FilterTexts<'a> {
     /// The file beside the trace.
@@ -99,7 +99,7 @@ pub fn filters_in(alloc: Global, texts: FilterTexts<'_>) -> Result<Vec<Filters>,
     Ok(filters)
 }
 
-/// A mark for each path of an observation: nothing is told of what the filters hide that these texts say.
+/// A mark for each path of an observation: whether the filters of these texts hide it.
 ///
 /// # Errors
 /// As [`filters_in`].
@@ -133,20 +133,16 @@ pub fn hidden_in(
     hidden_by(alloc, observation, texts)
 }
 
-// The line of a command of the file by its place among the commands, which counts from 0; lines count from 1.
-fn line_of(bytes: &[u8], place: usize) -> u64 {
-    let mut left = place;
-    let mut number = 0u64;
-    for line in bytes.split(|byte| *byte == b'\n') {
-        number = u64::saturating_add(number, 1);
-        if line.starts_with(b"edge ") {
-            if left == 0 {
-                return number;
-            }
-            left -= 1;
-        }
+// The fault of a command whose output is no edge's first, with the line that names it.
+fn lost_edge(alloc: Global, bytes: &[u8], place: usize) -> RecordingFault {
+    match command_line(alloc, bytes, place) {
+        Ok(line) => RecordingFault::Observed(ObservedFault {
+            file: "observed",
+            line: line.unwrap_or(0),
+            code: ObservedFault::NO_SUCH_EDGE,
+        }),
+        Err(AllocError) => RecordingFault::Memory,
     }
-    number
 }
 
 // What the bytes of the file say.
@@ -176,11 +172,7 @@ fn edges_in(
     match edges(alloc, graph, observation) {
         Ok(edges) => Ok(edges),
         Err(JoinFault::Memory) => Err(RecordingFault::Memory),
-        Err(JoinFault::NoSuchEdge(place)) => Err(RecordingFault::Observed(ObservedFault {
-            file: "observed",
-            line: line_of(bytes, place),
-            code: ObservedFault::NO_SUCH_EDGE,
-        })),
+        Err(JoinFault::NoSuchEdge(place)) => Err(lost_edge(alloc, bytes, place)),
     }
 }
 

@@ -31,13 +31,17 @@ struct Wish {
     event: Option<u32>,
 }
 
-// What a picture is made of, beside the desk of the recording.
+/// What a picture or a timeline is made of, beside the desk of the recording.
 #[derive(Clone, Copy)]
-struct Bytes<'a> {
-    read: &'a Recording,
-    times: &'a [u8],
-    observed: Option<&'a [u8]>,
-    filters: Option<&'a [u8]>,
+pub struct Bytes<'a> {
+    /// The manifest's files and the trace.
+    pub read: &'a Recording,
+    /// The file `times`; empty where there is none.
+    pub times: &'a [u8],
+    /// The file `observed`, where there is one.
+    pub observed: Option<&'a [u8]>,
+    /// The file `filters`, where there is one.
+    pub filters: Option<&'a [u8]>,
 }
 
 // What came of it.
@@ -48,10 +52,12 @@ enum Made {
     NoEvent(u32),
 }
 
-// What was observed of a recording, and the conflicts of it.
-struct Sight {
-    observed: Observed,
-    conflicts: Vec<Conflict>,
+/// What was observed of a recording, and the conflicts of it.
+pub struct Sight {
+    /// What was observed.
+    pub observed: Observed,
+    /// The conflicts.
+    pub conflicts: Vec<Conflict>,
 }
 
 // Written, since a derived drop is proved again at each exit of each caller.
@@ -97,8 +103,12 @@ fn sight_of(
     })
 }
 
-// The same where something was observed.
-fn maybe_sight_of(
+/// What was observed of a history, and the conflicts of it, where something was observed.
+///
+/// # Errors
+/// [`RecordingFault::Observed`] where the bytes that were observed, or those of the filters, have a fault;
+/// [`RecordingFault::Memory`] only where an allocation was refused.
+pub fn maybe_sight_of(
     alloc: Global,
     history: &History,
     files: &[Name],
@@ -120,8 +130,11 @@ fn running_count(alloc: Global, history: &History) -> Result<u64, AllocError> {
     )
 }
 
-// How much of a recording counts whose trace has so many commands, a line for each reason why that is not all of it.
-fn replayed_text(alloc: Global, desk: &Desk, commands: u64) -> Result<Vec<u8>, AllocError> {
+/// How much of a recording counts whose trace has so many commands, a line for each reason why that is not all of it.
+///
+/// # Errors
+/// [`AllocError`] only where an allocation was refused.
+pub fn replayed_text(alloc: Global, desk: &Desk, commands: u64) -> Result<Vec<u8>, AllocError> {
     let said = desk.journal().len() as u64;
     let replayed = Replayed {
         commands: said,
@@ -274,8 +287,11 @@ fn wish_of(asked: &Asked<'_>) -> Result<Wish, &'static str> {
     })
 }
 
-// Writes the picture to its file, or to the standard output.
-fn put<'a, R: Files + Print>(
+/// Writes a picture or a timeline to its file, or to the standard output.
+///
+/// # Errors
+/// [`ProgramFault::Out`] where the file is not written.
+pub fn put<'a, R: Files + Print>(
     rt: &R,
     out: Option<&'a str>,
     text: &[u8],
@@ -296,8 +312,8 @@ fn say_no_event<R: Eprint>(rt: &R, last: u32) {
     );
 }
 
-// Says lines, if there are any.
-fn say_lines<R: Eprint + AllocGlobal>(rt: &R, lines: &[u8]) {
+/// Says lines, if there are any.
+pub fn say_lines<R: Eprint + AllocGlobal>(rt: &R, lines: &[u8]) {
     for line in lines.split(|byte| *byte == b'\n') {
         if !line.is_empty() {
             rev_program::say(rt, line);

@@ -14,7 +14,7 @@ use std::alloc::{AllocError, Global};
 /// What a report is made of, beside the desk of a recording that was replayed.
 #[derive(Clone, Copy)]
 pub struct Basis<'a> {
-    /// What is told of edges beside their numbers.
+    /// What answers say of edges beside their numbers.
     pub sources: Sources<'a>,
     /// The names of the files that the manifest was read from.
     pub files: &'a [Name],
@@ -80,7 +80,7 @@ fn report_with<'a>(
     })
 }
 
-/// What is reported of the desk of a recording that was replayed, but for hints and for what an observation shows.
+/// What is reported of the desk of a recording that was replayed, without hints and without what an observation shows.
 ///
 /// # Errors
 /// [`AllocError`] only where an allocation was refused.

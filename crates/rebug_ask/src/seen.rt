@@ -7,17 +7,18 @@ ghost use Rattle.rev_observed.specs.Observations.{outputs_of};
 use crate::observed::{FilterTexts, Observed, hidden_by, observed_in};
 use rev_conflicts::{Conflict, Place, conflicts};
 use rev_conflicts_text::{
-    Finding, add_undeclared, conflict_findings, conflicts_left, races_left, seen_in,
+    Finding, add_undeclared, add_unlisted, conflict_findings, conflicts_left, races_left, seen_in,
 };
 use rev_graph::Graph;
 use rev_history::History;
 use rev_manifest::Build;
 use rev_observed::Observation;
 use rev_paths::Name;
-use rev_races::{Kind, Race, stories};
+use rev_races::{Kind, Race, finished_edges, stories};
 use rev_races_text::{Report, Story, Told};
 use rev_recording::RecordingFault;
 use rev_undeclared::{Undeclared, undeclared_files};
+use rev_unlisted::{Unlisted, unlisted_files};
 use std::alloc::{AllocError, Global};
 
 /// What commands were seen to do, and what follows.
@@ -26,8 +27,10 @@ pub struct Sight {
     pub observed: Observed,
     /// What two commands do at one place.
     pub conflicts: Vec<Conflict>,
-    /// What commands leave that is no output of theirs.
+    /// The files that commands leave beside their outputs.
     pub undeclared: Vec<Undeclared>,
+    /// The files that commands read beside their inputs and lists.
+    pub unlisted: Vec<Unlisted>,
     /// For each edge whether its command was observed whole.
     pub whole: Vec<bool>,
     /// The conflicts where nothing is hidden; none where nothing is.
@@ -43,6 +46,7 @@ impl Drop for Sight {
             observed: _observed,
             conflicts: _conflicts,
             undeclared: _undeclared,
+            unlisted: _unlisted,
             whole: _whole,
             unfiltered: _unfiltered,
             hidden: _hidden,
@@ -135,8 +139,8 @@ pub fn unfiltered(
     conflicts_of(alloc, graph, files, observed, &none)
 }
 
-/// In how many places commands meet that filters hide: those of all conflicts, but for those of the conflicts that are
-/// told.
+/// In how many places commands meet that filters hide: those of all conflicts, less those of the conflicts that are
+/// left.
 ///
 /// # Errors
 /// [`AllocError`] only where an allocation was refused.
@@ -146,7 +150,7 @@ pub fn hidden_count(alloc: Global, all: &[Conflict], told: &[Conflict]) -> Resul
     Ok((all.len() as u64).saturating_sub(told.len() as u64))
 }
 
-/// The files that commands leave and that are no outputs of theirs, beside conflicts.
+/// The files that commands leave beside their outputs, without those of conflicts.
 ///
 /// # Errors
 /// [`AllocError`] only where an allocation was refused.
@@ -177,29 +181,92 @@ pub fn undeclared_in(
     )
 }
 
-/// What the bytes of the file `observed` say of the commands of a graph, but for what the filters hide that other bytes
-/// say. `sources` has the files that the manifest was read from, and its edges.
+/// The files that commands read though neither their line nor their list has them, without those that stronger findings
+/// are about. Each has its cover. Commands that did not end well have none.
+///
+/// # Errors
+/// [`AllocError`] where an allocation was refused, or edges and paths together are 2^32 or more.
+pub fn unlisted_in(
+    alloc: Global,
+    history: &History,
+    sources: (&[Name], &[Build]),
+    observed: &Observed,
+    hidden: &[bool],
+    conflicts: &[Conflict],
+    undeclared: &[Undeclared],
+) -> Result<Vec<Unlisted>, AllocError>
+    requires edges { map Some observed.now.edges.items
+        ≡ map (edge_of history.now.timeline.manifest.builds) (outputs_of observed.now.observation.commands) }
+    requires within { AllByRecursion (λ edge. edge < length history.now.timeline.manifest.builds)
+        observed.now.edges.items }
+    requires hidden { length hidden.now ≡ length observed.now.observation.paths }
+{
+    let (files, builds) = sources;
+    let observation = &observed.observation;
+    let unlisted = unlisted_files(
+        alloc,
+        history,
+        files,
+        builds,
+        observation,
+        &observed.edges,
+        hidden,
+        conflicts,
+        undeclared,
+    )?;
+    ended_well(alloc, history, &unlisted)
+}
+
+// The unlisted files of commands that ended well. One that failed left no list, and Ninja runs it again in any case.
+fn ended_well(
+    alloc: Global,
+    history: &History,
+    unlisted: &[Unlisted],
+) -> Result<Vec<Unlisted>, AllocError> {
+    let ended = finished_edges(alloc, history)?;
+    let mut files = Vec::new(alloc);
+    for file in unlisted {
+        if ended.get(file.user as usize).copied().unwrap_or(false) {
+            files.push(*file)?;
+        }
+    }
+    Ok(files)
+}
+
+/// What the bytes of the file `observed` say of the commands of a history, without what the filters of other bytes hide.
+/// `sources` has the files that the manifest was read from, and its edges.
 ///
 /// # Errors
 /// As [`observed_in`].
 pub fn sight_in(
     alloc: Global,
-    graph: &Graph,
+    history: &History,
     sources: (&[Name], &[Build]),
     bytes: &[u8],
     filters: FilterTexts<'_>,
 ) -> Result<Sight, RecordingFault> {
+    let graph = history.graph();
     let observed = observed_in(alloc, graph, bytes)?;
     let marks = hidden_by(alloc, &observed.observation, filters)?;
     let conflicts = conflicts_of(alloc, graph, sources.0, &observed, &marks)?;
     let unfiltered = unfiltered(alloc, graph, sources.0, &observed, &marks)?;
     let hidden = hidden_count(alloc, &unfiltered, &conflicts)?;
     let undeclared = undeclared_in(alloc, graph, sources, &observed, &marks, &conflicts)?;
+    let unlisted = unlisted_in(
+        alloc,
+        history,
+        sources,
+        &observed,
+        &marks,
+        &conflicts,
+        &undeclared,
+    )?;
     let whole = whole_edges(alloc, graph.edges(), &observed)?;
     Ok(Sight {
         observed,
         conflicts,
         undeclared,
+        unlisted,
         whole,
         unfiltered,
         hidden,
@@ -243,7 +310,7 @@ fn stories_of(
     stories(alloc, history, &races)
 }
 
-/// What is told by an observation beside the races of a report that errors name; nothing where there is none.
+/// The findings by an observation, without the races of a report that errors name; nothing without an observation.
 ///
 /// # Errors
 /// [`AllocError`] only where an allocation was refused.
@@ -265,10 +332,17 @@ pub fn seen_findings<'a>(
         &sight.undeclared,
         &mut findings,
     )?;
+    add_unlisted(
+        alloc,
+        history.graph(),
+        observation,
+        &sight.unlisted,
+        &mut findings,
+    )?;
     Ok(findings)
 }
 
-/// Conflicts of commands of a history, as they are told.
+/// Conflicts of commands of a history, as findings.
 ///
 /// # Errors
 /// [`AllocError`] only where an allocation was refused.
@@ -282,7 +356,7 @@ pub fn conflict_findings_in<'a>(
     conflict_findings(alloc, history.graph(), observation, conflicts, &stories)
 }
 
-/// Counts what is told by an observation in a report, where there is one.
+/// Counts the findings by an observation in a report, where there is an observation.
 pub fn count_findings(sight: Option<&Sight>, findings: &[Finding<'_>], report: &mut Report<'_>) {
     if let Some(sight) = sight {
         report.before = findings.len() as u64;
@@ -324,12 +398,27 @@ pub fn not_whole(
     Ok(left)
 }
 
-/// The marks of the edges whose commands were observed whole; none where there is no observation.
+/// The marks of the edges whose commands were observed whole; nothing without an observation.
 pub fn whole_marks<'a>(sight: Option<&'a Sight>) -> &'a [bool] {
     match sight {
         Some(sight) => &sight.whole,
         None => &[],
     }
+}
+
+/// How many findings there are about unlisted inputs.
+///
+/// # Errors
+/// [`AllocError`] only where an allocation was refused.
+pub fn unlisted_count(
+    alloc: Global,
+    graph: &Graph,
+    observed: &Observed,
+    unlisted: &[Unlisted],
+) -> Result<u64, AllocError> {
+    let mut findings = Vec::new(alloc);
+    add_unlisted(alloc, graph, &observed.observation, unlisted, &mut findings)?;
+    Ok(findings.len() as u64)
 }
 
 // How many commands were observed whole.

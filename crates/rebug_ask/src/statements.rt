@@ -57,8 +57,8 @@ pub fn statement_at(statements: &[Statement], file: u64, line: u64) -> &[Stateme
     rest
 }
 
-/// The name by which `patch -p0`, run in the build folder, finds a file of the manifest; none where it finds it by
-/// none: the file stands outside of that folder, or the recorder copied it under another name.
+/// The name by which `patch -p0`, run in the build folder, finds a file of the manifest. A file that stands outside of
+/// that folder, or that the recorder copied under another name, has none.
 ///
 /// # Errors
 /// [`AllocError`] only where an allocation was refused.

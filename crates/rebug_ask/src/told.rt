@@ -1,4 +1,4 @@
-//! What is told of a recording.
+//! Answers about a recording.
 ghost use Rattle.std.specs.Prelude.{◌≡◌, ◌+◌, ◌≤◌, length, IfOk};
 
 use crate::answering::{Answer, USAGE, answer_with, not_understood};
@@ -15,7 +15,7 @@ use crate::reporting::{Basis, add_hints, replayed_of, report_of};
 use crate::seen::{Sight, count_findings, hidden_places, seen_findings, sight_in};
 use rev_conflicts_text::{Finding, findings_json, findings_words, pair_of};
 use rev_desk::Desk;
-use rev_graph::Graph;
+use rev_history::History;
 use rev_manifest::Manifest;
 use rev_paths::{Name, PathFault};
 use rev_program::{ProgramFault, ReadFault, read_named};
@@ -36,7 +36,7 @@ const CHOICE_BYTES: usize = 67_108_864;
 // The most bytes of the file of what failed commands printed.
 const PRINTED_BYTES: usize = 268_435_456;
 
-/// What is asked, and how it is told.
+/// What is asked, and the form of the answer.
 #[derive(Clone, Copy, PartialEq, Eq)]
 pub enum How {
     /// The races.
@@ -139,20 +139,21 @@ fn provoke_answer(
     }
 }
 
-// Leaves out of findings and of a report what filters hide and a baseline knows or ignores.
+// The findings that filters and a baseline do not leave out. What they leave out of a report is taken out of it.
 fn leave_out<'a>(
     alloc: Global,
     choice: Choice<'_>,
     sources: &Sources<'a>,
-    findings: &mut Vec<Finding<'a>>,
+    findings: Vec<Finding<'a>>,
     report: &mut Report<'a>,
-) -> Result<(), RecordingFault> {
+) -> Result<Vec<Finding<'a>>, RecordingFault> {
     let mut leaving = Leaving::new(alloc, choice)?;
-    *findings = leaving.findings(alloc, sources, findings)?;
-    report.races = leaving.races(alloc, sources, &report.races)?;
+    let told = leaving.findings(alloc, sources, findings)?;
+    let races = mem::replace(&mut report.races, Vec::new(alloc));
+    report.races = leaving.races(alloc, sources, races)?;
     report.clashes = leaving.clashes(alloc, sources, &report.clashes)?;
     report.left_out = leaving.left_out(report.left_out.hidden);
-    Ok(())
+    Ok(told)
 }
 
 // The answer that tells what was found.
@@ -165,11 +166,13 @@ fn found_answer<'a>(
 ) -> Result<Answer, RecordingFault> {
     let sources = &basis.sources;
     let mut report = report_of(alloc, desk, basis)?;
-    let mut findings = seen_findings(alloc, desk.history(), basis.sight, &report.races)?;
+    let findings = seen_findings(alloc, desk.history(), basis.sight, &report.races)?;
     report.left_out.hidden = hidden_places(basis.sight);
-    leave_out(alloc, inquiry.choice, sources, &mut findings, &mut report)?;
+    let findings = leave_out(alloc, inquiry.choice, sources, findings, &mut report)?;
     count_findings(basis.sight, &findings, &mut report);
     match inquiry.how {
+        How::Witness(number) | How::Provoke(number) if is_of_no_order(&findings, &report, number) =>
+            { Ok(not_understood(alloc, OF_NO_ORDER)?) }
         How::Witness(number) => Ok(witness_answer(
             alloc,
             desk,
@@ -202,7 +205,11 @@ fn races_answer<'a>(
     findings: &[Finding<'a>],
     report: &Report<'a>,
 ) -> Result<Answer, AllocError> {
-    let items = report_items(alloc, sources, findings, report)?;
+    let items = if form.is_of_items() || choice.writes {
+        report_items(alloc, sources, findings, report)?
+    } else {
+        Vec::new(alloc)
+    };
     let text = if form == Form::Json {
         let observed = findings_json(alloc, sources, findings)?;
         report.json(alloc, sources, &observed)?
@@ -214,6 +221,15 @@ fn races_answer<'a>(
         report.words(alloc, sources, &observed, all)?
     };
     answer_with(alloc, choice, &items, text, report.status())
+}
+
+// What is said where a schedule or a patch is asked for of a finding that no order of commands changes.
+const OF_NO_ORDER: &str =
+    "no order of the commands changes that finding, so it has no witness and no patch provokes it";
+
+// Whether what has a number is there under every order of the commands.
+fn is_of_no_order(findings: &[Finding<'_>], report: &Report<'_>, number: u64) -> bool {
+    0 < number && number <= report.before && pair_of(findings, number).is_none()
 }
 
 // The user and the maker of what has a number, whose order a schedule can change.
@@ -252,19 +268,19 @@ pub fn command_count(trace: &Trace) -> u64 {
     count
 }
 
-// What the commands of a graph were seen to do, where the recording has that.
+// What the commands of a history were seen to do, where the recording has that.
 fn sight_of(
     alloc: Global,
     inquiry: Inquiry<'_>,
     manifest: &Manifest,
-    graph: &Graph,
+    history: &History,
 ) -> Result<Option<Sight>, RecordingFault> {
     match inquiry.observed {
         Some(bytes) if inquiry.how != How::Replay => {
             let files = names_of(alloc, &inquiry.read.files)?;
             Ok(Some(sight_in(
                 alloc,
-                graph,
+                history,
                 (&files, manifest.builds()),
                 bytes,
                 inquiry.choice.filters,
@@ -315,7 +331,7 @@ fn answer_from(
     if let How::Certify(form) = inquiry.how {
         return certificate_answer(alloc, inquiry, manifest, desk, commands, form);
     }
-    let sight = sight_of(alloc, inquiry, manifest, desk.history().graph())?;
+    let sight = sight_of(alloc, inquiry, manifest, desk.history())?;
     answer_of(alloc, inquiry, manifest, desk, sight.as_ref(), commands)
 }
 
@@ -455,6 +471,71 @@ fn read_printed<'a, R: Files + AllocGlobal>(
         Some(bytes) => Ok(bytes),
         None => Ok(Vec::new(rt.alloc())),
     }
+}
+
+// What `races` reads of a recording beside its manifest and its trace.
+#[derive(Drop)]
+struct Sidecars {
+    names: Vec<u8>,
+    printed: Vec<u8>,
+    observed: Option<Vec<u8>>,
+    filters: Option<Vec<u8>>,
+}
+
+// Reads what stands beside the manifest and the trace of a recording.
+fn read_sidecars<'a, R: Files + AllocGlobal>(
+    rt: &R,
+    recording: &'a str,
+    place: Place<'_>,
+) -> Result<Sidecars, ProgramFault<'a>> {
+    Ok(Sidecars {
+        names: read_names(rt, recording, place)?,
+        printed: read_printed(rt, recording, place)?,
+        observed: read_observed(rt, recording, place)?,
+        filters: read_filters(rt, recording, place)?,
+    })
+}
+
+// What is asked of a recording by `races`, without a baseline.
+fn races_inquiry<'a>(read: &'a Recording, beside: &'a Sidecars, form: Form) -> Inquiry<'a> {
+    let filters = FilterTexts {
+        beside: beside.filters.as_deref(),
+        named: None,
+    };
+    let choice = Choice {
+        filters,
+        baseline: None,
+        writes: false,
+    };
+    Inquiry {
+        read,
+        names: &beside.names,
+        printed: &beside.printed,
+        observed: beside.observed.as_deref(),
+        choice,
+        how: How::Races(form),
+    }
+}
+
+/// What `races` tells of a recording whose manifest and trace were read, in a form. `None` where a file beside them
+/// cannot be read.
+///
+/// # Errors
+/// The fault of the recording, where it has one; [`RecordingFault::Memory`] only where memory was refused.
+pub fn races_in<R: Files + AllocGlobal>(
+    rt: &R,
+    recording: &str,
+    place: Place<'_>,
+    read: &Recording,
+    form: Form,
+) -> Result<Option<Vec<u8>>, RecordingFault> {
+    let beside = match read_sidecars(rt, recording, place) {
+        Ok(beside) => beside,
+        Err(ProgramFault::Memory) => return Err(RecordingFault::Memory),
+        Err(_) => return Ok(None),
+    };
+    let answer = answer_about(rt.alloc(), races_inquiry(read, &beside, form))?;
+    Ok(Some(Vec::from_slice(rt.alloc(), &answer.text)?))
 }
 
 /// Writes what is asked of a recording to the standard output, and gives the program's status.

@@ -19,8 +19,8 @@ ghost use Rattle.rev_accesses.specs.Value.{Names, PartlyPut, Prints, PutUnder, S
 use crate::between::add_between;
 use crate::cells::places_of;
 use crate::index::{
-    add_firsts, add_users, first_inverted, nearest, nearest_at_places, partner, put_all, take_all,
-    thin_all,
+    add_firsts, add_users, first_inverted, nearest, nearest_at_places, partner, put_all,
+    remove_members_at, take_all,
 };
 use crate::pending::Pending;
 use crate::places::Places;
@@ -152,19 +152,19 @@ impl Accesses {
     /// Removes `number`, one of `members`, from the lists of the cells at the places of `print`. It may remove other
     /// members from these lists too: so each list is gone through once for all members, where they are many. It takes
     /// no memory, and hashes no cell.
-    pub fn thin(&mut self, number: u32, members: &[u32], print: &Places)
+    pub fn remove_members(&mut self, number: u32, members: &[u32], print: &Places)
         requires rising { IsRisingNumbers members.now }
         requires member { is_among members.now number ≡ true }
         ensures thinned { AreThinned members.now self.old self.new }
         ensures gone { (f : Footprint Cell) → NamesAt f self.old.cells print.now → IsGone number f self.new }
         ensures cells { self.new.cells ≡ self.old.cells }
     {
-        self.thin_from(number, members, print);
+        self.remove_members_from(number, members, print);
     }
 
     /// Removes `number`, one of `members`, from the list of whole events. It may remove other members too. It takes no
     /// memory.
-    pub fn thin_whole(&mut self, number: u32, members: &[u32])
+    pub fn remove_whole_members(&mut self, number: u32, members: &[u32])
         requires rising { IsRisingNumbers members.now }
         requires member { is_among members.now number ≡ true }
         ensures thinned { AreThinned members.now self.old self.new }
@@ -323,7 +323,7 @@ impl Accesses {
     }
 
     // Removes `number`, one of `members`, from the lists of the cells at places; may remove other members too.
-    fn thin_from(&mut self, number: u32, members: &[u32], print: &Places)
+    fn remove_members_from(&mut self, number: u32, members: &[u32], print: &Places)
         requires rising { IsRisingNumbers members.now }
         requires member { is_among members.now number ≡ true }
         ensures writers { AreThinnedUnder members.now self.old.writers self.new.writers }
@@ -335,8 +335,8 @@ impl Accesses {
     {
         let reads = print.read();
         let writes = print.written();
-        thin_all(&mut self.users, Access::Read, reads, number, members);
-        thin_all(&mut self.users, Access::Write, writes, number, members);
+        remove_members_at(&mut self.users, Access::Read, reads, number, members);
+        remove_members_at(&mut self.users, Access::Write, writes, number, members);
     }
 
     // Takes a number out of the lists of the cells at places.

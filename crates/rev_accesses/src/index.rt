@@ -56,7 +56,7 @@ fn take_at(index: &mut IndexMap<Cell, Users>, access: Access, place: u32, number
 }
 
 // Removes `number`, one of `members`, from one of the lists of the cell at a place; may remove other members too.
-fn thin_at(
+fn remove_member_at(
     index: &mut IndexMap<Cell, Users>,
     access: Access,
     place: u32,
@@ -73,7 +73,7 @@ fn thin_at(
     ensures cells { keys_of index.new.entries ≡ keys_of index.old.entries }
 {
     if let Some(users) = index.get_index_mut(place as usize) {
-        users.thin(access, number, members);
+        users.remove_members(access, number, members);
     }
 }
 
@@ -142,7 +142,7 @@ pub(crate) fn take_all(
 
 /// Removes `number`, one of `members`, from one of the lists of each of the cells at some places; may remove other
 /// members too. It takes no memory.
-pub(crate) fn thin_all(
+pub(crate) fn remove_members_at(
     index: &mut IndexMap<Cell, Users>,
     access: Access,
     places: &[u32],
@@ -159,7 +159,7 @@ pub(crate) fn thin_all(
     ensures cells { keys_of index.new.entries ≡ keys_of index.old.entries }
 {
     for place in places {
-        thin_at(index, access, *place, number, members);
+        remove_member_at(index, access, *place, number, members);
     }
 }
 

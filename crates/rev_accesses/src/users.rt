@@ -70,7 +70,7 @@ impl Users {
     }
 
     // Removes `number`, one of `members`, if it is there; may remove other members too. It takes no memory.
-    pub(crate) fn thin(&mut self, access: Access, number: u32, members: &[u32])
+    pub(crate) fn remove_members(&mut self, access: Access, number: u32, members: &[u32])
         requires rising { IsRising members.now }
         requires member { is_among members.now number ≡ true }
         ensures thinned { IsThinned members.now (numbers_of access self.old) (numbers_of access self.new) }

@@ -24,7 +24,7 @@ pub(crate) fn push_through(
     }
 }
 
-/// Which end of a link is told.
+/// An end of a link.
 #[derive(Clone, Copy)]
 pub(crate) enum End {
     /// The earlier event, on which the other one rests.

@@ -1,7 +1,10 @@
 //! Events in words.
+use crate::moments::push_moment;
 use rev_commands::Command;
+use rev_events::Event;
 use rev_fields::push_number;
 use rev_history::History;
+use rev_paths::Name;
 use rev_shown::{push_event_words, push_shown};
 use rev_trace::push_command;
 use std::alloc::{AllocError, Global};
@@ -9,6 +12,23 @@ use std::alloc::{AllocError, Global};
 /// Whether an event is kept.
 pub(crate) fn is_kept(history: &History, number: u32) -> bool {
     history.footprint_of(number).is_some()
+}
+
+// Adds a touch, with the time that it gives a file.
+fn push_touch(text: &mut Vec<u8>, path: &Name, stamp: u64) -> Result<(), AllocError> {
+    text.extend_from_slice(b"touch ")?;
+    push_shown(text, path.as_bytes())?;
+    text.extend_from_slice(b" (")?;
+    push_moment(text, stamp)?;
+    text.extend_from_slice(b")")
+}
+
+/// Adds an event in words, as `start app (job 0)`.
+pub(crate) fn push_words(text: &mut Vec<u8>, event: &Event) -> Result<(), AllocError> {
+    match event {
+        Event::Touch { path, stamp } => push_touch(text, path, *stamp),
+        event => push_event_words(text, event),
+    }
 }
 
 /// Adds the number of an event and its words, as `7 start app (job 0)`; what is not kept is said to be undone.
@@ -22,7 +42,7 @@ pub(crate) fn push_numbered(
         return text.extend_from_slice(b" is no accepted event");
     };
     text.push(b' ')?;
-    push_event_words(text, event)?;
+    push_words(text, event)?;
     if !is_kept(history, number) {
         text.extend_from_slice(b" (undone)")?;
     }
@@ -69,14 +89,15 @@ pub(crate) fn push_command_words(
     command: &Command,
 ) -> Result<(), AllocError> {
     if let Command::Event(event) = command {
-        return push_event_words(text, event);
+        return push_words(text, event);
     }
     let mut line = Vec::new(alloc);
     push_command(&mut line, command)?;
     push_visible(text, &line)
 }
 
-/// Adds lines: what is no visible byte of ASCII, no space and no line's end stands as `\x` and two digits.
+/// Adds lines. Visible bytes of ASCII, spaces and lines' ends stand for themselves, every other byte as `\x` and two
+/// digits.
 pub(crate) fn push_visible(text: &mut Vec<u8>, lines: &[u8]) -> Result<(), AllocError> {
     for at in 0..lines.len() {
         let byte = lines[at];

@@ -1,22 +1,23 @@
 //! Answers as JSON, an object a line. docs/JSON.md describes them.
 use crate::causes::End;
 use crate::events::{push_command_words, push_visible};
-use crate::help::HELP;
+use crate::found_json::found_object;
+use crate::help::push_help;
 use crate::meant::meant;
 use crate::object::Object;
-use crate::reasons::reason_word;
-use crate::refusals::{FULL, Subject, push_full, push_refusal, subject_of};
+use crate::refusals::{
+    FULL, Obstacle, Subject, cell_between, obstacle_of, push_full, push_refusal, subject_of,
+};
 use crate::seen::{looks_value, readers, users_value, writers};
-use crate::told::{Told, history_of};
+use crate::told::Told;
 use crate::values::{
-    lines_value, links_value, names_value, put_edge, put_event, put_events, put_name, run_value,
-    runs_value, text_value,
+    View, because_value, lines_value, links_value, names_value, put_edge, put_event, put_events,
+    put_name, put_through, run_value, runs_value, text_value,
 };
 use crate::words::{order_numbers, subject_asked};
 use rev_desk::Reply;
 use rev_events::Refusal;
 use rev_graph::Graph;
-use rev_history::History;
 use rev_paths::Name;
 use rev_prompt::{Answer, Because, Link, Needs, Reach, Span, Step, Tally, User, Wait, Way};
 use serde_json::Value;
@@ -73,6 +74,13 @@ fn lines(alloc: Global, text: &[u8]) -> Result<Object, AllocError> {
     Ok(object)
 }
 
+// What `help` tells.
+fn help(alloc: Global, told: Told<'_>) -> Result<Object, AllocError> {
+    let mut text = Vec::new(alloc);
+    push_help(&mut text, told.question)?;
+    lines(alloc, &text)
+}
+
 // A path that is no output.
 fn no_output(alloc: Global, told: Told<'_>, path: &Name) -> Result<Object, AllocError> {
     let mut object = Object::of_kind(alloc, "no output")?;
@@ -91,32 +99,32 @@ fn no_event(alloc: Global, path: Option<&Name>) -> Result<Object, AllocError> {
 }
 
 // One event.
-fn one_event(alloc: Global, history: &History, number: u32) -> Result<Object, AllocError> {
+fn one_event(alloc: Global, view: View<'_>, number: u32) -> Result<Object, AllocError> {
     let mut object = Object::of_kind(alloc, "event")?;
-    put_event(&mut object, alloc, "event", history, Some(number))?;
+    put_event(&mut object, alloc, "event", view, Some(number))?;
     Ok(object)
 }
 
 // Events.
 fn events(
     alloc: Global,
-    history: &History,
+    view: View<'_>,
     path: Option<&Name>,
     numbers: &[u32],
 ) -> Result<Object, AllocError> {
     let mut object = Object::of_kind(alloc, "events")?;
     put_name(&mut object, alloc, "path", path)?;
-    put_events(&mut object, alloc, history, numbers)?;
+    put_events(&mut object, alloc, view, numbers)?;
     Ok(object)
 }
 
 // What an event rests on.
 fn needs(alloc: Global, told: Told<'_>, needs: &Needs) -> Result<Object, AllocError> {
-    let history = history_of(told);
+    let view = View::of(told);
     let mut object = Object::of_kind(alloc, "needs")?;
-    put_event(&mut object, alloc, "event", history, Some(needs.number))?;
+    put_event(&mut object, alloc, "event", view, Some(needs.number))?;
     object.put_flag(alloc, "all", needs.reach == Reach::All)?;
-    let links = links_value(alloc, history, &needs.links, End::Earlier)?;
+    let links = links_value(alloc, view, &needs.links, End::Earlier)?;
     object.put(alloc, "events", links)?;
     let looks = looks_value(alloc, told, needs.looks.as_ref())?;
     object.put(alloc, "observed", looks)?;
@@ -126,13 +134,13 @@ fn needs(alloc: Global, told: Told<'_>, needs: &Needs) -> Result<Object, AllocEr
 // What rests on an event.
 fn dependents(
     alloc: Global,
-    history: &History,
+    view: View<'_>,
     number: u32,
     links: &[Link],
 ) -> Result<Object, AllocError> {
     let mut object = Object::of_kind(alloc, "dependents")?;
-    put_event(&mut object, alloc, "event", history, Some(number))?;
-    let links = links_value(alloc, history, links, End::Later)?;
+    put_event(&mut object, alloc, "event", view, Some(number))?;
+    let links = links_value(alloc, view, links, End::Later)?;
     object.put(alloc, "events", links)?;
     Ok(object)
 }
@@ -140,29 +148,29 @@ fn dependents(
 // What a cone takes, or took.
 fn cone(
     alloc: Global,
-    history: &History,
+    view: View<'_>,
     number: u32,
     members: &[u32],
     done: bool,
 ) -> Result<Object, AllocError> {
     let mut object = Object::of_kind(alloc, "cone")?;
-    put_event(&mut object, alloc, "event", history, Some(number))?;
+    put_event(&mut object, alloc, "event", view, Some(number))?;
     object.put_flag(alloc, "done", done)?;
-    put_events(&mut object, alloc, history, members)?;
+    put_events(&mut object, alloc, view, members)?;
     Ok(object)
 }
 
 // What was taken back with the events of an edge.
 fn without(
     alloc: Global,
-    history: &History,
+    view: View<'_>,
     path: &Name,
     members: &[u32],
     left: usize,
 ) -> Result<Object, AllocError> {
     let mut object = Object::of_kind(alloc, "without")?;
     put_name(&mut object, alloc, "path", Some(path))?;
-    put_events(&mut object, alloc, history, members)?;
+    put_events(&mut object, alloc, view, members)?;
     object.put_number(alloc, "left", left as u64)?;
     Ok(object)
 }
@@ -170,16 +178,16 @@ fn without(
 // Which commands ran while another did.
 fn with(
     alloc: Global,
-    history: &History,
+    view: View<'_>,
     path: &Name,
     run: Option<Span>,
     others: &[Span],
 ) -> Result<Object, AllocError> {
     let mut object = Object::of_kind(alloc, "with")?;
     put_name(&mut object, alloc, "path", Some(path))?;
-    let run = run_value(alloc, history, run)?;
+    let run = run_value(alloc, view, run)?;
     object.put(alloc, "run", run)?;
-    let others = runs_value(alloc, history, others)?;
+    let others = runs_value(alloc, view, others)?;
     object.put(alloc, "others", others)?;
     Ok(object)
 }
@@ -201,15 +209,6 @@ fn waits_value(alloc: Global, graph: &Graph, steps: &[Wait]) -> Result<Value, Al
     Ok(Value::from(values))
 }
 
-// A reason.
-fn because_value(alloc: Global, because: &Because) -> Result<Value, AllocError> {
-    let mut object = Object::new(alloc);
-    object.put_text(alloc, "reason", reason_word(because.reason))?;
-    put_name(&mut object, alloc, "output", because.output.as_ref())?;
-    put_name(&mut object, alloc, "input", because.input.as_ref())?;
-    Ok(object.value())
-}
-
 // Reasons.
 fn reasons_value(alloc: Global, reasons: &[Because]) -> Result<Value, AllocError> {
     let mut values = Vec::new(alloc);
@@ -222,7 +221,7 @@ fn reasons_value(alloc: Global, reasons: &[Because]) -> Result<Value, AllocError
 // Why an edge runs.
 fn why(
     alloc: Global,
-    history: &History,
+    view: View<'_>,
     path: &Name,
     run: Option<Span>,
     plan: Option<u32>,
@@ -230,12 +229,12 @@ fn why(
 ) -> Result<Object, AllocError> {
     let mut object = Object::of_kind(alloc, "why")?;
     put_name(&mut object, alloc, "path", Some(path))?;
-    let run = run_value(alloc, history, run)?;
+    let run = run_value(alloc, view, run)?;
     object.put(alloc, "run", run)?;
-    put_event(&mut object, alloc, "plan", history, plan)?;
-    let steps = waits_value(alloc, history.graph(), &way.steps)?;
+    put_event(&mut object, alloc, "plan", view, plan)?;
+    let steps = waits_value(alloc, view.graph(), &way.steps)?;
     object.put(alloc, "steps", steps)?;
-    put_edge(&mut object, alloc, "last", history.graph(), way.last)?;
+    put_edge(&mut object, alloc, "last", view.graph(), way.last)?;
     let reasons = reasons_value(alloc, &way.reasons)?;
     object.put(alloc, "reasons", reasons)?;
     Ok(object)
@@ -255,7 +254,7 @@ fn order_word(line: &[u8]) -> &'static str {
 }
 
 // What the word `order` tells.
-fn order(alloc: Global, history: &History, line: &[u8]) -> Result<Object, AllocError> {
+fn order(alloc: Global, view: View<'_>, line: &[u8]) -> Result<Object, AllocError> {
     let word = order_word(line);
     let (first, second) = order_numbers(line);
     let (other, code) = if word == "refused" {
@@ -265,10 +264,28 @@ fn order(alloc: Global, history: &History, line: &[u8]) -> Result<Object, AllocE
     };
     let mut object = Object::of_kind(alloc, "order")?;
     object.put_text(alloc, "answer", word)?;
-    put_event(&mut object, alloc, "first", history, first)?;
-    put_event(&mut object, alloc, "second", history, other)?;
+    put_event(&mut object, alloc, "first", view, first)?;
+    put_event(&mut object, alloc, "second", view, other)?;
     object.put(alloc, "code", Value::from(code))?;
     Ok(object)
+}
+
+// Adds what stands in the way: an edge, a path, a later event, and the cell through which that one does.
+fn put_obstacle(
+    object: &mut Object,
+    alloc: Global,
+    told: Told<'_>,
+    obstacle: Obstacle<'_>,
+    subject: Subject<'_>,
+) -> Result<(), AllocError> {
+    match obstacle.edge {
+        Some(edge) => put_edge(object, alloc, "output", View::of(told).graph(), edge)?,
+        None => object.put(alloc, "output", Value::Null)?,
+    }
+    put_name(object, alloc, "path", obstacle.path)?;
+    put_event(object, alloc, "later", View::of(told), obstacle.later)?;
+    let cell = cell_between(told, subject, obstacle.later);
+    put_through(object, alloc, View::of(told).graph(), cell)
 }
 
 // A refusal.
@@ -284,7 +301,9 @@ fn refused(
     };
     let mut object = Object::of_kind(alloc, "refused")?;
     object.put_number(alloc, "code", u64::from(refusal.code()))?;
-    put_event(&mut object, alloc, "event", history_of(told), number)?;
+    put_event(&mut object, alloc, "event", View::of(told), number)?;
+    let obstacle = obstacle_of(told, refusal, subject);
+    put_obstacle(&mut object, alloc, told, obstacle, subject)?;
     let mut text = Vec::new(alloc);
     push_refusal(&mut text, alloc, told, refusal, subject, b"; ")?;
     let words = text_value(alloc, &text)?;
@@ -297,6 +316,12 @@ fn full(alloc: Global) -> Result<Object, AllocError> {
     let mut object = Object::of_kind(alloc, "refused")?;
     object.put_number(alloc, "code", u64::from(FULL))?;
     object.put(alloc, "event", Value::Null)?;
+    object.put(alloc, "output", Value::Null)?;
+    object.put(alloc, "path", Value::Null)?;
+    object.put(alloc, "later", Value::Null)?;
+    object.put(alloc, "through", Value::Null)?;
+    object.put(alloc, "cell", Value::Null)?;
+    object.put(alloc, "of", Value::Null)?;
     let mut text = Vec::new(alloc);
     push_full(&mut text)?;
     let words = text_value(alloc, &text)?;
@@ -307,19 +332,19 @@ fn full(alloc: Global) -> Result<Object, AllocError> {
 // A command that was carried out.
 fn carried_out(
     alloc: Global,
-    history: &History,
+    view: View<'_>,
     entry: u32,
     number: Option<u32>,
     paused: bool,
 ) -> Result<Object, AllocError> {
-    let number = if history.event(entry).is_some() {
+    let number = if view.event(entry).is_some() {
         Some(entry)
     } else {
         number
     };
     let mut object = Object::of_kind(alloc, "done")?;
     object.put_number(alloc, "entry", u64::from(entry))?;
-    put_event(&mut object, alloc, "event", history, number)?;
+    put_event(&mut object, alloc, "event", view, number)?;
     object.put_flag(alloc, "paused", paused)?;
     Ok(object)
 }
@@ -335,11 +360,9 @@ fn replied(
     match reply {
         None => full(alloc),
         Some(Reply::Refused(refusal)) => refused(alloc, told, refusal, subject),
-        Some(Reply::Coned(entry, _)) => {
-            carried_out(alloc, history_of(told), entry, number, false)
-        }
+        Some(Reply::Coned(entry, _)) => { carried_out(alloc, View::of(told), entry, number, false) }
         Some(Reply::Accepted(entry, met)) => {
-            carried_out(alloc, history_of(told), entry, number, met.is_some())
+            carried_out(alloc, View::of(told), entry, number, met.is_some())
         }
     }
 }
@@ -421,21 +444,21 @@ fn steps_object(
 
 // An answer that names events.
 fn events_answer(alloc: Global, told: Told<'_>, answer: &Answer) -> Result<Object, AllocError> {
-    let history = history_of(told);
+    let view = View::of(told);
     match answer {
-        Answer::Event(number) => one_event(alloc, history, *number),
-        Answer::Kept(numbers) => events(alloc, history, None, numbers),
-        Answer::Who(path, numbers) => events(alloc, history, Some(path), numbers),
+        Answer::Event(number) => one_event(alloc, view, *number),
+        Answer::Kept(numbers) => events(alloc, view, None, numbers),
+        Answer::Who(path, numbers) => events(alloc, view, Some(path), numbers),
         Answer::Needs(of) => needs(alloc, told, of),
-        Answer::Readers(path, of) => readers(alloc, history, path, of),
-        Answer::Writers(path, of) => writers(alloc, history, path, of),
-        Answer::Dependents(number, links) => dependents(alloc, history, *number, links),
-        Answer::WouldCone(number, members) => cone(alloc, history, *number, members, false),
-        Answer::Cone(number, members) => cone(alloc, history, *number, members, true),
-        Answer::Without(path, members, left) => without(alloc, history, path, members, *left),
-        Answer::With(path, run, others) => with(alloc, history, path, *run, others),
-        Answer::Why(path, run, plan, way) => why(alloc, history, path, *run, *plan, way),
-        Answer::Order(line) => order(alloc, history, line),
+        Answer::Readers(path, of) => readers(alloc, told, path, of),
+        Answer::Writers(path, of) => writers(alloc, told, path, of),
+        Answer::Dependents(number, links) => dependents(alloc, view, *number, links),
+        Answer::WouldCone(number, members) => cone(alloc, view, *number, members, false),
+        Answer::Cone(number, members) => cone(alloc, view, *number, members, true),
+        Answer::Without(path, members, left) => without(alloc, view, path, members, *left),
+        Answer::With(path, run, others) => with(alloc, view, path, *run, others),
+        Answer::Why(path, run, plan, way) => why(alloc, view, path, *run, *plan, way),
+        Answer::Order(line) => order(alloc, view, line),
         _ => Object::of_kind(alloc, "nothing"),
     }
 }
@@ -443,7 +466,7 @@ fn events_answer(alloc: Global, told: Told<'_>, answer: &Answer) -> Result<Objec
 // An answer as an object.
 fn answer_object(alloc: Global, told: Told<'_>, answer: &Answer) -> Result<Object, AllocError> {
     match answer {
-        Answer::Help => lines(alloc, HELP),
+        Answer::Help => help(alloc, told),
         Answer::Lines(text) => lines(alloc, text),
         Answer::NoOutput(path) => no_output(alloc, told, path),
         Answer::NoneKept(path) => no_event(alloc, Some(path)),
@@ -454,6 +477,7 @@ fn answer_object(alloc: Global, told: Told<'_>, answer: &Answer) -> Result<Objec
         Answer::Undone(reply, number, users) => undone(alloc, told, *reply, *number, users),
         Answer::Run(tally, paused) => tally_object(alloc, told, *tally, *paused),
         Answer::Steps(steps, ended, paused) => steps_object(alloc, told, steps, *ended, *paused),
+        Answer::Found(found) => found_object(alloc, told, found),
         other => events_answer(alloc, told, other),
     }
 }

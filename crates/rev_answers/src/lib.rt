@@ -2,22 +2,35 @@
 #![tactic(auto)]
 
 mod causes;
+mod description;
+mod each;
 mod edges;
 mod events;
+mod facts;
+mod folders;
+mod found;
+mod found_json;
 mod help;
 mod json;
 mod meant;
+mod moments;
 mod object;
 mod observed;
 mod reasons;
 mod refusals;
 mod replay;
 mod runs;
+mod screen;
 mod seen;
+mod statements;
+mod times;
 mod told;
 mod values;
 mod words;
 
+pub use each::{Many, each_json, each_words, objects_json};
+pub use help::not_asked_words;
 pub use json::{answer_json, fault_json, opening_json};
+pub use screen::screen_of;
 pub use told::Told;
 pub use words::{answer_words, opening_words};

@@ -1,11 +1,14 @@
-//! What was meant by a path that no edge makes.
-use crate::told::{Told, history_of};
+//! What was meant by a path that is not there: no edge makes it, or none names it.
+use crate::statements::listed;
+use crate::told::{Told, history_of, path_of};
 use rev_manifest::Build;
+use rev_observed::Observation;
 use rev_paths::Name;
+use rev_prompt::{Query, Question};
 use rev_shown::push_shown;
 use std::alloc::{AllocError, Global};
 
-// How many outputs are told.
+// How many paths are told.
 const MOST: usize = 3;
 
 // The last part of a path.
@@ -78,7 +81,7 @@ pub(crate) fn meant<'a>(
     Ok(near)
 }
 
-/// Adds that a path is no output, and what may have been meant.
+/// Adds that no build statement has a path as an output, and what may have been meant.
 pub(crate) fn push_no_output(
     text: &mut Vec<u8>,
     alloc: Global,
@@ -94,6 +97,148 @@ pub(crate) fn push_no_output(
     push_meant(text, alloc, told, path)
 }
 
+// Whether the last part of a path is this one.
+fn has_last_part(path: &[u8], last: &[u8]) -> bool {
+    match path.strip_suffix(last) {
+        Some(folder) => folder.is_empty() || folder.ends_with(b"/"),
+        None => false,
+    }
+}
+
+// Whether a path is nearer to one that was typed than another one is, or as near and shorter. Nearest is the path itself.
+fn is_nearer(path: &[u8], other: &[u8], typed: &[u8]) -> bool {
+    if path == typed || other == typed {
+        return path == typed;
+    }
+    let (one, two) = (nearness(path, typed), nearness(other, typed));
+    if one == two {
+        return path.len() < other.len();
+    }
+    one == Some(0)
+}
+
+// Takes a path with the last part of one that was typed in among the nearest ones.
+fn take_in<'a>(near: &mut Vec<&'a Name>, name: &'a Name, typed: &[u8]) -> Result<(), AllocError> {
+    let path = name.as_bytes();
+    if near.iter().any(|other| other.as_bytes() == path) {
+        return Ok(());
+    }
+    match near
+        .iter()
+        .position(|other| is_nearer(path, other.as_bytes(), typed))
+    {
+        Some(place) => near.insert(place, name)?,
+        None => near.push(name)?,
+    }
+    near.truncate(MOST);
+    Ok(())
+}
+
+// Takes those of some paths in that have the last part of one that was typed.
+fn take_all<'a>(
+    near: &mut Vec<&'a Name>,
+    names: &'a [Name],
+    typed: &[u8],
+) -> Result<(), AllocError> {
+    let last = last_part(typed);
+    for name in names {
+        if has_last_part(name.as_bytes(), last) {
+            take_in(near, name, typed)?;
+        }
+    }
+    Ok(())
+}
+
+// The same of the paths of an edge: those of its build line.
+fn take_line<'a>(
+    near: &mut Vec<&'a Name>,
+    build: &'a Build,
+    typed: &[u8],
+) -> Result<(), AllocError> {
+    take_all(near, build.explicit(), typed)?;
+    take_all(near, build.implicit(), typed)?;
+    take_all(near, build.order_only(), typed)?;
+    take_all(near, build.validations(), typed)?;
+    take_all(near, build.explicit_outs(), typed)?;
+    take_all(near, build.implicit_outs(), typed)
+}
+
+// The same of the paths of all edges: those of their build lines and those that they list.
+fn take_edges<'a>(
+    near: &mut Vec<&'a Name>,
+    told: Told<'a>,
+    builds: &'a [Build],
+    typed: &[u8],
+) -> Result<(), AllocError> {
+    for (edge, build) in builds.iter().enumerate() {
+        take_line(near, build, typed)?;
+        if let Ok(edge) = u32::try_from(edge) {
+            take_all(near, listed(told, edge), typed)?;
+        }
+    }
+    Ok(())
+}
+
+// The same of the paths that commands were seen to look at or to change.
+fn take_observed<'a>(
+    near: &mut Vec<&'a Name>,
+    told: Told<'a>,
+    observation: &Observation,
+    typed: &[u8],
+) -> Result<(), AllocError> {
+    let last = last_part(typed);
+    for path in 0..observation.paths().len() {
+        if let Some(name) = path_of(told, path)
+            && has_last_part(name.as_bytes(), last)
+        {
+            take_in(near, name, typed)?;
+        }
+    }
+    Ok(())
+}
+
+/// The paths that may have been meant by one, up to three: of those that edges name, list or make, or that commands were
+/// seen to look at, those with the same last part. The path itself comes first, then those that are it behind some
+/// folders, or without some, then the others; of paths that are as near the shortest. Each path is looked at once.
+///
+/// # Errors
+/// [`AllocError`] only where an allocation was refused.
+pub(crate) fn near_paths<'a>(
+    alloc: Global,
+    told: Told<'a>,
+    path: &Name,
+) -> Result<Vec<&'a Name>, AllocError> {
+    let typed = path.as_bytes();
+    let mut near = Vec::new(alloc);
+    take_edges(&mut near, told, told.session.builds, typed)?;
+    if let Some(observation) = told.session.observation {
+        take_observed(&mut near, told, observation, typed)?;
+    }
+    Ok(near)
+}
+
+/// Whether a path itself is the first of those that are near to it.
+pub(crate) fn is_among(near: &[&Name], path: &Name) -> bool {
+    match near.first() {
+        Some(first) => first.as_bytes() == path.as_bytes(),
+        None => false,
+    }
+}
+
+/// Adds paths that may have been meant.
+pub(crate) fn push_near(text: &mut Vec<u8>, near: &[&Name]) -> Result<(), AllocError> {
+    let mut before: &[u8] = b"; did you mean ";
+    for name in near {
+        text.extend_from_slice(before)?;
+        push_shown(text, name.as_bytes())?;
+        before = b", ";
+    }
+    if near.is_empty() {
+        return Ok(());
+    }
+    text.extend_from_slice(b"?")
+}
+
 /// Adds the outputs that may have been meant by a path.
 pub(crate) fn push_meant(
     text: &mut Vec<u8>,
@@ -101,15 +246,65 @@ pub(crate) fn push_meant(
     told: Told<'_>,
     path: &Name,
 ) -> Result<(), AllocError> {
-    let near = meant(alloc, told, path)?;
-    if near.is_empty() {
+    push_near(text, &meant(alloc, told, path)?)
+}
+
+/// Adds the paths that may have been meant by one; nothing where an edge names, lists or makes that one, or a command was
+/// seen to look at it.
+pub(crate) fn push_near_paths(
+    text: &mut Vec<u8>,
+    alloc: Global,
+    told: Told<'_>,
+    path: &Name,
+) -> Result<(), AllocError> {
+    let near = near_paths(alloc, told, path)?;
+    if is_among(&near, path) {
         return Ok(());
     }
-    let mut before: &[u8] = b"; did you mean ";
-    for name in &near {
-        text.extend_from_slice(before)?;
-        push_shown(text, name.as_bytes())?;
-        before = b", ";
+    push_near(text, &near)
+}
+
+// The paths that are asked about by `rebuilds`.
+fn touched<'a>(told: Told<'a>) -> &'a [Name] {
+    match told.question {
+        Question::Query(Query::Rebuilds(paths), _) => paths,
+        _ => &[],
     }
-    text.extend_from_slice(b"?")
+}
+
+/// Those of the first three paths that are asked about by `rebuilds` which no edge names, lists or makes and no command
+/// was seen to look at, each with what may have been meant.
+///
+/// # Errors
+/// [`AllocError`] only where an allocation was refused.
+pub(crate) fn unknown_paths<'a>(
+    alloc: Global,
+    told: Told<'a>,
+) -> Result<Vec<(&'a Name, Vec<&'a Name>)>, AllocError> {
+    let mut unknown = Vec::new(alloc);
+    for path in touched(told).iter().take(MOST) {
+        if !history_of(told).graph().known(path) {
+            let near = near_paths(alloc, told, path)?;
+            if !is_among(&near, path) {
+                unknown.push((path, near))?;
+            }
+        }
+    }
+    Ok(unknown)
+}
+
+/// Adds the paths that [`unknown_paths`] gives, a line each.
+pub(crate) fn push_unknown_paths(
+    text: &mut Vec<u8>,
+    alloc: Global,
+    told: Told<'_>,
+) -> Result<(), AllocError> {
+    let unknown = unknown_paths(alloc, told)?;
+    for (path, near) in &unknown {
+        text.extend_from_slice(b"no edge names, lists or makes ")?;
+        push_shown(text, path.as_bytes())?;
+        push_near(text, near)?;
+        text.push(b'\n')?;
+    }
+    Ok(())
 }

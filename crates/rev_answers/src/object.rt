@@ -2,8 +2,8 @@
 use serde_json::{Map, Value, put};
 use std::alloc::{AllocError, Global};
 
-/// An object that is made. It holds what was put into it, so that a function that makes one holds no members beside it:
-/// the drop of a value is proved again at each exit of a function that holds one.
+/// An object that is made. It holds what was put into it. So a function that makes one holds no members beside it, whose
+/// drops would be proved again at each of its exits.
 pub(crate) struct Object {
     members: Map<String, Value>,
 }

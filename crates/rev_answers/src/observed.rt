@@ -1,38 +1,33 @@
 //! What commands were seen to do, in words.
 use crate::edges::push_edge;
 use crate::events::{is_kept, push_numbered};
+use crate::meant::push_near_paths;
 use crate::runs::push_span;
-use crate::told::{Told, history_of};
+use crate::told::{Told, history_of, path_of};
 use rev_fields::push_number;
 use rev_history::History;
 use rev_paths::Name;
 use rev_prompt::{Deed, Kind, Naming, Need, Readers, Site, User, Writers};
 use rev_runs::edge_of_event;
 use rev_shown::push_shown;
-use std::alloc::AllocError;
+use std::alloc::{AllocError, Global};
 
 // Stands below what rests on what commands were seen to do.
 const OBSERVED: &[u8] = b"by what was observed\n";
-// Stands below what rests on build lines and on lists of what commands read.
-const LISTED: &[u8] = b"by build lines and lists: nothing was observed\n";
+/// Stands below what rests on build lines and on lists of what commands read.
+pub(crate) const LISTED: &[u8] = b"by build lines and lists: nothing was observed\n";
 // Stands below what rests on build lines.
 const DECLARED: &[u8] = b"by build lines: nothing was observed\n";
+
+// Stands before a path that no edge names as what it reads.
+const UNNAMED: &[u8] = b"no build line has as an input, and no list names, ";
 
 // How many looks at what was undone are told.
 const MOST_USERS: usize = 3;
 
-/// What is told where nothing was observed.
+/// The answer where nothing was observed.
 pub(crate) const NOT_OBSERVED: &[u8] =
     b"nothing was observed: `./rebug record --observe` notes what commands look at\n";
-
-/// The path of a number, of those that were observed.
-pub(crate) fn path_of<'a>(told: Told<'a>, path: u64) -> Option<&'a Name> {
-    let paths = told.session.observation?.paths();
-    if path >= paths.len() {
-        return None;
-    }
-    Some(paths.path(path))
-}
 
 // How a look is called.
 fn look_word(look: Kind) -> &'static [u8] {
@@ -85,8 +80,8 @@ pub(crate) fn push_observed_needs(
     Ok(())
 }
 
-// What a command does with a path.
-fn deed_words(kind: Kind) -> &'static [u8] {
+/// What a command does with a path.
+pub(crate) fn deed_words(kind: Kind) -> &'static [u8] {
     match kind {
         Kind::Reads => b" reads it",
         Kind::Misses => b" asked for it, and it was not there",
@@ -112,9 +107,24 @@ fn push_deed(text: &mut Vec<u8>, history: &History, deed: &Deed) -> Result<(), A
     Ok(())
 }
 
+// Adds in these words that nothing is known of a path, and which one may have been meant.
+fn push_none(
+    text: &mut Vec<u8>,
+    alloc: Global,
+    told: Told<'_>,
+    path: &Name,
+    words: &[u8],
+) -> Result<(), AllocError> {
+    text.extend_from_slice(words)?;
+    push_shown(text, path.as_bytes())?;
+    push_near_paths(text, alloc, told, path)?;
+    text.extend_from_slice(b"\n")
+}
+
 // Adds what commands do with a path, a line each; or that none does so, in these words.
 fn push_deeds(
     text: &mut Vec<u8>,
+    alloc: Global,
     told: Told<'_>,
     path: &Name,
     deeds: &[Deed],
@@ -124,9 +134,7 @@ fn push_deeds(
         push_deed(text, history_of(told), deed)?;
     }
     if deeds.is_empty() {
-        text.extend_from_slice(none)?;
-        push_shown(text, path.as_bytes())?;
-        text.push(b'\n')?;
+        push_none(text, alloc, told, path, none)?;
     }
     text.extend_from_slice(OBSERVED)
 }
@@ -134,6 +142,7 @@ fn push_deeds(
 // Adds the edges that name a path as what they read, a line each.
 fn push_namings(
     text: &mut Vec<u8>,
+    alloc: Global,
     told: Told<'_>,
     path: &Name,
     namings: &[Naming],
@@ -146,9 +155,7 @@ fn push_namings(
         })?;
     }
     if namings.is_empty() {
-        text.extend_from_slice(b"no build line has as an input, and no list names, ")?;
-        push_shown(text, path.as_bytes())?;
-        text.push(b'\n')?;
+        push_none(text, alloc, told, path, UNNAMED)?;
     }
     text.extend_from_slice(LISTED)
 }
@@ -156,6 +163,7 @@ fn push_namings(
 // Adds the edge that has a path as an output.
 fn push_declared(
     text: &mut Vec<u8>,
+    alloc: Global,
     told: Told<'_>,
     path: &Name,
     edge: Option<u32>,
@@ -165,11 +173,7 @@ fn push_declared(
             push_edge(text, history_of(told).graph(), edge)?;
             text.extend_from_slice(b" has it as an output\n")?;
         }
-        None => {
-            text.extend_from_slice(b"no build line has as an output ")?;
-            push_shown(text, path.as_bytes())?;
-            text.push(b'\n')?;
-        }
+        None => push_none(text, alloc, told, path, b"no build line has as an output ")?,
     }
     text.extend_from_slice(DECLARED)
 }
@@ -237,29 +241,45 @@ pub(crate) fn push_users(
 /// Adds which commands read a path.
 pub(crate) fn push_readers(
     text: &mut Vec<u8>,
+    alloc: Global,
     told: Told<'_>,
     path: &Name,
     readers: &Readers,
 ) -> Result<(), AllocError> {
     match readers {
         Readers::Observed(deeds) => {
-            push_deeds(text, told, path, deeds, b"no observed command reads ")
+            push_deeds(
+                text,
+                alloc,
+                told,
+                path,
+                deeds,
+                b"no observed command reads ",
+            )
         }
-        Readers::Named(namings) => push_namings(text, told, path, namings),
+        Readers::Named(namings) => push_namings(text, alloc, told, path, namings),
     }
 }
 
 /// Adds which commands write a path.
 pub(crate) fn push_writers(
     text: &mut Vec<u8>,
+    alloc: Global,
     told: Told<'_>,
     path: &Name,
     writers: &Writers,
 ) -> Result<(), AllocError> {
     match writers {
         Writers::Observed(deeds) => {
-            push_deeds(text, told, path, deeds, b"no observed command writes ")
+            push_deeds(
+                text,
+                alloc,
+                told,
+                path,
+                deeds,
+                b"no observed command writes ",
+            )
         }
-        Writers::Declared(edge) => push_declared(text, told, path, *edge),
+        Writers::Declared(edge) => push_declared(text, alloc, told, path, *edge),
     }
 }

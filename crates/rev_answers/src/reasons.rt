@@ -3,6 +3,7 @@ use crate::edges::push_edge;
 use crate::events::push_numbered;
 use crate::runs::push_span;
 use crate::told::{Told, history_of};
+use crate::words::push_not_run;
 use rev_dirty::Reason;
 use rev_graph::Graph;
 use rev_paths::Name;
@@ -50,8 +51,8 @@ fn push_name(text: &mut Vec<u8>, name: Option<&Name>) -> Result<(), AllocError> 
     }
 }
 
-// Adds a reason.
-fn push_reason(text: &mut Vec<u8>, because: &Because) -> Result<(), AllocError> {
+/// Adds a reason.
+pub(crate) fn push_reason(text: &mut Vec<u8>, because: &Because) -> Result<(), AllocError> {
     let (before, between, behind) = reason_parts(because.reason);
     text.extend_from_slice(before)?;
     push_name(text, because.output.as_ref())?;
@@ -94,8 +95,7 @@ pub(crate) fn push_why(
         push_span(text, history, run)?;
         text.push(b'\n')?;
     } else {
-        push_shown(text, path.as_bytes())?;
-        text.extend_from_slice(b" did not run so far\n")?;
+        push_not_run(text, told, path)?;
     }
     if let Some(plan) = plan {
         text.extend_from_slice(b"at ")?;

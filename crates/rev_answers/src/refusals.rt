@@ -4,6 +4,7 @@ use crate::edges::push_edge;
 use crate::events::{push_command_words, push_numbered};
 use crate::meant::push_meant;
 use crate::told::{Told, history_of};
+use rev_cells::Cell;
 use rev_commands::{Command, Which};
 use rev_events::{Event, Refusal};
 use rev_fields::push_number;
@@ -213,6 +214,96 @@ fn push_named(
             push_later(text, told, subject, later)
         }
         _ => Ok(()),
+    }
+}
+
+/// What stands in the way of what is refused, as far as the refusal names it.
+#[derive(Clone, Copy)]
+pub(crate) struct Obstacle<'a> {
+    /// An edge.
+    pub(crate) edge: Option<u32>,
+    /// A path.
+    pub(crate) path: Option<&'a Name>,
+    /// A later event.
+    pub(crate) later: Option<u32>,
+}
+
+// An edge that stands in the way.
+fn edge_obstacle<'a>(edge: u32) -> Obstacle<'a> {
+    Obstacle {
+        edge: Some(edge),
+        path: None,
+        later: None,
+    }
+}
+
+/// The cell through which a later event that stands in the way rests on the one that is asked about, if one is named.
+pub(crate) fn cell_between<'a>(
+    told: Told<'a>,
+    subject: Subject<'_>,
+    later: Option<u32>,
+) -> Option<&'a Cell> {
+    match subject {
+        Subject::Event(number) => dependence(history_of(told), number, later?),
+        _ => None,
+    }
+}
+
+// A path that stands in the way.
+fn path_obstacle<'a>(path: Option<&'a Name>) -> Obstacle<'a> {
+    Obstacle {
+        edge: None,
+        path,
+        later: None,
+    }
+}
+
+// What a refusal names that is not a redo's.
+fn named_obstacle<'a>(told: Told<'a>, refusal: Refusal, event: Option<&'a Event>) -> Obstacle<'a> {
+    let history = history_of(told);
+    match refusal {
+        Refusal::StillRunning(edge)
+        | Refusal::DepsCycle(edge)
+        | Refusal::JobBusy(edge)
+        | Refusal::SlotBusy(edge)
+        | Refusal::DepthInUse(_, edge) => edge_obstacle(edge),
+        Refusal::MissingInput(position, edge) => Obstacle {
+            edge: Some(edge),
+            path: input_at(history.graph(), history.cells(), edge, position),
+            later: None,
+        },
+        Refusal::UnknownTarget(position) => path_obstacle(target_of(event, position)),
+        Refusal::NoSuchEdge => match event {
+            Some(event) => path_obstacle(out_of(event)),
+            None => path_obstacle(None),
+        },
+        Refusal::Blocked(position) => path_obstacle(input_of(told, event, position)),
+        Refusal::DependedOn(later) | Refusal::Overtaken(later) => Obstacle {
+            edge: None,
+            path: None,
+            later: Some(later),
+        },
+        _ => path_obstacle(None),
+    }
+}
+
+/// What stands in the way where something is refused; of a redo what stands in the way of its event.
+pub(crate) fn obstacle_of<'a>(
+    told: Told<'a>,
+    refusal: Refusal,
+    subject: Subject<'a>,
+) -> Obstacle<'a> {
+    let event = event_of(told, subject);
+    let Refusal::NotNow {
+        refusal: code,
+        first,
+    } = refusal
+    else {
+        return named_obstacle(told, refusal, event);
+    };
+    match refusal_now(code, first) {
+        Some(refusal) => named_obstacle(told, refusal, event),
+        None => path_obstacle(None),
     }
 }
 

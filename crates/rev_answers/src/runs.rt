@@ -1,10 +1,11 @@
 //! When commands ran, in words.
 use crate::events::push_numbered;
+use crate::times::push_took;
 use crate::told::{Told, history_of};
+use crate::words::push_not_run;
 use rev_history::History;
 use rev_paths::Name;
 use rev_prompt::Span;
-use rev_shown::push_shown;
 use std::alloc::AllocError;
 
 /// Adds when a command ran, as `3 start a.o (job 0) to 7 finish a.o`.
@@ -33,14 +34,15 @@ pub(crate) fn push_with(
 ) -> Result<(), AllocError> {
     let history = history_of(told);
     let Some(run) = run else {
-        push_shown(text, path.as_bytes())?;
-        return text.extend_from_slice(b" did not run so far\n");
+        return push_not_run(text, told, path);
     };
     push_span(text, history, run)?;
+    push_took(text, told, run)?;
     text.extend_from_slice(b"; at the same time ran\n")?;
     for other in others {
         text.extend_from_slice(b"  ")?;
         push_span(text, history, *other)?;
+        push_took(text, told, *other)?;
         text.push(b'\n')?;
     }
     if others.is_empty() {

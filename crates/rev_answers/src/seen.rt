@@ -1,16 +1,14 @@
 //! What commands were seen to do, as JSON.
 use crate::object::Object;
-use crate::observed::path_of;
-use crate::told::{Told, history_of};
-use crate::values::{put_edge, put_event, put_name, run_value};
-use rev_history::History;
+use crate::told::{Told, path_of};
+use crate::values::{View, put_edge, put_event, put_meant, put_name, run_value};
 use rev_paths::Name;
 use rev_prompt::{Deed, Kind, Naming, Need, Readers, Site, User, Writers};
 use serde_json::Value;
 use std::alloc::{AllocError, Global};
 
-// The word of a kind, as the file `observed` has it.
-fn kind_word(kind: Kind) -> &'static str {
+/// The word of a kind, as the file `observed` has it.
+pub(crate) fn kind_word(kind: Kind) -> &'static str {
     match kind {
         Kind::Reads => "reads",
         Kind::Stats => "stats",
@@ -33,7 +31,7 @@ fn look_value(
     look: Kind,
 ) -> Result<Value, AllocError> {
     let mut object = Object::new(alloc);
-    put_event(&mut object, alloc, "event", history_of(told), Some(number))?;
+    put_event(&mut object, alloc, "event", View::of(told), Some(number))?;
     put_name(&mut object, alloc, "path", path_of(told, path))?;
     object.put_text(alloc, "how", kind_word(look))?;
     Ok(object.value())
@@ -69,107 +67,99 @@ pub(crate) fn looks_value(
 }
 
 // An edge, and what it has to do with a path.
-fn edge_object(
-    alloc: Global,
-    history: &History,
-    edge: u32,
-    how: &str,
-) -> Result<Object, AllocError> {
+fn edge_object(alloc: Global, view: View<'_>, edge: u32, how: &str) -> Result<Object, AllocError> {
     let mut object = Object::new(alloc);
-    put_edge(&mut object, alloc, "output", history.graph(), edge)?;
+    put_edge(&mut object, alloc, "output", view.graph(), edge)?;
     object.put_text(alloc, "how", how)?;
     Ok(object)
 }
 
 // What a command does with a path, and its last run.
-fn deed_value(alloc: Global, history: &History, deed: &Deed) -> Result<Value, AllocError> {
-    let mut object = edge_object(alloc, history, deed.edge, kind_word(deed.kind))?;
-    let run = run_value(alloc, history, deed.run)?;
+fn deed_value(alloc: Global, view: View<'_>, deed: &Deed) -> Result<Value, AllocError> {
+    let mut object = edge_object(alloc, view, deed.edge, kind_word(deed.kind))?;
+    let run = run_value(alloc, view, deed.run)?;
     object.put(alloc, "run", run)?;
     Ok(object.value())
 }
 
 // What commands do with a path.
-fn deeds_value(alloc: Global, history: &History, deeds: &[Deed]) -> Result<Value, AllocError> {
+fn deed_values(alloc: Global, view: View<'_>, deeds: &[Deed]) -> Result<Vec<Value>, AllocError> {
     let mut values = Vec::new(alloc);
     for deed in deeds {
-        values.push(deed_value(alloc, history, deed)?)?;
+        values.push(deed_value(alloc, view, deed)?)?;
     }
-    Ok(Value::from(values))
+    Ok(values)
 }
 
 // An edge that has to do with a path by what is written, without a run.
-fn written_value(
-    alloc: Global,
-    history: &History,
-    edge: u32,
-    how: &str,
-) -> Result<Value, AllocError> {
-    let mut object = edge_object(alloc, history, edge, how)?;
+fn written_value(alloc: Global, view: View<'_>, edge: u32, how: &str) -> Result<Value, AllocError> {
+    let mut object = edge_object(alloc, view, edge, how)?;
     object.put(alloc, "run", Value::Null)?;
     Ok(object.value())
 }
 
 // The edges that name a path as what they read.
-fn namings_value(
+fn naming_values(
     alloc: Global,
-    history: &History,
+    view: View<'_>,
     namings: &[Naming],
-) -> Result<Value, AllocError> {
+) -> Result<Vec<Value>, AllocError> {
     let mut values = Vec::new(alloc);
     for naming in namings {
         let how = match naming.site {
             Site::Line => "input",
             Site::Listed => "list",
         };
-        values.push(written_value(alloc, history, naming.edge, how)?)?;
+        values.push(written_value(alloc, view, naming.edge, how)?)?;
     }
-    Ok(Value::from(values))
+    Ok(values)
 }
 
 // The edge that has a path as an output, if one has.
-fn declared_value(
+fn declared_values(
     alloc: Global,
-    history: &History,
+    view: View<'_>,
     edge: Option<u32>,
-) -> Result<Value, AllocError> {
+) -> Result<Vec<Value>, AllocError> {
     let mut values = Vec::new(alloc);
     if let Some(edge) = edge {
-        values.push(written_value(alloc, history, edge, "output")?)?;
+        values.push(written_value(alloc, view, edge, "output")?)?;
     }
-    Ok(Value::from(values))
+    Ok(values)
 }
 
-// Edges that have to do with a path, and on what that rests.
+// Edges that have to do with a path, on what that rests, and what may have been meant where there is none.
 fn path_object(
     alloc: Global,
+    told: Told<'_>,
     kind: &str,
     path: &Name,
     by: &str,
-    commands: Value,
+    commands: Vec<Value>,
 ) -> Result<Object, AllocError> {
     let mut object = Object::of_kind(alloc, kind)?;
     put_name(&mut object, alloc, "path", Some(path))?;
     object.put_text(alloc, "by", by)?;
-    object.put(alloc, "commands", commands)?;
+    put_meant(&mut object, alloc, told, path, !commands.is_empty())?;
+    object.put(alloc, "commands", Value::from(commands))?;
     Ok(object)
 }
 
 /// Which commands read a path.
 pub(crate) fn readers(
     alloc: Global,
-    history: &History,
+    told: Told<'_>,
     path: &Name,
     readers: &Readers,
 ) -> Result<Object, AllocError> {
     match readers {
         Readers::Observed(deeds) => {
-            let commands = deeds_value(alloc, history, deeds)?;
-            path_object(alloc, "reads", path, "observation", commands)
+            let commands = deed_values(alloc, View::of(told), deeds)?;
+            path_object(alloc, told, "reads", path, "observation", commands)
         }
         Readers::Named(namings) => {
-            let commands = namings_value(alloc, history, namings)?;
-            path_object(alloc, "reads", path, "lines", commands)
+            let commands = naming_values(alloc, View::of(told), namings)?;
+            path_object(alloc, told, "reads", path, "lines", commands)
         }
     }
 }
@@ -177,18 +167,18 @@ pub(crate) fn readers(
 /// Which commands write a path.
 pub(crate) fn writers(
     alloc: Global,
-    history: &History,
+    told: Told<'_>,
     path: &Name,
     writers: &Writers,
 ) -> Result<Object, AllocError> {
     match writers {
         Writers::Observed(deeds) => {
-            let commands = deeds_value(alloc, history, deeds)?;
-            path_object(alloc, "writes", path, "observation", commands)
+            let commands = deed_values(alloc, View::of(told), deeds)?;
+            path_object(alloc, told, "writes", path, "observation", commands)
         }
         Writers::Declared(edge) => {
-            let commands = declared_value(alloc, history, *edge)?;
-            path_object(alloc, "writes", path, "lines", commands)
+            let commands = declared_values(alloc, View::of(told), *edge)?;
+            path_object(alloc, told, "writes", path, "lines", commands)
         }
     }
 }

@@ -1,6 +1,7 @@
 //! What words and JSON are made from.
 use rev_desk::Desk;
 use rev_history::History;
+use rev_paths::Name;
 use rev_prompt::{Question, Session};
 
 /// What words and JSON of an answer are made from, beside the answer.
@@ -17,4 +18,13 @@ pub struct Told<'a> {
 /// The history of the desk.
 pub(crate) fn history_of<'a>(told: Told<'a>) -> &'a History {
     told.desk.history()
+}
+
+/// The path of a number, of those that were observed.
+pub(crate) fn path_of<'a>(told: Told<'a>, path: u64) -> Option<&'a Name> {
+    let paths = told.session.observation?.paths();
+    if path >= paths.len() {
+        return None;
+    }
+    Some(paths.path(path))
 }

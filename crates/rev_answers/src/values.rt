@@ -1,16 +1,47 @@
 //! JSON of events, names and runs.
 use crate::causes::{End, ends_of, push_through};
 use crate::edges::push_edge;
-use crate::events::is_kept;
+use crate::events::{is_kept, push_words};
+use crate::meant::{is_among, near_paths};
 use crate::object::Object;
+use crate::reasons::reason_word;
+use crate::told::{Told, history_of};
 use rev_cells::Cell;
+use rev_events::Event;
 use rev_graph::Graph;
 use rev_history::History;
 use rev_paths::Name;
-use rev_prompt::{Link, Span};
-use rev_shown::{push_event_words, push_shown};
+use rev_prompt::{Because, Link, Span, time_at};
+use rev_shown::push_shown;
 use serde_json::Value;
 use std::alloc::{AllocError, Global};
+
+/// The history that has the events, and when these happened.
+#[derive(Clone, Copy)]
+pub(crate) struct View<'a> {
+    history: &'a History,
+    times: &'a [Option<u32>],
+}
+
+impl<'a> View<'a> {
+    /// That of a desk and a session.
+    pub(crate) fn of(told: Told<'a>) -> View<'a> {
+        View {
+            history: history_of(told),
+            times: told.session.times,
+        }
+    }
+
+    /// The graph.
+    pub(crate) fn graph(self) -> &'a Graph {
+        self.history.graph()
+    }
+
+    /// The event that was accepted under a number.
+    pub(crate) fn event(self, number: u32) -> Option<&'a Event> {
+        self.history.event(number)
+    }
+}
 
 /// A text of visible bytes.
 pub(crate) fn text_value(alloc: Global, text: &[u8]) -> Result<Value, AllocError> {
@@ -34,28 +65,80 @@ fn edge_value(alloc: Global, graph: &Graph, edge: u32) -> Result<Value, AllocErr
     text_value(alloc, &text)
 }
 
-// An event: its number, its words, and whether it is kept.
-fn event_value(alloc: Global, history: &History, number: u32) -> Result<Value, AllocError> {
-    let mut text = Vec::new(alloc);
-    if let Some(event) = history.event(number) {
-        push_event_words(&mut text, event)?;
+// The kind of an event, the output or path that it names, and the job that it takes.
+fn parts_of(event: &Event) -> (&'static str, Option<&Name>, Option<u32>) {
+    match event {
+        Event::Plan(_) => ("plan", None, None),
+        Event::Start { out, job, .. } => ("start", Some(out), Some(*job)),
+        Event::Finish { out, .. } => ("finish", Some(out), None),
+        Event::Fail { out, .. } => ("fail", Some(out), None),
+        Event::Abort { out, .. } => ("abort", Some(out), None),
+        Event::Clean { out } => ("clean", Some(out), None),
+        Event::Pass { out } => ("pass", Some(out), None),
+        Event::Touch { path, .. } => ("touch", Some(path), None),
+        Event::Interrupt => ("interrupt", None, None),
+        Event::Resize { .. } => ("resize", None, None),
     }
-    let mut object = Object::new(alloc);
-    object.put_number(alloc, "number", u64::from(number))?;
+}
+
+// Adds what an event is: its words, its kind, what it names, and its job.
+fn put_parts(object: &mut Object, alloc: Global, event: &Event) -> Result<(), AllocError> {
+    let mut text = Vec::new(alloc);
+    push_words(&mut text, event)?;
     let words = text_value(alloc, &text)?;
     object.put(alloc, "words", words)?;
-    object.put_flag(alloc, "kept", is_kept(history, number))?;
+    let (kind, path, job) = parts_of(event);
+    object.put_text(alloc, "kind", kind)?;
+    put_name(object, alloc, "path", path)?;
+    object.put(alloc, "job", Value::from(job))?;
+    put_rest(object, alloc, event)
+}
+
+// The names of a plan's targets.
+fn targets_value(alloc: Global, targets: &[Name]) -> Result<Value, AllocError> {
+    let mut values = Vec::new(alloc);
+    for target in targets {
+        values.push(name_value(alloc, Some(target))?)?;
+    }
+    Ok(Value::from(values))
+}
+
+// Adds what events of one kind alone have: a plan its targets, a start its slot, a touch its stamp, a resize its pool.
+fn put_rest(object: &mut Object, alloc: Global, event: &Event) -> Result<(), AllocError> {
+    match event {
+        Event::Plan(targets) => {
+            let targets = targets_value(alloc, targets.as_slice())?;
+            object.put(alloc, "targets", targets)
+        }
+        Event::Start {
+            slot: Some(slot),
+            ..
+        } => object.put_number(alloc, "slot", u64::from(*slot)),
+        Event::Touch { stamp, .. } => object.put_number(alloc, "stamp", *stamp),
+        Event::Resize { pool, depth } => {
+            object.put_number(alloc, "pool", u64::from(*pool))?;
+            object.put_number(alloc, "depth", u64::from(*depth))
+        }
+        _ => Ok(()),
+    }
+}
+
+// An event: its number, what it is, whether it is kept, and when it happened.
+fn event_value(alloc: Global, view: View<'_>, number: u32) -> Result<Value, AllocError> {
+    let mut object = Object::new(alloc);
+    object.put_number(alloc, "number", u64::from(number))?;
+    if let Some(event) = view.event(number) {
+        put_parts(&mut object, alloc, event)?;
+    }
+    object.put_flag(alloc, "kept", is_kept(view.history, number))?;
+    object.put(alloc, "time", Value::from(time_at(view.times, number)))?;
     Ok(object.value())
 }
 
 // An event, where one was accepted under the number.
-fn event_or_null(
-    alloc: Global,
-    history: &History,
-    number: Option<u32>,
-) -> Result<Value, AllocError> {
+fn event_or_null(alloc: Global, view: View<'_>, number: Option<u32>) -> Result<Value, AllocError> {
     match number {
-        Some(number) if history.event(number).is_some() => event_value(alloc, history, number),
+        Some(number) if view.event(number).is_some() => event_value(alloc, view, number),
         _ => Ok(Value::Null),
     }
 }
@@ -65,10 +148,10 @@ pub(crate) fn put_event(
     object: &mut Object,
     alloc: Global,
     name: &str,
-    history: &History,
+    view: View<'_>,
     number: Option<u32>,
 ) -> Result<(), AllocError> {
-    let event = event_or_null(alloc, history, number)?;
+    let event = event_or_null(alloc, view, number)?;
     object.put(alloc, name, event)
 }
 
@@ -99,18 +182,18 @@ pub(crate) fn put_edge(
 pub(crate) fn put_events(
     object: &mut Object,
     alloc: Global,
-    history: &History,
+    view: View<'_>,
     numbers: &[u32],
 ) -> Result<(), AllocError> {
-    let events = events_value(alloc, history, numbers)?;
+    let events = events_value(alloc, view, numbers)?;
     object.put(alloc, "events", events)
 }
 
 // Events, in their order.
-fn events_value(alloc: Global, history: &History, numbers: &[u32]) -> Result<Value, AllocError> {
+fn events_value(alloc: Global, view: View<'_>, numbers: &[u32]) -> Result<Value, AllocError> {
     let mut values = Vec::new(alloc);
     for number in numbers {
-        values.push(event_value(alloc, history, *number)?)?;
+        values.push(event_value(alloc, view, *number)?)?;
     }
     Ok(Value::from(values))
 }
@@ -128,52 +211,95 @@ fn cell_value(alloc: Global, graph: &Graph, cell: Option<&Cell>) -> Result<Value
     }
 }
 
-// One end of a link, with the number of the other end.
-fn link_value(
+// The kind of a cell, and the path or the edge that it is of.
+fn cell_parts(cell: &Cell) -> (&'static str, Option<&Name>, Option<u32>) {
+    match cell {
+        Cell::Stamp(path) => ("stamp", Some(path), None),
+        Cell::Mark(edge) => ("mark", None, Some(*edge)),
+        Cell::Job(_) => ("job", None, None),
+        Cell::Slot(_, _) => ("slot", None, None),
+        Cell::Depth(_) => ("depth", None, None),
+        Cell::Built(path) => ("built", Some(path), None),
+        Cell::Deps(path) => ("deps", Some(path), None),
+        Cell::Halted => ("halted", None, None),
+    }
+}
+
+// Adds the kind of a cell, and the path, or the first output of the edge, that it is of.
+fn put_cell(
+    object: &mut Object,
     alloc: Global,
-    history: &History,
-    link: &Link,
-    end: End,
-) -> Result<Value, AllocError> {
+    graph: &Graph,
+    cell: Option<&Cell>,
+) -> Result<(), AllocError> {
+    let Some(cell) = cell else {
+        object.put(alloc, "cell", Value::Null)?;
+        return object.put(alloc, "of", Value::Null);
+    };
+    let (kind, path, edge) = cell_parts(cell);
+    object.put_text(alloc, "cell", kind)?;
+    match edge {
+        Some(edge) => put_edge(object, alloc, "of", graph, edge),
+        None => put_name(object, alloc, "of", path),
+    }
+}
+
+/// Adds the cell by which one event rests on another: in words, its kind, and the path or the edge that it is of. Each is
+/// null where no cell is named.
+///
+/// # Errors
+/// [`AllocError`] only where an allocation was refused.
+pub(crate) fn put_through(
+    object: &mut Object,
+    alloc: Global,
+    graph: &Graph,
+    cell: Option<&Cell>,
+) -> Result<(), AllocError> {
+    let through = cell_value(alloc, graph, cell)?;
+    object.put(alloc, "through", through)?;
+    put_cell(object, alloc, graph, cell)
+}
+
+// One end of a link, with the number of the other end.
+fn link_value(alloc: Global, view: View<'_>, link: &Link, end: End) -> Result<Value, AllocError> {
     let (number, other) = ends_of(link, end);
     let mut object = Object::new(alloc);
-    put_event(&mut object, alloc, "event", history, Some(number))?;
+    put_event(&mut object, alloc, "event", view, Some(number))?;
     object.put_number(alloc, "other", u64::from(other))?;
-    let through = cell_value(alloc, history.graph(), link.cell.as_ref())?;
-    object.put(alloc, "through", through)?;
+    put_through(&mut object, alloc, view.graph(), link.cell.as_ref())?;
     Ok(object.value())
 }
 
 /// One end of links.
 pub(crate) fn links_value(
     alloc: Global,
-    history: &History,
+    view: View<'_>,
     links: &[Link],
     end: End,
 ) -> Result<Value, AllocError> {
     let mut values = Vec::new(alloc);
     for link in links {
-        values.push(link_value(alloc, history, link, end)?)?;
+        values.push(link_value(alloc, view, link, end)?)?;
     }
     Ok(Value::from(values))
 }
 
 // When a command ran.
-fn span_value(alloc: Global, history: &History, span: Span) -> Result<Value, AllocError> {
+fn span_value(alloc: Global, view: View<'_>, span: Span) -> Result<Value, AllocError> {
     let mut object = Object::new(alloc);
-    put_event(&mut object, alloc, "began", history, Some(span.began))?;
-    put_event(&mut object, alloc, "ended", history, span.ended)?;
+    put_event(&mut object, alloc, "began", view, Some(span.began))?;
+    put_event(&mut object, alloc, "ended", view, span.ended)?;
     Ok(object.value())
 }
 
 /// When a command ran, where it did.
 pub(crate) fn run_value(
     alloc: Global,
-    history: &History,
+    view: View<'_>,
     run: Option<Span>,
 ) -> Result<Value, AllocError> {
     match run {
-        Some(span) => span_value(alloc, history, span),
+        Some(span) => span_value(alloc, view, span),
         None => Ok(Value::Null),
     }
 }
@@ -181,12 +307,12 @@ pub(crate) fn run_value(
 /// When commands ran.
 pub(crate) fn runs_value(
     alloc: Global,
-    history: &History,
+    view: View<'_>,
     runs: &[Span],
 ) -> Result<Value, AllocError> {
     let mut values = Vec::new(alloc);
     for span in runs {
-        values.push(span_value(alloc, history, *span)?)?;
+        values.push(span_value(alloc, view, *span)?)?;
     }
     Ok(Value::from(values))
 }
@@ -209,4 +335,36 @@ pub(crate) fn names_value(alloc: Global, names: &[&Name]) -> Result<Value, Alloc
         values.push(name_value(alloc, Some(*name))?)?;
     }
     Ok(Value::from(values))
+}
+
+/// Adds what may have been meant by a path of which nothing was found. It is null where something was, and where an edge
+/// names, lists or makes the path or a command was seen to look at it.
+///
+/// # Errors
+/// [`AllocError`] only where an allocation was refused.
+pub(crate) fn put_meant(
+    object: &mut Object,
+    alloc: Global,
+    told: Told<'_>,
+    path: &Name,
+    is_found: bool,
+) -> Result<(), AllocError> {
+    if is_found {
+        return object.put(alloc, "meant", Value::Null);
+    }
+    let near = near_paths(alloc, told, path)?;
+    if is_among(&near, path) {
+        return object.put(alloc, "meant", Value::Null);
+    }
+    let near = names_value(alloc, &near)?;
+    object.put(alloc, "meant", near)
+}
+
+/// A reason, with what it names.
+pub(crate) fn because_value(alloc: Global, because: &Because) -> Result<Value, AllocError> {
+    let mut object = Object::new(alloc);
+    object.put_text(alloc, "reason", reason_word(because.reason))?;
+    put_name(&mut object, alloc, "output", because.output.as_ref())?;
+    put_name(&mut object, alloc, "input", because.input.as_ref())?;
+    Ok(object.value())
 }

@@ -4,13 +4,16 @@ ghost use Rattle.rev_answers.specs.Opening.{opening_line};
 
 use crate::causes::{push_dependents, push_needs};
 use crate::events::{push_count, push_events, push_list, push_numbered, push_visible};
-use crate::help::HELP;
+use crate::folders::{sorted_outputs, touches_folder};
+use crate::found::push_found;
+use crate::help::push_help;
 use crate::meant::push_no_output;
 use crate::observed::{push_readers, push_users, push_writers};
 use crate::reasons::push_why;
 use crate::refusals::{NEXT_LINE, Subject, push_full, push_refusal, subject_of};
 use crate::replay::{push_steps, push_tally};
 use crate::runs::push_with;
+use crate::times::push_at;
 use crate::told::{Told, history_of};
 use rev_desk::Reply;
 use rev_fields::{number, push_number};
@@ -59,26 +62,88 @@ fn push_none_kept(text: &mut Vec<u8>, path: &Name) -> Result<(), AllocError> {
     text.extend_from_slice(b"` lists what there is\n")
 }
 
-// Adds the kept events.
-fn push_kept(text: &mut Vec<u8>, history: &History, numbers: &[u32]) -> Result<(), AllocError> {
+// The events that touch no folder in which outputs lie.
+fn but_folders(alloc: Global, told: Told<'_>, numbers: &[u32]) -> Result<Vec<u32>, AllocError> {
+    let outputs = sorted_outputs(alloc, told.session.builds)?;
+    let mut others = Vec::new(alloc);
+    for number in numbers {
+        if !touches_folder(alloc, history_of(told), &outputs, *number)? {
+            others.push(*number)?;
+        }
+    }
+    Ok(others)
+}
+
+// Adds how many touches of folders are left out.
+fn push_folders(text: &mut Vec<u8>, count: usize) -> Result<(), AllocError> {
+    if count == 0 {
+        return Ok(());
+    }
+    push_number(text, count as u64)?;
+    text.extend_from_slice(if count == 1 {
+        b" touch of a folder is left out: `history all` tells it\n"
+    } else {
+        b" touches of folders are left out: `history all` tells them\n"
+    })
+}
+
+// Adds the kept events: all, or those that touch no folder.
+fn push_kept(
+    text: &mut Vec<u8>,
+    alloc: Global,
+    told: Told<'_>,
+    numbers: &[u32],
+) -> Result<(), AllocError> {
+    let history = history_of(told);
     if numbers.is_empty() {
         return text.extend_from_slice(b"nothing is kept: `run` replays the recording\n");
     }
-    push_list(text, history, numbers)
+    if let Question::Kept(true) = told.question {
+        return push_list(text, history, numbers);
+    }
+    let others = but_folders(alloc, told, numbers)?;
+    push_list(text, history, &others)?;
+    push_folders(text, numbers.len().saturating_sub(others.len()))
+}
+
+/// Adds that an edge did not run: a phony one has no command.
+pub(crate) fn push_not_run(
+    text: &mut Vec<u8>,
+    told: Told<'_>,
+    path: &Name,
+) -> Result<(), AllocError> {
+    push_shown(text, path.as_bytes())?;
+    let graph = history_of(told).graph();
+    match graph.producer(path) {
+        Some(edge) if edge < graph.edges() && graph.is_phony(edge) => {
+            text.extend_from_slice(b" is a phony name: it stands for no command\n")
+        }
+        _ => text.extend_from_slice(b" did not run so far\n"),
+    }
+}
+
+// Adds an event, and when it happened, in a line.
+fn push_one(text: &mut Vec<u8>, told: Told<'_>, number: u32) -> Result<(), AllocError> {
+    push_numbered(text, history_of(told), number)?;
+    push_at(text, told, number)?;
+    text.push(b'\n')?;
+    Ok(())
 }
 
 // Adds the events of an edge.
 fn push_who(
     text: &mut Vec<u8>,
-    history: &History,
+    told: Told<'_>,
     path: &Name,
     numbers: &[u32],
 ) -> Result<(), AllocError> {
     if numbers.is_empty() {
-        push_shown(text, path.as_bytes())?;
-        return text.extend_from_slice(b" did not run so far\n");
+        return push_not_run(text, told, path);
     }
-    push_list(text, history, numbers)
+    for number in numbers {
+        push_one(text, told, *number)?;
+    }
+    Ok(())
 }
 
 // Adds how many events a cone has, and lists them.
@@ -229,21 +294,17 @@ fn push_undone(
 // Adds an answer that names events.
 fn push_events_answer(
     text: &mut Vec<u8>,
+    alloc: Global,
     told: Told<'_>,
     answer: &Answer,
 ) -> Result<(), AllocError> {
     let history = history_of(told);
     match answer {
-        Answer::Event(number) => {
-            push_numbered(text, history, *number)?;
-            text.push(b'\n')?;
-            Ok(())
-        }
-        Answer::Kept(numbers) => push_kept(text, history, numbers),
-        Answer::Who(path, numbers) => push_who(text, history, path, numbers),
+        Answer::Event(number) => push_one(text, told, *number),
+        Answer::Who(path, numbers) => push_who(text, told, path, numbers),
         Answer::Needs(needs) => push_needs(text, told, needs),
-        Answer::Readers(path, readers) => push_readers(text, told, path, readers),
-        Answer::Writers(path, writers) => push_writers(text, told, path, writers),
+        Answer::Readers(path, readers) => push_readers(text, alloc, told, path, readers),
+        Answer::Writers(path, writers) => push_writers(text, alloc, told, path, writers),
         Answer::Dependents(number, links) => push_dependents(text, history, *number, links),
         Answer::WouldCone(_, members) => push_cone(text, history, members, b" would be undone\n"),
         Answer::Cone(_, members) => push_cone(text, history, members, b" undone\n"),
@@ -255,6 +316,14 @@ fn push_events_answer(
     }
 }
 
+// Whether all of an answer is to be told, and not a screen of it.
+fn is_all(question: &Question) -> bool {
+    match question {
+        Question::Query(_, all) => *all,
+        _ => false,
+    }
+}
+
 /// An answer in words, each line with its end.
 ///
 /// # Errors
@@ -263,7 +332,7 @@ pub fn answer_words(alloc: Global, told: Told<'_>, answer: &Answer) -> Result<Ve
     let mut text = Vec::new(alloc);
     match answer {
         Answer::Nothing => {}
-        Answer::Help => text.extend_from_slice(HELP)?,
+        Answer::Help => push_help(&mut text, told.question)?,
         Answer::Lines(lines) => push_lines(&mut text, lines)?,
         Answer::NoOutput(path) => {
             push_no_output(&mut text, alloc, told, path)?;
@@ -281,7 +350,9 @@ pub fn answer_words(alloc: Global, told: Told<'_>, answer: &Answer) -> Result<Ve
         Answer::Steps(steps, ended, paused) => {
             push_steps(&mut text, alloc, told, steps, *ended, *paused)?;
         }
-        other => push_events_answer(&mut text, told, other)?,
+        Answer::Kept(numbers) => push_kept(&mut text, alloc, told, numbers)?,
+        Answer::Found(found) => push_found(&mut text, alloc, told, found, is_all(told.question))?,
+        other => push_events_answer(&mut text, alloc, told, other)?,
     }
     Ok(text)
 }

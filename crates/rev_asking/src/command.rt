@@ -2,7 +2,7 @@
 ghost use Rattle.std.specs.Prelude.{◌≡◌, false, IfOk, IsOkAnd};
 ghost use Rattle.clap.specs.Words.{AddsSubcommand, app_of, rule_of, shape_of};
 ghost use Rattle.clap.specs.declared.builder.command.Command.TheViews.{out-Command};
-ghost use Rattle.rev_asking.specs.Asking.{ask_shape, bare_certify, bare_program, bare_races, certify_shape, flag_rule, out_rule, picture_shape, program, races_shape, recording_rule, replay_shape, value_rule, with_findings};
+ghost use Rattle.rev_asking.specs.Asking.{ask_shape, bare_certify, bare_program, bare_races, certify_shape, flag_rule, out_rule, picture_shape, program, races_shape, recording_rule, replay_shape, timeline_shape, value_rule, with_findings};
 
 use clap::{Arg, ArgAction, Command};
 use std::alloc::{AllocError, Global};
@@ -184,13 +184,11 @@ fn ask<'a>(alloc: Global) -> Result<Command<'a>, AllocError>
 }
 
 // The file that is written.
-fn out<'a>(alloc: Global) -> Arg<'a>
+fn out<'a>(alloc: Global, help: &'a str) -> Arg<'a>
     ensures rule { rule_of result ≡ out_rule }
     ensures alone { result.global ≡ false }
 {
-    Arg::new(alloc, "OUT")
-        .help("The file to write, which ends in .svg or .html; else standard output")
-        .action(ArgAction::Set)
+    Arg::new(alloc, "OUT").help(help).action(ArgAction::Set)
 }
 
 // `picture RECORDING [OUT]`
@@ -200,7 +198,7 @@ fn picture<'a>(alloc: Global) -> Result<Command<'a>, AllocError>
 {
     Command::new(alloc, "picture")
         .about(
-            "Draws the recording as SVG, to the file OUT if it is named: a row for each job, races in red",
+            "Draws the recording as SVG, to the file OUT if it is named: lanes by time, races in red",
         )
         .arg(flag(
             alloc,
@@ -214,7 +212,26 @@ fn picture<'a>(alloc: Global) -> Result<Command<'a>, AllocError>
             "Draws what the event of this number rests on, and what rests on it",
         ))?
         .arg(recording(alloc))?
-        .arg(out(alloc))
+        .arg(out(
+            alloc,
+            "The file to write, which ends in .svg or .html; else standard output",
+        ))
+}
+
+// `timeline RECORDING [OUT]`
+fn timeline<'a>(alloc: Global) -> Result<Command<'a>, AllocError>
+    ensures shape { IfOk result (λ c. shape_of c ≡ timeline_shape) }
+    ensures local { IfOk result (λ c. (out-Command c).has_globals ≡ false) }
+{
+    Command::new(alloc, "timeline")
+        .about(
+            "Writes a timeline that Perfetto and Chrome's viewer read, to the file OUT if it is named: lanes by time, races",
+        )
+        .arg(recording(alloc))?
+        .arg(out(
+            alloc,
+            "The file to write, which ends in .json; else standard output",
+        ))
 }
 
 // The program without its words.
@@ -248,5 +265,6 @@ pub(crate) fn command<'a>(alloc: Global) -> Result<Command<'a>, AllocError>
     let program = with_word(program, certify(alloc))?;
     let program = with_word(program, replay(alloc))?;
     let program = with_word(program, ask(alloc))?;
-    with_word(program, picture(alloc))
+    let program = with_word(program, picture(alloc))?;
+    with_word(program, timeline(alloc))
 }

@@ -20,6 +20,8 @@ pub enum Word {
     Ask,
     /// Its picture.
     Picture,
+    /// Its timeline.
+    Timeline,
 }
 
 /// What the words of a command line ask for.
@@ -199,6 +201,8 @@ fn word_named(name: &str) -> Word
         Word::Certify
     } else if name == "picture" {
         Word::Picture
+    } else if name == "timeline" {
+        Word::Timeline
     } else {
         Word::Races
     }

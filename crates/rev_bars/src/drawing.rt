@@ -1,8 +1,9 @@
 //! The drawing of a history.
+use crate::axis::{Mark, marks};
 use crate::labels::label_bars;
 use crate::linked::links;
 use crate::observed::add_conflicts;
-use crate::places::{Places, narrow, places_of};
+use crate::places::{MOST_ROWS, Places, narrow, places_of};
 use crate::racing::racing_marks;
 use rev_conflicts::Conflict;
 use rev_events::Event;
@@ -10,7 +11,7 @@ use rev_fields::push_number;
 use rev_held::Link;
 use rev_history::History;
 use rev_observed::Observation;
-use rev_picture::{Bar, Line, push_picture};
+use rev_picture::{Bar, Line, LineKind, Outcome, Row, Tick, Time, push_picture};
 use rev_races::{Race, Story, path_of};
 use rev_runs::{Run, is_kept, runs};
 use rev_shown::{first_output, push_cell, push_event_words, push_shown};
@@ -19,7 +20,7 @@ use std::alloc::{AllocError, Global};
 // The least number of units of a bar.
 const LEAST: u32 = 4;
 /// The most lines of each kind that are drawn: dependences, races, and conflicts.
-pub(crate) const MOST: usize = 500;
+pub(crate) const MOST: usize = 100;
 
 /// What a picture is made from.
 #[derive(Clone, Copy)]
@@ -42,24 +43,60 @@ pub struct Drawing<'a> {
     pub event: Option<u32>,
 }
 
-// What is told before the name of a command that did not end well.
-fn words_of_end(history: &History, ended: Option<u32>) -> &'static [u8] {
+// How a command ended, by the number of the event that ended it.
+fn outcome_of(history: &History, ended: Option<u32>) -> Outcome {
     let Some(ended) = ended else {
-        return b"";
+        return Outcome::Well;
     };
     match history.event(ended) {
-        Some(Event::Fail { .. }) => b"failed: ",
-        Some(Event::Abort { .. }) => b"stopped: ",
-        _ => b"",
+        Some(Event::Fail { .. }) => Outcome::Failed,
+        Some(Event::Abort { .. }) => Outcome::Stopped,
+        _ => Outcome::Well,
     }
 }
 
+// What is told before the name of a command that did not end well.
+fn words_of_end(outcome: Outcome) -> &'static [u8] {
+    match outcome {
+        Outcome::Well => b"",
+        Outcome::Failed => b"failed: ",
+        Outcome::Stopped => b"stopped: ",
+    }
+}
+
+// The time of an event, where one is known.
+fn time_at(times: &[Option<u32>], number: u32) -> Option<u32> {
+    match times.get(number as usize) {
+        Some(time) => *time,
+        None => None,
+    }
+}
+
+// When a run began and how long it took, where both is known.
+fn time_of(times: &[Option<u32>], run: &Run) -> Option<Time> {
+    let from = time_at(times, run.began)?;
+    let to = time_at(times, run.ended?)?;
+    Some(Time {
+        from,
+        took: to.saturating_sub(from),
+    })
+}
+
+// Which edges are in a race: by lists, and as it was observed.
+#[derive(Drop)]
+struct Marks {
+    listed: Vec<bool>,
+    observed: Vec<bool>,
+}
+
 // The bar of a run.
-fn bar_of<'a>(history: &'a History, places: &Places, marks: &[bool], run: &Run) -> Bar<'a> {
+fn bar_of<'a>(drawing: &Drawing<'a>, places: &Places, marks: &Marks, run: &Run) -> Bar<'a> {
+    let history = drawing.history;
     let name: &'a [u8] = match first_output(history.graph(), run.edge) {
         Some(name) => name.as_bytes(),
         None => b"",
     };
+    let outcome = outcome_of(history, run.ended);
     let left = places.left(run.began);
     let right = match run.ended {
         Some(ended) => places.left(ended),
@@ -67,16 +104,19 @@ fn bar_of<'a>(history: &'a History, places: &Places, marks: &[bool], run: &Run) 
     };
     let width = right.saturating_sub(left);
     Bar {
-        row: run.job.saturating_add(1),
+        row: places.row(run.began),
         left,
         width: if width < LEAST { LEAST } else { width },
-        words: words_of_end(history, run.ended),
+        words: words_of_end(outcome),
         name,
         label: None,
         began: run.began,
         ended: run.ended,
+        time: time_of(drawing.times, run),
+        outcome,
         undone: !run.kept,
-        racing: marks.get(run.edge as usize) == Some(&true),
+        racing: marks.listed.get(run.edge as usize) == Some(&true),
+        observed: marks.observed.get(run.edge as usize) == Some(&true),
     }
 }
 
@@ -111,8 +151,11 @@ fn add_marks<'a>(
                     label: None,
                     began: number,
                     ended: Some(number),
+                    time: None,
+                    outcome: Outcome::Well,
                     undone: !is_kept(history, number),
                     racing: false,
+                    observed: false,
                 })?;
             }
         }
@@ -120,13 +163,13 @@ fn add_marks<'a>(
     Ok(())
 }
 
-// A line that is drawn: two events, and its words.
+/// A line that is drawn: what it is, two events, and its words.
 #[derive(Drop)]
 pub(crate) struct Drawn {
+    pub(crate) kind: LineKind,
     pub(crate) one: u32,
     pub(crate) other: u32,
     pub(crate) words: Vec<u8>,
-    pub(crate) racing: bool,
 }
 
 /// Appends the number of an event and the event in words.
@@ -168,10 +211,10 @@ fn add_links(
 ) -> Result<(), AllocError> {
     for link in links.iter().take(MOST) {
         all.push(Drawn {
+            kind: LineKind::Dependence,
             one: link.one,
             other: link.other,
             words: link_words(alloc, history, link)?,
-            racing: false,
         })?;
     }
     Ok(())
@@ -220,10 +263,10 @@ fn add_race(
     let other = user.began;
     let words = race_words(alloc, history, race, one, other)?;
     all.push(Drawn {
+        kind: LineKind::Listed,
         one,
         other,
         words,
-        racing: true,
     })?;
     Ok(())
 }
@@ -243,15 +286,17 @@ fn add_races(alloc: Global, drawing: &Drawing<'_>, all: &mut Vec<Drawn>) -> Resu
     Ok(())
 }
 
-// The lines with their places: the words of each in a row of its own, below those of the jobs.
+// The lines with their places: the words of each in a line of its own, below the rows.
 fn lines_of<'a>(
     alloc: Global,
     places: &Places,
     all: &'a [Drawn],
 ) -> Result<Vec<Line<'a>>, AllocError> {
+    let top = top_of_lines(places.count());
     let mut lines = Vec::new(alloc);
     for (place, drawn) in all.iter().enumerate() {
         lines.push(Line {
+            kind: drawn.kind,
             one: drawn.one,
             one_left: places.left(drawn.one),
             one_row: places.row(drawn.one),
@@ -259,8 +304,7 @@ fn lines_of<'a>(
             other_left: places.left(drawn.other),
             other_row: places.row(drawn.other),
             words: &drawn.words,
-            words_row: places.count.saturating_add(narrow(place)),
-            racing: drawn.racing,
+            words_top: top.saturating_add(narrow(place).saturating_mul(12)),
         })?;
     }
     Ok(lines)
@@ -272,11 +316,13 @@ fn push_counted(text: &mut Vec<u8>, number: u64, words: &[u8]) -> Result<(), All
     text.extend_from_slice(words)
 }
 
-// The words above all.
+// The words above all. `races` says how many races are drawn.
 fn caption(
     alloc: Global,
     drawing: &Drawing<'_>,
+    places: &Places,
     runs: usize,
+    races: usize,
     links: usize,
 ) -> Result<Vec<u8>, AllocError> {
     let mut text = Vec::new(alloc);
@@ -291,18 +337,23 @@ fn caption(
     } else {
         b"by time"
     })?;
-    text.extend_from_slice(if drawing.observation.is_some() {
-        b"; red: in a race (`race`: by lists, `observed`: by what was observed); hollow: undone"
+    if places.is_folded {
+        text.extend_from_slice(b", a row for each folder")?;
     } else {
-        b"; red: in a race; hollow: undone"
-    })?;
+        text.extend_from_slice(b", at most ")?;
+        let lanes = places.names.len().saturating_sub(1);
+        push_counted(&mut text, lanes as u64, b" side by side")?;
+    }
+    if races >= MOST {
+        text.extend_from_slice(b"; the first 100 races are drawn")?;
+    }
     if let Some(event) = drawing.event {
         text.extend_from_slice(b"; lines: what event ")?;
         push_number(&mut text, u64::from(event))?;
         text.extend_from_slice(b" rests on, and what rests on it")?;
     }
     if links > MOST {
-        text.extend_from_slice(b" (the first 500 of ")?;
+        text.extend_from_slice(b" (the first 100 of ")?;
         push_counted(&mut text, links as u64, b")")?;
     }
     push_replayed(&mut text, drawing.replayed)?;
@@ -320,7 +371,7 @@ fn push_replayed(text: &mut Vec<u8>, replayed: &[u8]) -> Result<(), AllocError> 
     Ok(())
 }
 
-// All bars, with their labels.
+// All bars, with their labels where rows are lanes.
 fn bars_of<'a>(
     alloc: Global,
     drawing: &Drawing<'a>,
@@ -328,21 +379,78 @@ fn bars_of<'a>(
     runs: &[Run],
 ) -> Result<Vec<Bar<'a>>, AllocError> {
     let edges = drawing.history.graph().edges();
-    let marks = racing_marks(alloc, drawing.races, drawing.conflicts, edges)?;
+    let marks = Marks {
+        listed: racing_marks(alloc, drawing.races, &[], edges)?,
+        observed: racing_marks(alloc, &[], drawing.conflicts, edges)?,
+    };
     let mut bars = Vec::new(alloc);
     add_marks(drawing.history, places, &mut bars)?;
     for run in runs {
-        bars.push(bar_of(drawing.history, places, &marks, run))?;
+        bars.push(bar_of(drawing, places, &marks, run))?;
     }
-    label_bars(alloc, &mut bars, places.count, places.width)?;
+    if !places.is_folded {
+        label_bars(alloc, &mut bars, places.count(), places.width())?;
+    }
     Ok(bars)
 }
 
-// How many units a picture of so many rows is high.
+// How far below the top edge the first words of a line stand, below so many rows.
+fn top_of_lines(rows: u32) -> u32 {
+    rows.saturating_mul(20).saturating_add(76)
+}
+
+// How many units a picture of so many rows and lines is high.
 fn height_of(rows: u32, lines: usize) -> u32 {
-    rows.saturating_add(narrow(lines))
-        .saturating_mul(20)
-        .saturating_add(32)
+    top_of_lines(rows).saturating_add(narrow(lines).saturating_mul(12))
+}
+
+// The rows by their names.
+fn rows_of<'a>(alloc: Global, names: &'a [Vec<u8>]) -> Result<Vec<Row<'a>>, AllocError> {
+    let mut rows = Vec::new(alloc);
+    for name in names {
+        rows.push(Row { name })?;
+    }
+    Ok(rows)
+}
+
+// The ticks by their marks.
+fn ticks_of<'a>(alloc: Global, marks: &'a [Mark]) -> Result<Vec<Tick<'a>>, AllocError> {
+    let mut ticks = Vec::new(alloc);
+    for mark in marks {
+        ticks.push(Tick {
+            left: mark.left,
+            words: &mark.words,
+        })?;
+    }
+    Ok(ticks)
+}
+
+// Adds the whole picture.
+fn push_whole(
+    alloc: Global,
+    text: &mut Vec<u8>,
+    drawing: &Drawing<'_>,
+    places: &Places,
+    bars: &[Bar<'_>],
+    all: &[Drawn],
+    caption: &[u8],
+) -> Result<(), AllocError> {
+    let lines = lines_of(alloc, places, all)?;
+    let marks = marks(alloc, places, !drawing.times.is_empty())?;
+    let ticks = ticks_of(alloc, &marks)?;
+    let mut rows = rows_of(alloc, &places.names)?;
+    rows.truncate(MOST_ROWS);
+    let height = height_of(places.count(), lines.len());
+    push_picture(
+        text,
+        places.width(),
+        height,
+        caption,
+        &rows,
+        &ticks,
+        bars,
+        &lines,
+    )
 }
 
 /// Appends the picture of a history as one SVG element.
@@ -356,7 +464,7 @@ pub fn push_drawing(
 ) -> Result<(), AllocError> {
     let history = drawing.history;
     let runs = runs(alloc, history)?;
-    let places = places_of(alloc, history.last(), &runs, drawing.times)?;
+    let places = places_of(alloc, history, &runs, drawing.times)?;
     let bars = bars_of(alloc, drawing, &places, &runs)?;
     let links = match drawing.event {
         Some(event) => links(alloc, history, event)?,
@@ -365,17 +473,8 @@ pub fn push_drawing(
     let mut all = Vec::new(alloc);
     add_races(alloc, drawing, &mut all)?;
     add_conflicts(alloc, drawing, &runs, &mut all)?;
+    let races = all.len();
     add_links(alloc, history, &links, &mut all)?;
-    let lines = lines_of(alloc, &places, &all)?;
-    let caption = caption(alloc, drawing, runs.len(), links.len())?;
-    let height = height_of(places.count, lines.len());
-    push_picture(
-        text,
-        places.width,
-        height,
-        places.count,
-        &caption,
-        &bars,
-        &lines,
-    )
+    let caption = caption(alloc, drawing, &places, runs.len(), races, links.len())?;
+    push_whole(alloc, text, drawing, &places, &bars, &all, &caption)
 }

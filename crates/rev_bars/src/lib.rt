@@ -1,7 +1,9 @@
 //! The runs of a recorded build as bars, with the dependences and the races between them.
 #![tactic(auto)]
 
+mod axis;
 mod drawing;
+mod folders;
 mod labels;
 mod linked;
 mod observed;

@@ -3,6 +3,7 @@ use crate::drawing::{Drawing, Drawn, MOST, push_numbered};
 use rev_conflicts::{Conflict, ConflictKind, Place};
 use rev_history::History;
 use rev_observed::Observation;
+use rev_picture::LineKind;
 use rev_runs::Run;
 use rev_shown::push_shown;
 use std::alloc::{AllocError, Global};
@@ -106,10 +107,10 @@ fn add_conflict(
     let other = user.began;
     let words = conflict_words(alloc, history, observation, conflict, one, other)?;
     all.push(Drawn {
+        kind: LineKind::Observed,
         one,
         other,
         words,
-        racing: true,
     })?;
     Ok(())
 }

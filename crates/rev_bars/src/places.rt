@@ -1,23 +1,43 @@
 //! Where events stand in a picture.
+use crate::folders::folded;
+use rev_history::History;
+use rev_lanes::{Span, lanes_of};
 use rev_runs::Run;
+use rev_shown::first_output;
 use std::alloc::{AllocError, Global};
 
-// How far the first event is from the left edge, behind the names of rows.
-const MARGIN: u32 = 64;
+// How far the first event is from the left edge, behind the names of lanes, and behind those of folders.
+const BESIDE_LANES: u32 = 64;
+
+const BESIDE_FOLDERS: u32 = 250;
 // How much room stands to the right of the last event, for names.
-const RIGHT: u32 = 240;
+const RIGHT: u32 = 140;
+// The least and the greatest number of units from the first event to the last one.
+const NARROW: u32 = 720;
+
+const WIDE: u32 = 3600;
+// The most lanes that are drawn: of a build with more of them each folder is a row.
+const MOST_LANES: usize = 60;
+/// The most rows: those, and one for the events that begin and end no command.
+pub(crate) const MOST_ROWS: usize = 61;
 
 /// The places of a history's events, by the number of the event.
 #[derive(Drop)]
 pub(crate) struct Places {
     /// The distance of each event from the left edge, in units.
-    pub(crate) lefts: Vec<u32>,
+    lefts: Vec<u32>,
     /// The row of each event.
-    pub(crate) rows: Vec<u32>,
-    /// The width of the picture, in units.
-    pub(crate) width: u32,
-    /// The number of rows.
-    pub(crate) count: u32,
+    rows: Vec<u32>,
+    /// The names of the rows.
+    pub(crate) names: Vec<Vec<u8>>,
+    /// Whether a row has the commands of a folder in place of commands that ran one behind the other.
+    pub(crate) is_folded: bool,
+    /// How far the first event is from the left edge, in units.
+    pub(crate) margin: u32,
+    /// The number of units from the first event to the last one.
+    pub(crate) units: u32,
+    /// The time of the last event in milliseconds, or its number where the recording has no times.
+    pub(crate) latest: u32,
 }
 
 /// A count as a number of 32 bits. A count above the greatest such number gives that number.
@@ -28,82 +48,91 @@ pub(crate) fn narrow(count: usize) -> u32 {
     }
 }
 
+// What stands at the place of a number, or 0.
+fn at(numbers: &[u32], number: u32) -> u32 {
+    match numbers.get(number as usize) {
+        Some(found) => *found,
+        None => 0,
+    }
+}
+
 impl Places {
     /// The distance of an event from the left edge, in units.
     pub(crate) fn left(&self, number: u32) -> u32 {
-        match self.lefts.get(number as usize) {
-            Some(left) => *left,
-            None => MARGIN,
-        }
+        at(&self.lefts, number)
     }
 
     /// The row of an event.
     pub(crate) fn row(&self, number: u32) -> u32 {
-        match self.rows.get(number as usize) {
-            Some(row) => *row,
-            None => 0,
-        }
+        at(&self.rows, number)
+    }
+
+    /// The number of rows.
+    pub(crate) fn count(&self) -> u32 {
+        narrow(self.names.len())
+    }
+
+    /// The distance of a time from the left edge, in units; of a number where the recording has no times.
+    pub(crate) fn left_of(&self, moment: u32) -> u32 {
+        self.margin
+            .saturating_add(scaled(moment, self.latest, self.units))
+    }
+
+    /// The width of the picture, in units.
+    pub(crate) fn width(&self) -> u32 {
+        self.margin.saturating_add(self.units).saturating_add(RIGHT)
     }
 }
 
-// How many units there are for an event: fewer where there are many events.
-fn unit(last: u32) -> u32 {
-    if last <= 80 {
-        24
-    } else if last <= 800 {
-        12
-    } else {
-        4
-    }
-}
-
-// The greatest known time.
-fn latest(times: &[Option<u32>]) -> u32 {
-    let mut latest = 1;
-    for time in times {
-        if let Some(time) = time {
-            if *time > latest {
-                latest = *time;
-            }
-        }
-    }
-    latest
-}
-
-// How many units behind the margin a time is, of so many in all.
-fn scaled(time: u32, latest: u32, units: u32) -> u32 {
+// How many units behind the margin a moment is, of so many in all.
+fn scaled(moment: u32, latest: u32, units: u32) -> u32 {
     let all = u64::from(latest);
     if all == 0 {
         return 0;
     }
-    let place = u64::from(time) * u64::from(units) / all;
+    let place = u64::from(moment) * u64::from(units) / all;
     if place > u64::from(units) {
         return units;
     }
     place as u32
 }
 
-// How far each number up to one past the last is from the left edge: by its time where times are known, and then one
-// that has none stands where the one before it does; else by its number.
-fn lefts(alloc: Global, last: u32, times: &[Option<u32>]) -> Result<Vec<u32>, AllocError> {
-    let units = unit(last).saturating_mul(last.saturating_add(1));
-    let latest = latest(times);
-    let mut lefts = Vec::new(alloc);
+// The moment of each number up to one past the last: its time where times are known, and then one that has none, or an
+// earlier one, has that of the one before it; else the number itself.
+fn moments(alloc: Global, last: u32, times: &[Option<u32>]) -> Result<Vec<u32>, AllocError> {
+    let mut moments = Vec::new(alloc);
     let mut before = 0;
     for number in 0..u64::from(last) + 1 {
-        let place = if times.is_empty() {
-            unit(last).saturating_mul(number as u32)
+        let moment = if times.is_empty() {
+            number as u32
         } else {
             match times.get(number as usize) {
-                Some(Some(time)) => scaled(*time, latest, units),
+                Some(Some(time)) if *time > before => *time,
                 _ => before,
             }
         };
-        before = place;
-        lefts.push(MARGIN.saturating_add(place))?;
+        before = moment;
+        moments.push(moment)?;
     }
-    lefts.push(MARGIN.saturating_add(units))?;
-    Ok(lefts)
+    moments.push(if times.is_empty() {
+        before.saturating_add(1)
+    } else {
+        before
+    })?;
+    Ok(moments)
+}
+
+// The spans of runs by the moments of their events.
+fn spans(alloc: Global, moments: &[u32], last: u32, runs: &[Run]) -> Result<Vec<Span>, AllocError> {
+    let mut spans = Vec::new(alloc);
+    for run in runs {
+        let ended = run.ended.unwrap_or(last.saturating_add(1));
+        spans.push(Span {
+            from: at(moments, run.began),
+            to: at(moments, ended),
+        })?;
+    }
+    Ok(spans)
 }
 
 // Sets the row of an event.
@@ -113,11 +142,11 @@ fn set_row(rows: &mut [u32], number: u32, row: u32) {
     }
 }
 
-// The row of each number: 0, and for what begins or ends a command one more than its job.
-fn rows(alloc: Global, last: u32, runs: &[Run]) -> Result<Vec<u32>, AllocError> {
+// The row of each number: 0, and for what begins or ends a run one more than the place of the run's row.
+fn rows_of(alloc: Global, last: u32, runs: &[Run], of: &[usize]) -> Result<Vec<u32>, AllocError> {
     let mut rows = vec![in alloc; 0; (last as usize).saturating_add(1)]?;
-    for run in runs {
-        let row = run.job.saturating_add(1);
+    for (place, run) in runs.iter().enumerate() {
+        let row = narrow(of.get(place).copied().unwrap_or(0)).saturating_add(1);
         set_row(&mut rows, run.began, row);
         if let Some(ended) = run.ended {
             set_row(&mut rows, ended, row);
@@ -126,35 +155,79 @@ fn rows(alloc: Global, last: u32, runs: &[Run]) -> Result<Vec<u32>, AllocError> 
     Ok(rows)
 }
 
-// One more than the greatest row.
-fn count(rows: &[u32]) -> u32 {
-    let mut greatest = 0;
-    for row in rows {
-        if *row > greatest {
-            greatest = *row;
-        }
+// The names of lanes, behind that of the first row.
+fn lane_names(alloc: Global, count: usize) -> Result<Vec<Vec<u8>>, AllocError> {
+    let mut names = Vec::new(alloc);
+    names.push(Vec::from_slice(alloc, b"events")?)?;
+    for passed in 0..count {
+        let number = passed.saturating_add(1);
+        names.push(format!(in alloc; "lane {number}")?.into_bytes())?;
     }
-    greatest.saturating_add(1)
+    Ok(names)
 }
 
-/// The places of the events up to the last one. Without times the events stand side by side in their order.
+// The first outputs of the edges of runs.
+fn outputs<'a>(
+    alloc: Global,
+    history: &'a History,
+    runs: &[Run],
+) -> Result<Vec<&'a [u8]>, AllocError> {
+    let mut outputs: Vec<&'a [u8]> = Vec::new(alloc);
+    for run in runs {
+        outputs.push(match first_output(history.graph(), run.edge) {
+            Some(name) => name.as_bytes(),
+            None => b"",
+        })?;
+    }
+    Ok(outputs)
+}
+
+// How many units the events of a history take.
+fn units_of(last: u32) -> u32 {
+    let units = last.saturating_add(1).saturating_mul(24);
+    if units < NARROW {
+        NARROW
+    } else if units > WIDE {
+        WIDE
+    } else {
+        units
+    }
+}
+
+/// The places of the events of a history with these runs. The runs stand in lanes, of which there are as many as ran side
+/// by side; where there are too many, in rows by folder. Without times the events stand side by side in their order.
 pub(crate) fn places_of(
     alloc: Global,
-    last: u32,
+    history: &History,
     runs: &[Run],
     times: &[Option<u32>],
 ) -> Result<Places, AllocError> {
-    let lefts = lefts(alloc, last, times)?;
-    let rows = rows(alloc, last, runs)?;
-    let count = count(&rows);
-    let right = match lefts.last() {
-        Some(right) => *right,
-        None => MARGIN,
+    let last = history.last();
+    let moments = moments(alloc, last, times)?;
+    let lanes = lanes_of(alloc, &spans(alloc, &moments, last, runs)?)?;
+    let is_folded = lanes.count > MOST_LANES;
+    let (of, names) = if is_folded {
+        folded(alloc, &outputs(alloc, history, runs)?, MOST_LANES)?
+    } else {
+        (lanes.of, lane_names(alloc, lanes.count)?)
     };
-    Ok(Places {
-        lefts,
+    let rows = rows_of(alloc, last, runs, &of)?;
+    let mut places = Places {
+        lefts: Vec::new(alloc),
         rows,
-        width: right.saturating_add(RIGHT),
-        count,
-    })
+        names,
+        is_folded,
+        margin: if is_folded {
+            BESIDE_FOLDERS
+        } else {
+            BESIDE_LANES
+        },
+        units: units_of(last),
+        latest: moments.last().copied().unwrap_or(0),
+    };
+    for moment in &moments {
+        let left = places.left_of(*moment);
+        places.lefts.push(left)?;
+    }
+    Ok(places)
 }

@@ -19,7 +19,7 @@ use std::alloc::{AllocError, Global};
 // The first line.
 const HEAD: &[u8] = b"rebug-baseline 1";
 
-/// Findings that are known, and paths of which findings are ignored.
+/// Findings that are known, and patterns of paths: findings about these paths are ignored.
 #[derive(Drop)]
 pub struct Baseline {
     known: IndexSet<u64>,
@@ -105,7 +105,7 @@ fn pattern_bytes(alloc: Global, lines: &[&[u8]]) -> Result<usize, AllocError> {
 }
 
 impl Baseline {
-    /// One that knows nothing, and ignores nothing.
+    /// A baseline that knows no finding and ignores no path.
     pub fn nothing(alloc: Global) -> Baseline
         ensures known { result.known.keys ≡ [] }
         ensures ignored { result.ignored.items ≡ [] }
@@ -116,10 +116,15 @@ impl Baseline {
         }
     }
 
-    /// Reads the line `rebug-baseline 1`, and then of each line what it says: an empty line and one that begins with `#`
-    /// say nothing; the 16 digits of a name say that the finding is known, whatever stands behind them and a space; and
-    /// `--ignore PATTERN REASON` that findings about paths are ignored that the pattern hides, as those of a file of
-    /// filters do. The last line may be without its LF. It takes time linear in the bytes, up to hashing.
+    /// Reads a baseline. Its first line is `rebug-baseline 1`. Each other line is of one of these:
+    ///
+    /// - An empty line, or one that begins with `#`, says nothing.
+    /// - A line whose first word is the 16 hexadecimal digits of a name says that this finding is known. What follows
+    ///   after a space is for people.
+    /// - `--ignore PATTERN REASON` says that findings about the paths that the pattern hides are ignored. The pattern
+    ///   has the form of one in a file of filters ([`rev_filters::read`]).
+    ///
+    /// The last line may lack its LF. It takes time linear in the bytes, up to hashing.
     ///
     /// # Errors
     /// [`ReadFault::Numbered`] with the first fault of the text. [`ReadFault::Memory`] only where an allocation was
@@ -148,7 +153,7 @@ impl Baseline {
         Ok(Baseline { known, ignored })
     }
 
-    /// Forgets which findings are known; what is ignored stays so.
+    /// Forgets which findings are known. It ignores the same paths as before.
     pub fn forget(&mut self)
         ensures known { self.new.known.keys ≡ [] }
         ensures ignored { self.new.ignored ≡ self.old.ignored }

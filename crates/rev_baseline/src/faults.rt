@@ -4,10 +4,10 @@ use std::alloc::{AllocError, AllocFailed};
 /// What is wrong with a text.
 #[derive(Clone, Copy, Debug, PartialEq, Eq)]
 pub enum FaultKind {
-    /// The line is none of those that may stand there: the first one is `rebug-baseline 1`.
+    /// The line is not one that may stand there. The first line has to be `rebug-baseline 1`.
     Syntax,
-    /// The patterns have more bytes together than those of a file of filters may have ([`rev_filters::MAX_BYTES`]). It is
-    /// at line 0.
+    /// All patterns together have more than [`rev_filters::MAX_BYTES`] bytes, as many as a file of filters may have.
+    /// The fault is at line 0.
     Long,
 }
 
@@ -16,7 +16,7 @@ pub enum FaultKind {
 pub struct Fault {
     /// What is wrong.
     pub kind: FaultKind,
-    /// The number of the line, from 1; 0 where it is about none.
+    /// The number of the line, from 1. It is 0 where the fault is about the whole text.
     pub line: u64,
 }
 

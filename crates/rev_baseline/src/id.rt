@@ -8,8 +8,8 @@ use serde::{Described, Serialize, Serializer};
 use sha2::{Digest, Sha256};
 use std::fmt;
 
-/// The stable name of a finding, which is written as 16 hexadecimal digits: it is that of each recording in which a
-/// finding of this kind is of the same path and of commands with the same names.
+/// The stable name of a finding, which is written as 16 hexadecimal digits. In two recordings, findings of one kind
+/// have the same name where they are about the same path, and about commands with the same first outputs.
 #[derive(Clone, Copy, Debug, PartialEq, Eq, PartialOrd, Ord)]
 pub struct Id(pub u64);
 

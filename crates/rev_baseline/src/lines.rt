@@ -85,7 +85,7 @@ fn is_remark(line: &[u8]) -> bool
     }
 }
 
-/// Whether a line is none of those that may stand behind the first.
+/// Whether a line may not stand after the first line.
 ///
 /// # Errors
 /// [`AllocError`] only where an allocation was refused.

@@ -21,7 +21,7 @@ use std::alloc::{AllocError, Global};
 pub struct Certificate {
     /// Whether it is.
     pub is_certain: bool,
-    /// The commands that the targets need and that did not end well here, but for those that make what the manifest is
+    /// The commands that the targets need and that did not end well here, except those that make what the manifest is
     /// read from. Edges rise.
     pub missing: Vec<u32>,
     /// The commands that began here and did not end well, make what the manifest is read from, or were not observed
@@ -114,10 +114,11 @@ fn with_verdict(
 /// Whether it is certain that no schedule of a build's commands gives any of them other inputs than these had.
 ///
 /// `edges` has for each command of the observation its edge, as [`rev_observed::edges`] gives them; `files` are those
-/// from which the manifest was read, and `hidden` has a mark for each path of which nothing is to be told.
+/// from which the manifest was read, and `hidden` has a mark for each path that no conflict may name.
 ///
-/// It is certain exactly where each command that the targets need ended well here, each that began here ended well, makes
-/// nothing that the manifest is read from and was observed whole, and [`conflicts`] tells nothing.
+/// It is certain exactly where three things hold. Each command that the targets need ended well here. Each command that
+/// began here ended well, makes nothing that the manifest is read from, and was observed whole. [`conflicts`] finds
+/// nothing.
 ///
 /// # Errors
 /// [`AllocError`] only where an allocation was refused.

@@ -81,7 +81,7 @@ fn is_unsure_at(
     is_unsure(began, ended, early, whole)
 }
 
-/// The edges that the targets need and whose commands did not end well here, but for those that make what the manifest
+/// The edges that the targets need and whose commands did not end well here, except those that make what the manifest
 /// is read from, in rising order.
 ///
 /// # Errors

@@ -1,4 +1,4 @@
-//! What is told of an observation.
+//! The findings of an observation.
 ghost use Rattle.std.specs.Prelude.{◌≡◌, ◌<◌, Some, length, map, All, IfOk};
 ghost use Rattle.std.specs.List.{AllByRecursion};
 ghost use Rattle.rev_graph.specs.Graph.{successor_lists};
@@ -67,16 +67,17 @@ fn found_in(
     found.into_told(alloc)
 }
 
-/// What is told of an observation, each once, in the order of the numbers of the maker's edge, of the user's edge, and
+/// The conflicts of an observation, each once, in the order of the numbers of the maker's edge, of the user's edge, and
 /// of the place: files first, and then the entries of folders.
 ///
-/// `edges` has for each command of the observation its edge, as [`rev_observed::edges`] gives them. `files` are those from which the manifest was read: what
-/// makes one of them runs before all else, and is the maker of nothing that is told. `hidden` has a mark for each path
-/// of which nothing is to be told.
+/// `edges` has for each command of the observation its edge, as [`rev_observed::edges`] gives them. `files` are those
+/// from which the manifest was read: an edge that makes one of them runs before all else, and is the maker of no
+/// conflict. `hidden` has a mark for each path that no conflict may name.
 ///
 /// Who touches a place is noted first. Of each command the places that somebody touches are gone through; others are
-/// not, however long its ranges are. Only where one of them is touched by a command whose edge the user's edge does not
-/// step to, that edge is searched for what it waits for, unless it steps to the same edges as the last that was.
+/// not, however long its ranges are. A search goes through what the user's edge waits for only where a command touches
+/// one of these places whose edge the user's edge does not step to. Users that step to the same edges, one after the
+/// other, share a search.
 ///
 /// # Errors
 /// [`AllocError`] only where an allocation was refused.

@@ -32,7 +32,7 @@ pub enum Change {
     Entry,
 }
 
-/// What is told of two commands and a place.
+/// What a conflict says of two commands and a place.
 #[derive(Clone, Copy, Debug, PartialEq, Eq)]
 pub enum ConflictKind {
     /// Both leave the file, or have it as a temporary, and neither waits for the other.
@@ -49,8 +49,8 @@ pub enum ConflictKind {
         /// How the user looks at it.
         look: Look,
     },
-    /// The maker waits for the user, and then leaves what the user looked at, which is none of the maker's outputs: the
-    /// next build shows the user another file.
+    /// The maker waits for the user, and then leaves what the user looked at. That file is not an output of the maker,
+    /// so the next build shows the user another file.
     Unstable {
         /// How the user looks at it.
         look: Look,

@@ -1,4 +1,4 @@
-//! The kinds of what is told.
+//! The kinds of conflicts.
 ghost use Rattle.std.specs.Prelude.{◌≡◌, ◌<◌, ◌&&◌, [], length, not, All, IfOk, slice_index_or};
 ghost use Rattle.std.specs.List.{filter_map};
 ghost use Rattle.rev_graph.specs.Graph.{producer_of, successor_lists};
@@ -196,8 +196,8 @@ fn kind(
     kind_by(back, both, told.maker < told.user, change, look)
 }
 
-/// What is told with its kind, where it has one, in the same order: one search for each maker, where those of a maker
-/// stand together.
+/// The conflicts with their kinds, each that has one, in the same order: one search for each maker, where those of a
+/// maker stand together.
 ///
 /// # Errors
 /// [`AllocError`] only where an allocation was refused.

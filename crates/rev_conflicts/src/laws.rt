@@ -7,8 +7,8 @@ pub fn who_wrote_it_last()
     ensures { WhoWroteItLast }
 {}
 
-/// A race of a history is told by the observation too, where the user looks at what it lists, and the maker leaves what
-/// it makes.
+/// A race of a history is a conflict of the observation too, where the user looks at what it lists, and the maker
+/// leaves what it makes.
 pub fn races_are_conflicts()
     ensures { RacesAreConflicts }
 {}

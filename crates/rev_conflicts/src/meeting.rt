@@ -213,7 +213,7 @@ fn suspect_folders(
     Ok(suspects)
 }
 
-/// Adds what is told of a user's command. `direct` has marks of other edges, and of the user afterwards.
+/// Adds the conflicts of a user's command. `direct` has marks of other edges, and of the user afterwards.
 ///
 /// # Errors
 /// [`AllocError`] only where an allocation was refused.

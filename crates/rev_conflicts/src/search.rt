@@ -1,4 +1,4 @@
-//! Searches for what an edge waits for, of which the last one is kept.
+//! Searches for what an edge waits for. The last search is kept.
 ghost use Rattle.std.specs.Prelude.{◌≡◌, ◌<◌, length, None, OnOk};
 ghost use Rattle.rev_graph.specs.Graph.{successor_lists};
 ghost use Rattle.rev_ranks.specs.Graph.{graph_of};

@@ -76,13 +76,14 @@ user_line kind look change told path more user number =
     user_begins kind ++ placed user ++ through_words told path more ++ user_ends kind look change ++ codes " ["
     ++ decimal number ++ codes "]\n"
 
--- `unlisted inputs of out.txt (build.ninja:6), which its line and its list do not have`
-abbrev pub unlisted_head : Edge → List ℕ
-unlisted_head user = codes "unlisted inputs of " ++ placed user ++ codes ", which neither its line nor its list has\n"
+-- `unlisted helper.py: commands read it, though neither their lines nor their lists have it`
+abbrev pub unlisted_head : List ℕ → List ℕ
+unlisted_head path =
+    codes "unlisted " ++ shown path ++ codes ": commands read it, though neither their lines nor their lists have it\n"
 
--- `  helper.py [3]`
-abbrev pub unlisted_line : List ℕ → ℕ → List ℕ
-unlisted_line path number = codes "  " ++ shown path ++ codes " [" ++ decimal number ++ codes "]\n"
+-- `  read by out.txt (build.ninja:6) [3]`
+abbrev pub unlisted_line : Edge → ℕ → List ℕ
+unlisted_line user number = codes "  read by " ++ placed user ++ codes " [" ++ decimal number ++ codes "]\n"
 
 -- `    mend: build.ninja:9: build gen.stamp | extra.h: ...`
 abbrev pub declare_line : Edge → List ℕ → List ℕ

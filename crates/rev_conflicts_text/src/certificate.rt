@@ -1,6 +1,6 @@
-//! Whether it is certain that no schedule gives a build's commands other inputs, as it is told.
+//! The lines of a certificate: whether it is certain that no schedule gives a build's commands other inputs.
 ghost use Rattle.std.specs.Prelude.{◌≡◌, Some};
-ghost use Rattle.rev_conflicts_text.specs.Certified.{also_line, assumed_words, certain_line, certain_words, flag_if, flags_words, hidden_words, missing_line, stale_line, way_line, way_words};
+ghost use Rattle.rev_conflicts_text.specs.Certified.{also_line, and_if, assumed_words, certain_line, certain_words, counted_if, flag_if, flags_words, hidden_words, missing_line, stale_line, stale_words, way_line, way_words};
 
 use rev_observed::Flags;
 use rev_races_text::{Counted, Edge};
@@ -9,13 +9,13 @@ use std::fmt;
 /// Why a command that ran stands in the way.
 #[derive(Clone, Copy, Debug, PartialEq, Eq)]
 pub enum Way {
-    /// It did not end well.
+    /// The command did not end well.
     Failed,
-    /// It makes something that the manifest is read from.
+    /// The command makes a file that the manifest is read from.
     Early,
-    /// It is not in the observation.
+    /// The observation does not have the command.
     Unseen,
-    /// It was not observed whole, by these flags.
+    /// The command was not observed whole, by these flags.
     Flagged(Flags),
 }
 
@@ -24,16 +24,18 @@ pub enum Way {
 pub struct CertainLine {
     /// How many commands ran.
     pub commands: u64,
-    /// In how many places commands meet that filters hide.
+    /// In how many places that filters hide commands meet.
     pub hidden: u64,
 }
 
-/// What makes a next build other than a build from nothing, though no schedule gives the commands of this one other
-/// inputs.
+/// How many findings make a next build other than a build from nothing, though by them no schedule gives the commands
+/// of this build other inputs.
 #[derive(Clone, Copy, Debug, PartialEq, Eq)]
 pub struct Stale {
-    /// How many files that commands leave are no outputs of theirs, though others look at them or make them too.
+    /// Undeclared outputs and outputs of others ([`rev_undeclared`]).
     pub undeclared: u64,
+    /// Unlisted inputs for which nothing makes Ninja run their reader again ([`rev_unlisted`]).
+    pub unlisted: u64,
 }
 
 /// The sentence that says what is certain of a recording in which not all ran that the targets need.
@@ -50,6 +52,18 @@ pub(crate) struct WayLine<'a> {
 /// The line of a command that the targets need and that did not run.
 #[derive(Clone, Copy)]
 pub(crate) struct MissingLine<'a>(pub(crate) Edge<'a>);
+
+// How many there are of something; nothing where there are none.
+#[derive(Clone, Copy)]
+struct CountedIf(Counted);
+
+// What stands between the two counts, where neither is zero.
+#[derive(Clone, Copy)]
+struct AndIf(Stale);
+
+// The counts that are not zero.
+#[derive(Clone, Copy)]
+struct StaleWords(Stale);
 
 // The word of a flag, where it is set.
 #[derive(Clone, Copy)]
@@ -222,21 +236,69 @@ impl fmt::Display for AssumedWords {
     }
 }
 
-impl fmt::Display for Stale {
-    ghost output = { λ s. Some (stale_line s.undeclared) };
+impl fmt::Display for CountedIf {
+    ghost output = { λ c. Some (counted_if c.0.count c.0.one.now c.0.many.now) };
 
+    #[tactic(auto, unfolding(crate::specs::Certified::counted_if))]
     fn fmt<W: fmt::Write>(&self, f: &mut fmt::Formatter<W>) -> fmt::Result {
-        if self.undeclared == 0 {
+        let counted = self.0;
+        if counted.count == 0 {
             return Ok(());
         }
-        let outputs = Counted {
-            count: self.undeclared,
+        write!(f, "{counted}")
+    }
+}
+
+impl fmt::Display for AndIf {
+    ghost output = { λ a. Some (and_if a.0.undeclared a.0.unlisted) };
+
+    #[tactic(auto, unfolding(crate::specs::Certified::and_if))]
+    fn fmt<W: fmt::Write>(&self, f: &mut fmt::Formatter<W>) -> fmt::Result {
+        let Stale {
+            undeclared,
+            unlisted,
+        } = self.0;
+        if undeclared == 0 {
+            return Ok(());
+        }
+        if unlisted == 0 {
+            return Ok(());
+        }
+        write!(f, " and ")
+    }
+}
+
+impl fmt::Display for StaleWords {
+    ghost output = { λ w. Some (stale_words w.0.undeclared w.0.unlisted) };
+
+    #[tactic(auto, unfolding(crate::specs::Certified::stale_words))]
+    fn fmt<W: fmt::Write>(&self, f: &mut fmt::Formatter<W>) -> fmt::Result {
+        let outputs = CountedIf(Counted {
+            count: self.0.undeclared,
             one: "undeclared output",
             many: "undeclared outputs",
-        };
+        });
+        let and = AndIf(self.0);
+        let inputs = CountedIf(Counted {
+            count: self.0.unlisted,
+            one: "unlisted input",
+            many: "unlisted inputs",
+        });
+        write!(f, "{outputs}{and}{inputs}")
+    }
+}
+
+impl fmt::Display for Stale {
+    ghost output = { λ s. Some (stale_line s.undeclared s.unlisted) };
+
+    fn fmt<W: fmt::Write>(&self, f: &mut fmt::Formatter<W>) -> fmt::Result {
+        let words = StaleWords(*self);
+        if self.undeclared == 0 && self.unlisted == 0 {
+            return Ok(());
+        }
         write!(
             f,
-            "  not certified: what a next build makes, which {outputs} can leave stale (rebug races)\n"
+            "  not certified: what a next build makes, which {words} can leave stale (rebug races)\n"
         )
     }
 }

@@ -1,4 +1,4 @@
-//! What is told of a certificate.
+//! The answer about a certificate, in words and as JSON.
 use crate::certificate::{AlsoLine, CertainLine, MissingLine, Stale, Way, WayLine};
 use crate::finding::Finding;
 use crate::json::findings_json;
@@ -8,13 +8,13 @@ use rev_races_text::{Counted, Edge, LeftOut, More, Replayed, Sources, push_objec
 use serde::Serialize;
 use std::alloc::{AllocError, Global};
 
-// How many commands of a kind are told in words.
+// How many commands of a kind the words have.
 const FEW: usize = 3;
 
 /// The exit status where it is not certain.
 pub const NOT_CERTAIN: u8 = 4;
 
-/// What is told of a recording whose certificate was asked for. Edges go by their numbers.
+/// The answer about the certificate of a recording. Edges stand by their numbers.
 #[derive(Drop)]
 pub struct Certified<'a> {
     /// Whether it is certain that no schedule gives the commands other inputs.
@@ -27,9 +27,9 @@ pub struct Certified<'a> {
     pub whole: u64,
     /// How much is left out.
     pub left_out: LeftOut,
-    /// What makes a next build other than a build from nothing, and gives no schedule of this one another input.
+    /// How many findings make a next build other than a build from nothing, and nothing else.
     pub stale: Stale,
-    /// What the observation shows.
+    /// The findings that stand in the way.
     pub findings: Vec<Finding<'a>>,
     /// How many edges share a depfile or a response file with an earlier one.
     pub side_files: u64,
@@ -48,6 +48,7 @@ struct CertificateObject {
     hidden: u64,
     side_files: u64,
     undeclared: u64,
+    unlisted: u64,
     known: u64,
     ignored: u64,
 }
@@ -135,7 +136,8 @@ impl<'a> Certified<'a> {
             && !self.left_out.is_by_baseline()
     }
 
-    /// The exit status: 0 where it is certain, or where the baseline knows or ignores all that stands in the way; else 4.
+    /// The exit status. It is 0 where it is certain, and where the baseline knows or ignores all that stands in the
+    /// way. Else it is 4.
     pub fn status(&self) -> u8 {
         if self.is_certain() || (self.left_out.is_by_baseline() && self.is_certain_beside()) {
             return 0;
@@ -143,7 +145,7 @@ impl<'a> Certified<'a> {
         NOT_CERTAIN
     }
 
-    // Whether nothing is told that stands in the way.
+    // Whether nothing that the answer names stands in the way.
     fn is_certain_beside(&self) -> bool {
         self.is_certain_of_what_ran() && self.missing.is_empty()
     }
@@ -241,7 +243,7 @@ impl<'a> Certified<'a> {
         )
     }
 
-    /// What is told, in words: what is certain, or what stands in the way.
+    /// The answer in words: what is certain, or what stands in the way.
     ///
     /// # Errors
     /// [`AllocError`] only where an allocation was refused.
@@ -288,7 +290,7 @@ impl<'a> Certified<'a> {
         Ok(text)
     }
 
-    // Whether commands that did not run are all that is told, and that stands in the way.
+    // Whether commands that did not run are all that stands in the way.
     fn is_certain_of_what_ran(&self) -> bool {
         self.replayed.is_whole()
             && self.side_files == 0
@@ -297,7 +299,7 @@ impl<'a> Certified<'a> {
             && self.commands > 0
     }
 
-    /// What is told, as JSON: an object a line, first whether it is certain (docs/JSON.md).
+    /// The answer as JSON, an object a line (docs/JSON.md). The first object says whether it is certain.
     ///
     /// # Errors
     /// [`AllocError`] only where an allocation was refused.
@@ -310,6 +312,7 @@ impl<'a> Certified<'a> {
             hidden: self.left_out.hidden,
             side_files: self.side_files,
             undeclared: self.stale.undeclared,
+            unlisted: self.stale.unlisted,
             known: self.left_out.known,
             ignored: self.left_out.ignored,
         };

@@ -10,24 +10,25 @@ use rev_races_text::{Edge, Id, Shown, Sources, Story};
 pub enum Kind {
     /// The user looks at what the maker leaves, and neither waits for the other.
     Race,
-    /// The same, where the maker waits for the user.
+    /// The user looks at what the maker leaves, and the maker waits for the user.
     Cycle,
     /// Both leave the file, or have it as a temporary, and neither waits for the other.
     Clash,
     /// The maker waits for the user, and leaves another file than the one that the user looked at.
     Unstable,
-    /// The user looks at a file of the maker's which is no output of it, and waits for the maker.
+    /// The maker leaves the file and does not have it as an output. The user looks at it, and waits for the maker.
     Undeclared,
-    /// The maker leaves a file which is an output of the user.
+    /// The maker leaves the file, which is an output of the user.
     Anothers,
-    /// The user reads a file which neither its line nor its list has. The maker is the user itself.
+    /// The user reads the file, which neither its build statement nor its list has, and nothing makes Ninja run the
+    /// user again when the file changes. The member for the maker has the user too.
     Unlisted,
 }
 
-/// What is told of two edges and a place. Edges are named by their numbers.
+/// A finding about two edges and a place. Edges stand by their numbers.
 #[derive(Clone, Copy)]
 pub struct Finding<'a> {
-    /// What it is.
+    /// Which kind of finding it is.
     pub kind: Kind,
     /// The edge that leaves the place.
     pub maker: u32,
@@ -35,11 +36,11 @@ pub struct Finding<'a> {
     pub user: u32,
     /// The path of the file, or of the folder whose entries it is about.
     pub path: &'a Name,
-    /// How the user looks at it.
+    /// How the user looks at the place.
     pub look: Look,
     /// What the maker does there.
     pub change: Change,
-    /// What happened with the two in this recording.
+    /// What happened with the two edges in this recording. It is None where their order does not matter.
     pub story: Option<Story>,
     /// The maker's first output.
     pub output: Option<&'a Name>,
@@ -51,7 +52,7 @@ impl<'a> Finding<'a> {
         Shown(self.path.as_bytes())
     }
 
-    /// The maker, with the run that is told.
+    /// The maker, with the run that the answer is about.
     pub(crate) fn maker_in(&self, sources: &Sources<'a>) -> Edge<'a> {
         match self.story {
             Some(story) => sources.edge_in(self.maker, story.maker),
@@ -59,7 +60,7 @@ impl<'a> Finding<'a> {
         }
     }
 
-    /// The user, with the run that is told.
+    /// The user, with the run that the answer is about.
     pub(crate) fn user_in(&self, sources: &Sources<'a>) -> Edge<'a> {
         match self.story {
             Some(story) => sources.edge_in(self.user, story.user),
@@ -67,17 +68,31 @@ impl<'a> Finding<'a> {
         }
     }
 
-    /// Its stable name. That of a place which is a folder's entries is not that of the folder itself, and of a clash
-    /// neither edge comes first.
+    /// Its stable name. The entries of a folder and the folder itself are two places, so they give two names. In the
+    /// name of a clash neither edge comes first, and that of an unlisted input has the user alone.
     pub fn id(&self, sources: &Sources<'a>) -> Id {
         let path = self.path.as_bytes();
         match self.kind {
             Kind::Clash => sources.pair_id("clash", path, self.maker, self.user),
             Kind::Anothers => sources.id("another's output", path, self.maker, self.user),
+            Kind::Unlisted => Id::of(
+                kind_word(Kind::Unlisted),
+                path,
+                b"",
+                sources.output(self.user),
+            ),
             Kind::Race if self.change == Change::Entry => {
                 sources.id("race in a folder", path, self.maker, self.user)
             }
             kind => sources.id(kind_word(kind), path, self.maker, self.user),
+        }
+    }
+
+    /// The first output of the maker; empty for an unlisted input, which is about its user alone.
+    pub fn maker_output(&self, sources: &Sources<'a>) -> &'a [u8] {
+        match self.kind {
+            Kind::Unlisted => b"",
+            _ => sources.output(self.maker),
         }
     }
 
@@ -89,7 +104,7 @@ impl<'a> Finding<'a> {
         }
     }
 
-    /// Whether it makes a next build stale alone: the order of this build's commands does not matter for it.
+    /// Whether all that it can do is to make a next build stale. Then it does not depend on the order of commands.
     pub fn is_of_next_build(&self) -> bool {
         matches!(
             self.kind,
@@ -111,8 +126,13 @@ impl<'a> Finding<'a> {
         }
     }
 
-    /// What the user's line is to have behind `||`: the path, where the maker's line is to name it, else an output of the
-    /// maker. None where no order mends it.
+    /// Whether the user's line is to name the path among its inputs, or a depfile is to list it.
+    pub fn is_to_be_listed(&self) -> bool {
+        self.kind == Kind::Unlisted
+    }
+
+    /// What the user's line is to name after `||`. It is the path where the maker's line is to name the path, and else
+    /// an output of the maker. It is None where no order mends the finding.
     pub fn order(&self) -> Option<&'a Name> {
         if !self.is_mended_by_order() {
             return None;

@@ -1,4 +1,4 @@
-//! What is told of findings, as JSON objects, one a line.
+//! Findings as JSON objects, one a line.
 use crate::finding::{Finding, Kind};
 use crate::lines::kind_word;
 use rev_conflicts::{Change, Look};
@@ -20,6 +20,7 @@ struct FindingObject<'a> {
     here: Option<&'static str>,
     basis: &'static str,
     declare: Option<Shown<'a>>,
+    list: Option<Shown<'a>>,
     mend: Option<Shown<'a>>,
 }
 
@@ -82,6 +83,11 @@ fn shown_if<'a>(name: Option<&'a Name>) -> Option<Shown<'a>> {
     }
 }
 
+// A path, where it is to be named.
+fn named_if<'a>(is_to_be_named: bool, path: Shown<'a>) -> Option<Shown<'a>> {
+    if is_to_be_named { Some(path) } else { None }
+}
+
 // The word of what happened with the two edges of a finding.
 fn here_of(finding: &Finding<'_>) -> Option<&'static str> {
     match finding.story {
@@ -125,11 +131,6 @@ fn push_finding<'a>(
         Kind::Unlisted => None,
         _ => Some(finding.maker_in(sources)),
     };
-    let declare = if finding.is_to_be_declared() {
-        Some(finding.shown())
-    } else {
-        None
-    };
     let object = FindingObject {
         number,
         id: finding.id(sources),
@@ -140,13 +141,14 @@ fn push_finding<'a>(
         change: change_of(finding),
         here: here_of(finding),
         basis: "observed",
-        declare,
+        declare: named_if(finding.is_to_be_declared(), finding.shown()),
+        list: named_if(finding.is_to_be_listed(), finding.shown()),
         mend: shown_if(finding.order()),
     };
     push_object(alloc, text, kind_word(finding.kind), &object)
 }
 
-/// What is told of findings, which are numbered from 1 in their order, as JSON: an object a line (docs/JSON.md).
+/// Findings as JSON, an object a line (docs/JSON.md). They are numbered from 1 in their order.
 ///
 /// # Errors
 /// [`AllocError`] only where an allocation was refused.

@@ -1,4 +1,4 @@
-//! What people are told of the conflicts of a build's commands, by what these were seen to do.
+//! The findings of an observation, and its certificate, in words and as JSON.
 #![tactic(auto)]
 
 mod certificate;
@@ -13,5 +13,7 @@ pub use certificate::{CertainLine, Stale, Way};
 pub use certified::{Certified, NOT_CERTAIN};
 pub use finding::{Finding, Kind};
 pub use json::findings_json;
-pub use told::{add_undeclared, conflict_findings, conflicts_left, pair_of, races_left, seen_in};
+pub use told::{
+    add_undeclared, add_unlisted, conflict_findings, conflicts_left, pair_of, races_left, seen_in,
+};
 pub use words::{findings_words, numbered_words};

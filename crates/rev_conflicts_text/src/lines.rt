@@ -16,7 +16,7 @@ pub(crate) struct HeadLine<'a> {
     pub(crate) maker: Edge<'a>,
 }
 
-/// The line of a user, of which as many more things are told with the same maker.
+/// The line of a user. The user has `more` further findings of the same maker.
 #[derive(Clone, Copy)]
 pub(crate) struct UserLine<'a> {
     pub(crate) kind: Kind,
@@ -29,14 +29,14 @@ pub(crate) struct UserLine<'a> {
     pub(crate) number: u64,
 }
 
-/// The line of an edge with unlisted inputs.
+/// The line of a file that is unlisted for those that read it.
 #[derive(Clone, Copy)]
-pub(crate) struct UnlistedHead<'a>(pub(crate) Edge<'a>);
+pub(crate) struct UnlistedHead<'a>(pub(crate) Shown<'a>);
 
-/// The line of one of them.
+/// The line of one of those that read it.
 #[derive(Clone, Copy)]
 pub(crate) struct UnlistedLine<'a> {
-    pub(crate) path: Shown<'a>,
+    pub(crate) user: Edge<'a>,
     pub(crate) number: u64,
 }
 
@@ -197,23 +197,23 @@ impl fmt::Display for UserLine<'_> {
 }
 
 impl fmt::Display for UnlistedHead<'_> {
-    ghost output = { λ l. Some (unlisted_head l.0) };
+    ghost output = { λ l. Some (unlisted_head l.0.0.now) };
 
     fn fmt<W: fmt::Write>(&self, f: &mut fmt::Formatter<W>) -> fmt::Result {
-        let user = self.0;
+        let path = self.0;
         write!(
             f,
-            "unlisted inputs of {user}, which neither its line nor its list has\n"
+            "unlisted {path}: commands read it, though neither their lines nor their lists have it\n"
         )
     }
 }
 
 impl fmt::Display for UnlistedLine<'_> {
-    ghost output = { λ l. Some (unlisted_line l.path.0.now l.number) };
+    ghost output = { λ l. Some (unlisted_line l.user l.number) };
 
     fn fmt<W: fmt::Write>(&self, f: &mut fmt::Formatter<W>) -> fmt::Result {
-        let (path, number) = (self.path, self.number);
-        write!(f, "  {path} [{number}]\n")
+        let (user, number) = (self.user, self.number);
+        write!(f, "  read by {user} [{number}]\n")
     }
 }
 

@@ -1,4 +1,4 @@
-//! What is told by an observation, and what lists tell besides.
+//! The findings of an observation, and the races by lists that are left beside them.
 use crate::finding::{Finding, Kind};
 use rev_conflicts::{Change, Conflict, ConflictKind, Look, Place};
 use rev_graph::Graph;
@@ -7,9 +7,10 @@ use rev_paths::{Name, Paths};
 use rev_races_text::{Evidence, Seen, Story, Told};
 use rev_shown::first_output;
 use rev_undeclared::{Undeclared, UndeclaredKind};
+use rev_unlisted::{Cover, Unlisted};
 use std::alloc::{AllocError, Global};
 
-// Two edges and a file at which something is told of them, the lesser edge first.
+// Two edges and a file that a finding is about, the lesser edge first.
 #[derive(Clone, Copy, PartialEq, Eq, PartialOrd, Ord)]
 struct Spot {
     lesser: u32,
@@ -28,7 +29,7 @@ impl Spot {
     }
 }
 
-// The files at which something is told of two edges by conflicts.
+// The edges and files that conflicts are about.
 #[derive(Drop)]
 struct Spots {
     spots: Vec<Spot>,
@@ -61,8 +62,8 @@ impl Spots {
     }
 }
 
-/// The races that no conflict tells, and those that the error of a failed command names: of each other one the conflicts
-/// tell the two edges and the file.
+/// The races that are left beside conflicts. A race is left where no conflict is about its two edges and its file, and
+/// where the error of a failed command names it.
 ///
 /// # Errors
 /// [`AllocError`] only where an allocation was refused.
@@ -97,7 +98,8 @@ fn named_spots(alloc: Global, races: &[Told<'_>], paths: &Paths) -> Result<Spots
     Ok(Spots { spots })
 }
 
-/// The conflicts that are told by no race which the error of a failed command names.
+/// The conflicts that are left beside races. A conflict is left unless the error of a failed command names a race of
+/// its two edges and its file.
 ///
 /// # Errors
 /// [`AllocError`] only where an allocation was refused.
@@ -191,7 +193,7 @@ pub fn conflict_findings<'a>(
     Ok(findings)
 }
 
-// What an undeclared file is told as, and how its user looks at it.
+// The kind of a finding about an undeclared file, how its user looks at it, and what its maker does.
 fn undeclared_parts(kind: UndeclaredKind) -> (Kind, Look, Change) {
     match kind {
         UndeclaredKind::Anothers => (Kind::Anothers, Look::Read, Change::Output),
@@ -227,7 +229,59 @@ pub fn add_undeclared<'a>(
     Ok(())
 }
 
-/// How many findings there are of each kind, beside commands of which so many were observed whole.
+// An edge whose command reads a file, by the number of the path, that is unlisted for it.
+#[derive(Clone, Copy, PartialEq, Eq, PartialOrd, Ord)]
+struct Reading {
+    path: u64,
+    user: u32,
+}
+
+// The unlisted inputs for which nothing makes Ninja run their reader again, each once, in the order of the paths.
+fn readings_of(alloc: Global, unlisted: &[Unlisted]) -> Result<Vec<Reading>, AllocError> {
+    let mut readings = Vec::new(alloc);
+    for file in unlisted {
+        if file.cover == Cover::Neither {
+            readings.push(Reading {
+                path: file.path,
+                user: file.user,
+            })?;
+        }
+    }
+    readings.sort_unstable();
+    readings.dedup();
+    Ok(readings)
+}
+
+/// Adds unlisted inputs to findings, those about one path together. Where something makes Ninja run the reader again
+/// when the file changes ([`Cover::Covered`], [`Cover::HeldBack`]), nothing is added.
+///
+/// # Errors
+/// [`AllocError`] only where an allocation was refused.
+pub fn add_unlisted<'a>(
+    alloc: Global,
+    graph: &'a Graph,
+    observation: &'a Observation,
+    unlisted: &[Unlisted],
+    findings: &mut Vec<Finding<'a>>,
+) -> Result<(), AllocError> {
+    for reading in &readings_of(alloc, unlisted)? {
+        if let Some(path) = path_of(observation.paths(), Place::File(reading.path)) {
+            findings.push(Finding {
+                kind: Kind::Unlisted,
+                maker: reading.user,
+                user: reading.user,
+                path,
+                look: Look::Read,
+                change: Change::Output,
+                story: None,
+                output: first_output(graph, reading.user),
+            })?;
+        }
+    }
+    Ok(())
+}
+
+/// How many findings there are of each kind, and how many commands were observed whole (`whole`).
 pub fn seen_in(findings: &[Finding<'_>], whole: u64) -> Seen {
     let mut seen = Seen {
         whole,
@@ -247,8 +301,8 @@ pub fn seen_in(findings: &[Finding<'_>], whole: u64) -> Seen {
     seen
 }
 
-/// The user and the maker of the finding of a number, from 1, where a schedule has them in another order; none where
-/// there is no finding of that number, its order stands, or it is of one command.
+/// The user and the maker of the finding that has a number, from 1. It is None where no finding has the number, and
+/// where the finding does not depend on the order of two commands.
 pub fn pair_of(findings: &[Finding<'_>], number: u64) -> Option<(u32, u32)> {
     let place = number.checked_sub(1)?;
     if place >= findings.len() as u64 {

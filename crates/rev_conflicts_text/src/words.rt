@@ -1,11 +1,11 @@
-//! What is told of findings, in words.
+//! Findings in words.
 use crate::finding::{Finding, Kind};
 use crate::lines::{DeclareLine, HeadLine, ListLine, UnlistedHead, UnlistedLine, UserLine};
 use rev_conflicts::Change;
 use rev_races_text::{HereLine, MendLine, More, Shown, Sources};
 use std::alloc::{AllocError, Global};
 
-// How many users of a maker are told, unless all are.
+// How many users of a maker the words have, unless they have all.
 const FEW: usize = 3;
 
 // Adds how many are left out.
@@ -127,7 +127,30 @@ fn push_group<'a>(
     push_more(text, users, most)
 }
 
-// Adds the unlisted inputs of one edge.
+// Adds the findings about one unlisted input, numbered from `number`, with at most so many of those that read it.
+fn push_readers<'a>(
+    text: &mut String,
+    sources: &Sources<'a>,
+    findings: &[Finding<'a>],
+    number: u64,
+    most: usize,
+) -> Result<(), AllocError> {
+    let mut number = number;
+    for (place, finding) in findings.iter().enumerate() {
+        if place == 0 {
+            write!(text, "{}", UnlistedHead(finding.shown()))?;
+        }
+        if place < most {
+            let user = finding.user_in(sources);
+            write!(text, "{}", UnlistedLine { user, number })?;
+            push_mend(text, sources, finding)?;
+        }
+        number = u64::saturating_add(number, 1);
+    }
+    push_more(text, findings.len(), most)
+}
+
+// Adds the findings about unlisted inputs, numbered from `number`. Those about one path stand together.
 fn push_unlisted<'a>(
     text: &mut String,
     sources: &Sources<'a>,
@@ -136,22 +159,20 @@ fn push_unlisted<'a>(
     most: usize,
 ) -> Result<(), AllocError> {
     let mut number = number;
-    let mut count = 0usize;
-    for finding in findings {
-        if finding.kind == Kind::Unlisted {
-            if count == 0 {
-                write!(text, "{}", UnlistedHead(finding.user_in(sources)))?;
-            }
-            if count < most {
-                let path = finding.shown();
-                write!(text, "{}", UnlistedLine { path, number })?;
-                push_mend(text, sources, finding)?;
-            }
-            count = usize::saturating_add(count, 1);
-        }
-        number = u64::saturating_add(number, 1);
+    for readers in findings.chunk_by(|one, other| *one.path == *other.path) {
+        push_readers(text, sources, readers, number, most)?;
+        number = u64::saturating_add(number, readers.len() as u64);
     }
-    push_more(text, count, most)
+    Ok(())
+}
+
+// The findings before the first one about an unlisted input, and the others.
+fn unlisted_apart<'b, 'a>(findings: &'b [Finding<'a>]) -> (&'b [Finding<'a>], &'b [Finding<'a>]) {
+    let count = findings
+        .iter()
+        .take_while(|finding| finding.kind != Kind::Unlisted)
+        .count();
+    findings.split_at(count)
 }
 
 // The kinds that are told in groups, in the order in which one maker's are told.
@@ -174,8 +195,9 @@ const CHANGES: [Change; 6] = [
     Change::Entry,
 ];
 
-/// What is told of findings, which are numbered from 1 in their order, in words: those of each maker in a group for each
-/// kind and for what the maker does. Of much the first is told, or all of it.
+/// Findings in words. They are numbered from 1 in their order. Those of a maker stand in a group for each kind and for
+/// what the maker does. Unlisted inputs come last, and those about one path stand together. Of many users of a maker, or
+/// readers of a path, the words have the first, or all (`all`).
 ///
 /// # Errors
 /// [`AllocError`] only where an allocation was refused.
@@ -202,14 +224,15 @@ pub fn numbered_words<'a>(
     let mut text = String::new(alloc);
     let most = if all { usize::MAX } else { FEW };
     let mut number = first;
-    for maker in findings.chunk_by(|one, other| one.maker == other.maker) {
+    let (made, unlisted) = unlisted_apart(findings);
+    for maker in made.chunk_by(|one, other| one.maker == other.maker) {
         for kind in KINDS {
             for change in CHANGES {
                 push_group(&mut text, sources, kind, change, maker, number, most)?;
             }
         }
-        push_unlisted(&mut text, sources, maker, number, most)?;
         number = u64::saturating_add(number, maker.len() as u64);
     }
+    push_unlisted(&mut text, sources, unlisted, number, most)?;
     Ok(text)
 }

@@ -136,8 +136,8 @@ impl Desk {
         self.desk_state.breaks.standing()
     }
 
-    /// The number that a name stands for: a number is its own; a label stands for the entry of that place
-    /// among its lane's, where this is an event that was accepted, undone since or not.
+    /// The number that a name stands for. A number stands for itself. A label stands for the entry of that place among
+    /// its lane's, where this entry is an accepted event, undone since or not.
     pub fn named(&self, which: Which) -> Option<u32>
         ensures { result ≡ named self.now.journal which }
     {

@@ -1,4 +1,4 @@
-//! Why there is no desk, and why a command made no entry.
+//! Why a desk was not made, and why a command made no entry.
 ghost use Rattle.std.specs.Prelude.{◌≡◌};
 ghost use Rattle.rev_desk.specs.declared.fault.DeskFault.TheVariants.{Memory};
 ghost use Rattle.rev_desk.specs.Fault.{code_of, why_code};
@@ -6,7 +6,7 @@ ghost use Rattle.rev_desk.specs.Fault.{code_of, why_code};
 use rev_commands::Command;
 use std::alloc::AllocError;
 
-/// Why there is no desk.
+/// Why a desk was not made.
 #[derive(Clone, Copy, Debug, PartialEq, Eq)]
 pub enum DeskFault {
     /// An allocation failed.

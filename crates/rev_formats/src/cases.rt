@@ -25,8 +25,8 @@ fn push_item(alloc: Global, text: &mut Vec<u8>, item: &Item<'_>) -> Result<(), A
     text.extend_from_slice(b"</failure></testcase>\n")
 }
 
-/// A suite with a failed case for each finding, at the build statement that is to be mended; where there is none, with one
-/// case that passed.
+/// A suite with a failed case for each finding, at the build statement that is to be mended; where there is none, with
+/// one case that passed.
 ///
 /// # Errors
 /// [`AllocError`] only where an allocation was refused.

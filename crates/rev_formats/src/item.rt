@@ -10,7 +10,8 @@ pub struct Item<'a> {
     pub id: Id,
     /// The word of its kind.
     pub kind: &'static str,
-    /// Whether it can make a build fail or differ by the order of its commands; else it makes a next build stale.
+    /// Whether the order of commands can decide by it whether a build fails, or what it leaves. Where that is false,
+    /// the finding can only make a next build stale.
     pub is_error: bool,
     /// The path that it is about; empty where it is about a command alone.
     pub path: &'a [u8],
@@ -22,7 +23,7 @@ pub struct Item<'a> {
     pub file: &'a [u8],
     /// The line of that statement, from 1.
     pub line: u64,
-    /// What is told of it, in lines.
+    /// The lines that people read about it.
     pub text: String,
 }
 

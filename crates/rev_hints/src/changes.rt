@@ -101,7 +101,7 @@ fn note_event(
     Ok(())
 }
 
-/// For each path of which a change counts, that change. The kept events are gone through once.
+/// For each path that has a change that counts, that change. The kept events are gone through once.
 ///
 /// # Errors
 /// [`AllocError`] only where an allocation was refused.

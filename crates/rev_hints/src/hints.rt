@@ -237,9 +237,9 @@ fn hints_by(
 }
 
 /// The hints that changed files give in a history, each once, in the order of the users' numbers, and of the places in
-/// what a user lists: an edge lists a file that nobody makes by any of its names, and waits for none of the other
-/// commands that ran when it last changed while commands ran. `names` has the other names of outputs, each with its
-/// output.
+/// what a user lists. A hint is an edge and a file that it lists, which nobody makes by any of its names. The file
+/// changed while commands ran, and at its last such change the edge waits for none of the other commands that ran.
+/// `names` has the other names of outputs, each with its output.
 ///
 /// The kept events are gone through once, and each listed path is looked up once, or twice where its list has a path
 /// that changed; up to hashing, that takes time linear in both. An edge with such a path is searched for what it waits

@@ -10,5 +10,5 @@ pub mod Members
 pub mod NamedLemmas
 pub mod OrderLemmas
 pub mod Promises
-pub mod TakenLemmas
+pub mod RemovalLemmas
 pub mod Written

@@ -1,8 +1,8 @@
 pub mod Checked
 pub mod Laws
 pub mod Order
+pub mod Removal
 pub mod Sound
 pub mod Steps
-pub mod Taken
 pub mod Timeline
 pub mod Value

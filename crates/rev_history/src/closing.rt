@@ -10,7 +10,7 @@ ghost use Rattle.rev_causal.specs.Store.{Footprint as Print};
 ghost use Rattle.rev_cells.specs.declared.cell.Cell.{Cell};
 ghost use Rattle.rev_history.specs.Steps.{HasFootprints, named, prints_of};
 
-use crate::prints::follow;
+use crate::access_updates::follow;
 use crate::steps::{Step, step_of};
 use indexmap::IndexMap;
 use rev_accesses::{Accesses, Pending};

@@ -12,13 +12,13 @@ ghost use Rattle.rev_history.specs.Order.{IsOrder, IsSameOpening, answer_of, ord
 ghost use Rattle.rev_history.specs.Timeline.{IsHistory, IsRising, Timeline, accept_refusal, accepted_as, back_refusal, cone_numbers, cone_refusal, coned, event_at, greatest_kept, kept_events, kept_footprint, last_of, machine_at, nearest_conflict, opened, redo_refusal, redone, state_at, undo_refusal, undone};
 ghost use Rattle.rev_history.specs.Value.{cells_written};
 
+use crate::access_updates::{nearest, nearest_by, write_noted};
 use crate::closing::cone;
 use crate::kept::KeptFootprint;
 use crate::order::{Order, both, first_pair};
-use crate::prints::{nearest, nearest_by, write_noted};
+use crate::removal::{put_all_back, put_back, remove_members};
 use crate::step::{Checked, effect, effect_if_accepted, refusal};
 use crate::steps::{Step, step_of};
-use crate::taken::{put_all_back, put_back, thin_lists};
 use indexmap::IndexMap;
 use rev_accesses::Accesses;
 use rev_cells::{Cells, Opening};
@@ -198,8 +198,9 @@ impl History {
     /// Accepts an event under a number above all others, and keeps it.
     ///
     /// # Errors
-    /// [`Fault::Refused`] where the present state refuses the event; [`Fault::Memory`] only where an allocation was
-    /// refused, which may be before the refusal is known. The history is then as before.
+    /// [`Fault::Refused`] where the present state refuses the event; [`Fault::Memory`] where an allocation was refused,
+    /// which may be before the refusal is known, or where the place of a cell would not fit in a u32 (more than
+    /// 4,294,967,295 cells). The history is then as before.
     pub fn accept(&mut self, number: u32, event: &Event) -> Result<(), Fault>
         requires { last_of self.old.timeline.accepted < number }
         ensures refused { (r : Refusal) → IsErrOf result (Fault.Refused r)
@@ -255,8 +256,9 @@ impl History {
     ///
     /// # Errors
     /// [`Fault::Refused`] where the number has no event, is kept, the present state refuses the event, or a later kept
-    /// event conflicts with it; [`Fault::Memory`] only where an allocation was refused, which may be before it is known
-    /// whether a later event conflicts. The history is then as before.
+    /// event conflicts with it; [`Fault::Memory`] where an allocation was refused, which may be before it is known
+    /// whether a later event conflicts, or where the place of a cell would not fit in a u32, as [`History::accept`]
+    /// says. The history is then as before.
     pub fn redo(&mut self, number: u32) -> Result<(), Fault>
         ensures refused { (r : Refusal) → IsErrOf result (Fault.Refused r)
             → redo_refusal self.old.timeline number ≡ Some r }
@@ -380,7 +382,7 @@ impl History {
         requires members { members.now ≡ cone_numbers number self.old.timeline }
         ensures { self.new.timeline ≡ coned number self.old.timeline }
     {
-        thin_lists(members, &self.accepted, &self.steps, &mut self.accesses);
+        remove_members(members, &self.accepted, &self.steps, &mut self.accesses);
         put_all_back(members, &self.accepted, &mut self.steps, &mut self.cells);
         self.kept.take_all(members);
     }
@@ -524,7 +526,7 @@ impl History {
         ensures timeline { self.new.timeline ≡ undone number self.old.timeline }
         ensures writes { self.new.writes ≡ raised_by (cells_written number self.old.timeline) self.old.writes }
     {
-        thin_lists(&[number], &self.accepted, &self.steps, &mut self.accesses);
+        remove_members(&[number], &self.accepted, &self.steps, &mut self.accesses);
         put_back(number, &self.accepted, &mut self.steps, &mut self.cells);
         self.kept.take(number);
     }

@@ -2,15 +2,15 @@
 //! events, run from the opening.
 #![tactic(auto)]
 
+mod access_updates;
 mod closing;
 mod history;
 mod kept;
 pub mod laws;
 mod order;
-mod prints;
+mod removal;
 mod step;
 mod steps;
-mod taken;
 
 pub use history::History;
 pub use kept::{KeptCells, KeptFootprint, conflict};

@@ -11,7 +11,7 @@ ghost use Rattle.rev_order.specs.Pairs.{inverted_pair};
 ghost use Rattle.rev_history.specs.Order.{answer_of};
 ghost use Rattle.rev_history.specs.Steps.{HasFootprints, named, prints_of};
 
-use crate::prints::partner;
+use crate::access_updates::partner;
 use crate::steps::{Step, step_of};
 use indexmap::IndexMap;
 use rev_accesses::Accesses;

@@ -33,8 +33,15 @@ found-next q xs i x old new within is so now =
     ∙ sym (ap (find q) (take_more (reverse xs) i 0 there ∙ ap (λ y. take i (reverse xs) ++ y ∷ []) at)
     ∙ find-append q (take i (reverse xs)) (x ∷ []))
 
+-- of a list that is gone through from its front
+pub found-after : (q : ℕ → Bool) (xs : List ℕ) (i x : ℕ) (old new : Option ℕ) → i < length xs
+    → x ≡ get_or xs i 0 → old ≡ find q (take i xs) → new ≡ noted (q x) x old → new ≡ find q (take (i + 1) xs)
+found-after q xs i x old new within is so now =
+    now ∙ noted-more q x old ∙ ap (λ o. option_or o (find q (x ∷ []))) so
+    ∙ sym (ap (find q) (take_more xs i 0 within ∙ ap (λ y. take i xs ++ y ∷ []) (sym is)) ∙ find-append q (take i xs) (x ∷ []))
+
 -- ALL PATHS
-one-more : {X : Type 0} (o : Option X) → cons_option o [] ≡ option_to_list o
+pub one-more : {X : Type 0} (o : Option X) → cons_option o [] ≡ option_to_list o
 one-more None = refl
 one-more (Some x) = refl
 

@@ -1,5 +1,5 @@
 -- What is noted of paths, one by one.
-use Rattle.std.proofs.Common.{◌≡◌, ℕ, ◌+◌, ◌<◌, ◌≤◌, Bool, true, false, ◌&&◌, ◌||◌, List, [], ◌∷◌, length, get_or, set, take, drop, Option, Some, None, refl, sym, ap, ◌∙◌, arith, inl, inr}
+use Rattle.std.proofs.Common.{◌≡◌, ℕ, ◌+◌, ◌<◌, ◌≤◌, Bool, true, false, ◌&&◌, ◌||◌, List, [], ◌∷◌, ◌++◌, length, get_or, set, take, drop, Option, Some, None, refl, sym, ap, ◌∙◌, arith, inl, inr}
 use Rattle.std.specs.Prelude.{◌==◌, min, nat_le, nat_lt, if◌then◌else◌}
 use Rattle.std.specs.List.{list_any}
 use Rattle.std.specs.Option.{option_or}
@@ -109,6 +109,11 @@ any-next p xs i d within =
 
 pub or-next : (before any here : Bool) → ((before || any) || here) ≡ (before || (any || here))
 or-next before any here = sym (or-assoc before any here)
+
+-- one of three lists has an element that passes
+pub any-of-three : {X : Type 0} (p : X → Bool) (xs ys zs : List X)
+    → list_any p (xs ++ ys ++ zs) ≡ ((list_any p xs || list_any p ys) || list_any p zs)
+any-of-three p xs ys zs = list_any-append p (xs ++ ys) zs ∙ ap (λ b. b || list_any p zs) (list_any-append p xs ys)
 
 -- NUMBERS OF COMMANDS
 pub number-at : (edges : List ℕ) (n edge : ℕ) → n < length edges

@@ -1,33 +1,26 @@
 -- Later commands that look at what an event left, one by one.
-use Rattle.std.proofs.Common.{◌≡◌, ℕ, zero, suc, ◌+◌, ◌<◌, ◌≤◌, Bool, true, false, List, [], ◌∷◌, ◌++◌, length, get_or, take, map, None, refl, sym, ap, ◌∙◌, arith}
-use Rattle.std.specs.Prelude.{◌==◌, filter, is_some, if◌then◌else◌}
-use Rattle.std.specs.List.{flat_map, range_with_len}
-use Rattle.std.proofs.lemmas.List.{append-nil, map-append, take_more}
-use Rattle.std.proofs.lemmas.List.Elements.{filter-append}
+use Rattle.std.proofs.Common.{◌≡◌, ℕ, zero, suc, ◌+◌, ◌<◌, ◌≤◌, Bool, true, false, List, [], ◌∷◌, ◌++◌, length, get_or, take, Option, None, refl, sym, ap, ◌∙◌, arith}
+use Rattle.std.specs.Prelude.{filter, is_some, if◌then◌else◌}
+use Rattle.std.specs.List.{filter_map, flat_map, range_with_len}
+use Rattle.std.specs.Option.{option_to_list}
+use Rattle.std.proofs.lemmas.List.{append-nil, append_assoc, take_more}
+use Rattle.std.proofs.lemmas.List.Elements.{filter_map-append}
 use Rattle.std.proofs.lemmas.Grind.{flat_map-append}
-use Rattle.rev_looked.specs.declared.need.Need.{Need}
-use Rattle.rev_looked.specs.declared.user.User.{User}
 use Rattle.rev_looked.specs.Ranges.{noted}
-use Rattle.rev_looked.specs.Users.{user_of, users_in}
+use Rattle.rev_looked.proofs.NeedLemmas.{one-more}
 
--- those of needs, and one more
-pub users-more : (n later : ℕ) (needs : List Need) (i : ℕ) (need : Need) (first old new : List User) → i < length needs
-    → need ≡ get_or needs i need → old ≡ first ++ users_in n later (take i needs)
-    → new ≡ old ++ users_in n later (need ∷ []) → new ≡ first ++ users_in n later (take (i + 1) needs)
-users-more n later needs i need first old new within is so now =
-    let next : take (i + 1) needs ≡ take i needs ++ need ∷ [] =
-    take_more needs i need within ∙ ap (λ x. take i needs ++ x ∷ []) (sym is) in
-    now ∙ ap (λ us. us ++ users_in n later (need ∷ [])) so
-    ∙ assoc first (users_in n later (take i needs)) (users_in n later (need ∷ []))
+-- those of paths, and one more
+pub seen-more : {X : Type 0} (f : ℕ → Option X) (xs : List ℕ) (i x : ℕ) (first old new : List X) (o : Option X) → i < length xs
+    → x ≡ get_or xs i 0 → old ≡ first ++ filter_map f (take i xs) → o ≡ f x → new ≡ old ++ option_to_list o
+    → new ≡ first ++ filter_map f (take (i + 1) xs)
+seen-more f xs i x first old new o within is so seen now =
+    let next : take (i + 1) xs ≡ take i xs ++ x ∷ [] =
+    take_more xs i 0 within ∙ ap (λ y. take i xs ++ y ∷ []) (sym is) in
+    now ∙ ap (λ us. us ++ option_to_list o) so ∙ append_assoc first (filter_map f (take i xs)) (option_to_list o)
     ∙ ap (λ us. first ++ us)
-    (sym (ap (users_in n later) next
-    ∙ ap (map (user_of later)) (filter-append (λ (x : Need). x.number == n) (take i needs) (need ∷ []))
-    ∙ map-append (user_of later) (filter (λ (x : Need). x.number == n) (take i needs))
-    (filter (λ (x : Need). x.number == n) (need ∷ []))))
-  where
-    assoc : (xs ys zs : List User) → (xs ++ ys) ++ zs ≡ xs ++ (ys ++ zs)
-    assoc [] ys zs = refl
-    assoc (x ∷ xs) ys zs = ap (λ us. x ∷ us) (assoc xs ys zs)
+    (ap (λ q. filter_map f (take i xs) ++ option_to_list q) seen
+    ∙ sym (ap (filter_map f) next ∙ filter_map-append f (take i xs) (x ∷ [])
+    ∙ ap (λ ys. filter_map f (take i xs) ++ ys) (one-more (f x))))
 
 -- those of all numbers, and of one more
 pub flat-more : {X : Type 0} (f : ℕ → List X) (xs : List ℕ) (i x : ℕ) (old new : List X) → i < length xs

@@ -40,6 +40,10 @@ is_left s path number =
 abbrev pub last_left : Scene → ℕ → ℕ → Option ℕ
 last_left s n path = find (λ k. nat_lt k n && is_left s path k) (reverse s.timeline.kept)
 
+-- the first kept event after n that did
+abbrev pub next_left : Scene → ℕ → ℕ → Option ℕ
+next_left s n path = find (λ k. nat_lt n k && is_left s path k) s.timeline.kept
+
 -- the path is an input on the build line of the edge
 abbrev pub is_number : ℕ → Option ℕ → Bool
 is_number path place = holds (λ p. p == path) place

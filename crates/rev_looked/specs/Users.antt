@@ -1,10 +1,14 @@
 -- Later commands that were seen to look at what an event left.
-use Rattle.std.specs.Prelude.{ℕ, ◌==◌, nat_lt, Bool, ◌&&◌, List, [], filter, is_some, length, map, Option, option_and_then, if◌then◌else◌}
+use Rattle.std.specs.Prelude.{ℕ, ◌==◌, nat_le, nat_lt, Bool, true, ◌&&◌, List, [], filter, is_some, length, map, Option, None, Some, option_and_then, if◌then◌else◌}
 use Rattle.std.specs.List.{flat_map, list_any, range_with_len}
+use Rattle.rev_paths.specs.Paths.{place_of}
+use Rattle.rev_manifest.specs.Builds.{BuildValue}
+use Rattle.rev_graph.specs.Graph.{build_at, inputs_of}
 use Rattle.rev_history.specs.Timeline.{Timeline, event_at}
+use Rattle.rev_observed.specs.CommandValues.{CommandValue}
 use Rattle.rev_looked.specs.Commands.{command_of, look_of}
 use Rattle.rev_looked.specs.Events.{begun_edge}
-use Rattle.rev_looked.specs.Needs.{Scene, holds, is_left, needs_of}
+use Rattle.rev_looked.specs.Needs.{Scene, holds, is_left, is_number, needs_of}
 use Rattle.rev_looked.specs.declared.need.Need.{Need}
 use Rattle.rev_looked.specs.declared.user.User.{User}
 
@@ -37,3 +41,18 @@ users_at s n later = if may_see s n later then users_in n later (needs_of s late
 -- left at n
 abbrev pub users_of : Scene → ℕ → List User
 users_of s n = flat_map (users_at s n) s.timeline.kept
+
+-- AS THEY ARE FOUND
+-- what was left at a path is still there before a later event, by the next event that left the path again
+abbrev pub is_there : Option ℕ → ℕ → Bool
+is_there None later = true
+is_there (Some next) later = nat_le later next
+
+-- how a command of an edge, begun at a later event, looks at a path that was left, where that is still there and the
+-- build line does not declare it
+abbrev pub user_by : List BuildValue → List (List ℕ) → ℕ → CommandValue → ℕ → Option ℕ → ℕ → Option User
+user_by builds paths edge command later next path =
+    if is_there next later
+    then option_and_then (λ look. if list_any (λ name. is_number path (place_of name paths)) (inputs_of (build_at builds edge)) then None
+    else Some (record { number = later; path = path; look = look })) (look_of command path)
+    else None

@@ -9,6 +9,16 @@ use rev_graph::Graph;
 use rev_paths::{Name, Paths};
 use std::alloc::{AllocError, Global};
 
+// Whether there is a place, and it is this one.
+fn is_path(path: u64, place: Option<u64>) -> bool
+    ensures { result ≡ is_number path place }
+{
+    match place {
+        Some(place) => place == path,
+        None => false,
+    }
+}
+
 // Marks a path, if there is one.
 fn mark(marks: &mut [bool], place: Option<u64>)
     requires { IfSome place (λ place. place < length marks.old) }
@@ -53,4 +63,31 @@ pub(crate) fn declared(
     mark_names(paths, inputs.implicit, &mut marks);
     mark_names(paths, inputs.order_only, &mut marks);
     Ok(marks)
+}
+
+// Whether one of the names is a path.
+fn is_one(paths: &Paths, names: &[Name], path: u64) -> bool
+    ensures { result ≡ list_any (λ name. is_number path (place_of name paths.now)) names.now }
+{
+    names.iter().any(|name| is_path(path, paths.find(name)))
+}
+
+// Whether one of three holds.
+fn any_of(first: bool, second: bool, third: bool) -> bool
+    ensures { result ≡ ((first || second) || third) }
+{
+    first || second || third
+}
+
+/// Whether a path is an input on the build line of an edge: the inputs are looked up one by one.
+pub(crate) fn is_declared(graph: &Graph, paths: &Paths, edge: u32, path: u64) -> bool
+    requires { edge < length graph.now.manifest.builds }
+    ensures { result ≡ list_any (λ name. is_number path (place_of name paths.now))
+        (inputs_of (build_at graph.now.manifest.builds edge)) }
+{
+    let inputs = graph.inputs(edge);
+    let explicit = is_one(paths, inputs.explicit, path);
+    let implicit = is_one(paths, inputs.implicit, path);
+    let order_only = is_one(paths, inputs.order_only, path);
+    any_of(explicit, implicit, order_only)
 }

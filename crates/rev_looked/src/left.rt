@@ -2,7 +2,7 @@
 ghost use Rattle.std.specs.Prelude.{◌≡◌, ◌<◌, ◌&&◌, ℕ, None, length, nat_lt, slice_index_or, IfOk};
 ghost use Rattle.rev_looked.specs.Commands.{leaves, number_from};
 ghost use Rattle.rev_looked.specs.Ranges.{noted};
-ghost use Rattle.rev_looked.specs.Needs.{is_left, last_left as last_left_of, scene};
+ghost use Rattle.rev_looked.specs.Needs.{is_left, last_left as last_left_of, next_left as next_left_of, scene};
 
 use crate::commands::command_at;
 use crate::ends::ended_at;
@@ -143,5 +143,80 @@ pub(crate) fn left_notes(
 {
     let mut notes = vec![in alloc; None; observation.paths().len() as usize]?;
     note_left(history, observation, edges, numbers, number, &mut notes);
+    Ok(notes)
+}
+
+// Notes the number of an event behind another one, where it ended a command, of each path that this left other than it
+// was, and of which nothing was noted.
+fn note_after(
+    history: &History,
+    observation: &Observation,
+    edges: &[u32],
+    numbers: &[Option<usize>],
+    after: u32,
+    number: u32,
+    notes: &mut [Option<u32>],
+)
+    requires count { length numbers.now ≡ length history.now.timeline.manifest.builds }
+    requires each { (edge : ℕ) → edge < length history.now.timeline.manifest.builds
+        → slice_index_or numbers.now edge None ≡ number_from 0 edges.now edge }
+    ensures { (path : ℕ) → path < length notes.old → slice_index_or notes.new path None
+        ≡ noted (nat_lt after number && is_left (scene history.now.timeline observation.now.paths
+        observation.now.commands edges.now) path number) number (slice_index_or notes.old path None) }
+{
+    let _edges = edges.len();
+    if number <= after {
+        return;
+    }
+    note_left(history, observation, edges, numbers, number, notes);
+}
+
+// Notes of each path the first kept event after a number at which a command ended that left it other than it was, where
+// nothing was noted of it.
+fn note_kept_after(
+    history: &History,
+    observation: &Observation,
+    edges: &[u32],
+    numbers: &[Option<usize>],
+    after: u32,
+    notes: &mut [Option<u32>],
+)
+    requires count { length numbers.now ≡ length history.now.timeline.manifest.builds }
+    requires each { (edge : ℕ) → edge < length history.now.timeline.manifest.builds
+        → slice_index_or numbers.now edge None ≡ number_from 0 edges.now edge }
+    ensures { (path : ℕ) → path < length notes.old → slice_index_or notes.old path None ≡ None
+        → slice_index_or notes.new path None ≡ next_left_of (scene history.now.timeline observation.now.paths
+        observation.now.commands edges.now) after path }
+{
+    let _edges = edges.len();
+    let kept = history.kept();
+    for place in 0..kept.len() {
+        let number = kept[place];
+        note_after(history, observation, edges, numbers, after, number, notes);
+    }
+}
+
+/// For each path the first kept event after a number at which a command ended that left the path other than it was.
+///
+/// # Errors
+/// [`AllocError`] only where an allocation was refused.
+pub(crate) fn next_left(
+    alloc: Global,
+    history: &History,
+    observation: &Observation,
+    edges: &[u32],
+    numbers: &[Option<usize>],
+    after: u32,
+) -> Result<Vec<Option<u32>>, AllocError>
+    requires count { length numbers.now ≡ length history.now.timeline.manifest.builds }
+    requires each { (edge : ℕ) → edge < length history.now.timeline.manifest.builds
+        → slice_index_or numbers.now edge None ≡ number_from 0 edges.now edge }
+    ensures count { IfOk result (λ notes. length notes.items ≡ length observation.now.paths) }
+    ensures each { IfOk result (λ notes. (path : ℕ) → path < length observation.now.paths
+        → slice_index_or notes.items path None ≡ next_left_of (scene history.now.timeline observation.now.paths
+        observation.now.commands edges.now) after path) }
+{
+    let mut notes = vec![in alloc; None; observation.paths().len() as usize]?;
+    note_kept_after(history, observation, edges, numbers, after, &mut notes);
     Ok(notes)
 }

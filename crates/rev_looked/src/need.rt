@@ -40,8 +40,8 @@ fn looks_of(alloc: Global, command: &Command, count: u64) -> Result<Vec<Option<K
     Ok(looks)
 }
 
-// Whether there is an edge, and it is this one.
-fn is_edge(edge: u32, found: Option<u32>) -> bool
+/// Whether there is an edge, and it is this one.
+pub(crate) fn is_edge(edge: u32, found: Option<u32>) -> bool
     ensures { result ≡ holds (λ e. e == edge) found }
 {
     match found {
@@ -148,45 +148,6 @@ fn needs_by(
     Ok(needs)
 }
 
-/// What an event needs by what its command was seen to look at, where the number of the command of each edge is noted.
-///
-/// # Errors
-/// [`AllocError`] only where an allocation was refused.
-pub(crate) fn needs_noted(
-    alloc: Global,
-    history: &History,
-    observation: &Observation,
-    edges: &[u32],
-    numbers: &[Option<usize>],
-    number: u32,
-) -> Result<Vec<Need>, AllocError>
-    requires count { length numbers.now ≡ length history.now.timeline.manifest.builds }
-    requires each { (edge : ℕ) → edge < length history.now.timeline.manifest.builds
-        → slice_index_or numbers.now edge None ≡ number_from 0 edges.now edge }
-    ensures { IfOk result (λ needs. needs.items ≡ needs_of (scene history.now.timeline observation.now.paths
-        observation.now.commands edges.now) number) }
-{
-    if !is_kept(history, number) {
-        return Ok(Vec::new(alloc));
-    }
-    let Some(edge) = run_at(history, number) else {
-        return Ok(Vec::new(alloc));
-    };
-    let Some(command) = command_at(observation.commands(), numbers, edge) else {
-        return Ok(Vec::new(alloc));
-    };
-    needs_by(
-        alloc,
-        history,
-        observation,
-        edges,
-        numbers,
-        edge,
-        command,
-        number,
-    )
-}
-
 /// What a kept event that begins or ends a command rests on by what that command was seen to look at: for each path that
 /// it looks at and that its build line does not declare, the last kept event before it at which a command of another edge
 /// ended that left the path other than it was, in the order of the numbers of the paths. Nothing of an event that is not
@@ -208,5 +169,23 @@ pub fn needs(
         observation.now.commands edges.now) number) }
 {
     let numbers = numbers_of(alloc, edges, history.graph().edges())?;
-    needs_noted(alloc, history, observation, edges, &numbers, number)
+    if !is_kept(history, number) {
+        return Ok(Vec::new(alloc));
+    }
+    let Some(edge) = run_at(history, number) else {
+        return Ok(Vec::new(alloc));
+    };
+    let Some(command) = command_at(observation.commands(), &numbers, edge) else {
+        return Ok(Vec::new(alloc));
+    };
+    needs_by(
+        alloc,
+        history,
+        observation,
+        edges,
+        &numbers,
+        edge,
+        command,
+        number,
+    )
 }

@@ -1,16 +1,21 @@
 //! Later commands that were seen to look at what an event left.
-ghost use Rattle.std.specs.Prelude.{◌≡◌, ◌<◌, ◌++◌, ◌∷◌, [], ℕ, None, if◌then◌else◌, filter, is_some, length, slice_index_or, IfOk, OnOk};
-ghost use Rattle.std.specs.List.{list_any, range_with_len};
-ghost use Rattle.rev_looked.specs.Commands.{look_of as look_by, number_from};
-ghost use Rattle.rev_looked.specs.Needs.{scene};
-ghost use Rattle.rev_looked.specs.Users.{left_paths as left_paths_of, may_see as may_see_of, users_at, users_in, users_of};
+ghost use Rattle.std.specs.Prelude.{◌≡◌, ◌<◌, ◌++◌, ◌∷◌, [], ◌==◌, ℕ, None, All, if◌then◌else◌, filter, is_some, length, slice_index_or, IfOk, OnOk};
+ghost use Rattle.std.specs.List.{filter_map, list_any, range_with_len};
+ghost use Rattle.std.specs.Option.{option_to_list};
+ghost use Rattle.rev_looked.specs.Commands.{number_from};
+ghost use Rattle.rev_looked.specs.Needs.{next_left as next_left_of, scene};
+ghost use Rattle.rev_looked.specs.Users.{is_there as is_there_of, left_paths as left_paths_of, user_by as user_by_of, users_at, users_of};
 
 use crate::commands::{command_at, look_of, numbers_of};
-use crate::ends::begun_at;
-use crate::left::left_notes;
-use crate::need::{Need, needs_noted};
+use crate::declared::is_declared;
+use crate::ends::{begun_at, ended_at};
+use crate::left::{left_notes, next_left};
+use crate::need::is_edge;
+use rev_graph::Graph;
 use rev_history::History;
 use rev_observed::{Command, Kind, Observation};
+use rev_paths::Paths;
+use rev_runs::is_kept;
 use std::alloc::{AllocError, Global};
 
 /// A later event whose command was seen to look at what an earlier one left.
@@ -66,82 +71,92 @@ fn left_paths(
     Ok(paths)
 }
 
-// Whether a command looks at one of these paths.
-fn looks_at_one(command: &Command, paths: &[u64]) -> bool
-    ensures { result ≡ list_any (λ path. is_some (look_by command.now path)) paths.now }
+// Whether what was left at a path is still there before a later event: it was not left again before that.
+fn is_there(next: Option<u32>, later: u32) -> bool
+    ensures { result ≡ is_there_of next later }
 {
-    paths.iter().any(|path| look_of(command, *path).is_some())
+    match next {
+        Some(next) => later <= next,
+        None => true,
+    }
 }
 
-// Whether a later event begins a command that looks at a path which was left at the event of a number.
-fn may_see(
-    history: &History,
-    observation: &Observation,
-    edges: &[u32],
-    numbers: &[Option<usize>],
+// How a command of an edge, begun at a later event, looks at a path that was left, where that is still there and the
+// build line does not declare it. `next` has where the path is left again.
+fn user_by(
+    graph: &Graph,
+    paths: &Paths,
+    edge: u32,
+    command: &Command,
+    later: u32,
+    next: Option<u32>,
+    path: u64,
+) -> Option<User>
+    requires { edge < length graph.now.manifest.builds }
+    ensures { result ≡ user_by_of graph.now.manifest.builds paths.now edge command.now later next path }
+{
+    if !is_there(next, later) {
+        return None;
+    }
+    let look = look_of(command, path)?;
+    if is_declared(graph, paths, edge, path) {
+        return None;
+    }
+    Some(User {
+        number: later,
+        path,
+        look,
+    })
+}
+
+// Adds a user, if there is one.
+fn add(users: &mut Vec<User>, user: Option<User>) -> Result<(), AllocError>
+    ensures { OnOk result (users.new.items ≡ users.old.items ++ option_to_list user) }
+{
+    if let Some(user) = user {
+        users.push(user)?;
+    }
+    Ok(())
+}
+
+// Adds how a command of an edge, begun at a later event, looks at paths that were left. `nexts` has for each path where
+// it is left again.
+fn add_looks(
+    graph: &Graph,
+    all: &Paths,
+    edge: u32,
+    command: &Command,
+    later: u32,
     paths: &[u64],
-    number: u32,
-    later: u32,
-) -> bool
-    requires count { length numbers.now ≡ length history.now.timeline.manifest.builds }
-    requires each { (edge : ℕ) → edge < length history.now.timeline.manifest.builds
-        → slice_index_or numbers.now edge None ≡ number_from 0 edges.now edge }
-    requires paths { paths.now ≡ left_paths_of (scene history.now.timeline observation.now.paths
-        observation.now.commands edges.now) number }
-    ensures { result ≡ may_see_of (scene history.now.timeline observation.now.paths
-        observation.now.commands edges.now) number later }
-{
-    let _edges = edges.len();
-    if later <= number {
-        return false;
-    }
-    let Some(edge) = begun_at(history, later) else {
-        return false;
-    };
-    match command_at(observation.commands(), numbers, edge) {
-        Some(command) => looks_at_one(command, paths),
-        None => false,
-    }
-}
-
-// Adds a user, where the need is of the event of a number.
-fn add_if(users: &mut Vec<User>, need: &Need, number: u32, later: u32) -> Result<(), AllocError>
-    ensures { OnOk result (users.new.items ≡ users.old.items ++ users_in number later (need.now ∷ [])) }
-{
-    if need.number == number {
-        users.push(User {
-            number: later,
-            path: need.path,
-            look: need.look,
-        })?;
-    }
-    Ok(())
-}
-
-// Adds those of a later event's needs that are of the event of a number.
-fn add_users(
+    nexts: &[Option<u32>],
     users: &mut Vec<User>,
-    needs: &[Need],
-    number: u32,
-    later: u32,
 ) -> Result<(), AllocError>
-    ensures { OnOk result (users.new.items ≡ users.old.items ++ users_in number later needs.now) }
+    requires edge { edge < length graph.now.manifest.builds }
+    requires paths { All (λ path. path < length nexts.now) paths.now }
+    ensures { OnOk result (users.new.items ≡ users.old.items ++ filter_map (λ path. user_by_of graph.now.manifest.builds
+        all.now edge command.now later (slice_index_or nexts.now path None) path) paths.now) }
 {
-    for need in needs {
-        add_if(users, need, number, later)?;
+    for path in paths {
+        let next = nexts[*path as usize];
+        add(
+            users,
+            user_by(graph, all, edge, command, later, next, *path),
+        )?;
     }
     Ok(())
 }
 
-// Adds a later event, where it looks at what was left at the event of a number.
+// Adds a later event, where it looks at what was left at the event of a number: at one of these paths, each of which is
+// left again at the event that `nexts` has. `kept` says that the event is kept.
 fn add_later(
-    alloc: Global,
     history: &History,
     observation: &Observation,
     edges: &[u32],
     numbers: &[Option<usize>],
     paths: &[u64],
+    nexts: &[Option<u32>],
     number: u32,
+    kept: bool,
     later: u32,
     users: &mut Vec<User>,
 ) -> Result<(), AllocError>
@@ -150,22 +165,68 @@ fn add_later(
         → slice_index_or numbers.now edge None ≡ number_from 0 edges.now edge }
     requires paths { paths.now ≡ left_paths_of (scene history.now.timeline observation.now.paths
         observation.now.commands edges.now) number }
+    requires nexts_count { length nexts.now ≡ length observation.now.paths }
+    requires nexts { (path : ℕ) → path < length observation.now.paths → slice_index_or nexts.now path None
+        ≡ next_left_of (scene history.now.timeline observation.now.paths observation.now.commands edges.now) number
+        path }
+    requires kept { kept ≡ list_any (λ k. k == number) history.now.timeline.kept }
     ensures { OnOk result (users.new.items ≡ users.old.items ++ users_at (scene history.now.timeline
         observation.now.paths observation.now.commands edges.now) number later) }
 {
-    if !may_see(history, observation, edges, numbers, paths, number, later) {
+    let _edges = edges.len();
+    let _legal = history.kept();
+    if !kept {
         return Ok(());
     }
-    let needs = needs_noted(alloc, history, observation, edges, numbers, later)?;
-    add_users(users, &needs, number, later)
+    if later <= number {
+        return Ok(());
+    }
+    if !is_kept(history, later) {
+        return Ok(());
+    }
+    let Some(edge) = begun_at(history, later) else {
+        return Ok(());
+    };
+    let Some(command) = command_at(observation.commands(), numbers, edge) else {
+        return Ok(());
+    };
+    if is_edge(edge, ended_at(history, number)) {
+        return Ok(());
+    }
+    let graph = history.graph();
+    add_looks(
+        graph,
+        observation.paths(),
+        edge,
+        command,
+        later,
+        paths,
+        nexts,
+        users,
+    )
+}
+
+// Whether a number is one of some.
+fn is_among(numbers: &[u32], number: u32) -> bool
+    ensures { result ≡ list_any (λ k. k == number) numbers.now }
+{
+    numbers.iter().any(|one| *one == number)
+}
+
+// Whether a number is one of the kept numbers.
+fn is_among_kept(history: &History, number: u32) -> bool
+    ensures { result ≡ list_any (λ k. k == number) history.now.timeline.kept }
+{
+    is_among(history.kept(), number)
 }
 
 /// The later kept events whose commands were seen to look at what an event left, which their build lines do not declare: each
 /// that begins a command which needs that event by a look ([`crate::needs`]), with the path and how it looks at it, in
 /// the order of their numbers and of the paths.
 ///
-/// `edges` has for each command of the observation its edge, as [`rev_observed::edges`] gives them. What a later command
-/// needs is only asked where it looks at a path that was left at the event.
+/// `edges` has for each command of the observation its edge, as [`rev_observed::edges`] gives them. The kept events are
+/// gone through twice: to find where each path is left again, and to find the commands that begin. Of each of these only
+/// the paths that were left at the event are looked up.
 ///
 /// # Errors
 /// [`AllocError`] only where an allocation was refused.
@@ -181,16 +242,19 @@ pub fn users(
 {
     let numbers = numbers_of(alloc, edges, history.graph().edges())?;
     let paths = left_paths(alloc, history, observation, edges, &numbers, number)?;
+    let nexts = next_left(alloc, history, observation, edges, &numbers, number)?;
+    let kept = is_among_kept(history, number);
     let mut users = Vec::new(alloc);
     for later in history.kept() {
         add_later(
-            alloc,
             history,
             observation,
             edges,
             &numbers,
             &paths,
+            &nexts,
             number,
+            kept,
             *later,
             &mut users,
         )?;

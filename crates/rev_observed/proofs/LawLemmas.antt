@@ -56,6 +56,15 @@ wrong-after n line rest kind (OneLine {lines = lines} d s) e =
     let more : n + 1 + length lines ≡ n + length (line ∷ lines) = omega arith in
     ap (λ r. then_after r n (λ p. after p (n + 1) (lines ++ line ∷ rest))) d ∙ wrong-after (n + 1) line rest kind s e ∙ ap (λ k. Err (fault_at k kind)) more
 
+-- behind what is said, lines say one observation, and none where one of them adds nothing
+pub one-said : {o p q : ObservationValue} {xs : List (List ℕ)} → Says o xs p → Says o xs q → p ≡ q
+one-said {p = p} {q = q} s t =
+    let same : ◌≡◌ {A = Result ObservationValue Fault} (Ok p) (Ok q) = sym (after-says 0 s) ∙ after-says 0 t in cc
+
+pub none-said : {o p q : ObservationValue} {before : List (List ℕ)} (line : List ℕ) (rest : List (List ℕ)) (kind : FaultKind) → Says o before p → line_added p line ≡ Err kind → Says o (before ++ line ∷ rest) q → ⊥
+none-said {q = q} {before = before} line rest kind s wrong t =
+    let no : ◌≡◌ {A = Result ObservationValue Fault} (Err (fault_at (0 + length before) kind)) (Ok q) = sym (wrong-after 0 line rest kind s wrong) ∙ after-says 0 t in cc
+
 -- where the first such line stands
 record Stops (o : ObservationValue) (n : ℕ) (xs : List (List ℕ)) (f : Fault) : Type 0 where
   before : List (List ℕ)

@@ -1,5 +1,6 @@
 pub mod AnswerLemmas
 pub mod CommandLemmas
+pub mod CommandLineLemmas
 pub mod JoinLemmas
 pub mod LawLemmas
 pub mod SaysLemmas

@@ -22,12 +22,12 @@ says_step o p q xs i lt s e =
 pub says_all : (o p : ObservationValue) (xs : List (List ℕ)) (i : ℕ) → length xs ≤ i → Says o (take i xs) p → Says o xs p
 says_all o p xs i past s = let P : List (List ℕ) → Type 0 = λ ls. Says o ls p in subst P (take_all i xs past) s
 
-split_at : (xs : List (List ℕ)) (i : ℕ) → i < length xs → xs ≡ take i xs ++ get_or xs i [] ∷ drop (suc i) xs
+pub split_at : (xs : List (List ℕ)) (i : ℕ) → i < length xs → xs ≡ take i xs ++ get_or xs i [] ∷ drop (suc i) xs
 split_at [] i lt = absurd (omega arith)
 split_at (x ∷ xs) zero lt = refl
 split_at (x ∷ xs) (suc i) lt = ap (λ l. x ∷ l) (split_at xs i (omega arith))
 
-length_before : (xs : List (List ℕ)) (i : ℕ) → i < length xs → length (take i xs) ≡ i
+pub length_before : (xs : List (List ℕ)) (i : ℕ) → i < length xs → length (take i xs) ≡ i
 length_before [] i lt = absurd (omega arith)
 length_before (x ∷ xs) zero lt = refl
 length_before (x ∷ xs) (suc i) lt = omega (arith, length_before xs i (omega arith))

@@ -1,3 +1,4 @@
+pub mod CommandLines
 pub mod CommandValues
 pub mod Faults
 pub mod Flags

@@ -23,8 +23,8 @@ const NO_OBSERVER: ReadFault = ReadFault::Numbered(Fault {
     line: 2,
 });
 
-// A text without the LF at its end, if one is there.
-fn without_end(text: &[u8]) -> &[u8]
+/// A text without the LF at its end, if one is there.
+pub(crate) fn without_end(text: &[u8]) -> &[u8]
     ensures { result.now ≡ without_end text.now }
 {
     let Some((last, before)) = text.split_last() else {
@@ -36,8 +36,8 @@ fn without_end(text: &[u8]) -> &[u8]
     text
 }
 
-// Whether a first line names the format.
-fn names_format(line: &[u8]) -> bool
+/// Whether a first line names the format.
+pub(crate) fn names_format(line: &[u8]) -> bool
     ensures { result ≡ bytes_eq line.now first_line }
 {
     line == b"rebug-observed 1".as_slice()

@@ -16,8 +16,8 @@ pub fn one_outcome_of_histories()
     ensures { OneOutcomeOfHistories }
 {}
 
-/// Where the conflicts of what the commands of such a history were seen to do are no race and no clash, each history of
-/// the same build lines has its outcome.
+/// Where what the commands of such a history were seen to do has neither a race nor a clash, each history of the same
+/// build lines has its outcome.
 pub fn nothing_told_one_outcome()
     ensures { NothingToldOneOutcome }
 {}

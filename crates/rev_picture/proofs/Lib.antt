@@ -1,2 +1,1 @@
 pub mod EscapeLemmas
-pub mod RowLemmas

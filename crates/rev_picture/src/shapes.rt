@@ -1,22 +1,42 @@
 //! Bars of edges, and lines between events.
 ghost use Rattle.std.specs.Prelude.{◌≡◌, ◌++◌, codes, decimal, OnOk};
 ghost use Rattle.std.specs.Option.{option_copied};
-ghost use Rattle.rev_picture.specs.Picture.{attribute, bar_text, bar_title, kind, label, label_left, line_text, line_words, look, rect, span, stroke, tall, text_at, top_of};
+ghost use Rattle.rev_picture.specs.Picture.{attribute, bar_text, bar_title, duration, ended_look, kind, label, label_left, line_text, line_words, look, rect, span, stroke, tall, text_at, time_text, top_of, words_if};
 
 use crate::escape::{push_escaped, push_escaped_words};
 use rev_fields::push_number;
 use std::alloc::AllocError;
 
-/// A command that ran, or an event without a job.
+/// How the command of a bar ended.
+#[derive(Clone, Copy, Debug, PartialEq, Eq)]
+pub enum Outcome {
+    /// Well, or not yet.
+    Well,
+    /// It failed.
+    Failed,
+    /// Ninja stopped it.
+    Stopped,
+}
+
+/// When a bar begins, and how long it is.
+#[derive(Clone, Copy, Debug, PartialEq, Eq)]
+pub struct Time {
+    /// When it begins, in milliseconds from the beginning of the recording.
+    pub from: u32,
+    /// How long it is, in milliseconds.
+    pub took: u32,
+}
+
+/// A command that ran, or an event that begins and ends no command.
 #[derive(Clone, Copy, Debug, PartialEq, Eq)]
 pub struct Bar<'a> {
-    /// The row of the bar. Row 0 is for what has no job; job N has row N + 1.
+    /// The place of its row, of those of the picture, from 0.
     pub row: u32,
     /// The distance from the left edge, in units.
     pub left: u32,
     /// The width in units.
     pub width: u32,
-    /// The words that stand before the name in the tip.
+    /// The words that stand before the name.
     pub words: &'a [u8],
     /// The name, with the manifest's own bytes.
     pub name: &'a [u8],
@@ -27,15 +47,34 @@ pub struct Bar<'a> {
     /// The number of the event that ended it. For what takes no time it is the same as `began`; `None` where the
     /// command still runs.
     pub ended: Option<u32>,
+    /// Its time; `None` where it has none.
+    pub time: Option<Time>,
+    /// How its command ended.
+    pub outcome: Outcome,
     /// Whether the event that began it is undone.
     pub undone: bool,
-    /// Whether its edge is in a race.
+    /// Whether its edge is in a race by lists.
     pub racing: bool,
+    /// Whether its edge is in a race that was observed.
+    pub observed: bool,
+}
+
+/// What a line between two events is.
+#[derive(Clone, Copy, Debug, PartialEq, Eq)]
+pub enum LineKind {
+    /// The second event depends on the first one.
+    Dependence,
+    /// The commands of the two race by what they list.
+    Listed,
+    /// The commands of the two race, as it was observed.
+    Observed,
 }
 
 /// A dependence of one event on another, or a race of two events.
 #[derive(Clone, Copy, Debug, PartialEq, Eq)]
 pub struct Line<'a> {
+    /// What it is.
+    pub kind: LineKind,
     /// The number of the event that the other one depends on.
     pub one: u32,
     /// The distance of event `one` from the left edge, in units.
@@ -50,17 +89,15 @@ pub struct Line<'a> {
     pub other_row: u32,
     /// The words of the line. Names in them stand as `push_shown` of `rev_shown` wrote them.
     pub words: &'a [u8],
-    /// The row in which the words stand.
-    pub words_row: u32,
-    /// Whether the line is a race.
-    pub racing: bool,
+    /// The distance of the words from the top edge, in units.
+    pub words_top: u32,
 }
 
 // How far below the top edge a row begins.
 pub(crate) fn top_of(row: u32) -> u64
     ensures { result ≡ top_of row }
 {
-    24 + 20 * u64::from(row)
+    60 + 20 * u64::from(row)
 }
 
 // Adds an attribute whose value is a number.
@@ -75,16 +112,37 @@ pub(crate) fn push_attribute(text: &mut Vec<u8>, name: &[u8], value: u64) -> Res
     text.extend_from_slice(b"\"")
 }
 
-// Adds how a bar looks.
-fn push_look(text: &mut Vec<u8>, undone: bool, racing: bool) -> Result<(), AllocError>
-    ensures { OnOk result (text.new.items ≡ text.old.items ++ look undone racing) }
+// Adds words where something holds.
+fn push_if(text: &mut Vec<u8>, holds: bool, words: &[u8]) -> Result<(), AllocError>
+    ensures { OnOk result (text.new.items ≡ text.old.items ++ words_if holds words.now) }
 {
-    match (undone, racing) {
-        (false, false) => text.extend_from_slice(b"bar"),
-        (false, true) => text.extend_from_slice(b"bar racing"),
-        (true, false) => text.extend_from_slice(b"bar undone"),
-        (true, true) => text.extend_from_slice(b"bar undone racing"),
+    if holds {
+        return text.extend_from_slice(words);
     }
+    Ok(())
+}
+
+// Adds how a bar looks by how its command ended.
+fn push_ended_look(text: &mut Vec<u8>, outcome: Outcome) -> Result<(), AllocError>
+    ensures { OnOk result (text.new.items ≡ text.old.items ++ ended_look outcome) }
+{
+    match outcome {
+        Outcome::Well => Ok(()),
+        Outcome::Failed => text.extend_from_slice(b" failed"),
+        Outcome::Stopped => text.extend_from_slice(b" stopped"),
+    }
+}
+
+// Adds how a bar looks.
+#[tactic(auto, unfolding(crate::specs::Picture::look))]
+fn push_look(text: &mut Vec<u8>, bar: &Bar<'_>) -> Result<(), AllocError>
+    ensures { OnOk result (text.new.items ≡ text.old.items ++ look bar.now) }
+{
+    text.extend_from_slice(b"bar")?;
+    push_ended_look(text, bar.outcome)?;
+    push_if(text, bar.undone, b" undone")?;
+    push_if(text, bar.racing, b" racing")?;
+    push_if(text, bar.observed, b" observed")
 }
 
 // Adds words and a number.
@@ -112,6 +170,35 @@ fn push_span(text: &mut Vec<u8>, began: u32, ended: Option<u32>) -> Result<(), A
     }
 }
 
+// Adds a time in milliseconds, and from ten seconds on in tenths of a second.
+fn push_duration(text: &mut Vec<u8>, ms: u32) -> Result<(), AllocError>
+    ensures { OnOk result (text.new.items ≡ text.old.items ++ duration ms) }
+{
+    if ms < 10_000 {
+        push_number(text, u64::from(ms))?;
+        return text.extend_from_slice(b" ms");
+    }
+    push_number(text, u64::from(ms / 1000))?;
+    text.extend_from_slice(b".")?;
+    push_number(text, u64::from(ms / 100 % 10))?;
+    text.extend_from_slice(b" s")
+}
+
+// Adds how long a bar took, and when it began.
+fn push_time(text: &mut Vec<u8>, time: Option<Time>) -> Result<(), AllocError>
+    ensures { OnOk result (text.new.items ≡ text.old.items ++ time_text time) }
+{
+    match time {
+        None => Ok(()),
+        Some(time) => {
+            text.extend_from_slice(b", ")?;
+            push_duration(text, time.took)?;
+            text.extend_from_slice(b" from ")?;
+            push_duration(text, time.from)
+        }
+    }
+}
+
 // Adds what is told of a bar to who points at it.
 #[tactic(auto, unfolding(crate::specs::Picture::bar_title))]
 fn push_bar_title(text: &mut Vec<u8>, bar: &Bar<'_>) -> Result<(), AllocError>
@@ -121,6 +208,7 @@ fn push_bar_title(text: &mut Vec<u8>, bar: &Bar<'_>) -> Result<(), AllocError>
     push_escaped_words(text, bar.words)?;
     push_escaped(text, bar.name)?;
     push_span(text, bar.began, bar.ended)?;
+    push_time(text, bar.time)?;
     text.extend_from_slice(b"</title>")
 }
 
@@ -134,7 +222,7 @@ fn push_tall(text: &mut Vec<u8>) -> Result<(), AllocError>
 
 // Adds a bar at a place.
 #[tactic(auto, unfolding(crate::specs::Picture::rect))]
-fn push_rect(text: &mut Vec<u8>, x: u64, y: u64, width: u64) -> Result<(), AllocError>
+pub(crate) fn push_rect(text: &mut Vec<u8>, x: u64, y: u64, width: u64) -> Result<(), AllocError>
     ensures { OnOk result (text.new.items ≡ text.old.items ++ rect x y width) }
 {
     text.extend_from_slice(b"<rect")?;
@@ -198,7 +286,7 @@ pub fn push_bar(text: &mut Vec<u8>, bar: &Bar<'_>) -> Result<(), AllocError>
     let top = top_of(bar.row);
     let left = u64::from(bar.left);
     text.extend_from_slice(b"<g class=\"")?;
-    push_look(text, bar.undone, bar.racing)?;
+    push_look(text, bar)?;
     push_bar_title(text, bar)?;
     push_rect(text, left, top + 3, u64::from(bar.width))?;
     push_label(text, label_left(bar), top + 14, bar.words, bar.label)?;
@@ -206,25 +294,32 @@ pub fn push_bar(text: &mut Vec<u8>, bar: &Bar<'_>) -> Result<(), AllocError>
 }
 
 // Adds how a line begins.
-fn push_kind(text: &mut Vec<u8>, racing: bool) -> Result<(), AllocError>
-    ensures { OnOk result (text.new.items ≡ text.old.items ++ kind racing) }
+fn push_kind(text: &mut Vec<u8>, line: LineKind) -> Result<(), AllocError>
+    ensures { OnOk result (text.new.items ≡ text.old.items ++ kind line) }
 {
-    if racing {
-        return text.extend_from_slice(b"<g class=\"race\"");
+    match line {
+        LineKind::Dependence => text.extend_from_slice(b"<g class=\"line\""),
+        LineKind::Listed => text.extend_from_slice(b"<g class=\"race\""),
+        LineKind::Observed => text.extend_from_slice(b"<g class=\"race observed\""),
     }
-    text.extend_from_slice(b"<g class=\"line\"")
 }
 
-// Adds a line between two places.
+// Adds a stroke from one place to another.
 #[tactic(auto, unfolding(crate::specs::Picture::stroke))]
-fn push_stroke(text: &mut Vec<u8>, line: &Line<'_>) -> Result<(), AllocError>
-    ensures { OnOk result (text.new.items ≡ text.old.items ++ stroke line.now) }
+pub(crate) fn push_stroke(
+    text: &mut Vec<u8>,
+    x: u64,
+    y: u64,
+    other_x: u64,
+    other_y: u64,
+) -> Result<(), AllocError>
+    ensures { OnOk result (text.new.items ≡ text.old.items ++ stroke x y other_x other_y) }
 {
-    text.extend_from_slice(b"><line")?;
-    push_attribute(text, b"x1", u64::from(line.one_left))?;
-    push_attribute(text, b"y1", top_of(line.one_row) + 10)?;
-    push_attribute(text, b"x2", u64::from(line.other_left))?;
-    push_attribute(text, b"y2", top_of(line.other_row) + 10)?;
+    text.extend_from_slice(b"<line")?;
+    push_attribute(text, b"x1", x)?;
+    push_attribute(text, b"y1", y)?;
+    push_attribute(text, b"x2", other_x)?;
+    push_attribute(text, b"y2", other_y)?;
     text.extend_from_slice(b"/>")
 }
 
@@ -233,13 +328,13 @@ fn push_stroke(text: &mut Vec<u8>, line: &Line<'_>) -> Result<(), AllocError>
 fn push_line_words(text: &mut Vec<u8>, line: &Line<'_>) -> Result<(), AllocError>
     ensures { OnOk result (text.new.items ≡ text.old.items ++ line_words line.now) }
 {
-    push_text_at(text, 64, top_of(line.words_row) + 14)?;
+    push_text_at(text, 4, u64::from(line.words_top))?;
     push_escaped_words(text, line.words)?;
     text.extend_from_slice(b"</text></g>\n")
 }
 
 /// Appends a dependence or a race as an SVG element: a line between two events with their numbers, and its words below
-/// the rows of jobs.
+/// the rows.
 ///
 /// # Errors
 /// [`AllocError`] only where an allocation was refused.
@@ -247,9 +342,18 @@ fn push_line_words(text: &mut Vec<u8>, line: &Line<'_>) -> Result<(), AllocError
 pub fn push_line(text: &mut Vec<u8>, line: &Line<'_>) -> Result<(), AllocError>
     ensures { OnOk result (text.new.items ≡ text.old.items ++ line_text line.now) }
 {
-    push_kind(text, line.racing)?;
+    let top = top_of(line.one_row) + 10;
+    let other_top = top_of(line.other_row) + 10;
+    push_kind(text, line.kind)?;
     push_attribute(text, b"data-one", u64::from(line.one))?;
     push_attribute(text, b"data-other", u64::from(line.other))?;
-    push_stroke(text, line)?;
+    text.extend_from_slice(b">")?;
+    push_stroke(
+        text,
+        u64::from(line.one_left),
+        top,
+        u64::from(line.other_left),
+        other_top,
+    )?;
     push_line_words(text, line)
 }

@@ -1,6 +1,7 @@
 pub mod Answers
 pub mod Asking
 pub mod Cones
+pub mod Found
 pub mod Lines
 pub mod Past
 pub mod Reasons

@@ -1,4 +1,5 @@
 //! What questions are answered.
+use crate::found::Found;
 use crate::question::Reach;
 use rev_dirty::Reason;
 use rev_held::Link;
@@ -179,7 +180,7 @@ pub enum Answer {
     Help,
     /// Lines as a report has them.
     Lines(Vec<u8>),
-    /// This path is no output of a build statement.
+    /// No build statement has this path as an output.
     NoOutput(Name),
     /// No such event at this path is kept.
     NoneKept(Name),
@@ -220,6 +221,8 @@ pub enum Answer {
     Run(Tally, bool),
     /// Commands of the recording, one by one; whether it ended, and whether a break stands.
     Steps(Vec<Step>, bool, bool),
+    /// What a question about edges, files and times is answered.
+    Found(Found),
 }
 
 // Written, since a derived drop is proved again at each exit of each caller.
@@ -249,7 +252,18 @@ impl Drop for Answer {
             Answer::Undone(_reply, _number, _users) => {}
             Answer::Run(_tally, _paused) => {}
             Answer::Steps(_steps, _ended, _paused) => {}
+            Answer::Found(_found) => {}
         }
+    }
+}
+
+/// Whether an answer is one: what the question names is there.
+pub fn has_answer(answer: &Answer) -> bool {
+    match answer {
+        Answer::NoOutput(_) => false,
+        Answer::NoneKept(_) => false,
+        Answer::NoEvent => false,
+        _ => true,
     }
 }
 

@@ -68,8 +68,9 @@ fn looks(
     }
 }
 
-/// `needs EVENT`: the earlier kept events that it rests on, from the latest; itself, or by way of others where all are
-/// asked for; and what its command was seen to look at that its build line does not declare.
+/// `needs EVENT`: the earlier kept events that it rests on, from the latest. Where all are asked for, those are among
+/// them on which it rests by way of others. What its command was seen to look at and its build line does not declare
+/// stands beside them.
 pub(crate) fn needs(
     alloc: Global,
     history: &History,

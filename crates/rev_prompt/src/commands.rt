@@ -63,6 +63,19 @@ fn users_of(
     }
 }
 
+// The same of an event that can be taken back; nobody where an undo would be refused.
+fn users_if_undone(
+    alloc: Global,
+    session: &Session<'_>,
+    history: &History,
+    number: u32,
+) -> Result<Vec<User>, AllocError> {
+    if history.undo_refused(number).is_some() {
+        return Ok(Vec::new(alloc));
+    }
+    users_of(alloc, session, history, number)
+}
+
 /// `undo EVENT`: takes an event back, and tells who was seen to look at what it left.
 pub(crate) fn undo(
     alloc: Global,
@@ -70,7 +83,7 @@ pub(crate) fn undo(
     desk: &mut Desk,
     number: u32,
 ) -> Result<Answer, AllocError> {
-    let users = users_of(alloc, session, desk.history(), number)?;
+    let users = users_if_undone(alloc, session, desk.history(), number)?;
     let reply = say(desk, session.lane, Command::Undo(Which::Number(number)))?;
     match reply {
         Some(Reply::Accepted(entry, met)) if !users.is_empty() => Ok(Answer::Undone(

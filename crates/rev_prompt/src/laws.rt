@@ -1,8 +1,8 @@
 //! A law of past states.
 ghost use Rattle.rev_prompt.specs.Past.{PastStatesAreLed};
 
-/// The state of a past plan, by which `why` tells reasons, is the one to which the history leads that ends with it: the
-/// kept events up to it are a history from the same opening.
+/// `why` tells reasons by the state of a past plan. The kept events up to that plan are a history from the same opening,
+/// and that state is the one to which this history leads.
 pub fn past_states_are_led()
     ensures { PastStatesAreLed }
 {}

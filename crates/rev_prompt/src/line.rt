@@ -86,9 +86,9 @@ fn step(place: Place, byte: u8) -> (Place, bool) {
     }
 }
 
-/// The texts of a line: what stands between blanks, where quotes (`'` or `"`) keep blanks together, and what is written
-/// out as names are shown (`\s`, `\\`, `\x1b`) stands for its byte, but between single quotes. A `#` that begins a text
-/// begins a comment.
+/// The texts of a line: what stands between blanks. Quotes (`'` or `"`) keep blanks together. What is written out as names
+/// are shown (`\s`, `\\`, `\x1b`) stands for its byte, except between single quotes. A `#` that begins a text begins a
+/// comment.
 ///
 /// # Errors
 /// [`LineFault::OpenQuote`] exactly where a quote is not closed.

@@ -61,8 +61,15 @@ fn is_wanted(cells: &Cells, edge: u32) -> bool
     }
 }
 
-/// The plan whose reasons are told of an edge with this last run: the last one before the run. None, and so the present
-/// state, where it never ran or the present plan wants it.
+/// The last kept plan.
+pub(crate) fn last_plan(history: &History) -> Option<u32>
+    ensures { result ≡ plan_before_of history.now.timeline 4294967295 }
+{
+    plan_before(history, u32::MAX)
+}
+
+/// The plan by which `why` answers of an edge with this last run: the last one before the run. `None`, and so the
+/// present state, where the edge never ran or the present plan wants it.
 pub(crate) fn plan_of(history: &History, edge: u32, run: Option<Span>) -> Option<u32>
     ensures { result ≡ plan_of_run history.now.timeline edge run }
 {
@@ -106,7 +113,10 @@ fn follow_number(
 }
 
 /// The state after the kept events up to a number, from the opening, which is that of the history.
-pub(crate) fn state_by(
+///
+/// # Errors
+/// [`AllocError`] only where an allocation was refused.
+pub fn state_by(
     alloc: Global,
     history: &History,
     opening: &Opening,

@@ -1,4 +1,5 @@
 //! What a line of the prompt asks.
+use crate::query::Query;
 use rev_cells::Names;
 use rev_commands::{Command, Which};
 use rev_fields::{FaultKind, LineFault, number};
@@ -74,18 +75,24 @@ pub enum Question {
     Redo(EventName),
     /// `cone EVENT`.
     Cone(EventName),
-    /// `kept`: the kept events.
-    Kept,
+    /// `kept`, `kept all`: the kept events, and whether those that people leave out are to be told too.
+    Kept(bool),
+    /// `races`, `races all`: the races of the recording, and whether all is to be told of them.
+    Races(bool),
     /// `marks [OUT]`.
     Marks(Option<Name>),
     /// `stamps [PATH]`.
     Stamps(Option<Name>),
     /// `logs [PATH]`.
     Logs(Option<Name>),
+    /// A question about edges, files and times, and whether all of its answer is to be told.
+    Query(Query, bool),
     /// Another command of a script.
     Command(Command),
     /// `help`.
     Help,
+    /// `help WORD`.
+    HelpOf(Vec<u8>),
     /// `quit`.
     Quit,
     /// An empty line.
@@ -113,12 +120,15 @@ impl Drop for Question {
             Question::Undo(_part) => {}
             Question::Redo(_part) => {}
             Question::Cone(_part) => {}
-            Question::Kept => {}
+            Question::Kept(_all) => {}
+            Question::Races(_all) => {}
             Question::Marks(_part) => {}
             Question::Stamps(_part) => {}
             Question::Logs(_part) => {}
+            Question::Query(_part, _all) => {}
             Question::Command(_part) => {}
             Question::Help => {}
+            Question::HelpOf(_word) => {}
             Question::Quit => {}
             Question::Nothing => {}
         }
@@ -320,6 +330,91 @@ fn event_question(
     Ok(Some(question))
 }
 
+// The paths that stand behind a word, one at least.
+fn paths(alloc: Global, texts: &[Vec<u8>]) -> Result<Vec<Name>, LineFault> {
+    if texts.is_empty() {
+        return Err(BAD);
+    }
+    let mut names = Vec::new(alloc);
+    for text in texts {
+        names.push(path(alloc, text)?)?;
+    }
+    Ok(names)
+}
+
+// The pattern of `edges WORD`: what has no `*` stands for every output that has it in it.
+fn pattern(alloc: Global, texts: &[Vec<u8>]) -> Result<Vec<u8>, LineFault> {
+    match texts {
+        [] => Ok(Vec::from_slice(alloc, b"*")?),
+        [one] if one.contains(&b'*') => Ok(Vec::from_slice(alloc, one)?),
+        [one] => {
+            let mut around = Vec::from_slice(alloc, b"*")?;
+            around.extend_from_slice(one)?;
+            around.extend_from_slice(b"*")?;
+            Ok(around)
+        }
+        _ => Err(BAD),
+    }
+}
+
+// How many runs `slowest` tells where no number is given.
+const FEW_RUNS: u32 = 10;
+
+// `slowest` and `slowest N`
+fn slowest(texts: &[Vec<u8>]) -> Result<Query, LineFault> {
+    match texts {
+        [] => Ok(Query::Slowest(FEW_RUNS)),
+        [count] => Ok(Query::Slowest(number(count)?)),
+        _ => Err(BAD),
+    }
+}
+
+// Whether the texts behind a word that takes nothing else ask for all.
+fn only_all(texts: &[Vec<u8>]) -> Result<bool, LineFault> {
+    match texts {
+        [] => Ok(false),
+        [word] if is_all(word) => Ok(true),
+        _ => Err(BAD),
+    }
+}
+
+// Whether a text asks for all of an answer.
+fn is_all(text: &[u8]) -> bool {
+    text == b"all".as_slice() || text == b"--all".as_slice()
+}
+
+// The texts before an `all` that stands behind others, and whether there is one. Alone it may be the name of an output.
+fn before_all(texts: &[Vec<u8>]) -> (&[Vec<u8>], bool) {
+    match texts {
+        [rest @ .., last] if !rest.is_empty() && is_all(last) => (rest, true),
+        _ => (texts, false),
+    }
+}
+
+// A question about edges, files and times.
+fn query(alloc: Global, word: &[u8], texts: &[Vec<u8>]) -> Result<Option<Question>, LineFault> {
+    let (rest, all) = before_all(texts);
+    let query = match word {
+        b"edge" => Query::Edge(event_name(alloc, rest)?),
+        b"edges" => Query::Edges(pattern(alloc, rest)?),
+        b"reads" => Query::Reads(only_path(alloc, rest)?),
+        b"makes" => Query::Makes(only_path(alloc, rest)?),
+        b"rebuilds" => Query::Rebuilds(paths(alloc, rest)?),
+        b"slowest" => slowest(rest)?,
+        b"critical" => return Ok(Some(Question::Query(Query::Critical, only_all(texts)?))),
+        _ => return Ok(None),
+    };
+    Ok(Some(Question::Query(query, all)))
+}
+
+// `help` and `help WORD`
+fn help(alloc: Global, texts: &[Vec<u8>]) -> Result<Question, LineFault> {
+    match texts {
+        [] => Ok(Question::Help),
+        [word, ..] => Ok(Question::HelpOf(Vec::from_slice(alloc, word)?)),
+    }
+}
+
 // A question without anything behind it, or a command of a script.
 fn other_question(
     alloc: Global,
@@ -329,9 +424,10 @@ fn other_question(
 ) -> Result<Question, LineFault> {
     match word {
         b"run" => alone(Question::Run, rest),
-        b"next" => next(rest),
-        b"kept" | b"history" => alone(Question::Kept, rest),
-        b"help" | b"?" => Ok(Question::Help),
+        b"next" | b"n" => next(rest),
+        b"kept" | b"history" => Ok(Question::Kept(only_all(rest)?)),
+        b"races" => Ok(Question::Races(only_all(rest)?)),
+        b"help" | b"?" => help(alloc, rest),
         b"quit" | b"exit" | b"q" => alone(Question::Quit, rest),
         _ => {
             let targets = Names::new(Vec::new(alloc))?;
@@ -343,7 +439,7 @@ fn other_question(
 /// What the texts of a line ask.
 ///
 /// # Errors
-/// A kind of fault as a script's line has it, where the texts are no question; `Memory` where memory was refused.
+/// A kind of fault as a script's line has it, where the texts ask nothing; `Memory` where memory was refused.
 pub fn question_of(alloc: Global, texts: &[Vec<u8>]) -> Result<Question, LineFault> {
     let Some((word, rest)) = texts.split_first() else {
         return Ok(Question::Nothing);
@@ -352,6 +448,9 @@ pub fn question_of(alloc: Global, texts: &[Vec<u8>]) -> Result<Question, LineFau
         return Ok(question);
     }
     if let Some(question) = event_question(alloc, word, rest)? {
+        return Ok(question);
+    }
+    if let Some(question) = query(alloc, word, rest)? {
         return Ok(question);
     }
     other_question(alloc, texts, word, rest)

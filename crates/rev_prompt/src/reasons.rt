@@ -128,8 +128,13 @@ fn input_named<'a>(
     }
 }
 
-// A reason of an edge, with what it names.
-fn because(graph: &Graph, cells: &Cells, edge: u32, reason: Reason) -> Result<Because, AllocError>
+/// A reason of an edge, with what it names.
+pub(crate) fn because(
+    graph: &Graph,
+    cells: &Cells,
+    edge: u32,
+    reason: Reason,
+) -> Result<Because, AllocError>
     ensures { IfOk result (λ told. told ≡ because_of graph.now.manifest.builds cells.now.state edge reason) }
 {
     let output = copied(output_named(graph, edge, reason))?;

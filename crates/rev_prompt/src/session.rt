@@ -8,6 +8,7 @@ use crate::causes::{dependents, needs};
 use crate::commands::{apply, cone, undo, without, would_cone};
 use crate::events::{named_event, who};
 use crate::listings::{kept, logs, marks, order, stamps};
+use crate::queries::queried;
 use crate::question::{EventName, Question};
 use crate::reasons::why;
 use crate::spans::with;
@@ -20,8 +21,7 @@ use rev_observed::Observation;
 use rev_script::Turn;
 use std::alloc::{AllocError, Global};
 
-/// What a session has: the turns of the recording, how many of them were taken, the lane of what is typed, the edges
-/// of the manifest, the opening, and what was observed.
+/// What a session has of a recording, and how far it has come in it.
 #[derive(Clone, Copy)]
 pub struct Session<'a> {
     /// The commands of the recording, in the order of their turns.
@@ -38,6 +38,12 @@ pub struct Session<'a> {
     pub observation: Option<&'a Observation>,
     /// The edge of each command that was observed, in their order.
     pub edges: &'a [u32],
+    /// When events happened, by their numbers, in milliseconds, as far as that is known.
+    pub times: &'a [Option<u32>],
+    /// The files that the manifest was read from, each with its name.
+    pub files: &'a [(Vec<u8>, Vec<u8>)],
+    /// The pools of the manifest, each with its depth.
+    pub pools: &'a [(Vec<u8>, u32)],
 }
 
 /// What comes of a question.
@@ -89,8 +95,8 @@ fn asked_of_event(
     }
 }
 
-/// What a question that only asks is answered: one that is none of `run`, `next`, `until`, `undo`, `redo`, `cone`,
-/// `without` and the commands of a script. The desk is read alone, and its history has the opening of the session.
+/// What a question that only asks is answered ([`only_asks`]). The desk is read alone, and its history has the opening of
+/// the session.
 ///
 /// # Errors
 /// [`AllocError`] only where an allocation was refused.
@@ -116,11 +122,12 @@ pub fn asked(
         Question::Why(out) => why(alloc, history, session.opening, out),
         Question::With(out) => with(alloc, history, out),
         Question::Order(names) => order(alloc, desk, names),
-        Question::Kept => kept(alloc, history),
+        Question::Kept(_) => kept(alloc, history),
         Question::Marks(out) => marks(alloc, history, out.as_ref()),
         Question::Stamps(path) => stamps(alloc, history.cells(), path.as_ref()),
         Question::Logs(path) => logs(alloc, history.cells(), path.as_ref()),
-        Question::Help => Ok(Answer::Help),
+        Question::Query(query, _) => queried(alloc, session, desk, query),
+        Question::Help | Question::HelpOf(_) => Ok(Answer::Help),
         _ => Ok(Answer::Nothing),
     }
 }
@@ -145,8 +152,8 @@ fn done_to_event(
     }
 }
 
-/// Whether a question only asks: it is none of `run`, `next`, `until`, `undo`, `redo`, `cone`, `without` and the
-/// commands of a script.
+/// Whether a question only asks. `run`, `next`, `until`, `undo`, `redo`, `cone`, `without` and the commands of a script do
+/// more than ask, and every other question only asks.
 pub fn only_asks(question: &Question) -> bool
     ensures { result ≡ only_asks_of question.now }
 {
@@ -160,6 +167,14 @@ pub fn only_asks(question: &Question) -> bool
         Question::Without(_) => false,
         Question::Command(_) => false,
         _ => true,
+    }
+}
+
+// The event that a command takes back, where it is `back`.
+fn taken_by(desk: &Desk, command: &Command) -> Option<u32> {
+    match command {
+        Command::Back => desk.history().kept().last().copied(),
+        _ => None,
     }
 }
 
@@ -188,7 +203,10 @@ fn done(
             done_to_event(alloc, session, desk, name, question)?
         }
         Question::Without(out) => without(alloc, session, desk, out)?,
-        Question::Command(command) => apply(session, desk, command.copy()?, None)?,
+        Question::Command(command) => {
+            let number = taken_by(desk, command);
+            apply(session, desk, command.copy()?, number)?
+        }
         _ => Answer::Nothing,
     };
     Ok((answer, session.taken))

@@ -90,8 +90,8 @@ fn deeds_of(alloc: Global, history: &History, uses: &[Use]) -> Result<Vec<Deed>,
     Ok(deeds)
 }
 
-// Those that were seen to read a path.
-fn observed_readers(
+/// Those that were seen to read a path.
+pub(crate) fn observed_readers(
     alloc: Global,
     history: &History,
     observation: &Observation,
@@ -105,8 +105,8 @@ fn observed_readers(
     deeds_of(alloc, history, &uses)
 }
 
-// Those that were seen to write a path.
-fn observed_writers(
+/// Those that were seen to write a path.
+pub(crate) fn observed_writers(
     alloc: Global,
     history: &History,
     observation: &Observation,

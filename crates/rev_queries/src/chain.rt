@@ -150,9 +150,10 @@ fn chain_of(alloc: Global, graph: &Graph, runs: &[Timed], most: u32) -> Result<C
     Ok(Chain { links, next })
 }
 
-/// The chain of commands that the end of a build waited for, with at most so many links: from the run that ended last to
-/// the run that ended last of those edges for which that one waits, and so on. `runs` are those with times; of them count
-/// those that began after the plan of a number. It takes time linear in edges and inputs for each link.
+/// The chain of commands that the end of a build waited for, with at most so many links. Its first link is the run that
+/// ended last. The next link is, among the edges that the first one waits for, the run that ended last; and so on.
+/// `runs` are those with times; of them count those that began after the plan of a number. It takes time linear in
+/// edges and inputs for each link.
 ///
 /// # Errors
 /// [`AllocError`] only where an allocation was refused.

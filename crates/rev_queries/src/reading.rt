@@ -18,7 +18,7 @@ pub enum Place {
     Explicit,
     /// Behind `|`: as an implicit input.
     Implicit,
-    /// Behind `||`: as an order-only input, which is no reason to run.
+    /// Behind `||`: as an order-only input, which never makes a command run.
     OrderOnly,
     /// Behind `|@`: as a validation.
     Validation,
@@ -105,8 +105,8 @@ fn add(readings: &mut Vec<Reading>, reading: Option<Reading>) -> Result<(), Allo
     Ok(())
 }
 
-/// Each edge that has a path behind the rule of its build line, or in the list of what its command read, as the deps log
-/// has it in the present state, in the order of the edges. Each input of an edge is looked at once.
+/// Each edge that has a path among the inputs of its build line, or in the list of what its command read, in the order
+/// of the edges. The list is that of the deps log in the present state. Each input of an edge is looked at once.
 ///
 /// # Errors
 /// [`AllocError`] only where an allocation was refused.

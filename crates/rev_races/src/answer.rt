@@ -1,4 +1,4 @@
-//! What is told of a history.
+//! The findings of a history.
 ghost use Rattle.std.specs.Prelude.{◌≡◌, ◌<◌, ◌↔◌, ◌⊎◌, ℕ, List, length, All, Contains, IfOk, OnOk};
 ghost use Rattle.rev_graph.specs.Graph.{successor_lists};
 ghost use Rattle.rev_history.specs.Timeline.{kept_events};
@@ -181,13 +181,15 @@ fn found_in(
     found.into_told(alloc)
 }
 
-/// What is told of a history, in the order of the numbers of the maker, of the user, and of the path's place in the
-/// user's list: each path that an edge lists, that another edge makes, and for which it does not wait (a race, or a
-/// cycle where the maker waits for the user), and each path that an edge lists and makes itself (its own). The edges
-/// that make one of `files`, from which the manifest was read, run before all else, and race with none.
+/// The races, cycles and owns of a history. A race: an edge lists a path that another edge makes, and does not wait for
+/// that edge. A cycle: the same, and the maker waits for the user. An own: an edge lists a path that it makes itself.
+/// Their order is that of the maker's number, then of the user's, then of the path's place in the user's list.
 ///
-/// Each listed path is looked up once, and once more where it is made by an edge that the user does not step to. Only
-/// then is that one searched for what it waits for: once for all that step to the same edges.
+/// `files` are those from which the manifest was read. The edges that make one of them run before all else, and race
+/// with no edge.
+///
+/// Each listed path is looked up once, and once more where an edge makes it to which the user does not step. Only in
+/// this case a search goes through what the user waits for: one search for all users that step to the same edges.
 ///
 /// # Errors
 /// [`AllocError`] only where an allocation was refused.

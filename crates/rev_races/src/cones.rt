@@ -9,8 +9,8 @@ use rev_history::History;
 use rev_marks::{MOST, beside_marks, cone_marks, is_marked};
 use std::alloc::{AllocError, Global};
 
-/// The cones of some events, as marks: with all cells, and beside those of jobs and slots. And the ends of which it
-/// may be asked.
+/// The cones of the events `asked`, as marks: `all` by all cells, `beside` by all cells except those of jobs and slots.
+/// `ends` are the events whose cones may be asked for.
 pub(crate) struct Cones {
     pub(crate) ends: Vec<u32>,
     pub(crate) asked: Vec<u32>,

@@ -1,4 +1,4 @@
-//! What is told, as it is found.
+//! The findings, as they are found.
 ghost use Rattle.std.specs.Prelude.{◌≡◌, ◌↔◌, ◌⊎◌, ℕ, List, ◌∷◌, [], map, All, Contains, IfOk, OnOk};
 ghost use Rattle.std.specs.Cmp.Lexicographic.{slice_cmp};
 ghost use Rattle.std.specs.List.Sorted.{IsStrictlySortedBy};
@@ -34,7 +34,7 @@ impl Found {
         }
     }
 
-    /// Adds what is told, unless it is there.
+    /// Adds a finding, unless it is there.
     pub(crate) fn add(&mut self, maker: u32, user: u32, place: u64) -> Result<(), AllocError>
         ensures { OnOk result ((k : List ℕ) → Contains self.new k
             ↔ (Contains self.old k ⊎ (k ≡ maker ∷ user ∷ place ∷ []))) }

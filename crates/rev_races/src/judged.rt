@@ -22,7 +22,7 @@ fn is_unlisted(history: &History, edge: u32) -> bool
 }
 
 /// The edges that keep deps, by a depfile or `deps`, and have no list in a history, in rising order: their command did
-/// not end well here, and has no record of before. What they read is not known, and so nothing is told of it.
+/// not end well here, and has no record of before. What they read is not known, so these edges have no findings.
 ///
 /// # Errors
 /// [`AllocError`] only where an allocation was refused.
@@ -52,8 +52,8 @@ fn keeps_nothing(graph: &Graph, edge: u32) -> bool
     !graph.keeps_deps(edge)
 }
 
-/// The edges with a command and with neither a depfile nor `deps`, in rising order. What they read is not known, and so
-/// nothing is told of it.
+/// The edges with a command and with neither a depfile nor `deps`, in rising order. What they read is not known, so
+/// these edges have no findings.
 ///
 /// # Errors
 /// [`AllocError`] only where an allocation was refused.

@@ -1,4 +1,4 @@
-//! The kinds of what is told.
+//! The kinds of findings.
 ghost use Rattle.std.specs.Prelude.{◌≡◌, ◌<◌, length, map, All, IfOk};
 ghost use Rattle.rev_graph.specs.Graph.{successor_lists};
 ghost use Rattle.rev_ranks.specs.Graph.{graph_of};
@@ -27,7 +27,7 @@ fn kind(graph: &Graph, waited: &[bool], told: &Told) -> Kind
     Kind::Race
 }
 
-/// What is told with its kind, in the same order: one search for each maker, where those of a maker stand together.
+/// The findings with their kinds, in the same order: one search for each maker, where those of a maker stand together.
 pub(crate) fn with_kinds(
     alloc: Global,
     graph: &Graph,

@@ -74,8 +74,9 @@ fn paths_of(deps: Option<&DepsRecord>) -> Option<&[Name]>
     }
 }
 
-/// What an edge lists, where it keeps deps and has a list, in constant time up to hashing: what its last kept finish
-/// lists, and, where no finish of it is kept, what the deps record of its first output had before.
+/// What an edge lists, where it keeps deps and has a list. It is the list of the edge's last kept finish. Where no
+/// finish of it is kept, it is the list that the deps record of its first output had at the start. This takes constant
+/// time up to hashing.
 pub fn listed(history: &History, edge: u32) -> Option<&[Name]>
     requires { edge < length history.now.timeline.manifest.builds }
     ensures { option_copied result

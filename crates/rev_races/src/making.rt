@@ -1,4 +1,4 @@
-//! Makers of a path, of which those behind the phony edge that was asked for last are kept.
+//! Makers of a path. Those that the phony edge asked for last stands for are kept.
 ghost use Rattle.std.specs.Prelude.{◌≡◌, ◌↔◌, ℕ, None, Some, Contains, IfOk, OnOk};
 ghost use Rattle.rev_graph.specs.Graph.{producer_of};
 ghost use Rattle.rev_ranks.specs.Graph.{graph_of};

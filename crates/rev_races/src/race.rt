@@ -1,6 +1,6 @@
 //! One answer.
 
-/// What is told of two edges and a path.
+/// What a finding says of two edges and a path.
 #[derive(Clone, Copy, Debug, PartialEq, Eq)]
 pub enum Kind {
     /// An edge lists a path that another edge makes, and does not wait for that one.

@@ -1,4 +1,4 @@
-//! Searches for what an edge waits for, of which the last one is kept, and an order of edges that makes them few.
+//! Searches for what an edge waits for (the last search is kept), and an order of edges that makes them few.
 ghost use Rattle.std.specs.Prelude.{◌≡◌, ◌<◌, ◌^◌, ◌↔◌, ℕ, length, None, Contains, IfOk, OnOk};
 ghost use Rattle.std.specs.List.{range_with_len};
 ghost use Rattle.rev_graph.specs.Graph.{successor_lists};

@@ -12,7 +12,7 @@ use rev_events::Event;
 use rev_history::History;
 use std::alloc::{AllocError, Global};
 
-/// What happened here with the maker's last run and with the user's, of which its list is.
+/// What happened here with the maker's last run and with that run of the user that wrote its list.
 #[derive(Clone, Copy, Debug, PartialEq, Eq)]
 pub enum Happened {
     /// One of the two did not run, or a kept plan stands between their starts.

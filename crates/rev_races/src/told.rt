@@ -1,4 +1,4 @@
-//! What is told, before its kind is known.
+//! A finding, before its kind is known.
 
 /// An edge lists a path that another edge makes, or that it makes itself.
 #[derive(Clone, Copy, Debug, PartialEq, Eq)]

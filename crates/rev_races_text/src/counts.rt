@@ -6,7 +6,7 @@ use crate::edges::Edge;
 use crate::names::NameIf;
 use std::fmt;
 
-/// How much an observation shows.
+/// How many findings an observation shows, of each kind.
 #[derive(Clone, Copy, Debug, PartialEq, Eq)]
 pub struct Seen {
     /// Races.
@@ -15,18 +15,18 @@ pub struct Seen {
     pub cycles: u64,
     /// Files that two commands leave.
     pub clashes: u64,
-    /// Files that change behind a command that looked at them.
+    /// Files that change after a command looked at them.
     pub unstable: u64,
-    /// Files that no line says a command makes, at which another one looks.
+    /// Undeclared outputs, and outputs of others.
     pub undeclared: u64,
-    /// Files that a command reads and neither its line nor its list has.
+    /// Unlisted inputs for which nothing makes Ninja run their reader again.
     pub unlisted: u64,
     /// Commands that ran and were observed whole.
     pub whole: u64,
 }
 
 impl Seen {
-    /// Nothing of each.
+    /// No finding.
     pub const NOTHING: Seen = Seen {
         races: 0,
         cycles: 0,
@@ -38,7 +38,7 @@ impl Seen {
     };
 }
 
-/// How many there are of what is told.
+/// The numbers in the line that counts.
 #[derive(Clone, Copy)]
 pub struct Tally {
     /// Commands that failed.
@@ -51,11 +51,11 @@ pub struct Tally {
     pub own: u64,
     /// Clashes.
     pub clashes: u64,
-    /// Files that change behind a command that looked at them.
+    /// Files that change after a command looked at them.
     pub unstable: u64,
-    /// Files that no line says a command makes, at which another one looks.
+    /// Undeclared outputs, and outputs of others.
     pub undeclared: u64,
-    /// Files that a command reads and neither its line nor its list has.
+    /// Unlisted inputs for which nothing makes Ninja run their reader again.
     pub unlisted: u64,
     /// Commands that ran.
     pub ran: u64,
@@ -111,7 +111,7 @@ struct Whole {
     whole: Option<u64>,
 }
 
-// How many files change behind their users, are no outputs, and are no inputs.
+// How many unstable files, undeclared outputs and unlisted inputs there are.
 #[derive(Clone, Copy)]
 struct OtherCounts(Tally);
 

@@ -16,7 +16,7 @@ use serde::Serialize;
 use std::alloc::AllocError;
 use std::fmt;
 
-/// What is told of edges beside their numbers.
+/// What says of edges, by their numbers, how they are called, where their build statements stand, and when they ran.
 #[derive(Clone, Copy)]
 pub struct Sources<'a> {
     /// The edges of the manifest.
@@ -27,18 +27,18 @@ pub struct Sources<'a> {
     pub runs: &'a [Option<Run>],
 }
 
-/// An edge as it is told.
+/// An edge as answers have it.
 #[derive(Clone, Copy, Serialize)]
 pub struct Edge<'a> {
-    /// The number of the event that began the run that is told, where it ran.
+    /// The number of the event that began the run that the answer is about, where the edge ran.
     pub began: Option<u32>,
-    /// The number of the event that ended that run, where it ended.
+    /// The number of the event that ended that run, where the run ended.
     pub ended: Option<u32>,
     /// The file of its build statement.
     pub file: Option<Shown<'a>>,
     /// The line of its build statement, from 1.
     pub line: Option<u64>,
-    /// Its first output. This and the two above are none where there is no such edge.
+    /// Its first output. Where there is not such an edge, this member and the two above are None.
     pub output: Option<Shown<'a>>,
 }
 
@@ -79,7 +79,7 @@ fn first_of(build: &Build) -> Option<&Name>
     }
 }
 
-// A name as it is told.
+// A name as answers have it.
 fn shown_name(name: &Name) -> Shown<'_>
     ensures { result.0.now ≡ name.entry.now }
 {
@@ -116,7 +116,7 @@ impl<'a> Sources<'a> {
         self.edge_in(number, self.run(number))
     }
 
-    /// An edge by its number, with the run that is told of it.
+    /// An edge by its number, with the run that the answer is about.
     pub fn edge_in(&self, number: u32, run: Option<Run>) -> Edge<'a>
         ensures output { bytes_if result.output ≡ first_output (slice_get self.now.builds.now number) }
         ensures file { bytes_if result.file ≡ file_of (seen_files self.now.files.now) (slice_get self.now.builds.now number) }
@@ -155,7 +155,7 @@ impl<'a> Sources<'a> {
     }
 }
 
-/// Adds the first output of an edge; nothing where there is no such edge.
+/// Adds the first output of an edge. It adds nothing where the manifest has fewer edges.
 ///
 /// # Errors
 /// [`AllocError`] only where an allocation was refused.

@@ -1,4 +1,4 @@
-//! What is told of a build that failed, and of a recording that counts in part.
+//! Lines about a build that failed, and about a recording that counts in part.
 ghost use Rattle.std.specs.Prelude.{◌≡◌, Some};
 ghost use Rattle.rev_races_text.specs.Failed.{failed_line, left_line, numbered, printed_line, refused_end, refused_line, refused_words, replayed_lines, running_line};
 ghost use Rattle.rev_races_text.specs.Status.{is_whole};
@@ -35,15 +35,15 @@ pub struct Failure<'a> {
     pub command: &'a [u8],
     /// What it printed, where the recording has that.
     pub printed: Option<Printed<'a>>,
-    /// How many suspects its error names. They are told as races.
+    /// How many suspects its error names. The report has them among its races.
     pub named: usize,
     /// The first of the other suspects.
     pub others: Vec<Suspect>,
-    /// How many more there are; none where suspects were not looked for.
+    /// How many more there are. It is None where nobody looked for suspects.
     pub untold: Option<Untold>,
 }
 
-/// How many suspects are counted and not told.
+/// How many suspects the report counts and does not name.
 #[derive(Clone, Copy)]
 pub struct Untold {
     /// Those that ran when the failed command began.
@@ -61,7 +61,7 @@ pub struct Printed<'a> {
     pub left: u64,
 }
 
-/// A command that a failed one does not wait for, nor the other way round, and that was not settled when that one began.
+/// A command that had not settled when a failed command began. Neither of the two waits for the other.
 #[derive(Clone, Copy)]
 pub struct Suspect {
     /// Its edge.
@@ -122,7 +122,8 @@ impl Replayed {
 }
 
 impl<'a> Failure<'a> {
-    /// The lines of what it printed, without an empty one at the end; none where the recording does not have that.
+    /// The lines that it printed, without an empty one at the end. There are none where the recording does not have
+    /// what it printed.
     pub(crate) fn lines(&self, alloc: Global) -> Result<Vec<Text<'a>>, AllocError> {
         let mut lines = Vec::new(alloc);
         if let Some(printed) = self.printed {
@@ -136,7 +137,7 @@ impl<'a> Failure<'a> {
         Ok(lines)
     }
 
-    /// How many suspects are counted and not told that were so far.
+    /// How many suspects that were so far the report counts and does not name.
     pub(crate) fn untold_of(&self, progress: Progress) -> u64 {
         match (self.untold, progress) {
             (Some(untold), Progress::Running) => untold.running,
@@ -145,7 +146,7 @@ impl<'a> Failure<'a> {
         }
     }
 
-    /// How many suspects it has; none where they were not looked for.
+    /// How many suspects it has. It is None where nobody looked for them.
     pub(crate) fn suspects(&self) -> Option<u64> {
         let untold = self.untold?;
         let told = u64::saturating_add(self.named as u64, self.others.len() as u64);

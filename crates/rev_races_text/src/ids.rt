@@ -1,4 +1,4 @@
-//! Stable names of what is told.
+//! Stable names of findings.
 use crate::edges::Sources;
 use crate::others::Clash;
 use crate::race::Told;
@@ -16,7 +16,7 @@ fn kind_word(kind: Kind) -> &'static str {
 }
 
 impl<'a> Sources<'a> {
-    /// The bytes of the first output of an edge; none where there is no such edge.
+    /// The bytes of the first output of an edge. They are empty where the manifest has fewer edges.
     pub fn output(&self, edge: u32) -> &'a [u8] {
         match self.edge(edge).output {
             Some(output) => output.0,
@@ -29,7 +29,7 @@ impl<'a> Sources<'a> {
         Id::of(kind, path, self.output(maker), self.output(user))
     }
 
-    /// The same of two edges of which neither comes first: of their names the lesser one does.
+    /// The same of two edges where neither comes first. The lesser of their names does, by the order of bytes.
     pub fn pair_id(&self, kind: &str, path: &[u8], one: u32, other: u32) -> Id {
         let (one, other) = (self.output(one), self.output(other));
         if one <= other {

@@ -1,4 +1,4 @@
-//! What is told of a recording, as JSON objects, one a line.
+//! The answer about a recording, as JSON objects, one a line.
 use crate::edges::{Edge, Sources};
 use crate::failed::{Failure, Suspect};
 use crate::names::{Shown, Text};
@@ -382,8 +382,8 @@ fn push_changes<'a>(
 }
 
 impl<'a> Report<'a> {
-    /// What is told, as JSON: an object a line. What an observation shows (`observed`) stands before the races, as lines
-    /// already. Names stand as people read them, so that each is text whatever its bytes are.
+    /// The report as JSON, an object a line. `observed` has the lines of what an observation shows, and they stand
+    /// before the races. Names stand as people read them, so that each name is text whatever its bytes are.
     ///
     /// # Errors
     /// [`AllocError`] only where an allocation was refused.

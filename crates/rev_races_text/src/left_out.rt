@@ -1,4 +1,4 @@
-//! How much is left out of what is told.
+//! How much an answer leaves out.
 ghost use Rattle.std.specs.Prelude.{Some};
 ghost use Rattle.rev_races_text.specs.LeftOut.{known_words, left_out_line};
 
@@ -6,7 +6,7 @@ use crate::counts::Counted;
 use serde::Serialize;
 use std::fmt;
 
-/// How much is left out of what is told, since the user asked for that.
+/// How much an answer leaves out because the user asked for that.
 #[derive(Clone, Copy, Debug, PartialEq, Eq, Serialize)]
 pub struct LeftOut {
     /// At how many places filters hide that commands meet.
@@ -22,7 +22,7 @@ pub struct LeftOut {
 struct KnownWords(LeftOut);
 
 impl LeftOut {
-    /// Nothing.
+    /// Nothing is left out.
     pub const NOTHING: LeftOut = LeftOut {
         hidden: 0,
         known: 0,

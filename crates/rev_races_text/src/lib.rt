@@ -1,4 +1,4 @@
-//! What people are told of a build's races.
+//! The answer about a build's races, in words and as JSON.
 #![tactic(auto)]
 
 mod counts;

@@ -6,8 +6,8 @@ ghost use Rattle.rev_shown.specs.Shown.{hex_digit, shown, shown_byte};
 use serde::{Described, Serialize, Serializer};
 use std::fmt;
 
-/// A name as people read it: one word of visible ASCII, which reads back at the prompt. A space is `\s`, tab, LF, CR and
-/// backslash are `\t`, `\n`, `\r` and `\\`, and every other byte that is not visible is `\x` and two digits.
+/// A name as people read it: one word of visible ASCII, which reads back at the prompt. A space is `\s`, tab, LF, CR
+/// and backslash are `\t`, `\n`, `\r` and `\\`, and every other byte that is not visible is `\x` and two digits.
 #[derive(Clone, Copy)]
 pub struct Shown<'a>(pub &'a [u8]);
 

@@ -22,7 +22,7 @@ pub struct Clash {
     pub other: u32,
 }
 
-/// A clash as it is told.
+/// A clash as answers have it.
 #[derive(Clone, Copy)]
 pub struct ClashLine<'a> {
     /// Which file it is.
@@ -48,7 +48,8 @@ pub struct Hint<'a> {
     pub user: Edge<'a>,
 }
 
-/// A path that an edge lists, that no edge makes, and that changed while commands ran, for none of which the edge waits.
+/// A path that an edge lists, that no edge makes, and that changed while commands ran. The edge does not wait for any
+/// of these commands.
 #[derive(Drop)]
 pub struct Change<'a> {
     /// The number of the event that changed it.
@@ -99,12 +100,13 @@ struct RanThen<'a> {
 }
 
 impl Change<'_> {
-    /// How many of the commands that ran are told of one change: several changes can come while the same ones ran.
+    /// How many of the commands that ran an answer names for one change, at most. The bound is there because many
+    /// changes can come while the same commands run.
     pub const MOST: usize = 64;
 }
 
 impl<'a> Sources<'a> {
-    /// A clash as it is told.
+    /// A clash as answers have it.
     #[tactic(auto, using(crate::proofs::EdgeLemmas::placed_is))]
     pub fn clash(&self, clash: &Clash) -> ClashLine<'a>
         ensures file { result.file ≡ clash.now.kind }

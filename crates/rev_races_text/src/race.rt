@@ -10,7 +10,8 @@ use rev_races::{Kind, Story};
 use rev_suspects::{Basis, Progress};
 use std::fmt;
 
-/// What is known of a user whose command began here and did not end well, so that its list is that of an earlier build.
+/// What the recording says of a user whose command began here and did not end well. Its list is that of an earlier
+/// build.
 #[derive(Clone, Copy)]
 pub struct ListedBefore {
     /// The number of the event by which it failed, where it did.
@@ -22,9 +23,9 @@ pub struct ListedBefore {
 /// What this recording shows of a race.
 #[derive(Clone, Copy)]
 pub enum Evidence {
-    /// A command lists its own output: there are no two runs.
+    /// A command lists its own output, so there is only one run.
     Own,
-    /// The list is of this recording, or of an earlier build that this one had not to do again. What happened here.
+    /// What happened here. The list is of this recording, or of an earlier build that this one had not to do again.
     Story(Story),
     /// The user did not end well here, and the list is that of an earlier build.
     Earlier(ListedBefore),
@@ -32,7 +33,7 @@ pub enum Evidence {
     Error(Progress),
 }
 
-/// A race as it is told. Edges are named by their numbers.
+/// A race as answers have it. Edges stand by their numbers.
 #[derive(Clone, Copy)]
 pub struct Told<'a> {
     /// What it is.
@@ -43,7 +44,7 @@ pub struct Told<'a> {
     pub user: u32,
     /// The path.
     pub path: &'a Name,
-    /// On what the user's list rests; none where the error of the user names the path.
+    /// On what the user's list rests. It is None where the error of the user names the path.
     pub basis: Option<Basis>,
     /// What this recording shows of it.
     pub evidence: Evidence,
@@ -59,10 +60,10 @@ pub(crate) struct MakerLine<'a> {
     pub(crate) maker: Edge<'a>,
 }
 
-/// The path by which a user is in the race, and how many more, where it is more than the path that was told.
+/// By which paths a user is in the race. It is empty where that is one path, and the maker's line has it.
 #[derive(Clone, Copy)]
 pub struct Through<'a> {
-    /// The path that was told.
+    /// The path that the maker's line has.
     pub told: Shown<'a>,
     /// The first path of the user.
     pub path: Shown<'a>,
@@ -97,19 +98,19 @@ pub struct MendLine<'a> {
     pub output: Shown<'a>,
 }
 
-/// How many are left out, between words; nothing where there are none.
+/// How many are left out, between two texts. It is empty where that number is 0.
 #[derive(Clone, Copy)]
 pub struct More {
     /// What stands before the number.
     pub before: &'static str,
     /// How many there are.
     pub more: u64,
-    /// What stands behind the number.
+    /// What stands after the number.
     pub after: &'static str,
 }
 
 impl<'a> Sources<'a> {
-    /// The edge that makes what a race is about, with the run that is told.
+    /// The edge that makes the path of a race, with the run that the answer is about.
     pub fn maker(&self, told: &Told<'_>) -> Edge<'a> {
         match told.evidence {
             Evidence::Story(story) => self.edge_in(told.maker, story.maker),
@@ -117,7 +118,7 @@ impl<'a> Sources<'a> {
         }
     }
 
-    /// The edge that uses it, with the run that is told.
+    /// The edge that uses the path, with the run that the answer is about.
     pub fn user(&self, told: &Told<'_>) -> Edge<'a> {
         match told.evidence {
             Evidence::Story(story) => self.edge_in(told.user, story.user),

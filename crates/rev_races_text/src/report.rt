@@ -1,4 +1,4 @@
-//! What is told of a recording.
+//! The report about a recording.
 ghost use Rattle.std.specs.Prelude.{◌≡◌};
 ghost use Rattle.rev_races_text.specs.Status.{status_of};
 
@@ -14,15 +14,15 @@ pub const SOMETHING: u8 = 4;
 /// The exit status where nothing was found, and the build failed or was not recorded whole.
 pub const UNKNOWN: u8 = 5;
 
-/// What is told of a recording. What an observation shows comes first, numbered from 1; the numbers go on with the races,
-/// and then with the other suspects, in the order of the commands that failed.
+/// The report about a recording. The findings that an observation shows come first, and are numbered from 1. The
+/// numbers go on with the races, and then with the other suspects, in the order of the commands that failed.
 #[derive(Drop)]
 pub struct Report<'a> {
-    /// How many numbers are taken by what an observation shows.
+    /// How many findings an observation shows. They have the numbers from 1 up to this one.
     pub before: u64,
-    /// How much of that there is of each kind, where the recording has an observation.
+    /// How many of these there are of each kind, where the recording has an observation.
     pub seen: Option<Seen>,
-    /// How much of it counts.
+    /// How much of the recording counts.
     pub replayed: Replayed,
     /// The commands that failed.
     pub failures: Vec<Failure<'a>>,
@@ -33,7 +33,7 @@ pub struct Report<'a> {
     pub clashes: Vec<Clash>,
     /// How many commands ran.
     pub ran: u64,
-    /// The commands that ran, left no list of what they read, and are no collectors.
+    /// The commands that ran, left no list of what they read, and do more than collect outputs.
     pub unjudged: Vec<u32>,
     /// The commands that ran, left no list of what they read, and only collect outputs.
     pub collectors: Vec<u32>,
@@ -62,9 +62,9 @@ fn at<T>(items: &[T], place: u64) -> Option<&T> {
 }
 
 impl<'a> Report<'a> {
-    /// The exit status: 4 where an observation shows something, or there is a race, a cycle, a path that its own command
-    /// lists, a clash or a suspect that an error names; else 5 where the build failed or was not recorded whole, and else
-    /// 0.
+    /// The exit status. It is 4 where an observation shows something, and where there is a race, a cycle, a path that
+    /// its own command lists, a clash, or a suspect that an error names. Else it is 5 where the build failed or was not
+    /// recorded whole, and 0 where neither is so.
     pub fn status(&self) -> u8
         ensures { result ≡ status_of self.now }
     {
@@ -77,7 +77,7 @@ impl<'a> Report<'a> {
         UNKNOWN
     }
 
-    /// How many there are of what is told.
+    /// The numbers in the line that counts.
     pub(crate) fn tally(&self) -> Tally {
         let seen = self.seen.unwrap_or(Seen::NOTHING);
         Tally {
@@ -119,8 +119,8 @@ impl<'a> Report<'a> {
         u64::saturating_add(self.races.len() as u64, self.first_race())
     }
 
-    /// The user and the maker of the race or suspect of a number; none where neither has that number, or a command lists
-    /// its own output.
+    /// The user and the maker of the race or suspect that has a number. It is None where neither a race nor a suspect
+    /// has that number, and where a command lists its own output.
     pub fn pair(&self, number: u64) -> Option<(u32, u32)> {
         let place = number.checked_sub(self.first_race())?;
         if let Some(told) = at(&self.races, place) {

@@ -1,4 +1,4 @@
-//! What is told of a recording, in words.
+//! The answer about a recording, in words.
 use crate::counts::{Counted, NotJudged, Tally};
 use crate::edges::{Edge, Sources};
 use crate::failed::{FailedLine, Failure, Numbered, PrintedLine};
@@ -119,7 +119,7 @@ fn push_kind<'a>(
     push_more(text, "  and by ", users, most, " more (--all tells them)\n")
 }
 
-/// What is told of one race, which has a number, in words.
+/// The lines about one race, which has a number.
 ///
 /// # Errors
 /// [`AllocError`] only where an allocation was refused.
@@ -396,9 +396,10 @@ impl<'a> Report<'a> {
         Ok(text)
     }
 
-    /// What is told, in words: how much of the recording counts, what failed, what an observation shows (`observed`, in
-    /// words already), the races of each maker, how many there are and what was not judged, the clashes, the hints, and
-    /// how much is left out. Of much the first is told, or all of it.
+    /// The report in words. First come how much of the recording counts, and what failed. Then come the lines of what
+    /// an observation shows (`observed`), and the races of each maker. The line that counts follows, with the commands
+    /// that were not judged. Clashes, hints, and how much is left out come last. Of many users, clashes, failed
+    /// commands or suspects the words have the first, or all of them (`all`).
     ///
     /// # Errors
     /// [`AllocError`] only where an allocation was refused.

@@ -1,4 +1,4 @@
-//! What is told of files that commands leave.
+//! The findings about files that commands leave.
 ghost use Rattle.std.specs.Prelude.{◌≡◌, ◌<◌, Some, length, map, All, IfOk};
 ghost use Rattle.std.specs.List.{AllByRecursion};
 ghost use Rattle.rev_observed.specs.Joins.{edge_of};
@@ -19,7 +19,7 @@ use rev_observed::{Command, Observation};
 use rev_paths::{Name, Paths};
 use std::alloc::{AllocError, Global};
 
-// What is told of files that commands leave, where nothing stronger is.
+// The findings about files that commands leave, without those of a user and a file that `stronger` has.
 fn found_in(
     alloc: Global,
     graph: &Graph,
@@ -61,17 +61,19 @@ fn found_in(
     found.into_told(alloc)
 }
 
-/// What is told of files that commands leave, each once, in the order of the numbers of the maker's edge, of the user's
-/// edge, of the path, and of the commands.
+/// The findings about files that commands leave though no output of theirs declares them. Each finding stands once, in
+/// the order of the numbers of the maker's edge, of the user's edge, of the path, and of the commands.
 ///
-/// `files` are those from which the manifest was read: what makes one of them runs before all else, and is the maker of
-/// nothing that is told. `builds` are the edges of the graph as the manifest has them, for their depfiles and response
-/// files, which are left undeclared by right. `edges` has for each command of the observation its edge, as [`rev_observed::edges`] gives them.
-/// `hidden` has a mark for each path of which nothing is to be told. `conflicts` is what [`rev_conflicts::conflicts`]
-/// tells: of a user and a file that it tells of, nothing is told again.
+/// `files` are those from which the manifest was read. An edge that makes one of them runs before all else, so it is
+/// the maker of no finding. `builds` are the edges of the graph as the manifest has them: a command leaves its depfile
+/// and its response file, and neither of these needs to be declared. `edges` has the edge of each command of the
+/// observation, as [`rev_observed::edges`] gives them. `hidden` has a mark for each path about which there is to be no
+/// finding. `conflicts` is the answer of [`rev_conflicts::conflicts`]: where a conflict is about a user and a file, the
+/// answer has nothing about that user and that file.
 ///
-/// Who leaves which file is noted first, and of each command the files that somebody leaves are gone through. It takes
-/// time linear in the observation and in the answer, up to logarithms and to the commands that leave one file.
+/// The call notes first who leaves which file. Then it goes, for each command, through the files that some command
+/// leaves and at which this one looks. It takes time linear in the observation and in the answer, up to logarithms and
+/// to the number of commands that leave one file.
 ///
 /// # Errors
 /// [`AllocError`] only where an allocation was refused.

@@ -128,8 +128,8 @@ fn written(
     numbers(alloc, command.paths(Kind::Writes))
 }
 
-/// For each path the commands that leave its file, where no filter hides it, and it is no side file of their edge, which
-/// does not run before all else.
+/// For each path the numbers of the commands that leave its file. A path that a filter hides has none. A command is not
+/// among them where the path is the depfile or the response file of its edge, and where its edge runs before all else.
 ///
 /// # Errors
 /// [`AllocError`] only where an allocation was refused.

@@ -1,4 +1,4 @@
-//! What is told of a file: of the edge that has it as an output, or of the commands that look at it.
+//! The findings about one file: of the edge that has it as an output, or of the commands that look at it.
 ghost use Rattle.std.specs.Prelude.{◌≡◌, ◌<◌, ◌≤◌, ◌↔◌, ◌⊎◌, ℕ, List, None, true, length, slice_index_or, All, Contains, IfSome, OnOk};
 ghost use Rattle.rev_graph.specs.Graph.{producer_of};
 ghost use Rattle.rev_ranks.specs.Graph.{graph_of};
@@ -17,7 +17,7 @@ use rev_observed::{Command, Kind, PathRange};
 use rev_paths::{Name, Paths};
 use std::alloc::AllocError;
 
-// Adds what is told of a user, a file and each of these commands, which leave it.
+// Adds the findings about a user, a file and each of these commands, which leave it.
 fn add_makers(
     edges: &[u32],
     user: u32,
@@ -56,7 +56,7 @@ fn owner(graph: &Graph, path: &Name) -> Option<u32>
     Some(producer)
 }
 
-// Adds what is told of a file that is an edge's output.
+// Adds the findings about a file that is an edge's output.
 fn add_anothers_at(
     graph: &Graph,
     paths: &Paths,
@@ -86,7 +86,7 @@ fn add_anothers_at(
     Ok(())
 }
 
-/// Adds what is told of each file that is an edge's output. `lists` has for each path the commands that leave its file.
+/// Adds the findings about files that are outputs of edges. `lists` has the commands that leave the file of each path.
 ///
 /// # Errors
 /// [`AllocError`] only where an allocation was refused.
@@ -111,7 +111,7 @@ pub(crate) fn add_anothers(
     Ok(())
 }
 
-// Adds what is told of a file at which a user's command looks, and of these commands, which leave it.
+// Adds the findings about a file at which a user's command looks, and about these commands, which leave it.
 fn add_look(
     graph: &Graph,
     paths: &Paths,
@@ -143,7 +143,7 @@ fn add_look(
     Ok(())
 }
 
-// Adds what is told of the files of a range.
+// Adds the findings about the files of a range.
 fn add_range(
     graph: &Graph,
     paths: &Paths,
@@ -180,7 +180,7 @@ fn add_range(
     Ok(())
 }
 
-// Adds what is told of the files of ranges.
+// Adds the findings about the files of ranges.
 fn add_ranges(
     graph: &Graph,
     paths: &Paths,
@@ -210,8 +210,8 @@ fn add_ranges(
     Ok(())
 }
 
-/// Adds what is told of the files at which a user's command looks, and that are no edge's outputs. `left` has for each
-/// path the commands that leave its file.
+/// Adds the findings about the files at which a user's command looks, and which no edge has as an output. `left` has
+/// for each path the commands that leave its file.
 ///
 /// # Errors
 /// [`AllocError`] only where an allocation was refused.

@@ -1,4 +1,4 @@
-//! Users and files of which something stronger is told.
+//! Users and files that stronger findings are about.
 ghost use Rattle.std.specs.Prelude.{◌≡◌, ◌↔◌, ◌⊎◌, ℕ, List, ◌∷◌, [], true, Contains, IfOk, IsTrue, OnOk};
 ghost use Rattle.rev_undeclared.specs.Stronger.{is_clash as is_clash_of, is_told, tells_of};
 
@@ -7,7 +7,7 @@ use std::alloc::{AllocError, Global};
 use std::collections::BTreeSet;
 use std::marker::Model;
 
-/// Users and files of which something is told, by the numbers of the user's edge and of the path.
+/// Pairs of a user and a file that findings are about, by the numbers of the user's edge and of the path.
 #[derive(Drop)]
 pub struct Stronger {
     keys: BTreeSet<[u64; 2]>,
@@ -22,7 +22,7 @@ impl Model for Stronger {
 }
 
 impl Stronger {
-    /// None.
+    /// No pair.
     pub fn new(alloc: Global) -> Stronger
         ensures { result ≡ [] }
     {
@@ -31,7 +31,10 @@ impl Stronger {
         }
     }
 
-    /// Adds a user and a file.
+    /// Adds a user and a file, unless they are there.
+    ///
+    /// # Errors
+    /// [`AllocError`] only where an allocation was refused.
     pub fn add(&mut self, user: u32, path: u64) -> Result<(), AllocError>
         ensures { OnOk result ((k : List ℕ) → Contains self.new k
             ↔ (Contains self.old k ⊎ (k ≡ user ∷ path ∷ []))) }
@@ -40,7 +43,7 @@ impl Stronger {
         Ok(())
     }
 
-    /// Whether something is told of a user and a file.
+    /// Whether a finding is about this user and this file.
     pub fn has(&self, user: u32, path: u64) -> bool
         ensures { IsTrue result ↔ Contains self.now (user ∷ path ∷ []) }
     {
@@ -75,7 +78,7 @@ fn add_conflict(conflict: &Conflict, stronger: &mut Stronger) -> Result<(), Allo
     Ok(())
 }
 
-/// The users and files of which conflicts tell: of a clash both edges are users.
+/// The users and files that conflicts are about. Both edges of a clash count as users.
 ///
 /// # Errors
 /// [`AllocError`] only where an allocation was refused.

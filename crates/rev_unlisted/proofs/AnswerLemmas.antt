@@ -1,16 +1,17 @@
 -- What is found is what is to be told.
-use Rattle.std.proofs.Common.{◌≡◌, ℕ, zero, suc, ◌+◌, ◌<◌, ◌^◌, Bool, true, false, List, [], ◌∷◌, ◌++◌, length, get_or, map, take, Option, ◌⊎◌, inl, inr, refl, sym, ap, subst, ◌∙◌, arith, Contains, true≢false, bytes_eq}
+use Rattle.std.proofs.Common.{◌≡◌, ℕ, zero, suc, ◌+◌, ◌<◌, ◌^◌, ◌==◌, vec_len, Bool, true, false, List, [], ◌∷◌, ◌++◌, length, get_or, map, take, Option, ◌⊎◌, inl, inr, refl, sym, ap, subst, ◌∙◌, arith, Contains, true≢false, bytes_eq}
 use Rattle.std.specs.Prelude.{All, ◌↔◌, Result, Ok, Err, IfOk}
-use Rattle.std.specs.List.{IsDistinct, list_all}
+use Rattle.std.specs.Global.{Vec}
+use Rattle.std.specs.List.{list_all}
 use Rattle.std.specs.List.Sorted.{IsStrictlySortedBy}
 use Rattle.std.specs.Ordering.{nat_cmp}
 use Rattle.std.specs.Cmp.Lexicographic.{slice_cmp}
 use Rattle.std.proofs.Math.ListN.{get_or-map}
-use Rattle.std.proofs.lemmas.Bool.{and_from, and_parts, cases_eq, false_from_ne_true}
-use Rattle.std.proofs.lemmas.List.{get_or_default, length-map, take_more}
+use Rattle.std.proofs.lemmas.Bool.{and_from, and_parts, cases_eq, eqb-true, false_from_ne_true}
+use Rattle.std.proofs.lemmas.List.{get_or-map as get_or-mapped, get_or_default, length-map, take_more}
 use Rattle.std.proofs.lemmas.List.Elements.{All-get_or, Contains-get_or}
 use Rattle.rev_manifest.specs.Manifest.{BuildValue}
-use Rattle.rev_ranks.specs.Graph.{Steps, successors_of}
+use Rattle.rev_ranks.specs.Graph.{Steps, graph_of, successors_of}
 use Rattle.rev_observed.specs.CommandValues.{CommandValue}
 use Rattle.rev_observed.specs.declared.kind.Kind.TheVariants.{Reads}
 use Rattle.rev_conflicts.specs.declared.conflict.Conflict.{Conflict}
@@ -25,9 +26,9 @@ use Rattle.rev_unlisted.specs.declared.input.Unlisted.{Unlisted}
 use Rattle.rev_unlisted.specs.Follows.{follow_lists}
 use Rattle.rev_unlisted.specs.Unlisted.{IsCover, IsCover.covers as is_covered, IsCover.holds_back as is_held, IsCover.neither as is_neither, IsMet, IsMet.by_makers as met_makers, IsMet.as_source as met_source, MakerIn}
 use Rattle.rev_unlisted.specs.Answer.{AreUnlisted, IsToldOf, unlisted_key}
-use Rattle.rev_unlisted.specs.Found.{AreFound, AreReached, AreStepsOf, IsCoverIn, IsCoverIn.covers as in_covered, IsCoverIn.holds_back as in_held, IsCoverIn.neither as in_neither, IsFound, IsKeyAmong, IsKeyBelow, IsKeyOf, IsMetIn, IsMetIn.by_makers as in_makers, IsMetIn.as_source as in_source, IsOfUnlisted, IsReadAt, IsReadOf, cover_by, met_by}
+use Rattle.rev_unlisted.specs.Found.{AreFound, AreLedTo, AreNeither, AreReached, AreReads, IsCoverIn, IsCoverIn.covers as in_covered, IsCoverIn.holds_back as in_held, IsCoverIn.neither as in_neither, IsFound, IsKeyAmong, IsKeyBelow, IsKeyIn, IsMetIn, IsMetIn.by_makers as in_makers, IsMetIn.as_source as in_source, IsOfUnlisted, IsReadByNumber, IsReadOf, cover_by, met_by}
+use Rattle.rev_conflicts.proofs.MeetLemmas.{past-end}
 use Rattle.rev_conflicts.proofs.NumberLemmas.{pushed}
-use Rattle.rev_unlisted.proofs.FollowLemmas.{counts}
 use Rattle.rev_unlisted.proofs.FoundLemmas.{one-told}
 
 -- NUMBERS IN A LIST
@@ -66,6 +67,34 @@ met-iff count graph (x ∷ xs) user path marks are = (
     back : IsMetIn count graph (x ∷ xs) user path → list_all (λ e. get_or marks e false) (x ∷ xs) ≡ true
     back (in_makers c all) = marked-all (x ∷ xs) marks (λ o d. (are.exact o).1 (all o d))
     back (in_source none way) = absurd (none x (0, omega arith, refl))
+
+-- what is met is marked by what any of the first nodes leads to
+met-led : (count : ℕ) (graph : List (List ℕ)) (makers : List ℕ) (user path : ℕ) (marks : List Bool) → AreLedTo graph count marks → user < count → IsMetIn count graph makers user path → met_by makers (count + path) marks ≡ true
+met-led count graph [] user path marks are below (in_makers (k, within, at) all) = absurd (omega (arith, within))
+met-led count graph [] user path marks are below (in_source none way) = are.complete user (count + path) below way
+met-led count graph (x ∷ xs) user path marks are below (in_makers c all) = marked-all (x ∷ xs) marks (λ o d. are.complete user o below (all o d))
+met-led count graph (x ∷ xs) user path marks are below (in_source none way) = absurd (none x (0, omega arith, refl))
+
+abbrev neither_test : Cover → Bool
+neither_test Covered = false
+neither_test HeldBack = false
+neither_test Neither = true
+
+-- a cover is neither exactly where both tests fail
+cover-sure : (a b : Bool) → cover_by a b ≡ Neither → a ≡ false
+cover-sure true b h = absurd (true≢false (sym (ap neither_test h)))
+cover-sure false b h = refl
+
+cover-met : (a b : Bool) → cover_by a b ≡ Neither → b ≡ false
+cover-met true b h = absurd (true≢false (sym (ap neither_test h)))
+cover-met false true h = absurd (true≢false (sym (ap neither_test h)))
+cover-met false false h = refl
+
+neither-in : (count : ℕ) (steps sure : List (List ℕ)) (makers : List ℕ) (user path : ℕ) (met_marks sure_marks : List Bool) → AreLedTo steps count met_marks → AreLedTo sure count sure_marks → user < count
+    → cover_by (met_by makers (count + path) sure_marks) (met_by makers (count + path) met_marks) ≡ Neither → IsCoverIn count steps sure makers user path Neither
+neither-in count steps sure makers user path met_marks sure_marks met sure_led below is =
+    in_neither (λ m. true≢false (sym (met-led count steps makers user path met_marks met below m) ∙ cover-met (met_by makers (count + path) sure_marks) (met_by makers (count + path) met_marks) is))
+    (λ s. true≢false (sym (met-led count sure makers user path sure_marks sure_led below s) ∙ cover-sure (met_by makers (count + path) sure_marks) (met_by makers (count + path) met_marks) is))
 
 not-true : (b : Bool) {P : Type 0} → b ≡ false → ((b ≡ true) ↔ P) → P → ⊥
 not-true b is both p = true≢false (sym (both.1 p) ∙ is)
@@ -112,72 +141,121 @@ keys-among count makers sure met user used_by files k = (
       record { number = c.0; below = c.1; holds = subst (λ p. KeyOne count makers sure met user used_by p k) (sym at) a.is },
 )
 
-module _ (builds : List BuildValue) (paths : List (List ℕ)) (hidden : List Bool) (sides : List BuildValue) (told steps sure makers : List (List ℕ)) (user used_by : ℕ) (used : CommandValue) (marks : List (Option ℕ)) (files : List ℕ)
-    (are : AreStepsOf steps user marks) (files_are : (path : ℕ) → Contains files path ↔ ((does Reads used path ≡ true) × IsReadAt builds paths hidden sides told marks user used path)) where
-  at-of : (path : ℕ) → IsReadAt builds paths hidden sides told marks user used path → IsReadOf builds paths hidden sides told steps user used path
-  at-of path r = record { finds = r.finds; is_open = r.is_open; foreign = r.foreign; uncounted = λ s. r.uncounted ((are.exact (length builds + path)).1 s); alone = r.alone }
+-- what marks tell is what ways tell
+pub keys-in : (count : ℕ) (steps sure makers : List (List ℕ)) (user used_by : ℕ) (files k : List ℕ) (met_marks sure_marks : List Bool) → AreReached steps user met_marks → AreReached sure user sure_marks
+    → IsKeyAmong count makers sure_marks met_marks user used_by files k ↔ IsKeyIn count steps sure makers user used_by files k
+keys-in count steps sure makers user used_by files k met_marks sure_marks met sure_met = (
+  λ a. record {
+    path = a.path;
+    among = a.among;
+    cover = cover_by (met_by (successors_of makers a.path) (count + a.path) sure_marks) (met_by (successors_of makers a.path) (count + a.path) met_marks);
+    cover_is = cover-in count steps sure (successors_of makers a.path) user a.path met_marks sure_marks met sure_met;
+    is = a.is;
+  },
+  λ key.
+      let same = one-cover count steps sure (successors_of makers key.path) user key.path key.cover (cover_by (met_by (successors_of makers key.path) (count + key.path) sure_marks) (met_by (successors_of makers key.path) (count + key.path) met_marks))
+      key.cover_is (cover-in count steps sure (successors_of makers key.path) user key.path met_marks sure_marks met sure_met) in
+      record {
+        path = key.path;
+        among = key.among;
+        is = key.is ∙ ap (λ c. unlisted_key (record { cover = c; user = user; path = key.path; used_by = used_by })) same;
+      },
+)
 
-  of-at : (path : ℕ) → IsReadOf builds paths hidden sides told steps user used path → IsReadAt builds paths hidden sides told marks user used path
-  of-at path r = record { finds = r.finds; is_open = r.is_open; foreign = r.foreign; uncounted = λ s. r.uncounted ((are.exact (length builds + path)).0 s); alone = r.alone }
+-- the same without a search from the user, where no search says otherwise
+pub led-keys : (count : ℕ) (steps sure makers : List (List ℕ)) (user used_by : ℕ) (files k : List ℕ) (met_marks sure_marks : List Bool) → AreLedTo steps count met_marks → AreLedTo sure count sure_marks → user < count
+    → AreNeither count makers sure_marks met_marks files → IsKeyAmong count makers sure_marks met_marks user used_by files k ↔ IsKeyIn count steps sure makers user used_by files k
+led-keys count steps sure makers user used_by files k met_marks sure_marks met sure_led below all = (
+  λ a. record {
+    path = a.path;
+    among = a.among;
+    cover = Neither;
+    cover_is = neither-in count steps sure (successors_of makers a.path) user a.path met_marks sure_marks met sure_led below (all a.path a.among);
+    is = a.is ∙ ap (λ c. unlisted_key (record { cover = c; user = user; path = a.path; used_by = used_by })) (all a.path a.among);
+  },
+  λ key.
+      let there = all key.path key.among in
+      let same = one-cover count steps sure (successors_of makers key.path) user key.path key.cover Neither key.cover_is (neither-in count steps sure (successors_of makers key.path) user key.path met_marks sure_marks met sure_led below there) in
+      record {
+        path = key.path;
+        among = key.among;
+        is = key.is ∙ ap (λ c. unlisted_key (record { cover = c; user = user; path = key.path; used_by = used_by })) (same ∙ sym there);
+      },
+)
 
-  pub no-files : (k : List ℕ) → length files ≡ 0 → IsKeyOf builds paths hidden sides told steps sure makers user used_by used k → ⊥
-  no-files k none key = let c = (files_are key.path).1 (key.reads, of-at key.path key.read) in let w = c.1 in omega (arith, w, none)
+pub no-files : (count : ℕ) (steps sure makers : List (List ℕ)) (user used_by : ℕ) (files k : List ℕ) → length files ≡ 0 → IsKeyIn count steps sure makers user used_by files k → ⊥
+no-files count steps sure makers user used_by files k none key = let c = key.among in let w = c.1 in omega (arith, w, none)
 
-  pub files-keys : (k : List ℕ) (met_marks sure_marks : List Bool) → AreReached steps user met_marks → AreReached sure user sure_marks
-      → IsKeyAmong (length builds) makers sure_marks met_marks user used_by files k ↔ IsKeyOf builds paths hidden sides told steps sure makers user used_by used k
-  files-keys k met_marks sure_marks met sure_met = (
-    λ a.
-        let f = (files_are a.path).0 a.among in
-        record {
-          path = a.path;
-          reads = f.0;
-          read = at-of a.path f.1;
-          cover = cover_by (met_by (successors_of makers a.path) (length builds + a.path) sure_marks) (met_by (successors_of makers a.path) (length builds + a.path) met_marks);
-          cover_is = cover-in (length builds) steps sure (successors_of makers a.path) user a.path met_marks sure_marks met sure_met;
-          is = a.is;
-        },
-    λ key.
-        let same = one-cover (length builds) steps sure (successors_of makers key.path) user key.path key.cover (cover_by (met_by (successors_of makers key.path) (length builds + key.path) sure_marks) (met_by (successors_of makers key.path) (length builds + key.path) met_marks))
-        key.cover_is (cover-in (length builds) steps sure (successors_of makers key.path) user key.path met_marks sure_marks met sure_met) in
-        record {
-          path = key.path;
-          among = (files_are key.path).1 (key.reads, of-at key.path key.read);
-          is = key.is ∙ ap (λ c. unlisted_key (record { cover = c; user = user; path = key.path; used_by = used_by })) same;
-        },
-  )
+-- the same marks, by other names of the same lists
+pub led-is : (g h : List (Vec ℕ)) (m n : ℕ) (a b : List Bool) → g ≡ h → m ≡ n → a ≡ b → AreLedTo (graph_of g) m a → AreLedTo (graph_of h) n b
+led-is g h m n a b gh mn ab led =
+    subst (λ (x : List (Vec ℕ)). AreLedTo (graph_of x) n b) gh (subst (λ k. AreLedTo (graph_of g) k b) mn (subst (λ (x : List Bool). AreLedTo (graph_of g) m x) ab led))
+
+pub keys-below : {A : Type 0} (count : ℕ) (s s' t t' m m' : List (List ℕ)) (edges : List ℕ) (f f' : List (List ℕ)) (n n' : ℕ) (k : List ℕ) → s ≡ s' → t ≡ t' → m ≡ m' → f ≡ f' → n ≡ n' → (A ↔ IsKeyBelow count s t m edges f n k)
+    → A ↔ IsKeyBelow count s' t' m' edges f' n' k
+keys-below {A} count s s' t t' m m' edges f f' n n' k es et em ef en h =
+    subst (λ (x : List (List ℕ)). A ↔ IsKeyBelow count x t' m' edges f' n' k) es (subst (λ (x : List (List ℕ)). A ↔ IsKeyBelow count s x m' edges f' n' k) et
+    (subst (λ (x : List (List ℕ)). A ↔ IsKeyBelow count s t x edges f' n' k) em (subst (λ (x : List (List ℕ)). A ↔ IsKeyBelow count s t m edges x n' k) ef (subst (λ (x : ℕ). A ↔ IsKeyBelow count s t m edges f x k) en h))))
+
+-- what commands read are paths
+pub reads-inside : (builds : List BuildValue) (paths : List (List ℕ)) (hidden : List Bool) (sides : List BuildValue) (told : List (List ℕ)) (lists : List (List (List ℕ))) (commands : List CommandValue) (edges : List ℕ) (vectors : List (Vec ℕ))
+    → AreReads builds paths hidden sides told lists commands edges (graph_of vectors) → All (λ (v : Vec ℕ). All (λ p. p < length paths) v.items) vectors
+reads-inside builds paths hidden sides told lists commands edges vectors reads k d within j e inside =
+    let each = reads.each in
+    let many = length-map vectors (λ (v : Vec ℕ). v.items) in
+    let below : k < length commands = omega (arith, within, each, many) in
+    let at : get_or (graph_of vectors) k [] ≡ (get_or vectors k d).items = get_or-mapped (λ (v : Vec ℕ). v.items) vectors k d [] within in
+    let there : Contains (get_or (graph_of vectors) k []) (get_or (get_or vectors k d).items j e) = subst (λ (l : List ℕ). Contains l (get_or (get_or vectors k d).items j e)) (sym at) (Contains-get_or (get_or vectors k d).items j e inside) in
+    let by = (reads.exact k (get_or (get_or vectors k d).items j e) below).0 there in
+    by.read.is_open.named
 
 -- COMMAND BY COMMAND
-module _ (builds : List BuildValue) (paths : List (List ℕ)) (hidden : List Bool) (sides : List BuildValue) (told steps sure makers : List (List ℕ)) (commands : List CommandValue) (edges : List ℕ) where
-  abbrev pub Below : ℕ → List ℕ → Type 0
-  Below n k = IsKeyBelow builds paths hidden sides told steps sure makers commands edges n k
-
-  pub below-none : (k : List ℕ) → Contains [] k ↔ IsKeyBelow builds paths hidden sides told steps sure makers commands edges 0 k
+module _ (count : ℕ) (steps sure makers : List (List ℕ)) (edges : List ℕ) (files : List (List ℕ)) where
+  pub below-none : (k : List ℕ) → Contains [] k ↔ IsKeyBelow count steps sure makers edges files 0 k
   below-none k = (λ c. let w = c.1 in absurd (omega (arith, w)), λ b. let l = b.below in absurd (omega (arith, l)))
 
-  pub below-more : {A B : Type 0} (n edge : ℕ) (command : CommandValue) (k : List ℕ) → n < length commands → command ≡ get_or commands n command → edge ≡ get_or edges n 0
-      → (A ↔ IsKeyBelow builds paths hidden sides told steps sure makers commands edges n k) → (B ↔ (A ⊎ IsKeyOf builds paths hidden sides told steps sure makers edge n command k))
-      → B ↔ IsKeyBelow builds paths hidden sides told steps sure makers commands edges (n + 1) k
-  below-more n edge command k within is of before step = (
+  pub below-more : {A B : Type 0} (n edge : ℕ) (here k : List ℕ) → here ≡ get_or files n [] → edge ≡ get_or edges n 0
+      → (A ↔ IsKeyBelow count steps sure makers edges files n k) → (B ↔ (A ⊎ IsKeyIn count steps sure makers edge n here k))
+      → B ↔ IsKeyBelow count steps sure makers edges files (n + 1) k
+  below-more n edge here k is of before step = (
     λ b. elim (step.0 b) [
-      | inl a ↦ let x = before.0 a in let l = x.below in record { number = x.number; command = x.command; below = omega (arith, l); within = x.within; is = x.is; key = x.key }
-      | inr key ↦ record { number = n; command = command; below = omega arith; within = within; is = sym is; key = subst (λ e. IsKeyOf builds paths hidden sides told steps sure makers e n command k) of key }
+      | inl a ↦ let x = before.0 a in let l = x.below in record { number = x.number; below = omega (arith, l); key = x.key }
+      | inr key ↦ record {
+        number = n;
+        below = omega arith;
+        key = subst (λ e. IsKeyIn count steps sure makers e n (get_or files n []) k) of (subst (λ (l : List ℕ). IsKeyIn count steps sure makers edge n l k) is key);
+      }
     ],
     λ x. step.1 (elim (cases_eq x.number n) [
-      | inl same ↦ inr (here x same)
-      | inr other ↦ inl (before.1 (let l = x.below in record { number = x.number; command = x.command; below = omega (arith, l, other); within = x.within; is = x.is; key = x.key }))
+      | inl same ↦
+          inr (subst (λ (l : List ℕ). IsKeyIn count steps sure makers edge n l k) (sym is)
+          (subst (λ e. IsKeyIn count steps sure makers e n (get_or files n []) k) (sym of)
+          (subst (λ j. IsKeyIn count steps sure makers (get_or edges j 0) j (get_or files j []) k) same x.key)))
+      | inr other ↦ inl (before.1 (let l = x.below in record { number = x.number; below = omega (arith, l, other); key = x.key }))
     ]),
   )
-    where
-      here : (x : IsKeyBelow builds paths hidden sides told steps sure makers commands edges (n + 1) k) → x.number ≡ n → IsKeyOf builds paths hidden sides told steps sure makers edge n command k
-      here x same =
-          let cmd : x.command ≡ command = sym x.is ∙ ap (λ j. get_or commands j x.command) same ∙ get_or_default commands n x.command command within ∙ sym is in
-          subst (λ e. IsKeyOf builds paths hidden sides told steps sure makers e n command k) (sym of)
-          (subst (λ (c : CommandValue). IsKeyOf builds paths hidden sides told steps sure makers (get_or edges n 0) n c k) cmd
-          (subst (λ j. IsKeyOf builds paths hidden sides told steps sure makers (get_or edges j 0) j x.command k) same x.key))
+
+-- no command reads such a file
+abbrev no_lists : List (List ℕ)
+no_lists = []
+
+pub all-empty : (files : List (Vec ℕ)) → list_all (λ (v : Vec ℕ). vec_len v == 0) files ≡ true → (n : ℕ) → length (get_or (graph_of files) n []) ≡ 0
+all-empty [] h n = let none : get_or no_lists n [] ≡ [] = past-end no_lists n [] (omega arith) in ap (λ (l : List ℕ). length l) none
+all-empty (v ∷ vs) h zero = sym v.ok.0 ∙ eqb-true (vec_len v) 0 (and_parts (vec_len v == 0) (list_all (λ (w : Vec ℕ). vec_len w == 0) vs) h).0
+all-empty (v ∷ vs) h (suc n) = all-empty vs (and_parts (vec_len v == 0) (list_all (λ (w : Vec ℕ). vec_len w == 0) vs) h).1 n
+
+by-number : (s : Scene) (sides : List BuildValue) (lists : List (List (List ℕ))) (told : List (List ℕ)) (u : Unlisted) → IsFound s sides lists told u
+    → IsReadByNumber s.builds s.paths s.hidden sides told lists s.commands s.edges u.used_by u.path
+by-number s sides lists told u f =
+    let un = f.is in
+    let r = un.unlisted in
+    let read : IsReadOf s.builds s.paths s.hidden sides told lists u.user un.used u.path = record { finds = r.finds; is_open = r.is_open; foreign = r.foreign; uncounted = r.unlisted; alone = f.alone } in
+    record { command = un.used; is = un.ran.is; reads = r.reads; read = subst (λ e. IsReadOf s.builds s.paths s.hidden sides told lists e un.used u.path) (sym un.ran.of) read }
 
 -- WHAT IS FOUND
-module _ (s : Scene) (sides : List BuildValue) (lists : List (List (List ℕ))) (told makers : List (List ℕ)) (distinct : IsDistinct bytes_eq s.paths) (edges_are : All (λ e. e < length s.builds) s.edges)
-    (each : length s.edges ≡ length s.commands) (makers_are : (p a : ℕ) → p < length s.paths → Steps makers p a ↔ MakerIn s p a) where
+module _ (s : Scene) (sides : List BuildValue) (lists : List (List (List ℕ))) (told makers files : List (List ℕ)) (edges_are : All (λ e. e < length s.builds) s.edges)
+    (each : length s.edges ≡ length s.commands) (makers_are : (p a : ℕ) → p < length s.paths → Steps makers p a ↔ MakerIn s p a)
+    (reads : AreReads s.builds s.paths s.hidden sides told lists s.commands s.edges files) where
   abbrev graph : Bool → List (List ℕ)
   graph sure = follow_lists s.builds lists s.paths sure
 
@@ -202,63 +280,49 @@ module _ (s : Scene) (sides : List BuildValue) (lists : List (List (List ℕ))) 
   of-cover user path HeldBack inside (is_held m n) = in_held ((met-in false user path inside).1 m) (λ k. n ((met-in true user path inside).0 k))
   of-cover user path Neither inside (is_neither m n) = in_neither (λ k. m ((met-in false user path inside).0 k)) (λ k. n ((met-in true user path inside).0 k))
 
-  abbrev KeyBelow : List ℕ → Type 0
-  KeyBelow k = IsKeyBelow s.builds s.paths s.hidden sides told (follow_lists s.builds lists s.paths false) (follow_lists s.builds lists s.paths true) makers s.commands s.edges (length s.commands) k
-
   user-within : (n : ℕ) → n < length s.commands → get_or s.edges n 0 < length s.builds
   user-within n within = All-get_or (λ e. e < length s.builds) s.edges n 0 (omega (arith, within, each)) edges_are
 
-  pub key-found : (k : List ℕ) → IsKeyBelow s.builds s.paths s.hidden sides told (follow_lists s.builds lists s.paths false) (follow_lists s.builds lists s.paths true) makers s.commands s.edges (length s.commands) k
+  pub key-found : (k : List ℕ) → IsKeyBelow (length s.builds) (follow_lists s.builds lists s.paths false) (follow_lists s.builds lists s.paths true) makers s.edges files (length files) k
       → (u : Unlisted) × IsFound s sides lists told u × (k ≡ unlisted_key u) × (u.user < length s.builds)
   key-found k b =
       let key = b.key in
-      let user : ℕ = get_or s.edges b.number 0 in
-      let inside = key.read.is_open.named in (
+      let below = b.below in
+      let count = reads.each in
+      let within : b.number < length s.commands = omega (arith, below, count) in
+      let by = (reads.exact b.number key.path within).0 key.among in
+      let read = by.read in
+      let inside = read.is_open.named in (
         record { cover = key.cover; user = get_or s.edges b.number 0; path = key.path; used_by = b.number },
         record {
           is = record {
-            used = b.command;
-            ran = record { within = b.within; is = b.is; of = refl };
-            unlisted = record {
-              reads = key.reads;
-              finds = key.read.finds;
-              is_open = key.read.is_open;
-              foreign = key.read.foreign;
-              unlisted = λ c. key.read.uncounted ((counts s.builds lists s.paths false (get_or s.edges b.number 0) key.path (user-within b.number b.within) inside distinct).1 c);
-            };
+            used = by.command;
+            ran = record { within = within; is = by.is; of = refl };
+            unlisted = record { reads = by.reads; finds = read.finds; is_open = read.is_open; foreign = read.foreign; unlisted = read.uncounted };
           };
           cover_is = cover-of (get_or s.edges b.number 0) key.path key.cover inside key.cover_is;
-          alone = key.read.alone;
+          alone = read.alone;
         },
         key.is,
-        user-within b.number b.within,
+        user-within b.number within,
       )
 
   pub found-key : (u : Unlisted) → IsFound s sides lists told u
-      → IsKeyBelow s.builds s.paths s.hidden sides told (follow_lists s.builds lists s.paths false) (follow_lists s.builds lists s.paths true) makers s.commands s.edges (length s.commands) (unlisted_key u)
+      → IsKeyBelow (length s.builds) (follow_lists s.builds lists s.paths false) (follow_lists s.builds lists s.paths true) makers s.edges files (length files) (unlisted_key u)
   found-key u f =
       let un = f.is in
       let r = un.unlisted in
       let of : get_or s.edges u.used_by 0 ≡ u.user = un.ran.of in
       let inside = r.is_open.named in
-      let within : u.user < length s.builds = subst (λ e. e < length s.builds) of (user-within u.used_by un.ran.within) in
+      let within = un.ran.within in
+      let count = reads.each in
       record {
         number = u.used_by;
-        command = un.used;
-        below = un.ran.within;
-        within = un.ran.within;
-        is = un.ran.is;
+        below = omega (arith, within, count);
         key =
-            subst (λ e. IsKeyOf s.builds s.paths s.hidden sides told (follow_lists s.builds lists s.paths false) (follow_lists s.builds lists s.paths true) makers e u.used_by un.used (unlisted_key u)) (sym of) (record {
+            subst (λ e. IsKeyIn (length s.builds) (follow_lists s.builds lists s.paths false) (follow_lists s.builds lists s.paths true) makers e u.used_by (get_or files u.used_by []) (unlisted_key u)) (sym of) (record {
               path = u.path;
-              reads = r.reads;
-              read = record {
-                finds = r.finds;
-                is_open = r.is_open;
-                foreign = r.foreign;
-                uncounted = λ c. r.unlisted ((counts s.builds lists s.paths false u.user u.path within inside distinct).0 c);
-                alone = f.alone;
-              };
+              among = (reads.exact u.used_by u.path un.ran.within).1 (by-number s sides lists told u f);
               cover = u.cover;
               cover_is = of-cover u.user u.path u.cover inside f.cover_is;
               is = refl;
@@ -266,14 +330,14 @@ module _ (s : Scene) (sides : List BuildValue) (lists : List (List (List ℕ))) 
       }
 
   pub keys-fit : (keys : List (List ℕ)) → length s.builds < 2 ^ 32
-      → ((k : List ℕ) → Contains keys k ↔ IsKeyBelow s.builds s.paths s.hidden sides told (follow_lists s.builds lists s.paths false) (follow_lists s.builds lists s.paths true) makers s.commands s.edges (length s.commands) k) → All IsOfUnlisted keys
+      → ((k : List ℕ) → Contains keys k ↔ IsKeyBelow (length s.builds) (follow_lists s.builds lists s.paths false) (follow_lists s.builds lists s.paths true) makers s.edges files (length files) k) → All IsOfUnlisted keys
   keys-fit keys small are k d within =
       let f = key-found (get_or keys k d) ((are (get_or keys k d)).0 (Contains-get_or keys k d within)) in
       let w = f.3 in
       record { told = f.0; is = f.2; user = omega (arith, w, small) }
 
   pub are-found : (keys : List (List ℕ)) (us : List Unlisted)
-      → ((k : List ℕ) → Contains keys k ↔ IsKeyBelow s.builds s.paths s.hidden sides told (follow_lists s.builds lists s.paths false) (follow_lists s.builds lists s.paths true) makers s.commands s.edges (length s.commands) k)
+      → ((k : List ℕ) → Contains keys k ↔ IsKeyBelow (length s.builds) (follow_lists s.builds lists s.paths false) (follow_lists s.builds lists s.paths true) makers s.edges files (length files) k)
       → map unlisted_key us ≡ keys → IsStrictlySortedBy (slice_cmp nat_cmp) (map unlisted_key us) → AreFound s sides lists told us
   are-found keys us are same rising = record {
     exact = λ u. (
@@ -284,6 +348,25 @@ module _ (s : Scene) (sides : List BuildValue) (lists : List (List (List ℕ))) 
     );
     rising = rising;
   }
+
+-- where no command reads such a file nothing is found
+no-keys : IsStrictlySortedBy (slice_cmp nat_cmp) (map unlisted_key [])
+unfolding IsStrictlySortedBy
+no-keys = tt
+
+pub none-found : (s : Scene) (sides : List BuildValue) (lists : List (List (List ℕ))) (told files : List (List ℕ)) → AreReads s.builds s.paths s.hidden sides told lists s.commands s.edges files
+    → ((n : ℕ) → length (get_or files n []) ≡ 0) → (us : List Unlisted) → us ≡ [] → AreFound s sides lists told us
+none-found s sides lists told files reads none us is = subst (λ (l : List Unlisted). AreFound s sides lists told l) (sym is) (record {
+  exact = λ u. (
+    λ c. let w = c.1 in absurd (omega (arith, w)),
+    λ f.
+        let c = (reads.exact u.used_by u.path f.is.ran.within).1 (by-number s sides lists told u f) in
+        let w = c.1 in
+        let n = none u.used_by in
+        absurd (omega (arith, w, n)),
+  );
+  rising = no-keys;
+})
 
 -- what is told already, as numbers and as a test
 pub are-unlisted : (s : Scene) (sides : List BuildValue) (lists : List (List (List ℕ))) (conflicts : List Conflict) (undeclared : List Undeclared) (told : List (List ℕ)) (us : List Unlisted)

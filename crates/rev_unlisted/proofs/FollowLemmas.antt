@@ -1,6 +1,6 @@
 -- The graph of what makes Ninja run an edge again, edge by edge.
 use Rattle.std.proofs.Common.{◌≡◌, ℕ, zero, suc, ◌+◌, ◌-◌, ◌<◌, ◌≤◌, Bool, true, false, cond, not, ◌&&◌, List, [], ◌∷◌, ◌++◌, length, get_or, slice_get, map, take, Option, Some, None, inl, inr, refl, sym, ap, subst, ◌∙◌, arith, append_assoc, zero-add, length-append, true≢false, Contains, bytes_eq}
-use Rattle.std.specs.Prelude.{filter, replicate, ◌↔◌}
+use Rattle.std.specs.Prelude.{All, filter, replicate}
 use Rattle.std.specs.List.{cons_option, filter_map, range_with_len, IsDistinct}
 use Rattle.std.specs.Global.{Vec}
 use Rattle.std.specs.Option.{option_map}
@@ -99,7 +99,6 @@ module _ (builds : List BuildValue) (lists : List (List (List ℕ))) (paths : Li
       (let n = length-map-range_with_len (follow_of builds lists paths sure) 0 (length builds) in omega (arith, n, within))
       ∙ get_or-map-range_with_len (follow_of builds lists paths sure) 0 (length builds) edge edge [] within (zero-add edge)
 
-  -- an edge steps to a path's node exactly where the path counts for it
   further : (x n : ℕ) (xs : List ℕ) → Contains xs n → Contains (x ∷ xs) n
   further x n xs (k, within, at) = (suc k, omega (arith, within), at)
 
@@ -127,33 +126,6 @@ module _ (builds : List BuildValue) (lists : List (List (List ℕ))) (paths : Li
       mapped : (o : Option ℕ) (n : ℕ) → option_map (λ (path : ℕ). length builds + path) o ≡ Some n → (p : ℕ) × (o ≡ Some p) × (n ≡ length builds + p)
       mapped None n e = let no : None ≡ Some n = e in absurd (true≢false cc)
       mapped (Some p) n e = let same : length builds + p ≡ n = cc in (p, refl, sym same)
-
-  pub counts : (edge path : ℕ) → edge < length builds → path < length paths → IsDistinct bytes_eq paths
-      → Steps (follow_lists builds lists paths sure) edge (length builds + path) ↔ Contains (counted_of builds lists edge) (get_or paths path [])
-  counts edge path within inside distinct = (forth, back)
-    where
-      at : slice_get paths path ≡ Some (get_or paths path [])
-      at = slice_get-get_or paths path [] inside
-
-      forth : Steps (follow_lists builds lists paths sure) edge (length builds + path) → Contains (counted_of builds lists edge) (get_or paths path [])
-      forth h = elim (Contains-append_cases (makers_of builds sure (counted_of builds lists edge)) (path_nodes (length builds) paths (counted_of builds lists edge)) (length builds + path) (subst (λ (l : List ℕ). Contains l (length builds + path)) (at-edge edge within) h)) [
-        | inl maker ↦ let b = makers-below (counted_of builds lists edge) (length builds + path) maker in absurd (omega (arith, b))
-        | inr node ↦
-            let f = node-of (counted_of builds lists edge) (length builds + path) node in
-            let e = f.4 in
-            let same : f.1 ≡ path = omega (arith, e) in
-            let is : slice_get paths path ≡ Some f.0 = ap (slice_get paths) (sym same) ∙ name_at-place_of f.0 paths f.1 f.3 in
-            let both : Some f.0 ≡ Some (get_or paths path []) = sym is ∙ at in
-            let name : f.0 ≡ get_or paths path [] = cc in
-            subst (Contains (counted_of builds lists edge)) name f.2
-      ]
-
-      back : Contains (counted_of builds lists edge) (get_or paths path []) → Steps (follow_lists builds lists paths sure) edge (length builds + path)
-      back h =
-          subst (λ (l : List ℕ). Contains l (length builds + path)) (sym (at-edge edge within))
-          (Contains-append_right (makers_of builds sure (counted_of builds lists edge)) (path_nodes (length builds) paths (counted_of builds lists edge)) (length builds + path)
-          (kept (λ (name : List ℕ). option_map (λ (p : ℕ). length builds + p) (place_of name paths)) (counted_of builds lists edge) (get_or paths path []) (length builds + path) h
-          (ap (option_map (λ (p : ℕ). length builds + p)) (place_of-name_at (get_or paths path []) paths path distinct at))))
 
   -- each step leads to a node
   pub steps-within : (n s : ℕ) → Steps (follow_lists builds lists paths sure) n s → s < length builds + length paths
@@ -195,3 +167,6 @@ module _ (builds : List BuildValue) (lists : List (List (List ℕ))) (paths : Li
         let step : Steps (graph_of vectors) k (get_or (get_or vectors k d).items j e) = subst (λ (l : List ℕ). Contains l (get_or (get_or vectors k d).items j e)) (sym at) (Contains-get_or (get_or vectors k d).items j e inside) in
         steps-within k (get_or (get_or vectors k d).items j e) (subst (λ (g : List (List ℕ)). Steps g k (get_or (get_or vectors k d).items j e)) is step);
   }
+
+pub follow-within : (n : ℕ) (vectors : List (Vec ℕ)) → IsFollow n vectors → All (λ (v : Vec ℕ). All (λ s. s < length vectors) v.items) vectors
+follow-within n vectors is = subst (λ m. All (λ (v : Vec ℕ). All (λ s. s < m) v.items) vectors) (sym is.each) is.inside

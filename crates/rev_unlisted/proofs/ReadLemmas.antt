@@ -1,64 +1,15 @@
--- Marks of steps, and files that a command reads, one after the other.
-use Rattle.std.proofs.Common.{◌≡◌, ℕ, ◌+◌, ◌<◌, List, [], ◌∷◌, ◌++◌, length, get_or, set, Option, Some, None, inl, inr, sym, ap, subst, ◌∙◌, arith, Contains, true≢false}
+-- Files that a command reads, one after the other.
+use Rattle.std.proofs.Common.{◌≡◌, ℕ, ◌+◌, Bool, true, Option, ◌<◌, List, [], ◌∷◌, ◌++◌, length, get_or, inl, inr, sym, ap, subst, ◌∙◌, arith, Contains}
 use Rattle.std.specs.Prelude.{◌↔◌}
 use Rattle.std.proofs.lemmas.Bool.{cases_eq}
-use Rattle.std.proofs.lemmas.List.{get_or_default, get_or-set_same, get_or-set_other, length-set}
+use Rattle.std.proofs.lemmas.List.{get_or_default}
 use Rattle.std.proofs.lemmas.List.Elements.{Contains-get_or}
-use Rattle.rev_ranks.specs.Graph.{Steps, successors_of}
+use Rattle.rev_manifest.specs.Manifest.{BuildValue}
+use Rattle.rev_observed.specs.CommandValues.{CommandValue}
+use Rattle.rev_observed.specs.declared.kind.Kind.TheVariants.{Reads}
+use Rattle.rev_conflicts.specs.Places.{does}
 use Rattle.rev_conflicts.proofs.NumberLemmas.{pushed}
-use Rattle.rev_unlisted.specs.Found.{AreStepsAtMost, AreStepsOf}
-
--- MARKS
-pub no-marks : (graph : List (List ℕ)) (marks : List (Option ℕ)) → length marks ≡ length graph → ((k : ℕ) → get_or marks k None ≡ None) → AreStepsAtMost graph marks
-no-marks graph marks each none = record {
-  each = each;
-  sound = λ node other h. let no : None ≡ Some node = sym (none other) ∙ h in absurd (true≢false cc);
-}
-
--- the marks of a node's first nexts
-pub record AreFirstSteps (graph : List (List ℕ)) (node : ℕ) (nexts : List ℕ) (n : ℕ) (marks : List (Option ℕ)) : Type 0 where
-  pub most : AreStepsAtMost graph marks
-  pub first : (i : ℕ) → i < n → get_or marks (get_or nexts i 0) None ≡ Some node
-
-pub steps-more : (graph : List (List ℕ)) (node : ℕ) (nexts : List ℕ) (n : ℕ) (marks : List (Option ℕ)) → nexts ≡ successors_of graph node → n < length nexts → get_or nexts n 0 < length graph
-    → AreFirstSteps graph node nexts n marks → AreFirstSteps graph node nexts (n + 1) (set marks (get_or nexts n 0) (Some node))
-steps-more graph node nexts n marks are within inside before = record {
-  most = record {
-    each = length-set marks place (Some node) ∙ before.most.each;
-    sound = λ from other h. elim (cases_eq other place) [
-      | inl same ↦
-          let both : Some node ≡ Some from = sym (ap (λ k. get_or (set marks place (Some node)) k None) same ∙ get_or-set_same marks place (Some node) None room) ∙ h in
-          let is : node ≡ from = cc in
-          subst (λ f. Steps graph f other) is (subst (λ k. Steps graph node k) (sym same) (subst (λ (l : List ℕ). Contains l place) are (Contains-get_or nexts n 0 within)))
-      | inr apart ↦ before.most.sound from other (sym (get_or-set_other marks place other (Some node) None apart) ∙ h)
-    ];
-  };
-  first = λ i below. elim (cases_eq (get_or nexts i 0) place) [
-    | inl same ↦ ap (λ k. get_or (set marks place (Some node)) k None) same ∙ get_or-set_same marks place (Some node) None room
-    | inr apart ↦ get_or-set_other marks place (get_or nexts i 0) (Some node) None apart ∙ before.first i (earlier i below apart)
-  ];
-}
-  where
-    place : ℕ
-    place = get_or nexts n 0
-
-    room : get_or nexts n 0 < length marks
-    room = let e = before.most.each in omega (arith, e, inside)
-
-    earlier : (i : ℕ) → i < n + 1 → (get_or nexts i 0 ≡ get_or nexts n 0 → ⊥) → i < n
-    earlier i below apart = elim (cases_eq i n) [ inl same ↦ absurd (apart (ap (λ k. get_or nexts k 0) same)) | inr other ↦ omega (arith, below, other) ]
-
-pub steps-all : (graph : List (List ℕ)) (node : ℕ) (nexts : List ℕ) (n : ℕ) (marks : List (Option ℕ)) → nexts ≡ successors_of graph node → n ≡ length nexts → AreFirstSteps graph node nexts n marks → AreStepsOf graph node marks
-steps-all graph node nexts n marks are all first = record {
-  each = first.most.each;
-  exact = λ other. (
-    first.most.sound node other,
-    λ h.
-        let c = subst (λ (l : List ℕ). Contains l other) (sym are) h in
-        let w = c.1 in
-        ap (λ k. get_or marks k None) (sym (get_or_default nexts c.0 0 other c.1 ∙ c.2)) ∙ first.first c.0 (omega (arith, w, all)),
-  );
-}
+use Rattle.rev_unlisted.specs.Found.{AreCountedOf, IsReadAt, IsReadByNumber, IsReadOf}
 
 -- FILES, ONE AFTER THE OTHER
 -- those of the first reads that pass
@@ -101,3 +52,23 @@ among-all reads n P Q path all reads_are = (
       let w = c.1 in
       record { number = c.0; below = omega (arith, w, all); is = get_or_default reads c.0 0 path c.1 ∙ c.2; passes = both.1 },
 )
+
+-- COMMAND BY COMMAND
+module _ (builds : List BuildValue) (paths : List (List ℕ)) (hidden : List Bool) (sides : List BuildValue) (told : List (List ℕ)) (lists : List (List (List ℕ))) where
+  -- what marks tell is what counts
+  pub read-of : (marks : List (Option ℕ)) (user : ℕ) (used : CommandValue) (path : ℕ) → AreCountedOf builds lists paths user marks
+      → IsReadAt builds paths hidden sides told marks user used path ↔ IsReadOf builds paths hidden sides told lists user used path
+  read-of marks user used path are = (
+    λ r. record { finds = r.finds; is_open = r.is_open; foreign = r.foreign; uncounted = λ c. r.uncounted ((are path r.is_open.named).1 c); alone = r.alone },
+    λ r. record { finds = r.finds; is_open = r.is_open; foreign = r.foreign; uncounted = λ m. r.uncounted ((are path r.is_open.named).0 m); alone = r.alone },
+  )
+
+  pub read-by-number : (commands : List CommandValue) (edges found : List ℕ) (n : ℕ) (command : CommandValue) (path : ℕ) → n < length commands → command ≡ get_or commands n command
+      → (Contains found path ↔ ((does Reads command path ≡ true) × IsReadOf builds paths hidden sides told lists (get_or edges n 0) command path))
+      → Contains found path ↔ IsReadByNumber builds paths hidden sides told lists commands edges n path
+  read-by-number commands edges found n command path within is both = (
+    λ c. let b = both.0 c in record { command = command; is = sym is; reads = b.0; read = b.1 },
+    λ r.
+        let same : r.command ≡ command = sym r.is ∙ get_or_default commands n r.command command within ∙ sym is in
+        both.1 (subst (λ (c : CommandValue). (does Reads c path ≡ true) × IsReadOf builds paths hidden sides told lists (get_or edges n 0) c path) same (r.reads, r.read)),
+  )

@@ -7,6 +7,7 @@ use Rattle.std.specs.Ordering.{nat_cmp}
 use Rattle.std.specs.Cmp.Lexicographic.{slice_cmp}
 use Rattle.std.specs.Borrow.{Bor}
 use Rattle.rev_manifest.specs.Manifest.{BuildValue}
+use Rattle.rev_paths.specs.Paths.{place_of}
 use Rattle.rev_graph.specs.Graph.{producer_of}
 use Rattle.rev_observed.specs.CommandValues.{CommandValue}
 use Rattle.rev_observed.specs.declared.kind.Kind.TheVariants.{Reads, Writes}
@@ -14,6 +15,7 @@ use Rattle.rev_conflicts.specs.Places.{does}
 use Rattle.rev_conflicts.specs.Conflicts.{Scene}
 use Rattle.rev_undeclared.specs.Undeclared.{IsOpen, path_at}
 use Rattle.rev_unlisted.specs.Answer.{unlisted_key}
+use Rattle.rev_unlisted.specs.Follows.{counted_of}
 use Rattle.rev_unlisted.specs.Unlisted.{IsCover, IsUnlisted}
 use Rattle.rev_unlisted.specs.declared.input.Unlisted.{Unlisted}
 use Rattle.rev_ranks.specs.Graph.{Reaches, Steps, successors_of}
@@ -29,6 +31,11 @@ pub record AreReached (graph : List (List ℕ)) (node : ℕ) (marks : List Bool)
   pub each : length marks ≡ length graph
   pub exact : (other : ℕ) → (slice_index_or marks other false ≡ true) ↔ Reaches graph node other
 
+-- a mark for each node, set wherever one of the first nodes leads
+pub record AreLedTo (graph : List (List ℕ)) (count : ℕ) (marks : List Bool) : Type 0 where
+  pub each : length marks ≡ length graph
+  pub complete : (node other : ℕ) → node < count → Reaches graph node other → slice_index_or marks other false ≡ true
+
 -- who makes a file is marked, or nobody makes it, and its own node is marked
 abbrev pub met_by : List ℕ → ℕ → List Bool → Bool
 met_by [] node marks = slice_index_or marks node false
@@ -37,20 +44,42 @@ met_by (maker ∷ makers) node marks = list_all (λ e. slice_index_or marks e fa
 abbrev pub cover_by : Bool → Bool → Cover
 cover_by sure met = if sure then Covered else if met then HeldBack else Neither
 
+-- by these marks each of these files is neither covered nor held back
+abbrev pub AreNeither : ℕ → List (List ℕ) → List Bool → List Bool → List ℕ → Type 0
+AreNeither count makers sure met files =
+    (path : ℕ) → Contains files path
+    → cover_by (met_by (successors_of makers path) (count + path) sure)
+    (met_by (successors_of makers path) (count + path) met)
+    ≡ Neither
+
 -- one more edge at these places of a table
 pub record PutsWhere (old new : List (List ℕ)) (edge : ℕ) (places : List ℕ) : Type 0 where
   pub each : length new ≡ length old
   pub exact : (p a : ℕ) → p < length old → Steps new p a ↔ (Steps old p a ⊎ ((a ≡ edge) × Contains places p))
 
--- a mark for each node; a mark with this number says exactly that it steps to the node
-pub record AreStepsOf (graph : List (List ℕ)) (node : ℕ) (marks : List (Option ℕ)) : Type 0 where
-  pub each : length marks ≡ length graph
-  pub exact : (other : ℕ) → (slice_index_or marks other None ≡ Some node) ↔ Steps graph node other
+-- a mark for each path; a mark with an edge's number says that the path counts for the edge
+pub record AreCountedAtMost
+    (builds : List BuildValue) (lists : List (List (List ℕ))) (paths : List (List ℕ)) (marks : List (Option ℕ))
+    : Type 0 where
+  pub each : length marks ≡ length paths
+  pub sound : (edge path : ℕ) → slice_index_or marks path None ≡ Some edge
+      → Contains (counted_of builds lists edge) (path_at paths path)
 
--- a mark with a number says that this one steps to the node
-pub record AreStepsAtMost (graph : List (List ℕ)) (marks : List (Option ℕ)) : Type 0 where
-  pub each : length marks ≡ length graph
-  pub sound : (node other : ℕ) → slice_index_or marks other None ≡ Some node → Steps graph node other
+-- a mark with this edge's number says exactly that the path counts for the edge
+abbrev pub AreCountedOf :
+    List BuildValue → List (List (List ℕ)) → List (List ℕ) → ℕ → List (Option ℕ) → Type 0
+AreCountedOf builds lists paths edge marks =
+    (path : ℕ) → path < length paths
+    → (slice_index_or marks path None ≡ Some edge) ↔ Contains (counted_of builds lists edge) (path_at paths path)
+
+-- the paths of these names are marked with this number besides
+pub record IsMarked (paths : List (List ℕ)) (user : ℕ) (names : List (List ℕ)) (old new : List (Option ℕ)) : Type 0 where
+  pub each : length new ≡ length old
+  pub sound : (edge path : ℕ) → slice_index_or new path None ≡ Some edge
+      → (slice_index_or old path None ≡ Some edge) ⊎ ((edge ≡ user) × Contains names (path_at paths path))
+  pub kept : (path : ℕ) → slice_index_or old path None ≡ Some user → slice_index_or new path None ≡ Some user
+  pub complete : (name : List ℕ) (path : ℕ) → Contains names name → place_of name paths ≡ Some path
+      → slice_index_or new path None ≡ Some user
 
 -- A file that a command reads is unlisted by a test of what counts, and nothing stronger is told of it.
 pub record IsReadBy
@@ -63,20 +92,41 @@ pub record IsReadBy
   pub uncounted : counts path → ⊥
   pub alone : Contains told (user ∷ path ∷ []) → ⊥
 
--- `marks` has the user's number at the nodes of the paths that count for it
+-- `marks` has the user's number at the paths that count for it
 abbrev pub IsReadAt :
     List BuildValue → List (List ℕ) → List Bool → List BuildValue → List (List ℕ) → List (Option ℕ) → ℕ
     → CommandValue → ℕ → Type 0
 IsReadAt builds paths hidden sides told marks user used path =
-    IsReadBy builds paths hidden sides told (λ p. slice_index_or marks (length builds + p) None ≡ Some user) user used
+    IsReadBy builds paths hidden sides told (λ p. slice_index_or marks p None ≡ Some user) user used path
+
+-- the same by what counts for the user
+abbrev pub IsReadOf :
+    List BuildValue → List (List ℕ) → List Bool → List BuildValue → List (List ℕ) → List (List (List ℕ)) → ℕ
+    → CommandValue → ℕ → Type 0
+IsReadOf builds paths hidden sides told lists user used path =
+    IsReadBy builds paths hidden sides told (λ p. Contains (counted_of builds lists user) (path_at paths p)) user used
     path
 
--- the user steps to the nodes of the paths that count for it
-abbrev pub IsReadOf :
-    List BuildValue → List (List ℕ) → List Bool → List BuildValue → List (List ℕ) → List (List ℕ) → ℕ → CommandValue
-    → ℕ → Type 0
-IsReadOf builds paths hidden sides told steps user used path =
-    IsReadBy builds paths hidden sides told (λ p. Steps steps user (length builds + p)) user used path
+-- the command of this number reads such a file
+pub record IsReadByNumber
+    (builds : List BuildValue) (paths : List (List ℕ)) (hidden : List Bool) (sides : List BuildValue)
+    (told : List (List ℕ)) (lists : List (List (List ℕ))) (commands : List CommandValue) (edges : List ℕ)
+    (number path : ℕ)
+    : Type 0 where
+  pub command : CommandValue
+  pub is : slice_index_or commands number command ≡ command
+  pub reads : does Reads command path ≡ true
+  pub read : IsReadOf builds paths hidden sides told lists (slice_index_or edges number 0) command path
+
+-- for each command such files that it reads
+pub record AreReads
+    (builds : List BuildValue) (paths : List (List ℕ)) (hidden : List Bool) (sides : List BuildValue)
+    (told : List (List ℕ)) (lists : List (List (List ℕ))) (commands : List CommandValue) (edges : List ℕ)
+    (files : List (List ℕ))
+    : Type 0 where
+  pub each : length files ≡ length commands
+  pub exact : (number path : ℕ) → number < length commands → Contains (slice_index_or files number []) path
+      ↔ IsReadByNumber builds paths hidden sides told lists commands edges number path
 
 -- A file is met, by who makes it and by what the user reaches.
 pub data IsMetIn (count : ℕ) (graph : List (List ℕ)) (makers : List ℕ) (user path : ℕ) : Type 0 where
@@ -111,16 +161,12 @@ pub record IsFollow (count : ℕ) (steps : List (Vec ℕ)) : Type 0 where
   pub each : length steps ≡ count
   pub inside : All (λ (v : Vec ℕ). All (λ s. s < count) v.items) steps
 
--- what is told of a user's command, by what its edge reaches
-pub record IsKeyOf
-    (builds : List BuildValue) (paths : List (List ℕ)) (hidden : List Bool) (sides : List BuildValue)
-    (told steps sure makers : List (List ℕ)) (user used_by : ℕ) (used : CommandValue) (k : List ℕ)
-    : Type 0 where
+-- what is told of these files, which a user's command reads, by what its edge reaches
+pub record IsKeyIn (count : ℕ) (steps sure makers : List (List ℕ)) (user used_by : ℕ) (files k : List ℕ) : Type 0 where
   pub path : ℕ
-  pub reads : does Reads used path ≡ true
-  pub read : IsReadOf builds paths hidden sides told steps user used path
+  pub among : Contains files path
   pub cover : Cover
-  pub cover_is : IsCoverIn (length builds) steps sure (successors_of makers path) user path cover
+  pub cover_is : IsCoverIn count steps sure (successors_of makers path) user path cover
   pub is : k ≡ unlisted_key (record { cover = cover; user = user; path = path; used_by = used_by })
 
 -- numbers of what is told, of which the first fits that of an edge
@@ -147,14 +193,10 @@ pub record AreFound
   pub exact : (u : Unlisted) → Contains unlisted u ↔ IsFound s sides lists told u
   pub rising : IsStrictlySortedBy (slice_cmp nat_cmp) (map unlisted_key unlisted)
 
--- what is told of one of the first commands
+-- what is told of one of the first commands, which read these files
 pub record IsKeyBelow
-    (builds : List BuildValue) (paths : List (List ℕ)) (hidden : List Bool) (sides : List BuildValue)
-    (told steps sure makers : List (List ℕ)) (commands : List CommandValue) (edges : List ℕ) (n : ℕ) (k : List ℕ)
+    (count : ℕ) (steps sure makers : List (List ℕ)) (edges : List ℕ) (files : List (List ℕ)) (n : ℕ) (k : List ℕ)
     : Type 0 where
   pub number : ℕ
-  pub command : CommandValue
   pub below : number < n
-  pub within : number < length commands
-  pub is : slice_index_or commands number command ≡ command
-  pub key : IsKeyOf builds paths hidden sides told steps sure makers (slice_index_or edges number 0) number command k
+  pub key : IsKeyIn count steps sure makers (slice_index_or edges number 0) number (slice_index_or files number []) k

@@ -1,6 +1,6 @@
-//! What is told of files that commands read.
-ghost use Rattle.std.specs.Prelude.{◌≡◌, ◌+◌, ◌<◌, ◌^◌, ◌∷◌, [], ◌↔◌, ◌⊎◌, ℕ, List, Some, length, map, unwrap_or, true, All, Contains, IfOk, OnOk};
-ghost use Rattle.std.specs.List.{AllByRecursion, IsDistinct};
+//! The findings about files that commands read.
+ghost use Rattle.std.specs.Prelude.{◌≡◌, ◌+◌, ◌<◌, ◌^◌, ◌==◌, ◌∷◌, [], ◌↔◌, ◌⊎◌, ℕ, List, Some, length, vec_len, map, unwrap_or, true, All, Contains, IfOk, IsTrue, OnOk};
+ghost use Rattle.std.specs.List.{AllByRecursion, IsDistinct, list_all};
 ghost use Rattle.std.specs.Str.{bytes_eq};
 ghost use Rattle.rev_history.specs.Timeline.{kept_events};
 ghost use Rattle.rev_observed.specs.Joins.{edge_of};
@@ -10,15 +10,14 @@ ghost use Rattle.rev_races.specs.Races.{lists};
 ghost use Rattle.rev_conflicts.specs.Tables.{scene};
 ghost use Rattle.rev_undeclared.specs.Stronger.{is_told};
 ghost use Rattle.rev_unlisted.specs.Answer.{AreUnlisted, IsToldOf, lists_in};
-ghost use Rattle.rev_unlisted.specs.Found.{AreFound, AreStepsAtMost, IsFollow, IsKeyAmong, IsKeyOf, names_of};
+ghost use Rattle.rev_unlisted.specs.Found.{AreFound, AreLedTo, AreNeither, IsFollow, IsKeyAmong, IsKeyBelow, IsKeyIn, names_of};
 
-use crate::covering::{cover, reached};
+use crate::covering::{cover, is_neither, led_to, reached};
 use crate::follows::follow_steps;
 use crate::found::Found;
 use crate::input::Unlisted;
 use crate::making::maker_lists;
-use crate::marking::{mark_steps, no_marks};
-use crate::reading::unlisted_paths;
+use crate::reading::paths_of_each;
 use rev_conflicts::Conflict;
 use rev_graph::Graph;
 use rev_history::History;
@@ -29,7 +28,7 @@ use rev_races::listed;
 use rev_undeclared::{Stronger, Undeclared, told_by};
 use std::alloc::{AllocError, Global};
 
-// Adds what is told of these files, which a user's command reads, with their covers.
+// Adds the findings about these files, which a user's command reads, with their covers.
 fn add_each(
     graph: &Graph,
     makers: &[Vec<u32>],
@@ -60,48 +59,121 @@ fn add_each(
     Ok(())
 }
 
-// Adds what is told of a user's command.
+// Whether each of these files is neither covered nor held back, by marks of where some edge leads: then no search from
+// one edge says otherwise.
+fn are_neither(
+    makers: &[Vec<u32>],
+    edges: usize,
+    sure: &[bool],
+    met: &[bool],
+    files: &[u64],
+) -> bool
+    requires nodes { edges + length makers.now ≡ length met.now }
+    requires sure { length sure.now ≡ length met.now }
+    requires makers { All (λ v. All (λ e. e < edges) v.items) makers.now }
+    requires files { All (λ p. p < length makers.now) files.now }
+    ensures { IsTrue result → AreNeither edges (graph_of makers.now) sure.now met.now files.now }
+{
+    for path in files {
+        let of = makers[*path as usize].as_slice();
+        if !is_neither(cover(of, edges + *path as usize, sure, met)) {
+            return false;
+        }
+    }
+    true
+}
+
+// Adds the findings about these files, which a user's command reads. `met_led` and `sure_led` have marks of where some
+// edge leads: a search from the user is made only where these leave it open.
 fn add_of(
     alloc: Global,
     graph: &Graph,
-    builds: &[Build],
-    paths: &Paths,
-    hidden: &[bool],
-    stronger: &Stronger,
     steps: &[Vec<u32>],
     sure_steps: &[Vec<u32>],
     makers: &[Vec<u32>],
+    met_led: &[bool],
+    sure_led: &[bool],
     user: u32,
     used_by: u64,
-    used: &Command,
-    marks: &mut Vec<Option<u32>>,
+    files: &[u64],
     found: &mut Found,
 ) -> Result<(), AllocError>
     requires user { user < length graph.now.manifest.builds }
-    requires hidden { length hidden.now ≡ length paths.now }
-    requires makers_each { length makers.now ≡ length paths.now }
+    requires files { All (λ p. p < length makers.now) files.now }
     requires makers { All (λ v. All (λ e. e < length graph.now.manifest.builds) v.items) makers.now }
-    requires steps { IsFollow (length graph.now.manifest.builds + length paths.now) steps.now }
-    requires sure_steps { IsFollow (length graph.now.manifest.builds + length paths.now) sure_steps.now }
-    requires marks { AreStepsAtMost (graph_of steps.now) marks.old.items }
-    ensures marks { OnOk result (AreStepsAtMost (graph_of steps.now) marks.new.items) }
-    ensures found { OnOk result ((k : List ℕ) → Contains found.new k ↔ (Contains found.old k
-        ⊎ IsKeyOf graph.now.manifest.builds paths.now hidden.now builds.now stronger.now (graph_of steps.now)
-        (graph_of sure_steps.now) (graph_of makers.now) user used_by used.now k)) }
+    requires steps { IsFollow (length graph.now.manifest.builds + length makers.now) steps.now }
+    requires sure_steps { IsFollow (length graph.now.manifest.builds + length makers.now) sure_steps.now }
+    requires met_led { AreLedTo (graph_of steps.now) (length graph.now.manifest.builds) met_led.now }
+    requires sure_led { AreLedTo (graph_of sure_steps.now) (length graph.now.manifest.builds) sure_led.now }
+    ensures { OnOk result ((k : List ℕ) → Contains found.new k ↔ (Contains found.old k
+        ⊎ IsKeyIn (length graph.now.manifest.builds) (graph_of steps.now) (graph_of sure_steps.now)
+        (graph_of makers.now) user used_by files.now k)) }
 {
-    mark_steps(steps, user, marks);
-    let files = unlisted_paths(
-        alloc, graph, builds, paths, hidden, stronger, marks, user, used,
-    )?;
     if files.is_empty() {
         return Ok(());
     }
+    if are_neither(makers, graph.edges() as usize, sure_led, met_led, files) {
+        return add_each(
+            graph, makers, sure_led, met_led, user, used_by, files, found,
+        );
+    }
     let met = reached(alloc, steps, user)?;
     let sure = reached(alloc, sure_steps, user)?;
-    add_each(graph, makers, &sure, &met, user, used_by, &files, found)
+    add_each(graph, makers, &sure, &met, user, used_by, files, found)
 }
 
-// What is told of all commands.
+// What is found of all commands, which read these files.
+fn found_of(
+    alloc: Global,
+    graph: &Graph,
+    steps: &[Vec<u32>],
+    sure_steps: &[Vec<u32>],
+    makers: &[Vec<u32>],
+    met_led: &[bool],
+    sure_led: &[bool],
+    edges: &[u32],
+    reads: &[Vec<u64>],
+) -> Result<Found, AllocError>
+    requires edges { All (λ e. e < length graph.now.manifest.builds) edges.now }
+    requires each { length edges.now ≡ length reads.now }
+    requires files { All (λ v. All (λ p. p < length makers.now) v.items) reads.now }
+    requires makers { All (λ v. All (λ e. e < length graph.now.manifest.builds) v.items) makers.now }
+    requires steps { IsFollow (length graph.now.manifest.builds + length makers.now) steps.now }
+    requires sure_steps { IsFollow (length graph.now.manifest.builds + length makers.now) sure_steps.now }
+    requires met_led { AreLedTo (graph_of steps.now) (length graph.now.manifest.builds) met_led.now }
+    requires sure_led { AreLedTo (graph_of sure_steps.now) (length graph.now.manifest.builds) sure_led.now }
+    ensures { IfOk result (λ found. (k : List ℕ) → Contains found k
+        ↔ IsKeyBelow (length graph.now.manifest.builds) (graph_of steps.now) (graph_of sure_steps.now)
+        (graph_of makers.now) edges.now (graph_of reads.now) (length reads.now) k) }
+{
+    let mut found = Found::new(alloc);
+    for (number, read) in reads.iter().enumerate() {
+        let files = read.as_slice();
+        add_of(
+            alloc,
+            graph,
+            steps,
+            sure_steps,
+            makers,
+            met_led,
+            sure_led,
+            edges[number],
+            number as u64,
+            files,
+            &mut found,
+        )?;
+    }
+    Ok(found)
+}
+
+// Whether no command reads such a file.
+fn are_empty(files: &[Vec<u64>]) -> bool
+    ensures { result ≡ list_all (λ each. vec_len each == 0) files.now }
+{
+    files.iter().all(|each| each.is_empty())
+}
+
+// The findings about all commands.
 fn found_in(
     alloc: Global,
     graph: &Graph,
@@ -124,33 +196,33 @@ fn found_in(
         hidden.now) builds.now (names_of lists.now) stronger.now told.items) }
 {
     let _files = files.len();
+    let reads = paths_of_each(
+        alloc, graph, builds, lists, paths, commands, edges, hidden, stronger,
+    )?;
+    // What makes Ninja run an edge again is known only at a cost, and not asked where nothing is unlisted.
+    if are_empty(&reads) {
+        return Ok(Vec::new(alloc));
+    }
     let steps = follow_steps(alloc, graph, lists, paths, false)?;
     let sure_steps = follow_steps(alloc, graph, lists, paths, true)?;
+    let met_led = led_to(alloc, &steps, graph.edges())?;
+    let sure_led = led_to(alloc, &sure_steps, graph.edges())?;
     let makers = maker_lists(alloc, graph, paths, commands, edges)?;
-    let mut marks = no_marks(alloc, steps.len())?;
-    let mut found = Found::new(alloc);
-    for (number, command) in commands.iter().enumerate() {
-        add_of(
-            alloc,
-            graph,
-            builds,
-            paths,
-            hidden,
-            stronger,
-            &steps,
-            &sure_steps,
-            &makers,
-            edges[number],
-            number as u64,
-            command,
-            &mut marks,
-            &mut found,
-        )?;
-    }
+    let found = found_of(
+        alloc,
+        graph,
+        &steps,
+        &sure_steps,
+        &makers,
+        &met_led,
+        &sure_led,
+        edges,
+        &reads,
+    )?;
     found.into_told(alloc)
 }
 
-// What an edge lists, nothing where it has no list.
+// What an edge lists: nothing where it has no list.
 fn list_of<'a>(history: &'a History, edge: u32) -> &'a [Name]
     requires { edge < length history.now.timeline.manifest.builds }
     ensures { result.now ≡ unwrap_or (lists history.now.timeline.manifest history.now.timeline.opening
@@ -162,7 +234,7 @@ fn list_of<'a>(history: &'a History, edge: u32) -> &'a [Name]
     }
 }
 
-// What each edge lists, nothing where it has no list.
+// What each edge lists: nothing where it has no list.
 fn all_lists<'a>(alloc: Global, history: &'a History) -> Result<Vec<&'a [Name]>, AllocError>
     ensures { IfOk result (λ lists. names_of lists.items ≡ lists_in history.now.timeline) }
 {
@@ -173,7 +245,7 @@ fn all_lists<'a>(alloc: Global, history: &'a History) -> Result<Vec<&'a [Name]>,
     Ok(lists)
 }
 
-// The users and files of which something stronger is told.
+// The users and files that stronger findings are about.
 fn stronger(
     alloc: Global,
     conflicts: &[Conflict],
@@ -189,17 +261,17 @@ fn stronger(
     Ok(stronger)
 }
 
-/// The files that commands read though they are neither explicit nor implicit inputs of their edges, nor listed, each
-/// once, with whether Ninja runs the command again when the file changes, in the order of the numbers of the user's
-/// edge, of the path, and of the command.
+/// The files that commands read, where the file is neither an explicit nor an implicit input of the command's edge, and
+/// the edge does not list it. Each finding says whether Ninja runs the command again when the file changes. Each stands
+/// once, in the order of the numbers of the user's edge, of the path, and of the command.
 ///
-/// `history` has the lists: what an edge lists is what [`rev_races::listed`] gives. `files`, `builds`, `edges` and
-/// `hidden` are as for [`rev_undeclared::undeclared_files`]. `conflicts` and `undeclared` are what
-/// [`rev_conflicts::conflicts`] and [`rev_undeclared::undeclared_files`] tell: of a user and a file that these tell of,
-/// nothing is told again.
+/// `history` has the lists: [`rev_races::listed`] gives what an edge lists. `files`, `builds`, `edges` and `hidden` are
+/// as for [`rev_undeclared::undeclared_files`]. `conflicts` is the answer of [`rev_conflicts::conflicts`], and
+/// `undeclared` is that of [`rev_undeclared::undeclared_files`]. Where one of these two is about a user and a file,
+/// this answer has nothing about that user and that file.
 ///
 /// It takes time linear in the lists, the observation and the answer, up to logarithms, and two searches for each edge
-/// with an answer.
+/// that reads a file to which some edge leads, and that is unlisted for it.
 ///
 /// # Errors
 /// [`AllocError`] where an allocation was refused, and where edges and paths together are 2^32 or more.

@@ -1,8 +1,9 @@
 //! Whether Ninja runs a command again when a file changes.
-ghost use Rattle.std.specs.Prelude.{◌≡◌, ◌<◌, length, slice_index_or, false, All, IfOk};
-ghost use Rattle.std.specs.List.{list_all};
+ghost use Rattle.std.specs.Prelude.{◌≡◌, ◌<◌, ◌≤◌, ◌↔◌, length, slice_index_or, false, All, IfOk, IsTrue};
+ghost use Rattle.std.specs.List.{list_all, range_with_len};
 ghost use Rattle.rev_ranks.specs.Graph.{graph_of};
-ghost use Rattle.rev_unlisted.specs.Found.{AreReached, cover_by, met_by};
+ghost use Rattle.rev_unlisted.specs.Found.{AreLedTo, AreReached, cover_by, met_by};
+ghost use Rattle.rev_unlisted.specs.declared.input.Cover.TheVariants.{Neither};
 
 use crate::input::Cover;
 use rev_ranks::reachable_from;
@@ -19,6 +20,37 @@ pub(crate) fn reached(alloc: Global, steps: &[Vec<u32>], node: u32) -> Result<Ve
 {
     let marks = reachable_from(alloc, steps, &steps[node as usize])?;
     Ok(marks)
+}
+
+// The numbers below a count, in their order.
+fn numbers_below(alloc: Global, count: u32) -> Result<Vec<u32>, AllocError>
+    ensures { IfOk result (λ numbers. numbers.items ≡ range_with_len 0 count) }
+{
+    (0..count).collect(alloc)
+}
+
+/// The nodes to which some edge leads, as a mark for each node. The edges are the first so many nodes.
+///
+/// # Errors
+/// [`AllocError`] only where an allocation was refused.
+pub(crate) fn led_to(alloc: Global, steps: &[Vec<u32>], edges: u32) -> Result<Vec<bool>, AllocError>
+    requires edges { edges ≤ length steps.now }
+    requires inside { All (λ v. All (λ s. s < length steps.now) v.items) steps.now }
+    ensures { IfOk result (λ marks. AreLedTo (graph_of steps.now) edges marks.items) }
+{
+    let roots = numbers_below(alloc, edges)?;
+    let marks = reachable_from(alloc, steps, &roots)?;
+    Ok(marks)
+}
+
+/// Whether a cover says that nothing makes Ninja run the command again.
+pub(crate) fn is_neither(cover: Cover) -> bool
+    ensures { IsTrue result ↔ (cover ≡ Neither) }
+{
+    match cover {
+        Cover::Covered | Cover::HeldBack => false,
+        Cover::Neither => true,
+    }
 }
 
 // Whether all of these edges have marks.

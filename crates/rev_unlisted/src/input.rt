@@ -1,9 +1,9 @@
-//! One answer.
+//! One finding.
 
 /// Whether Ninja runs a command again when a file changes that the command reads.
 #[derive(Clone, Copy, Debug, PartialEq, Eq)]
 pub enum Cover {
-    /// It does: each edge that makes the file is met from the user through inputs that count, and no edge on the way
+    /// It does. Each edge that makes the file is met from the user through inputs that count, and no edge on the way
     /// has restat.
     Covered,
     /// It does, unless an edge with restat on the way leaves its outputs as they were.
@@ -12,7 +12,7 @@ pub enum Cover {
     Neither,
 }
 
-/// A command reads a file that is none of its edge's explicit and implicit inputs, and that its edge does not list.
+/// A finding: a command reads a file that its edge neither lists nor has as an explicit or implicit input.
 #[derive(Clone, Copy, Debug, PartialEq, Eq)]
 pub struct Unlisted {
     /// Whether Ninja runs the command again when the file changes.

@@ -1,8 +1,12 @@
-//! Marks of the nodes to which a node steps.
-ghost use Rattle.std.specs.Prelude.{◌≡◌, ◌<◌, ◌↔◌, ℕ, Some, None, length, slice_index_or, All, IfOk, IsTrue};
-ghost use Rattle.rev_ranks.specs.Graph.{graph_of};
-ghost use Rattle.rev_unlisted.specs.Found.{AreStepsOf, AreStepsAtMost};
+//! Marks of the paths that count for an edge.
+ghost use Rattle.std.specs.Prelude.{◌≡◌, ◌+◌, ◌∷◌, ◌<◌, ◌≤◌, ◌↔◌, [], ℕ, Some, None, length, slice_index_or, IfOk, IfSome, IsTrue};
+ghost use Rattle.std.specs.List.{IsDistinct};
+ghost use Rattle.std.specs.Str.{bytes_eq};
+ghost use Rattle.rev_paths.specs.Paths.{place_of};
+ghost use Rattle.rev_unlisted.specs.Found.{AreCountedAtMost, AreCountedOf, IsMarked, names_of};
 
+use rev_graph::Graph;
+use rev_paths::{Name, Paths};
 use std::alloc::{AllocError, Global};
 
 /// So many places without marks.
@@ -17,27 +21,94 @@ pub(crate) fn no_marks(alloc: Global, count: usize) -> Result<Vec<Option<u32>>, 
     Ok(marks)
 }
 
-/// Marks the nodes to which a node steps with its number. Marks are not cleared: a mark with another number is none.
-pub(crate) fn mark_steps(steps: &[Vec<u32>], node: u32, marks: &mut Vec<Option<u32>>)
-    requires node { node < length steps.now }
-    requires inside { All (λ v. All (λ s. s < length steps.now) v.items) steps.now }
-    requires marks { AreStepsAtMost (graph_of steps.now) marks.old.items }
-    ensures marks { AreStepsAtMost (graph_of steps.now) marks.new.items }
-    ensures exact { AreStepsOf (graph_of steps.now) node marks.new.items }
+// The number of a name. A guess that fits saves the look-up.
+fn find_near(paths: &Paths, name: &Name, guess: u64) -> Option<u64>
+    ensures place { result ≡ place_of name.now paths.now }
+    ensures within { IfSome result (λ place. place < length paths.now) }
 {
-    let nexts = steps[node as usize].as_slice();
-    for next in nexts {
-        marks[*next as usize] = Some(node);
+    if guess < paths.len() && *paths.path(guess) == *name {
+        return Some(guess);
+    }
+    paths.find(name)
+}
+
+// Marks the path of a name with a user's number. `last` is 0, or the number of the path before it and 1, and so is what
+// this gives for the next. `nexts` has for each of these the path that came next where lists last had it: lists name
+// the same paths in the same order.
+fn mark_name(
+    paths: &Paths,
+    name: &Name,
+    user: u32,
+    last: usize,
+    nexts: &mut Vec<u64>,
+    marks: &mut Vec<Option<u32>>,
+) -> usize
+    requires last { last ≤ length paths.now }
+    requires nexts { length nexts.old.items ≡ length paths.now + 1 }
+    requires marks { length marks.old.items ≡ length paths.now }
+    ensures last { result ≤ length paths.now }
+    ensures nexts { length nexts.new.items ≡ length paths.now + 1 }
+    ensures marks { IsMarked paths.now user (name.now ∷ []) marks.old.items marks.new.items }
+{
+    let Some(path) = find_near(paths, name, nexts[last]) else {
+        return last;
+    };
+    nexts[last] = path;
+    marks[path as usize] = Some(user);
+    path as usize + 1
+}
+
+// Marks the paths of names with a user's number.
+fn mark_names(
+    paths: &Paths,
+    names: &[Name],
+    user: u32,
+    nexts: &mut Vec<u64>,
+    marks: &mut Vec<Option<u32>>,
+)
+    requires nexts { length nexts.old.items ≡ length paths.now + 1 }
+    requires marks { length marks.old.items ≡ length paths.now }
+    ensures nexts { length nexts.new.items ≡ length paths.now + 1 }
+    ensures marks { IsMarked paths.now user names.now marks.old.items marks.new.items }
+{
+    let mut last = 0;
+    for name in names {
+        last = mark_name(paths, name, user, last, nexts, marks);
     }
 }
 
-/// Whether a node has the mark of another.
-pub(crate) fn is_marked(marks: &[Option<u32>], other: usize, node: u32) -> bool
-    requires { other < length marks.now }
-    ensures { IsTrue result ↔ (slice_index_or marks.now other None ≡ Some node) }
+/// Marks the paths that count for an edge with its number. Earlier marks stay: only a mark with this number counts.
+/// `nexts` has the paths that are tried first.
+pub(crate) fn mark_counted(
+    graph: &Graph,
+    lists: &[&[Name]],
+    paths: &Paths,
+    user: u32,
+    nexts: &mut Vec<u64>,
+    marks: &mut Vec<Option<u32>>,
+)
+    requires user { user < length graph.now.manifest.builds }
+    requires each { length lists.now ≡ length graph.now.manifest.builds }
+    requires distinct { IsDistinct bytes_eq paths.now }
+    requires nexts { length nexts.old.items ≡ length paths.now + 1 }
+    requires marks { AreCountedAtMost graph.now.manifest.builds (names_of lists.now) paths.now marks.old.items }
+    ensures nexts { length nexts.new.items ≡ length paths.now + 1 }
+    ensures marks { AreCountedAtMost graph.now.manifest.builds (names_of lists.now) paths.now marks.new.items }
+    ensures exact { AreCountedOf graph.now.manifest.builds (names_of lists.now) paths.now user marks.new.items }
 {
-    match marks[other] {
-        Some(marked) => marked == node,
+    let inputs = graph.inputs(user);
+    mark_names(paths, inputs.explicit, user, nexts, marks);
+    mark_names(paths, inputs.implicit, user, nexts, marks);
+    mark_names(paths, lists[user as usize], user, nexts, marks);
+}
+
+/// Whether a path has the mark of an edge.
+pub(crate) fn is_marked(marks: &[Option<u32>], path: usize, edge: u32) -> bool
+    requires { path < length marks.now }
+    ensures { IsTrue result ↔ (slice_index_or marks.now path None ≡ Some edge) }
+{
+    match marks[path] {
+        Some(marked) => marked == edge,
         None => false,
     }
 }

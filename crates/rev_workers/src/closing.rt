@@ -177,11 +177,12 @@ pub(crate) fn lesser(first: Option<u32>, second: Option<u32>) -> Option<u32>
     }
 }
 
-/// What the journal says of lanes that said all: the least number of those of which it does not have what they said
-/// last, and the least of the others whose whole list is not their part of it.
+/// What the journal says of lanes that said all.
 #[derive(Clone, Copy)]
 pub(crate) struct Survey {
+    /// The least number of a lane whose last words the journal does not have.
     pub(crate) unconfirmed: Option<u32>,
+    /// The least number of another lane whose whole list is not its part of the journal.
     pub(crate) misstated: Option<u32>,
 }
 

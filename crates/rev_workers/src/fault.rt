@@ -28,7 +28,7 @@ impl CloseCode {
     }
 }
 
-/// Why a desk does not come back as it should, with the least lane of which that is so, and the desk.
+/// Why a desk does not come back as it should, with the least lane that this is true for, and the desk.
 pub struct CloseFault {
     pub code: CloseCode,
     pub lane: u32,

@@ -42,8 +42,8 @@ fn least_number<L: Ledger>(lanes: &[Lane<L>]) -> Option<u32>
 ///
 /// # Errors
 /// [`CloseCode::LaneStopped`](crate::CloseCode::LaneStopped) where lanes could not say all that they were to say:
-/// memory was refused, the journal was full, or a lane got no thread. It names the least of them: the desk's journal
-/// has of each given lane of a lesser number, since that was last answered, its commands and no others, and the gate was
+/// memory was refused, the journal was full, or a lane got no thread. It names the least of them. Of each given lane of
+/// a lesser number the desk's journal has, since that lane was last answered, its commands and no others. The gate was
 /// called before and after each of these. Otherwise what [`close`] finds: of each given lane the journal has its
 /// commands, and the gate was called before and after each. The desk comes back in every case.
 pub fn run_workers<L: Ledger + Send + Sync, R: Threads + Wait + Sync, G: Gate>(

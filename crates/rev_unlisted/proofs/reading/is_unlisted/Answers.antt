@@ -1,4 +1,4 @@
-use Rattle.std.proofs.Common.{◌≡◌, ◌+◌, [], Bool, true, None, get_or, sym, ap, ◌∙◌, true≢false}
+use Rattle.std.proofs.Common.{◌≡◌, [], Bool, true, sym, ap, ◌∙◌, true≢false}
 use Rattle.std.specs.Prelude.{◌↔◌}
 use Rattle.std.proofs.lemmas.Option.{get_or_from_slice_get}
 use Rattle.rev_graph.specs.Graph.{producer_of}
@@ -18,7 +18,7 @@ returns c =
         finds = sym c.does.ensures ∙ c.if-does.false;
         is_open = shown_file.0 t;
         foreign = λ h. true≢false (sym (c.is_output_of.ensures.1 (ap (producer_of c.args.graph.now.manifest.builds) (sym at) ∙ h)) ∙ c.if-is_output_of.false);
-        uncounted = λ h. true≢false (sym (c.is_marked.ensures.1 (ap (λ n. get_or c.args.marks.now (n + c.args.path) None) c.edges.ensures.edges ∙ h)) ∙ c.if-is_marked.false);
+        uncounted = λ h. true≢false (sym (c.is_marked.ensures.1 h) ∙ c.if-is_marked.false);
         alone = λ h. true≢false (sym (c.has.ensures.1 h) ∙ c.if-has.false);
       },
       λ r. shown_file.1 r.is_open,

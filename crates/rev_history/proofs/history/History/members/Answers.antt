@@ -11,7 +11,7 @@ use Rattle.rev_history.proofs.Fields.{all_footprints, as_many, history_of}
 use Rattle.rev_history.proofs.Members.{cone_is_found}
 use Rattle.rev_history.proofs.NamedLemmas.{length_named}
 use Rattle.rev_history.proofs.Promises.{cone_is_least}
-use Rattle.rev_history.proofs.TakenLemmas.{cone_rises}
+use Rattle.rev_history.proofs.RemovalLemmas.{cone_rises}
 use Rattle.rev_history.proofs.history.History.members.Goals as goal
 
 ok_rises : {E : Type 0} (r : Result (Vec ℕ) E) (n : ℕ) (prints : Prints) (ks : List ℕ) → IsRising ks → IfOk r (λ members. members.items ≡ n ∷ cone_behind n prints (n ∷ []) ks) → IfOk r (λ members. IsRising members.items)

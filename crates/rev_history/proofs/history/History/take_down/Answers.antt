@@ -2,16 +2,16 @@ use Rattle.std.proofs.Common.{List, length, refl, sym, ap, ◌∙◌}
 use Rattle.rev_causal.specs.History.{event_at}
 use Rattle.rev_history.specs.declared.history.History.TheInside.{Inside}
 use Rattle.rev_history.specs.Steps.{Placed, named, prints_of}
-use Rattle.rev_history.specs.Taken.{IsWithoutCone}
+use Rattle.rev_history.specs.Removal.{IsWithoutCone}
 use Rattle.rev_history.specs.Timeline.{cone_numbers, coned}
 use Rattle.rev_history.specs.Value.{HistoryValue}
 use Rattle.rev_history.proofs.Fields.{as_many}
 use Rattle.rev_history.proofs.NamedLemmas.{length_named}
-use Rattle.rev_history.proofs.TakenLemmas.{listed_without}
+use Rattle.rev_history.proofs.RemovalLemmas.{listed_without}
 use Rattle.rev_history.proofs.history.History.take_down.Goals as goal
 
-pub thin_lists-requires-clause-many : goal.thin_lists-requires-clause-many
-thin_lists-requires-clause-many c = ap length c.deref.ensures.value ∙ sym (length_named c.self.inside.accesses c.self.inside.steps.items) ∙ as_many c.self.inside c.self.invariant.sound
+pub remove_members-requires-clause-many : goal.remove_members-requires-clause-many
+remove_members-requires-clause-many c = ap length c.deref.ensures.value ∙ sym (length_named c.self.inside.accesses c.self.inside.steps.items) ∙ as_many c.self.inside c.self.invariant.sound
 
 pub put_all_back-requires : goal.put_all_back-requires
 put_all_back-requires c = record {
@@ -24,19 +24,19 @@ put_all_back-requires c = record {
 
 pub invariant_of-self : goal.invariant_of-self
 invariant_of-self c =
-    let after : Inside = record c.self.inside { steps = c.put_all_back.new.steps; kept = c.take_all.new.self; accesses = c.thin_lists.new.accesses; cells = c.put_all_back.new.cells } in
+    let after : Inside = record c.self.inside { steps = c.put_all_back.new.steps; kept = c.take_all.new.self; accesses = c.remove_members.new.accesses; cells = c.put_all_back.new.cells } in
     let w : IsWithoutCone c.self.inside after c.args.number c.args.members.now =
     c.put_all_back.ensures c.self.inside after c.args.number (record { accepted = refl; steps = refl; cells = refl }) c.self.invariant.sound
     (c.requires.members ∙ ap (λ (h : HistoryValue). cone_numbers c.args.number h.timeline) (sym c.self.view_is))
-    (record { places = c.thin_lists.ensures.cells; graph = refl; opening = refl; last = refl }) (record { accepted = refl; steps = refl; cells = refl }) c.take_all.ensures in
-    listed_without c.self.inside after c.args.members.now c.self.invariant w.sound c.thin_lists.ensures.cells w.placed w.prints c.thin_lists.ensures.thinned
-    (λ n f among at. c.thin_lists.ensures.gone n f among (ap (λ (xs : List Placed). event_at n (prints_of c.self.inside.accepted.entries (named c.self.inside.accesses xs))) c.deref.ensures.value ∙ at))
+    (record { places = c.remove_members.ensures.cells; graph = refl; opening = refl; last = refl }) (record { accepted = refl; steps = refl; cells = refl }) c.take_all.ensures in
+    listed_without c.self.inside after c.args.members.now c.self.invariant w.sound c.remove_members.ensures.cells w.placed w.prints c.remove_members.ensures.thinned
+    (λ n f among at. c.remove_members.ensures.gone n f among (ap (λ (xs : List Placed). event_at n (prints_of c.self.inside.accepted.entries (named c.self.inside.accesses xs))) c.deref.ensures.value ∙ at))
 
 pub returns : goal.returns
 returns c =
-    let after : Inside = record c.self.inside { steps = c.put_all_back.new.steps; kept = c.take_all.new.self; accesses = c.thin_lists.new.accesses; cells = c.put_all_back.new.cells } in
+    let after : Inside = record c.self.inside { steps = c.put_all_back.new.steps; kept = c.take_all.new.self; accesses = c.remove_members.new.accesses; cells = c.put_all_back.new.cells } in
     let w : IsWithoutCone c.self.inside after c.args.number c.args.members.now =
     c.put_all_back.ensures c.self.inside after c.args.number (record { accepted = refl; steps = refl; cells = refl }) c.self.invariant.sound
     (c.requires.members ∙ ap (λ (h : HistoryValue). cone_numbers c.args.number h.timeline) (sym c.self.view_is))
-    (record { places = c.thin_lists.ensures.cells; graph = refl; opening = refl; last = refl }) (record { accepted = refl; steps = refl; cells = refl }) c.take_all.ensures in
+    (record { places = c.remove_members.ensures.cells; graph = refl; opening = refl; last = refl }) (record { accepted = refl; steps = refl; cells = refl }) c.take_all.ensures in
     w.timeline ∙ ap (λ (h : HistoryValue). coned c.args.number h.timeline) c.self.view_is

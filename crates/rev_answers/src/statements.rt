@@ -1,0 +1,111 @@
+//! Where the build statement of an edge stands, which rule it names, and what its command listed.
+use crate::edges::push_edge;
+use crate::told::{Told, history_of};
+use rev_dirty::listed_inputs;
+use rev_fields::push_number;
+use rev_manifest::Build;
+use rev_paths::Name;
+use rev_shown::push_shown;
+use std::alloc::AllocError;
+
+/// The build of an edge.
+pub(crate) fn build_of<'a>(told: Told<'a>, edge: u32) -> Option<&'a Build> {
+    told.session.builds.get(edge as usize)
+}
+
+/// Whether an edge is phony.
+pub(crate) fn is_phony(told: Told<'_>, edge: u32) -> bool {
+    match build_of(told, edge) {
+        Some(build) => build.phony(),
+        None => false,
+    }
+}
+
+/// The list of what an edge's command read, as the deps log has it.
+pub(crate) fn listed<'a>(told: Told<'a>, edge: u32) -> &'a [Name] {
+    let history = history_of(told);
+    if edge < history.graph().edges() {
+        listed_inputs(history.graph(), history.cells(), edge)
+    } else {
+        &[]
+    }
+}
+
+/// The name of the file of a build statement.
+pub(crate) fn file_name<'a>(told: Told<'a>, build: &Build) -> Option<&'a [u8]> {
+    match told.session.files.get(build.file() as usize) {
+        Some((name, _)) => Some(name.as_slice()),
+        None => None,
+    }
+}
+
+/// Adds an edge and the place of its build statement, as `main.o (build.ninja:19)`.
+pub(crate) fn push_placed(text: &mut Vec<u8>, told: Told<'_>, edge: u32) -> Result<(), AllocError> {
+    push_edge(text, history_of(told).graph(), edge)?;
+    let Some(build) = build_of(told, edge) else {
+        return Ok(());
+    };
+    text.extend_from_slice(b" (")?;
+    if let Some(name) = file_name(told, build) {
+        push_shown(text, name)?;
+    }
+    text.push(b':')?;
+    push_number(text, build.line())?;
+    text.push(b')')?;
+    Ok(())
+}
+
+/// The bytes from a line of a file on, which counts from 1.
+pub(crate) fn from_line(bytes: &[u8], line: u64) -> &[u8] {
+    let mut left = line;
+    for (place, byte) in bytes.iter().enumerate() {
+        if left <= 1 {
+            return bytes.get(place..).unwrap_or(&[]);
+        }
+        if *byte == b'\n' {
+            left -= 1;
+        }
+    }
+    &[]
+}
+
+// Whether a byte may stand in the name of a rule (Ninja manual, lexical syntax).
+fn is_of_name(byte: u8) -> bool {
+    byte.is_ascii_alphanumeric() || byte == b'_' || byte == b'-' || byte == b'.'
+}
+
+// The name at the beginning of some bytes, behind spaces and a line's end that is written `$`.
+fn name_at(bytes: &[u8]) -> &[u8] {
+    let bytes = bytes.trim_ascii_start();
+    let bytes = bytes
+        .strip_prefix(b"$\n")
+        .unwrap_or(bytes)
+        .trim_ascii_start();
+    match bytes.iter().position(|byte| !is_of_name(*byte)) {
+        Some(end) => bytes.get(..end).unwrap_or(bytes),
+        None => bytes,
+    }
+}
+
+// The name of the rule of a build statement, which stands behind the first `:` before which no `$` stands.
+fn rule_in(statement: &[u8]) -> Option<&[u8]> {
+    let mut is_escaped = false;
+    for (place, byte) in statement.iter().enumerate() {
+        if is_escaped {
+            is_escaped = false;
+        } else if *byte == b'$' {
+            is_escaped = true;
+        } else if *byte == b':' {
+            return Some(name_at(statement.get(place.saturating_add(1)..)?));
+        } else if *byte == b'\n' {
+            return None;
+        }
+    }
+    None
+}
+
+/// The name of the rule of an edge, as its build statement has it.
+pub(crate) fn rule_of<'a>(told: Told<'a>, build: &Build) -> Option<&'a [u8]> {
+    let (_, bytes) = told.session.files.get(build.file() as usize)?;
+    rule_in(from_line(bytes, build.line()))
+}

@@ -1,0 +1,40 @@
+-- The first pair of dependent events that stand the other way round in another history.
+use Rattle.std.specs.Prelude.{ℕ, Bool, ◌&&◌, List, filter, map, Option, Some, None, is_some, slice_index_or, unwrap_or}
+use Rattle.rev_accesses.specs.Value.{Prints}
+use Rattle.rev_causal.specs.Chosen.{chosen}
+use Rattle.rev_causal.specs.History.{put}
+use Rattle.rev_causal.specs.Store.{Footprint, conflict}
+use Rattle.rev_cells.specs.declared.cell.Cell.{Cell}
+use Rattle.rev_cells.specs.Keys.{cell_cmp}
+use Rattle.rev_footprint.specs.Value.{FootprintValue, print_of}
+use Rattle.rev_history.specs.Timeline.{Timeline, footprints_along, kept_events}
+use Rattle.rev_order.specs.Pairs.{inverted_pair}
+use Rattle.rev_runs.specs.Runs.{is_kept}
+
+-- the footprints that the kept events have at their places, under their numbers
+abbrev pub prints_of : Timeline → Prints
+prints_of t =
+    map (λ (p : ℕ × FootprintValue). (p.0, print_of p.1)) (footprints_along t.manifest t.opening (kept_events t))
+
+-- the event is kept, and one there is the same
+abbrev pub is_compared : Timeline → List (Option ℕ) → ℕ → Bool
+is_compared t matched number = is_kept t number && is_some (slice_index_or matched number None)
+
+-- the kept numbers with such events
+abbrev pub compared_of : Timeline → List (Option ℕ) → List ℕ
+compared_of t matched = filter (is_compared t matched) t.kept
+
+-- the place of each number there is the number of the same event there
+abbrev pub places_of : List (Option ℕ) → List ℕ
+places_of matched = map (λ other. unwrap_or other 0) matched
+
+-- THE FIRST INVERTED PAIR: of all pairs of these events of which the later one depends on the earlier one and stands
+-- before it there, the one with the least first number, and of these the least second one
+abbrev pub first_inverted_of : Timeline → List (Option ℕ) → Option (ℕ × ℕ)
+first_inverted_of t matched =
+    inverted_pair (conflict cell_cmp) (places_of matched) (chosen (prints_of t) (compared_of t matched))
+
+-- a footprint put under a number, where there is one
+abbrev pub put_if : ℕ → Option (Footprint Cell) → Prints → Prints
+put_if number None prints = prints
+put_if number (Some f) prints = put number f prints

@@ -1,0 +1,7 @@
+pub mod Alone
+pub mod Differences
+pub mod Inverted
+pub mod Lasts
+pub mod Matched
+pub mod Statements
+pub mod Twins

@@ -1,0 +1,97 @@
+//! Removal of events from the fields of a history.
+ghost use Rattle.std.specs.Prelude.{◌≡◌, ℕ, Some, length, true};
+ghost use Rattle.rev_accesses.specs.Thinned.{AreThinned, IsGone};
+ghost use Rattle.rev_causal.specs.Chosen.{IsRising, is_among};
+ghost use Rattle.rev_causal.specs.History.{event_at};
+ghost use Rattle.rev_causal.specs.Store.{Footprint as Print};
+ghost use Rattle.rev_cells.specs.declared.cell.Cell.{Cell};
+ghost use Rattle.rev_history.specs.Steps.{named, prints_of};
+ghost use Rattle.rev_history.specs.Removal.{IsConeHere, IsFreeHere, TakesConeOut, TakesOut};
+
+use crate::access_updates::remove_print_members;
+use crate::steps::{Step, step_of};
+use indexmap::IndexMap;
+use rev_accesses::Accesses;
+use rev_cells::Cells;
+use rev_events::Event;
+
+// Removes a member from the lists of the footprint that stands beside its event; may remove other members too.
+fn remove_member(
+    number: u32,
+    members: &[u32],
+    accepted: &IndexMap<u32, Event>,
+    steps: &[Option<Step>],
+    accesses: &mut Accesses,
+)
+    requires many { length steps.now ≡ length accepted.now.entries }
+    requires rising { IsRising members.now }
+    requires member { is_among members.now number ≡ true }
+    ensures thinned { AreThinned members.now accesses.old accesses.new }
+    ensures gone { (f : Print Cell)
+        → event_at number (prints_of accepted.now.entries (named accesses.old steps.now)) ≡ Some f
+        → IsGone number f accesses.new }
+    ensures cells { accesses.new.cells ≡ accesses.old.cells }
+{
+    if let Some(step) = step_of(accepted, steps, number) {
+        remove_print_members(accesses, number, members, step);
+    }
+}
+
+/// Removes members from the access lists of the footprints that stand beside their events. Where the members are many,
+/// each list is gone through once for all of them. It takes no memory.
+pub(crate) fn remove_members(
+    members: &[u32],
+    accepted: &IndexMap<u32, Event>,
+    steps: &[Option<Step>],
+    accesses: &mut Accesses,
+)
+    requires many { length steps.now ≡ length accepted.now.entries }
+    requires rising { IsRising members.now }
+    ensures thinned { AreThinned members.now accesses.old accesses.new }
+    ensures gone { (n : ℕ) (f : Print Cell) → is_among members.now n ≡ true
+        → event_at n (prints_of accepted.now.entries (named accesses.old steps.now)) ≡ Some f
+        → IsGone n f accesses.new }
+    ensures cells { accesses.new.cells ≡ accesses.old.cells }
+{
+    for member in members {
+        remove_member(*member, members, accepted, steps, accesses);
+    }
+}
+
+/// Restores what the event replaced and drops its step. No kept event may depend on it. The caller removes its number
+/// from the kept numbers and from the access lists. It takes no memory.
+pub(crate) fn put_back(
+    number: u32,
+    accepted: &IndexMap<u32, Event>,
+    steps: &mut Vec<Option<Step>>,
+    cells: &mut Cells,
+)
+    requires { IsFreeHere number accepted.now.entries steps.old.items cells.old }
+    ensures { TakesOut number accepted.now.entries steps.old.items cells.old steps.new.items cells.new }
+{
+    let Some(index) = accepted.get_index_of(&number) else {
+        unreachable!()
+    };
+    let Some(mut step) = steps[index].take() else {
+        unreachable!()
+    };
+    cells.exchange(&mut step.replaced);
+}
+
+/// Restores what the members of a cone replaced and drops their steps, from the last down: no kept event depends on the
+/// last, and without it the others are the cone. It takes no memory.
+pub(crate) fn put_all_back(
+    members: &[u32],
+    accepted: &IndexMap<u32, Event>,
+    steps: &mut Vec<Option<Step>>,
+    cells: &mut Cells,
+)
+    requires { IsConeHere members.now accepted.now.entries steps.old.items cells.old }
+    ensures { TakesConeOut members.now accepted.now.entries steps.old.items cells.old steps.new.items cells.new }
+{
+    let mut left = members.len();
+    while left > 0 {
+        left -= 1;
+        put_back(members[left], accepted, steps, cells);
+    }
+}

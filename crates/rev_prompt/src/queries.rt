@@ -1,0 +1,334 @@
+//! Questions about edges, files and times.
+ghost use Rattle.std.specs.Prelude.{◌≡◌, IfOk, List, map};
+ghost use Rattle.std.specs.Option.{option_copied, option_map};
+ghost use Rattle.rev_prompt.specs.Found.{IsCritical, IsEdgeFound, IsEdges, IsMakes, IsReads, IsRebuilds, IsRefusal, IsSlowest, begun_at as begun_by, changes_of, deeds_in, last_targets as last_targets_of, looks_at, rebuilt_of as rebuilt_by, refusal_of as refusal_by};
+ghost use Rattle.rev_prompt.specs.Past.{plan_before};
+ghost use Rattle.rev_prompt.specs.Reasons.{because as because_of};
+
+use crate::answers::{Answer, Because, Deed};
+use crate::events::named_event;
+use crate::found::{EdgeFound, Found, Rebuilt};
+use crate::past::last_plan;
+use crate::query::Query;
+use crate::question::EventName;
+use crate::reasons::because;
+use crate::session::Session;
+use crate::spans::last_run;
+use crate::users::{observed_readers, observed_writers};
+use rev_cells::Cells;
+use rev_desk::{Desk, Reply};
+use rev_dirty::Reason;
+use rev_events::{Event, Refusal};
+use rev_graph::Graph;
+use rev_history::History;
+use rev_observed::Observation;
+use rev_paths::Name;
+use rev_plan::PlanFault;
+use rev_queries::{
+    Rebuild, Timed, critical, edges_like, readings, rebuilds, slowest, timed_runs, users,
+};
+use rev_runs::edge_of_event;
+use std::alloc::{AllocError, Global};
+
+// The most links of a chain that are told.
+const MOST_LINKS: u32 = 1_000;
+
+// The commands that were seen to look at a path; none where nothing was observed.
+fn looks(
+    alloc: Global,
+    history: &History,
+    observation: Option<&Observation>,
+    edges: &[u32],
+    path: &Name,
+) -> Result<Option<Vec<Deed>>, AllocError>
+    ensures { IfOk result (λ deeds. deeds_in deeds
+        ≡ option_map (looks_at history.now.timeline edges.now path.now) (option_copied observation.entry)) }
+{
+    match observation {
+        Some(observation) => Ok(Some(observed_readers(alloc, history, observation, edges, path)?)),
+        None => Ok(None),
+    }
+}
+
+// The commands that were seen to change a path; none where nothing was observed.
+fn changes(
+    alloc: Global,
+    history: &History,
+    observation: Option<&Observation>,
+    edges: &[u32],
+    path: &Name,
+) -> Result<Option<Vec<Deed>>, AllocError>
+    ensures { IfOk result (λ deeds. deeds_in deeds
+        ≡ option_map (changes_of history.now.timeline edges.now path.now) (option_copied observation.entry)) }
+{
+    match observation {
+        Some(observation) => Ok(Some(observed_writers(alloc, history, observation, edges, path)?)),
+        None => Ok(None),
+    }
+}
+
+/// `reads PATH`: which edges have a path as what they read, and which commands were seen to look at it.
+pub(crate) fn reads(
+    alloc: Global,
+    history: &History,
+    observation: Option<&Observation>,
+    edges: &[u32],
+    path: &Name,
+) -> Result<Found, AllocError>
+    ensures { IfOk result (λ found. IsReads history.now.timeline (option_copied observation.entry) edges.now path.now found) }
+{
+    let readings = readings(alloc, history, path)?;
+    let deeds = looks(alloc, history, observation, edges, path)?;
+    Ok(Found::Reads(path.copy()?, readings, deeds))
+}
+
+/// `makes PATH`: which edge has a path as an output, and which commands were seen to change it.
+pub(crate) fn makes(
+    alloc: Global,
+    history: &History,
+    observation: Option<&Observation>,
+    edges: &[u32],
+    path: &Name,
+) -> Result<Found, AllocError>
+    ensures { IfOk result (λ found. IsMakes history.now.timeline (option_copied observation.entry) edges.now path.now found) }
+{
+    let deeds = changes(alloc, history, observation, edges, path)?;
+    let producer = history.graph().producer(path);
+    Ok(Found::Makes(path.copy()?, producer, deeds))
+}
+
+// The edge of an event or of an output, or what is answered where there is none.
+fn edge_named(desk: &Desk, name: &EventName) -> Result<Result<u32, Answer>, AllocError> {
+    let history = desk.history();
+    if let EventName::Last(out) | EventName::Kind(_, out) = name {
+        return match history.graph().producer(out) {
+            Some(edge) => Ok(Ok(edge)),
+            None => Ok(Err(Answer::NoOutput(out.copy()?))),
+        };
+    }
+    let number = match named_event(desk, name)? {
+        Ok(number) => number,
+        Err(answer) => return Ok(Err(answer)),
+    };
+    let edge = match history.event(number) {
+        Some(event) => edge_of_event(history.graph(), event),
+        None => None,
+    };
+    match edge {
+        Some(edge) => Ok(Ok(edge)),
+        None => Ok(Err(Answer::Event(number))),
+    }
+}
+
+/// What `edge` finds of an edge beside its build line: its last kept run, and who waits for it.
+pub(crate) fn edge_found(
+    alloc: Global,
+    history: &History,
+    edge: u32,
+) -> Result<EdgeFound, AllocError>
+    ensures { IfOk result (λ told. IsEdgeFound history.now.timeline edge told) }
+{
+    let run = last_run(alloc, history, edge)?;
+    let users = users(alloc, history.graph(), edge)?;
+    Ok(EdgeFound { edge, run, users })
+}
+
+// `edge OUT`: the edge of an output, or of an event.
+fn edge(alloc: Global, desk: &Desk, name: &EventName) -> Result<Answer, AllocError> {
+    match edge_named(desk, name)? {
+        Ok(edge) => Ok(Answer::Found(Found::Edge(edge_found(alloc, desk.history(), edge)?))),
+        Err(answer) => Ok(answer),
+    }
+}
+
+/// `edges WORD`: the edges with an output that matches a pattern.
+pub(crate) fn edges(alloc: Global, graph: &Graph, pattern: &[u8]) -> Result<Found, AllocError>
+    ensures { IfOk result (λ found. IsEdges graph.now.manifest.builds pattern.now found) }
+{
+    Ok(Found::Edges(edges_like(alloc, graph, pattern)?))
+}
+
+// A reason of an edge with what it names, where there is one.
+fn because_if(
+    graph: &Graph,
+    cells: &Cells,
+    edge: u32,
+    reason: Option<Reason>,
+) -> Result<Option<Because>, AllocError>
+    ensures { IfOk result (λ told. told ≡ option_map (because_of graph.now.manifest.builds cells.now.state edge) reason) }
+{
+    match reason {
+        Some(reason) => Ok(Some(because(graph, cells, edge, reason)?)),
+        None => Ok(None),
+    }
+}
+
+// An edge that would be to do, with what its reason names.
+fn rebuilt_of(graph: &Graph, cells: &Cells, rebuild: Rebuild) -> Result<Rebuilt, AllocError>
+    ensures { IfOk result (λ rebuilt. rebuilt ≡ rebuilt_by graph.now.manifest.builds cells.now.state rebuild) }
+{
+    let told = because_if(graph, cells, rebuild.edge, rebuild.reason)?;
+    Ok(Rebuilt {
+        edge: rebuild.edge,
+        because: told,
+    })
+}
+
+// Edges that would be to do, with what their reasons name.
+fn all_rebuilt(
+    alloc: Global,
+    graph: &Graph,
+    cells: &Cells,
+    rebuilds: &[Rebuild],
+) -> Result<Vec<Rebuilt>, AllocError>
+    ensures { IfOk result (λ told. told.items ≡ map (rebuilt_by graph.now.manifest.builds cells.now.state) rebuilds.now) }
+{
+    let mut told = Vec::new(alloc);
+    for rebuild in rebuilds {
+        told.push(rebuilt_of(graph, cells, *rebuild)?)?;
+    }
+    Ok(told)
+}
+
+// The refusal that a fault of a plan is; none where memory was refused.
+fn refusal_of(fault: PlanFault) -> Option<Refusal>
+    ensures { result ≡ refusal_by fault }
+{
+    match fault {
+        PlanFault::Memory => None,
+        PlanFault::StillRunning(edge) => Some(Refusal::StillRunning(edge)),
+        PlanFault::UnknownTarget(place) => Some(Refusal::UnknownTarget(place)),
+        PlanFault::MissingInput(place, edge) => Some(Refusal::MissingInput(place, edge)),
+        PlanFault::DepsCycle(edge) => Some(Refusal::DepsCycle(edge)),
+    }
+}
+
+// What is answered where a plan is refused.
+fn refused(fault: PlanFault) -> Result<Answer, AllocError>
+    ensures { IfOk result (λ answer. IsRefusal fault answer) }
+{
+    match refusal_of(fault) {
+        Some(refusal) => Ok(Answer::Said(Some(Reply::Refused(refusal)), None)),
+        None => Err(AllocError),
+    }
+}
+
+// The targets of the last kept plan; none where nothing was planned.
+fn last_targets(history: &History) -> &[Name]
+    ensures { result.now ≡ last_targets_of history.now.timeline }
+{
+    let Some(plan) = last_plan(history) else {
+        return &[];
+    };
+    match history.event(plan) {
+        Some(Event::Plan(targets)) => targets.as_slice(),
+        _ => &[],
+    }
+}
+
+// What would be to do if paths were touched, by a plan for some targets, or why that plan is refused.
+fn rebuilds_for(
+    alloc: Global,
+    history: &History,
+    targets: &[Name],
+    paths: &[Name],
+) -> Result<Answer, AllocError>
+    ensures { IfOk result (λ answer. IsRebuilds history.now.timeline targets.now paths.now answer) }
+{
+    match rebuilds(alloc, history, targets, paths) {
+        Ok(rebuilds) => {
+            let told = all_rebuilt(alloc, history.graph(), history.cells(), &rebuilds)?;
+            Ok(Answer::Found(Found::Rebuilds(told)))
+        }
+        Err(fault) => refused(fault),
+    }
+}
+
+/// `rebuilds PATH..`: what would be to do if these paths were touched, by a plan for the targets of the last one.
+pub(crate) fn rebuilds_of(
+    alloc: Global,
+    history: &History,
+    paths: &[Name],
+) -> Result<Answer, AllocError>
+    ensures { IfOk result (λ answer. IsRebuilds history.now.timeline (last_targets_of history.now.timeline) paths.now answer) }
+{
+    rebuilds_for(alloc, history, last_targets(history), paths)
+}
+
+// `slowest N`: the runs that took most time.
+fn slowest_of(runs: Vec<Timed>, count: u32) -> Result<Found, AllocError>
+    ensures { IfOk result (λ found. IsSlowest runs.items count found) }
+{
+    if runs.is_empty() {
+        return Ok(Found::NoTimes);
+    }
+    let mut runs = slowest(runs)?;
+    runs.truncate(count as usize);
+    Ok(Found::Slowest(runs))
+}
+
+// The number from which runs count as those of the last build.
+fn begun_at(plan: Option<u32>) -> u32
+    ensures { result ≡ begun_by plan }
+{
+    match plan {
+        Some(plan) => plan,
+        None => 0,
+    }
+}
+
+// `critical`: the chain of commands that the end of the last build waited for.
+fn critical_of(alloc: Global, history: &History, runs: &[Timed]) -> Result<Found, AllocError>
+    ensures { IfOk result (λ found. IsCritical history.now.timeline.manifest.builds runs.now
+        (plan_before history.now.timeline 4294967295) found) }
+{
+    if runs.is_empty() {
+        return Ok(Found::NoTimes);
+    }
+    let plan = begun_at(last_plan(history));
+    let chain = critical(alloc, history.graph(), runs, plan, MOST_LINKS)?;
+    Ok(Found::Critical(chain))
+}
+
+// What a question about times is answered.
+fn found_in_times(
+    alloc: Global,
+    session: &Session<'_>,
+    history: &History,
+    query: &Query,
+) -> Result<Found, AllocError> {
+    let runs = timed_runs(alloc, history, session.times)?;
+    match query {
+        Query::Slowest(count) => slowest_of(runs, *count),
+        _ => critical_of(alloc, history, &runs),
+    }
+}
+
+// What a question about files and times is answered.
+fn found(
+    alloc: Global,
+    session: &Session<'_>,
+    history: &History,
+    query: &Query,
+) -> Result<Found, AllocError> {
+    match query {
+        Query::Reads(path) => reads(alloc, history, session.observation, session.edges, path),
+        Query::Makes(path) => makes(alloc, history, session.observation, session.edges, path),
+        Query::Edges(pattern) => edges(alloc, history.graph(), pattern),
+        _ => found_in_times(alloc, session, history, query),
+    }
+}
+
+/// What a question about edges, files and times is answered. The desk is only read.
+pub(crate) fn queried(
+    alloc: Global,
+    session: &Session<'_>,
+    desk: &Desk,
+    query: &Query,
+) -> Result<Answer, AllocError> {
+    match query {
+        Query::Edge(name) => edge(alloc, desk, name),
+        Query::Rebuilds(paths) => rebuilds_of(alloc, desk.history(), paths),
+        _ => Ok(Answer::Found(found(alloc, session, desk.history(), query)?)),
+    }
+}

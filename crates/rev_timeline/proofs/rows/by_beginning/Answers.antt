@@ -1,0 +1,9 @@
+use Rattle.std.proofs.Common.{rules}
+use Rattle.std.proofs.lemmas.List.Sorted.{IsNonDecreasingBy-from_sort_by_key}
+use Rattle.rev_timeline.specs.declared.ran.Ran.{Ran}
+use Rattle.rev_timeline.proofs.rows.by_beginning.Goals as goal
+
+pub returns-clause-rising : goal.returns-clause-rising
+returns-clause-rising c =
+    IsNonDecreasingBy-from_sort_by_key (λ (r : Ran). r.span.from) _ c.in_ok-sort_by_key.ensures.sorted
+    (λ a r q k. search rules)
