@@ -9,12 +9,16 @@ import random
 import re
 import resource
 import subprocess
+import sys
 import time
 import xml.etree.ElementTree
 from dataclasses import dataclass
 from typing import Iterator, Protocol
 
-from inputs import ALL_WORDS, Case
+from inputs import ALL_WORDS, TOP, Case
+
+sys.path.insert(0, str(TOP / "tests"))
+from json_schema import misfits  # noqa: E402
 
 # Seconds of processor time, and kilobytes of memory: so much for any run, and so much for each byte of its files.
 SECONDS, SECONDS_A_BYTE = 2.0, 40e-6
@@ -27,18 +31,16 @@ REPORT_LINE = re.compile(
 )
 # What no terminal should get.
 RAW = re.compile(rb"[^\n -\x7e]")
-KINDS_OF_RACES = {"replayed", "failed", "race", "cycle", "own", "suspect", "not judged", "clash", "hint", "change",
-                  "command", "ran", "unstable", "undeclared", "unlisted", "observed"}
 # The words of the second program in front of the recording, and the statuses that it may end with there.
 ASKED: list[tuple[list[str], tuple[int, ...]]] = [
-    (["races"], (0, 1, 4, 5)), (["certify"], (0, 1, 3, 4, 5)), (["certify", "--json"], (0, 1, 3, 4, 5)),
+    (["certify"], (0, 1, 3, 4, 5)), (["certify", "--json"], (0, 1, 3, 4, 5)),
     (["races"], (0, 1, 4, 5)), (["races", "--all"], (0, 1, 4, 5)), (["races", "--json"], (0, 1, 4, 5)),
     (["races", "--mend"], (0, 1, 4, 5)), (["races", "--witness", "1"], (0, 1, 2)),
     (["races", "--format", "github"], (0, 1, 4, 5)), (["races", "--format", "sarif"], (0, 1, 4, 5)),
     (["certify", "--format", "junit"], (0, 1, 3, 4, 5)), (["races", "--witness", "9"], (0, 1, 2)),
     (["races", "--provoke", "1"], (0, 1, 2)), (["replay"], (0, 1, 4)),
     (["ask"], (0, 1)), (["ask", "--json"], (0, 1)), (["picture"], (0, 1)), (["picture", "--html"], (0, 1)),
-    (["picture", "--event", "3"], (0, 1, 2))]
+    (["picture", "--event", "3"], (0, 1, 2)), (["timeline"], (0, 1, 2))]
 # What is asked at the prompt, with the name of an output or of another path.
 QUESTIONS = [b"run", b"next", b"next 3", b"kept", b"marks", b"stamps", b"logs", b"help", b"", b"nonsense", b"who %b",
              b"why %b", b"with %b", b"what finish %b", b"needs %b all", b"dependents %b", b"would cone %b",
@@ -168,13 +170,13 @@ class Rebug:
 class RebugAsk:
     """The second program: words about a recording."""
 
-    def __init__(self, path: str) -> None:
-        self.path, self.runs, self.faults = path, 0, 0
+    def __init__(self, path: str, each_word: bool) -> None:
+        self.path, self.runs, self.faults, self.each_word = path, 0, 0, each_word
 
     def look(self, case: Case, folder: pathlib.Path, rng: random.Random) -> Iterator[str]:
-        """What does not hold of its answers to a case, by three words that are chosen by chance."""
+        """What does not hold of its answers to a case, by each word, or by three words that are chosen by chance."""
         seconds = SECONDS + SECONDS_A_BYTE * case.size()
-        for words, statuses in rng.sample(ASKED, 3):
+        for words, statuses in ASKED if self.each_word else rng.sample(ASKED, 3):
             said = self._questions(case, rng) if words[0] == "ask" else b""
             answer = ask(self.path, [*words, "."], folder, seconds, said)
             # The last line at the prompt was no question, or named what is not there: status 1 without a sentence.
@@ -192,11 +194,11 @@ class RebugAsk:
                     faults.append("a second run answers otherwise")
             yield from (f"{' '.join(words)}: {it}" for it in faults)
 
-    @staticmethod
-    def _questions(case: Case, rng: random.Random) -> bytes:
-        """Lines at the prompt: those of the script, and some that people ask."""
+    def _questions(self, case: Case, rng: random.Random) -> bytes:
+        """Lines at the prompt: those of the script, and some that people ask, or each of them."""
         names = re.findall(rb"^(?:start|finish|touch) (\S+)", case.files["trace"], re.MULTILINE) or [b"app"]
-        lines = rng.choices(QUESTIONS, k=rng.choice([1, 5, 30]))
+        every = rng.sample(QUESTIONS, len(QUESTIONS))
+        lines = every if self.each_word else rng.choices(QUESTIONS, k=rng.choice([1, 5, 30]))
         lines = [it % rng.choice(names) if b"%b" in it else it for it in lines]
         return b"\n".join([*lines, *case.files["script"].split(b"\n")[:20], b""])
 
@@ -210,15 +212,20 @@ class RebugAsk:
                 except xml.etree.ElementTree.ParseError as why:
                     yield f"no picture: {why}"
         elif "--json" in words:
+            odd = misfits(out, words[0])
+            if odd:
+                yield f"no object by the schema of docs/JSON.md: {odd[0]}"
             lines = out.splitlines()
-            kinds = [json.loads(it)["kind"] for it in lines]
-            if words[0] == "races" and not KINDS_OF_RACES.issuperset(kinds):
-                yield f"kinds {set(kinds)}"
             if words[0] == "ask" and len(lines) != 1 + said.count(b"\n") and b"quit" not in said:
                 yield f"{len(lines)} answers to {said.count(bytes([10]))} lines"
-        elif words[0] in ("replay", "ask") or words[:2] in (["races"], ["races", "--all"]):
-            odd = RAW.search(out)
-            if odd:
-                yield f"a byte that no terminal should get: {out[max(0, odd.start() - 40) : odd.end()]!r}"
+        elif words[0] == "timeline":
+            try:
+                json.loads(out)
+            except ValueError as why:
+                yield f"no timeline: {why}"
+        elif words[0] in ("replay", "ask") or words in (["races"], ["races", "--all"], ["certify"]):
+            raw = RAW.search(out)
+            if raw:
+                yield f"a byte that no terminal should get: {out[max(0, raw.start() - 40) : raw.end()]!r}"
         elif "--witness" in words and not out.startswith(b"rebug-trace "):
             yield f"no trace: {out[:100]!r}"
