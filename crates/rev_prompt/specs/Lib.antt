@@ -1,8 +1,10 @@
 pub mod Answers
+pub mod Asked
 pub mod Asking
 pub mod Cones
 pub mod Found
 pub mod Lines
+pub mod Named
 pub mod Past
 pub mod Reasons
 pub mod Spans

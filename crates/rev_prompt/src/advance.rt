@@ -1,6 +1,6 @@
 //! The recording replayed, command by command.
 use crate::answers::{Answer, Step, Tally};
-use crate::commands::say;
+use crate::commands::{event_of, say};
 use crate::session::Session;
 use rev_commands::Command;
 use rev_desk::{Desk, Reply};
@@ -14,8 +14,9 @@ fn take(session: &Session<'_>, desk: &mut Desk, at: usize) -> Result<Option<Step
         return Ok(None);
     };
     let command = turn.command.copy()?;
+    let number = event_of(desk, turn.command);
     let reply = say(desk, turn.lane, command)?;
-    Ok(Some(Step { at, reply }))
+    Ok(Some(Step { at, number, reply }))
 }
 
 // Whether a command was carried out.

@@ -22,6 +22,8 @@ pub struct Span {
 pub struct Step {
     /// Its place among the commands of the recording, from 0.
     pub at: usize,
+    /// The event that it names, as `undo` does, or that `back` took back.
+    pub number: Option<u32>,
     /// What the desk replied; nothing where its journal was full.
     pub reply: Option<rev_desk::Reply>,
 }

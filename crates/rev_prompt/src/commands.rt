@@ -39,6 +39,15 @@ pub(crate) fn say(
     }
 }
 
+/// The event that a command names, or that `back` takes back.
+pub(crate) fn event_of(desk: &Desk, command: &Command) -> Option<u32> {
+    match command {
+        Command::Back => desk.history().kept().last().copied(),
+        Command::Undo(which) | Command::Redo(which) | Command::Cone(which) => desk.named(*which),
+        _ => None,
+    }
+}
+
 /// Says a typed command to the desk. `number` is the event that it names, if it names one.
 pub(crate) fn apply(
     session: &Session<'_>,

@@ -1,6 +1,8 @@
 //! Events by name.
-ghost use Rattle.std.specs.Prelude.{IfOk};
+ghost use Rattle.std.specs.Prelude.{◌≡◌, if◌then◌else◌, option_and_then, IfOk};
+ghost use Rattle.std.specs.Option.{option_copied};
 ghost use Rattle.rev_prompt.specs.Answers.{IsWho};
+ghost use Rattle.rev_prompt.specs.Named.{IsLastOrNone, IsNamed, IsNoneAt, accepted_number, is_at as is_at_path, is_meant, is_meant_at, is_of_kind as is_of_kind_named, is_of_producer as is_of_edge_if, is_touch_of as is_touch_at, kind_word as word_of, last_at as last_at_path};
 
 use crate::answers::Answer;
 use crate::question::EventName;
@@ -9,82 +11,154 @@ use rev_events::Event;
 use rev_graph::Graph;
 use rev_history::History;
 use rev_paths::Name;
-use rev_runs::events_of;
+use rev_runs::{events_of, is_of_edge};
 use std::alloc::{AllocError, Global};
 
-// The output, or the path, that an event is at, and its word.
-fn place_of(event: &Event) -> Option<(&Name, &'static [u8])> {
+// The word of an event's kind.
+fn kind_word(event: &Event) -> &'static [u8]
+    ensures { result.now ≡ word_of event.now }
+{
     match event {
-        Event::Start { out, .. } => Some((out, b"start")),
-        Event::Finish { out, .. } => Some((out, b"finish")),
-        Event::Fail { out, .. } => Some((out, b"fail")),
-        Event::Abort { out, .. } => Some((out, b"abort")),
-        Event::Clean { out } => Some((out, b"clean")),
-        Event::Pass { out } => Some((out, b"pass")),
-        Event::Touch { path, .. } => Some((path, b"touch")),
-        Event::Plan(_) | Event::Interrupt | Event::Resize { .. } => None,
+        Event::Plan(_) => b"plan",
+        Event::Start { .. } => b"start",
+        Event::Finish { .. } => b"finish",
+        Event::Fail { .. } => b"fail",
+        Event::Abort { .. } => b"abort",
+        Event::Clean { .. } => b"clean",
+        Event::Pass { .. } => b"pass",
+        Event::Touch { .. } => b"touch",
+        Event::Interrupt => b"interrupt",
+        Event::Resize { .. } => b"resize",
     }
 }
 
-// Whether an event is at an output, or a path, and of a kind where one is named.
-fn is_at(graph: &Graph, event: &Event, out: &Name, kind: Option<&[u8]>) -> bool {
-    let Some((place, word)) = place_of(event) else {
-        return false;
-    };
-    if let Some(kind) = kind
-        && kind != word
-    {
-        return false;
+// Whether an event is of the kind that a name has, if it has one.
+fn is_of_kind(event: &Event, name: &EventName) -> bool
+    ensures { result ≡ is_of_kind_named name.now event.now }
+{
+    match name {
+        EventName::Kind(kind, _) => kind.as_slice() == kind_word(event),
+        EventName::Which(_) => true,
+        EventName::Last(_) => true,
     }
-    if place == out {
-        return true;
-    }
-    match (graph.producer(place), graph.producer(out)) {
-        (Some(one), Some(other)) => one == other && word != b"touch".as_slice(),
+}
+
+// Whether an event is a touch of a path.
+fn is_touch_of(event: &Event, path: &Name) -> bool
+    ensures { result ≡ is_touch_at path.now event.now }
+{
+    match event {
+        Event::Touch { path: touched, .. } => touched == path,
         _ => false,
     }
 }
 
-// The last kept event at an output.
-fn last_at(history: &History, out: &Name, kind: Option<&[u8]>) -> Option<u32> {
+// Whether an event is one of an edge, where there is an edge.
+fn is_of_producer(graph: &Graph, event: &Event, producer: Option<u32>) -> bool
+    ensures { result ≡ is_of_edge_if graph.now.manifest.builds producer event.now }
+{
+    match producer {
+        Some(edge) => is_of_edge(graph, event, edge),
+        None => false,
+    }
+}
+
+// Whether an event is at a path: a touch of it, or an event of the edge that makes it.
+fn is_at(graph: &Graph, event: &Event, path: &Name) -> bool
+    ensures { result ≡ is_at_path graph.now.manifest.builds path.now event.now }
+{
+    is_touch_of(event, path) || is_of_producer(graph, event, graph.producer(path))
+}
+
+// Whether there is an event, and it is of a name's kind and at a path.
+fn is_there(graph: &Graph, event: Option<&Event>, name: &EventName, path: &Name) -> bool
+    ensures { result ≡ is_meant graph.now.manifest.builds name.now path.now (option_copied event.entry) }
+{
+    match event {
+        Some(event) => is_of_kind(event, name) && is_at(graph, event, path),
+        None => false,
+    }
+}
+
+// The later one of a number that passes and of the last such before it.
+fn later(passes: bool, number: u32, last: Option<u32>) -> Option<u32>
+    ensures { result ≡ (if passes then Some number else last) }
+{
+    if passes {
+        return Some(number);
+    }
+    last
+}
+
+// Whether the event of a number is of a name's kind and at a path.
+fn passes(history: &History, name: &EventName, path: &Name, number: u32) -> bool
+    ensures { result ≡ is_meant_at history.now.timeline name.now path.now number }
+{
+    is_there(history.graph(), history.event(number), name, path)
+}
+
+// The last kept event at a path, of the kind that the name has, if it has one.
+fn last_at(history: &History, name: &EventName, path: &Name) -> Option<u32>
+    ensures { result ≡ last_at_path history.now.timeline name.now path.now }
+{
     let mut last = None;
-    for number in history.kept() {
-        if let Some(event) = history.event(*number) {
-            if is_at(history.graph(), event, out, kind) {
-                last = Some(*number);
-            }
-        }
+    for kept in history.kept() {
+        last = later(passes(history, name, path, *kept), *kept, last);
     }
     last
 }
 
 // What is answered where no kept event is at a path.
-fn none_at(graph: &Graph, out: &Name) -> Result<Answer, AllocError> {
-    match graph.producer(out) {
-        Some(_edge) => Ok(Answer::NoneKept(out.copy()?)),
-        None => Ok(Answer::NoOutput(out.copy()?)),
+fn none_at(history: &History, path: &Name) -> Result<Answer, AllocError>
+    ensures { IfOk result (λ answer. IsNoneAt history.now.timeline path.now answer) }
+{
+    match history.graph().producer(path) {
+        Some(_edge) => Ok(Answer::NoneKept(path.copy()?)),
+        None => Ok(Answer::NoOutput(path.copy()?)),
     }
 }
 
-/// The number of the event that is named, or what is answered where there is none.
-pub(crate) fn named_event(
-    desk: &Desk,
+// The last kept event at a path, of the kind that the name has, or what is answered where there is none.
+fn last_or_none(
+    history: &History,
     name: &EventName,
-) -> Result<Result<u32, Answer>, AllocError> {
-    let history = desk.history();
-    let (found, out) = match name {
-        EventName::Which(which) => {
-            return match desk.named(*which) {
-                Some(number) if history.event(number).is_some() => Ok(Ok(number)),
-                _ => Ok(Err(Answer::NoEvent)),
-            };
-        }
-        EventName::Kind(kind, out) => (last_at(history, out, Some(kind.as_slice())), out),
-        EventName::Last(out) => (last_at(history, out, None), out),
-    };
-    match found {
+    path: &Name,
+) -> Result<Result<u32, Answer>, AllocError>
+    ensures { IfOk result (λ found. IsLastOrNone history.now.timeline name.now path.now found) }
+{
+    match last_at(history, name, path) {
         Some(number) => Ok(Ok(number)),
-        None => Ok(Err(none_at(history.graph(), out)?)),
+        None => Ok(Err(none_at(history, path)?)),
+    }
+}
+
+// A number, where an event was accepted under it.
+fn if_accepted(history: &History, number: Option<u32>) -> Option<u32>
+    ensures { result ≡ option_and_then (accepted_number history.now.timeline) number }
+{
+    match number {
+        Some(number) if history.event(number).is_some() => Some(number),
+        _ => None,
+    }
+}
+
+/// The event that a name means, or what is answered where it means none. A number means the event that was accepted
+/// under it and a label that of its entry, undone since or not. A path means the last kept event there: a touch of it, or
+/// an event of the edge that makes it.
+///
+/// # Errors
+/// [`AllocError`] only where an allocation was refused.
+pub(crate) fn named_event(desk: &Desk, name: &EventName) -> Result<Result<u32, Answer>, AllocError>
+    ensures { IfOk result (λ found. IsNamed desk.now name.now found) }
+{
+    let history = desk.history();
+    match name {
+        EventName::Which(which) => match if_accepted(history, desk.named(*which)) {
+            Some(number) => Ok(Ok(number)),
+            None => Ok(Err(Answer::NoEvent)),
+        },
+        EventName::Kind(_, path) => last_or_none(history, name, path),
+        EventName::Last(path) => last_or_none(history, name, path),
     }
 }
 

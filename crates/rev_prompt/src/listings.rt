@@ -4,6 +4,7 @@ ghost use Rattle.std.specs.List.{flat_map};
 ghost use Rattle.std.specs.Option.{option_copied};
 ghost use Rattle.rev_fields.specs.Fields.{field_text, spaced};
 ghost use Rattle.rev_listing.specs.Logs.{built_text, deps_text};
+ghost use Rattle.rev_prompt.specs.Asked.{AreLines, IsKept, logs_at, stamps_at};
 ghost use Rattle.rev_prompt.specs.Lines.{log_lines, stamp_line};
 
 use crate::answers::Answer;
@@ -89,7 +90,9 @@ pub(crate) fn stamps(
     alloc: Global,
     cells: &Cells,
     path: Option<&Name>,
-) -> Result<Answer, AllocError> {
+) -> Result<Answer, AllocError>
+    ensures { IfOk result (λ answer. AreLines (stamps_at cells.now.state (option_copied path.entry)) answer) }
+{
     let text = match path {
         Some(path) => stamp_of(alloc, cells, path)?,
         None => stamps_text(alloc, cells)?,
@@ -98,11 +101,9 @@ pub(crate) fn stamps(
 }
 
 /// `logs` and `logs PATH`: what the logs have, or what they have of an output.
-pub(crate) fn logs(
-    alloc: Global,
-    cells: &Cells,
-    path: Option<&Name>,
-) -> Result<Answer, AllocError> {
+pub(crate) fn logs(alloc: Global, cells: &Cells, path: Option<&Name>) -> Result<Answer, AllocError>
+    ensures { IfOk result (λ answer. AreLines (logs_at cells.now.state (option_copied path.entry)) answer) }
+{
     let text = match path {
         Some(path) => logs_of(alloc, cells, path)?,
         None => logs_text(alloc, cells)?,
@@ -142,7 +143,9 @@ pub(crate) fn marks(
 }
 
 /// `kept`: the kept events.
-pub(crate) fn kept(alloc: Global, history: &History) -> Result<Answer, AllocError> {
+pub(crate) fn kept(alloc: Global, history: &History) -> Result<Answer, AllocError>
+    ensures { IfOk result (λ answer. IsKept history.now.timeline answer) }
+{
     Ok(Answer::Kept(Vec::from_slice(alloc, history.kept())?))
 }
 

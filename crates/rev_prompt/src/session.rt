@@ -1,15 +1,22 @@
 //! A prompt's session over a recording.
 ghost use Rattle.std.specs.Prelude.{◌≡◌, true, IfOk};
+ghost use Rattle.std.specs.Option.{option_copied};
+ghost use Rattle.rev_prompt.specs.Answers.{IsDependents, IsNeeds};
+ghost use Rattle.rev_prompt.specs.Asked.{IsAnswer};
 ghost use Rattle.rev_prompt.specs.Asking.{is_quit as is_quit_of, only_asks as only_asks_of};
+ghost use Rattle.rev_prompt.specs.Cones.{IsWouldCone};
+ghost use Rattle.rev_prompt.specs.Named.{OfEvent};
+ghost use Rattle.rev_prompt.specs.Past.{IsOpeningOf};
+ghost use Rattle.rev_prompt.specs.declared.answers.Answer.TheVariants as answers;
 
 use crate::advance::{advance, run, until};
 use crate::answers::Answer;
 use crate::causes::{dependents, needs};
-use crate::commands::{apply, cone, undo, without, would_cone};
+use crate::commands::{apply, cone, event_of, undo, without, would_cone};
 use crate::events::{named_event, who};
 use crate::listings::{kept, logs, marks, order, stamps};
 use crate::queries::queried;
-use crate::question::{EventName, Question};
+use crate::question::{EventName, Question, Reach};
 use crate::reasons::why;
 use crate::spans::with;
 use crate::users::{readers, writers};
@@ -67,36 +74,63 @@ impl Drop for Reply {
     }
 }
 
-// What a question about an event is answered.
-fn asked_of_event(
+// `needs EVENT`: what the event of a name rests on, as far as it is asked.
+fn needs_of(
     alloc: Global,
     session: &Session<'_>,
     desk: &Desk,
     name: &EventName,
-    question: &Question,
-) -> Result<Answer, AllocError> {
-    let history = desk.history();
+    reach: Reach,
+) -> Result<Answer, AllocError>
+    ensures { IfOk result (λ answer. OfEvent desk.now name.now (λ n. IsNeeds desk.now.history
+        (option_copied session.now.observation) session.now.edges.now n reach answer) answer) }
+{
     let number = match named_event(desk, name)? {
         Ok(number) => number,
         Err(answer) => return Ok(answer),
     };
-    match question {
-        Question::Needs(_, reach) => needs(
-            alloc,
-            history,
-            session.observation,
-            session.edges,
-            number,
-            *reach,
-        ),
-        Question::Dependents(_) => dependents(alloc, history, number),
-        Question::WouldCone(_) => would_cone(history, number),
-        _ => Ok(Answer::Event(number)),
+    needs(
+        alloc,
+        desk.history(),
+        session.observation,
+        session.edges,
+        number,
+        reach,
+    )
+}
+
+// `dependents EVENT`: what rests on the event of a name.
+fn dependents_of(alloc: Global, desk: &Desk, name: &EventName) -> Result<Answer, AllocError>
+    ensures { IfOk result (λ answer. OfEvent desk.now name.now (λ n. IsDependents desk.now.history n answer) answer) }
+{
+    match named_event(desk, name)? {
+        Ok(number) => dependents(alloc, desk.history(), number),
+        Err(answer) => Ok(answer),
     }
 }
 
-/// What a question that only asks is answered ([`only_asks`]). The desk is read alone, and its history has the opening of
-/// the session.
+// `would cone EVENT`: what a cone of the event of a name would take.
+fn would_cone_of(desk: &Desk, name: &EventName) -> Result<Answer, AllocError>
+    ensures { IfOk result (λ answer. OfEvent desk.now name.now (λ n. IsWouldCone desk.now.history n answer) answer) }
+{
+    match named_event(desk, name)? {
+        Ok(number) => would_cone(desk.history(), number),
+        Err(answer) => Ok(answer),
+    }
+}
+
+// `what EVENT`: the event of a name.
+fn what(desk: &Desk, name: &EventName) -> Result<Answer, AllocError>
+    ensures { IfOk result (λ answer. OfEvent desk.now name.now (λ n. answer ≡ answers.Event n) answer) }
+{
+    match named_event(desk, name)? {
+        Ok(number) => Ok(Answer::Event(number)),
+        Err(answer) => Ok(answer),
+    }
+}
+
+/// What a question that only asks is answered ([`only_asks`]). The desk is read alone. What `why` is answered is said
+/// where the history has the opening of the session.
 ///
 /// # Errors
 /// [`AllocError`] only where an allocation was refused.
@@ -105,13 +139,16 @@ pub fn asked(
     session: &Session<'_>,
     desk: &Desk,
     question: &Question,
-) -> Result<Answer, AllocError> {
+) -> Result<Answer, AllocError>
+    ensures { IsOpeningOf desk.now.history session.now.opening.now → IfOk result (λ answer.
+        IsAnswer desk.now (option_copied session.now.observation) session.now.edges.now question.now answer) }
+{
     let history = desk.history();
     match question {
-        Question::Needs(name, _)
-        | Question::Dependents(name)
-        | Question::WouldCone(name)
-        | Question::What(name) => asked_of_event(alloc, session, desk, name, question),
+        Question::Needs(name, reach) => needs_of(alloc, session, desk, name, *reach),
+        Question::Dependents(name) => dependents_of(alloc, desk, name),
+        Question::WouldCone(name) => would_cone_of(desk, name),
+        Question::What(name) => what(desk, name),
         Question::Who(out) => who(alloc, history, out),
         Question::Readers(path) => {
             readers(alloc, history, session.observation, session.edges, path)
@@ -128,7 +165,15 @@ pub fn asked(
         Question::Logs(path) => logs(alloc, history.cells(), path.as_ref()),
         Question::Query(query, _) => queried(alloc, session, desk, query),
         Question::Help | Question::HelpOf(_) => Ok(Answer::Help),
-        _ => Ok(Answer::Nothing),
+        Question::Races(_) | Question::Quit | Question::Nothing => Ok(Answer::Nothing),
+        Question::Run
+        | Question::Next(_)
+        | Question::Until(_)
+        | Question::Without(_)
+        | Question::Undo(_)
+        | Question::Redo(_)
+        | Question::Cone(_)
+        | Question::Command(_) => Ok(Answer::Nothing),
     }
 }
 
@@ -170,14 +215,6 @@ pub fn only_asks(question: &Question) -> bool
     }
 }
 
-// The event that a command takes back, where it is `back`.
-fn taken_by(desk: &Desk, command: &Command) -> Option<u32> {
-    match command {
-        Command::Back => desk.history().kept().last().copied(),
-        _ => None,
-    }
-}
-
 // Whether a question is `quit`.
 fn is_quit(question: &Question) -> bool
     ensures { result ≡ is_quit_of question.now }
@@ -204,7 +241,7 @@ fn done(
         }
         Question::Without(out) => without(alloc, session, desk, out)?,
         Question::Command(command) => {
-            let number = taken_by(desk, command);
+            let number = event_of(desk, command);
             apply(session, desk, command.copy()?, number)?
         }
         _ => Answer::Nothing,
@@ -226,6 +263,9 @@ pub fn answer_to(
     ensures same { only_asks_of question.now ≡ true → desk.new ≡ desk.old }
     ensures taken { only_asks_of question.now ≡ true → IfOk result (λ reply. reply.taken ≡ session.now.taken) }
     ensures ends { IfOk result (λ reply. reply.ends ≡ is_quit_of question.now) }
+    ensures answered { only_asks_of question.now ≡ true → IsOpeningOf desk.old.history session.now.opening.now
+        → IfOk result (λ reply. IsAnswer desk.old (option_copied session.now.observation) session.now.edges.now
+        question.now reply.answer) }
 {
     let ends = is_quit(question);
     if only_asks(question) {
