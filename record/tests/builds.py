@@ -70,6 +70,20 @@ def wait_for(path):
     wait_until(path.exists, f"{path} did not come")
 
 
+def read_terminal(descriptor):
+    """What comes next at the outer end of a pseudo terminal; nothing where nobody can write any more.
+
+    Linux tells by an error that all inner ends are closed. It looks whether they are after it has looked for bytes. So
+    bytes that were written between the two looks come behind the error: who reads once more has them.
+    """
+    for _ in range(2):
+        try:
+            return os.read(descriptor, 65536)
+        except OSError:
+            continue
+    return b""
+
+
 def wait_until_asleep(process):
     """Waits until a process has slept for a fifth of a second; where there is no /proc, for a whole one."""
     before = []

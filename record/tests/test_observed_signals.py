@@ -83,10 +83,7 @@ class Signals(unittest.TestCase):
                 os.write(terminal, b"\x03")
                 sent = True
             ready, _, _ = select.select([terminal], [], [], 0.01)
-            try:
-                part = os.read(terminal, 65536) if ready else None
-            except OSError:
-                break
+            part = builds.read_terminal(terminal) if ready else None
             if part == b"":
                 break
             said += part or b""

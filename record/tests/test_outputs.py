@@ -16,7 +16,7 @@ import termios
 import unittest
 
 import builds
-from builds import missing_tools, unescaped
+from builds import missing_tools, read_terminal, unescaped
 from versions import NINJA
 
 MANIFEST = """rule run
@@ -49,7 +49,7 @@ build bad: run
 SCRIPTS = {
     "good": "echo fine; touch good",
     "bad": "printf 'bad.c:1: \\033[31merror\\033[0m: no\\tfile\\\\ here\\r\\n\\001\\377'; exit 3",
-    "loud": "yes 123456789 | head -n 20000; exit 1",
+    "loud": "printf '123456789%.0s\\n' $(seq 20000); exit 1",
     "silent": "exit 2",
     "says": "printf 'FAILED: good \\nsh good.sh good\\nFAILED: talks \\nsh talks.sh talks\\nno more\\n'; touch says",
     "names.txt": "echo by lines; exit 1",
@@ -58,6 +58,8 @@ SCRIPTS = {
     "open": "printf 'no end'; touch open",
     "last": "printf 'the last one'; exit 4",
 }
+# What Ninja looks at in the environment, as it writes.
+LOOKED_AT = ("NINJA_STATUS", "CLICOLOR_FORCE", "TERM")
 # What `bad` writes, where Ninja takes its colours out.
 BAD = b"bad.c:1: error: no\tfile\\ here\r\n\x01\xff"
 
@@ -81,16 +83,22 @@ def at_terminal(words, folder, environment, columns=300):
                                stderr=subprocess.DEVNULL, start_new_session=True)
     os.close(inner)
     found = b""
-    while True:
-        try:
-            data = os.read(outer, 65536)
-        except OSError:
-            break
-        if not data:
-            break
+    while data := read_terminal(outer):
         found += data
     os.close(outer)
     return found, process.wait()
+
+
+def environment(given):
+    """The environment of the tests, with these of what Ninja looks at."""
+    return {**{name: it for name, it in os.environ.items() if name not in LOOKED_AT}, "TERM": "xterm", **given}
+
+
+def through_pipe(words, folder, environment):
+    """What the words write to a pipe as their standard output, and their status."""
+    done = subprocess.run(words, cwd=folder, env=environment, stdin=subprocess.DEVNULL, stdout=subprocess.PIPE,
+                          stderr=subprocess.DEVNULL)
+    return done.stdout, done.returncode
 
 
 @unittest.skipIf(missing_tools("ninja"), missing_tools("ninja"))
@@ -114,9 +122,9 @@ class OfRealBuilds(unittest.TestCase):
         out = self.room / "recorded"
         return [sys.executable, builds.RECORDER, self.build, out, "-j", str(jobs), *own, "--", *words]
 
-    def record(self, *own, environment=None, **how):
+    def record(self, *own, **how):
         done = subprocess.run(self.recorder(*own, **how), stdin=subprocess.DEVNULL, capture_output=True,
-                              env={**os.environ, **(environment or {})})
+                              env=environment({}))
         self.assertIn(b"events of this build", done.stderr)
         return done.stdout
 
@@ -169,19 +177,25 @@ class OfRealBuilds(unittest.TestCase):
         for given in formats:
             for words in (["-k0"], ["-k0", "-v"], []):
                 with self.subTest(given=given, words=words):
-                    environment = {"TERM": "xterm", **os.environ, **given}
-                    self.make()
-                    plain = subprocess.run(["ninja", "-j1", *words], cwd=self.build, stdin=subprocess.DEVNULL,
-                                           capture_output=True, env=environment)
-                    self.make()
-                    self.assertEqual(self.record("--output", "all", words=words, environment=environment), plain.stdout)
-                    kept = read_output(self.room / "recorded")
-                    self.make()
-                    due = at_terminal(["ninja", "-j1", *words], self.build, environment)
-                    self.make()
-                    got = at_terminal(self.recorder("--output", "all", words=words), self.build, environment)
-                    self.assertEqual((plain.returncode, *got), (due[1], *due))
-                    self.hold(kept, read_output(self.room / "recorded"), given)
+                    kept = [self.shown_alike(words, environment(given), run) for run in (through_pipe, at_terminal)]
+                    self.hold(*kept, given)
+
+    def shown_alike(self, words, environment, run):
+        """Runs the recorder, and Ninja without it, which has to show the same and end alike: gives what is kept.
+
+        What bytes come from the commands, and in what order, is not the recorder's. So where Ninja shows something else
+        it runs again, up to five times: what the recorder showed has to be what Ninja shows in one of these runs.
+        """
+        self.make()
+        shutil.rmtree(self.room / "recorded", ignore_errors=True)
+        got = run(self.recorder("--output", "all", words=words), self.build, environment)
+        kept = read_output(self.room / "recorded")
+        due = []
+        while got not in due and len(due) < 5:
+            self.make()
+            due.append(run(["ninja", "-j1", *words], self.build, environment))
+        self.assertEqual(got, due[-1], f"{len(set(due))} outputs of {len(due)} runs")
+        return kept
 
     def hold(self, by_pipe, by_terminal, given):
         """What is kept is the same: colours are taken out by Ninja where it writes to no terminal."""
@@ -228,11 +242,8 @@ class OfRandomBuilds(unittest.TestCase):
                                     'exit $it\n')
         (folder / "build.ninja").write_text("".join(text))
         words = [sys.executable, builds.RECORDER, folder, room / "recorded", "-j", "4", "--output", "all", "--", "-k0"]
-        environment = {**os.environ, "CLICOLOR_FORCE": "1", "TERM": "xterm"}
-        if at_tty:
-            at_terminal(words, room, environment)
-        else:
-            subprocess.run(words, stdin=subprocess.DEVNULL, capture_output=True, env=environment)
+        run = at_terminal if at_tty else through_pipe
+        run(words, room, environment({"CLICOLOR_FORCE": "1"}))
         found = read_output(room / "recorded")
         for it in range(count):
             self.assertEqual(f"c{it}" in found, bool(status[it] or wrote[it]), it)

@@ -15,7 +15,7 @@ import tempfile
 import time
 import unittest
 
-from builds import LONGEST_SECONDS, missing_tools, wait_until
+from builds import LONGEST_SECONDS, missing_tools, read_terminal, wait_until
 from provoked import FAINT, GEN, PLANTED, PROVOKE, STAND_IN, USE, Made, Planted
 from recorder.manifest import Manifest
 from recorder.provoke.copies import Refused, in_copy
@@ -24,6 +24,9 @@ from recorder.provoke.races import NotAsked, Observed, Recording, name_of, shown
 from recorder.provoke.words import BadWords, HelpWanted, Options, read_words
 
 SEED = 7
+# How many calls a signal ends, and how many at most where none of them was at work as it came.
+RUNS, MOST_RUNS = 20, 200
+FAILS_SO = 4
 # The projects that leave files in another folder than those of build and sources.
 ELSEWHERE = ("behind_a_link", "logs_elsewhere", "statement_elsewhere")
 NOBODY = 65534
@@ -294,9 +297,11 @@ class Provoked(unittest.TestCase):
         done = subprocess.run(it.words("--all"), stdin=subprocess.DEVNULL, stdout=subprocess.PIPE, stderr=inner,
                               text=True)
         os.close(inner)
-        said = os.read(outer, 65536).decode()
+        said = b""
+        while data := read_terminal(outer):
+            said += data
         os.close(outer)
-        self.assertEqual(said, "".join(f"rebug provoke: race 1 of 1: {what} ..\r\x1b[K" for what in
+        self.assertEqual(said.decode(), "".join(f"rebug provoke: race 1 of 1: {what} ..\r\x1b[K" for what in
                                        ("the user first", "mended", "both")))
         self.assertNotIn("\r", done.stdout)
         self.assertEqual(done.returncode, 4)
@@ -375,7 +380,9 @@ class Provoked(unittest.TestCase):
 class UnderSignals(unittest.TestCase):
     """Ended at random moments, twenty by each signal: what stands in the folders is what stood there."""
 
-    def ended(self, number, *more):
+    def ended(self, number, status, *more):
+        """Sends the signal at random moments; gives the statuses. `status` is that of a call which the signal ended at
+        work. Where no moment was one of these, there are more of them: how long a call takes is the machine's."""
         slow = PLANTED["order_only_missing"].text.replace("build m.o", "build slow: link v.in\nbuild m.o")
         it = Made("slow", Planted(slow, ["v.h"]))
         self.addCleanup(it.remove)
@@ -387,12 +394,15 @@ class UnderSignals(unittest.TestCase):
         it.provoke(*more)
         longest, statuses = time.monotonic() - begun, []
         self.assertEqual(it.everything(), before)
-        for _ in range(20):
+        while len(statuses) < RUNS or status not in statuses and len(statuses) < MOST_RUNS:
             process = subprocess.Popen(it.words(*more), stdin=subprocess.DEVNULL, stdout=subprocess.DEVNULL,
                                        stderr=subprocess.DEVNULL, start_new_session=True)
-            time.sleep(dice.uniform(0.05, longest))
+            delay = dice.uniform(0.05, longest)
+            time.sleep(delay)
             process.send_signal(number)
             statuses.append(process.wait(LONGEST_SECONDS))
+            if statuses[-1] == FAILS_SO:  # it had ended by itself: the first one took longer, on a machine at work
+                longest = max(delay, 0.1)
             self.wait_until_put_back(it)
             self.assertEqual(it.everything(), before, f"{more} {statuses}")
         return statuses
@@ -411,14 +421,14 @@ class UnderSignals(unittest.TestCase):
 
     def test_interrupts(self):
         for more in ([], ["--in-place"]):
-            statuses = self.ended(signal.SIGINT, *more)
-            self.assertLessEqual(set(statuses), {130, 4, -2, 1}, more)  # 1 is that of a Python which is starting
+            statuses = self.ended(signal.SIGINT, 130, *more)
+            self.assertLessEqual(set(statuses), {130, FAILS_SO, -2, 1}, more)  # 1 is that of a Python which is starting
             self.assertIn(130, statuses)
 
     def test_kills(self):
         for more in ([], ["--in-place"]):
-            statuses = self.ended(signal.SIGKILL, *more)
-            self.assertLessEqual(set(statuses), {-9, 4}, more)
+            statuses = self.ended(signal.SIGKILL, -9, *more)
+            self.assertLessEqual(set(statuses), {-9, FAILS_SO}, more)
             self.assertIn(-9, statuses)
 
     def test_what_was_left_by_a_kill_of_all_is_put_back_by_the_next_call(self):

@@ -11,7 +11,7 @@ import unittest
 
 import builds
 import projects  # noqa: F401, adds its chains
-from builds import CHAINS, missing_tools, unescaped
+from builds import CHAINS, missing_tools, read_terminal, unescaped
 
 
 class Recordings(unittest.TestCase):
@@ -158,14 +158,14 @@ class Terminals(unittest.TestCase):
         end.start()
         shown = b""
         while b"touch begun2; sleep 900; touch b" not in shown:
-            data = _read(terminal)
+            data = read_terminal(terminal)
             self.assertTrue(data, shown)
             shown += data
         for name in ("begun1", "begun2"):
             builds.wait_for(folder / "build" / name)
         builds.wait_until_it_has_looked(child)
         os.write(terminal, keys)
-        while data := _read(terminal):
+        while data := read_terminal(terminal):
             shown += data
         os.close(terminal)
         status = os.waitstatus_to_exitcode(os.waitpid(child, 0)[1])
@@ -183,13 +183,6 @@ class Terminals(unittest.TestCase):
         self.assertIn(b"[0/2] touch begun1; sleep 900; touch a\x1b[K", shown)
         self.assertNotIn(b"\x1e", shown)
         self.assertTrue(trace.endswith("interrupt\nabort a 0\nabort b 0\n"), trace)
-
-
-def _read(descriptor):
-    try:
-        return os.read(descriptor, 4096)
-    except OSError:  # the other end is closed
-        return b""
 
 
 if __name__ == "__main__":

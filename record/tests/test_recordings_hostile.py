@@ -6,6 +6,7 @@ import pathlib
 import subprocess
 import sys
 import tempfile
+import time
 import unittest
 
 import builds
@@ -181,13 +182,14 @@ class Links(FromOthers):
         self.assertEqual(picture_of(self.home), {"precious": (8, b"mine"), "r.ninja": (8, b"mine")})
 
     def exchanged_while_it_switches(self, name):
-        """How often a recording was put in place, and how often not."""
-        outcomes = {True: 0, False: 0}
+        """How often a recording was put in place, and how often not. The kernel decides when the exchanger works. So
+        where it never did while a recording was put in place, there are more of them."""
+        outcomes, end = {True: 0, False: 0}, time.monotonic() + builds.LONGEST_SECONDS
         (self.room / "link").symlink_to(self.home)
         (self.out / "inc").mkdir()
         exchanger = subprocess.Popen([sys.executable, "-c", EXCHANGER, self.out / name, self.room / "link"])
         try:
-            for _ in range(100):
+            while sum(outcomes.values()) < 100 or not outcomes[False] and time.monotonic() < end:
                 outcomes[self.switched()] += 1
         finally:
             exchanger.kill()
