@@ -46,7 +46,7 @@ build user: sh in
         (("race", "output", "read"),)),
     "a command asks before the other made it": Planted(
         """build table: sh in
-  do = sleep 1.5; cp in table
+  do = sleep 4; cp in table
 build user: sh in
   do = cat table > user 2> /dev/null || cp in user
 """,
@@ -76,7 +76,7 @@ build user: sh in
         (("race", "edit", "read"),)),
     "a file that is taken away": Planted(
         """build stamp: sh
-  do = sleep 1.5; rm old; touch stamp
+  do = sleep 4; rm old; touch stamp
 build user: sh in
   do = cat old > user
 """,
@@ -97,7 +97,7 @@ build user: sh in
         """build one: sh in
   do = cp in both; touch one
 build two: sh in
-  do = sleep 1.5; cp in both; touch two
+  do = sleep 4; cp in both; touch two
 """,
         {"in": "x\n"},
         ("clash both: one (build.ninja:3) writes it",
@@ -108,7 +108,7 @@ build two: sh in
         """build one: sh in
   do = cp in work.tmp; cp work.tmp one; rm work.tmp
 build two: sh in
-  do = sleep 1.5; cp in work.tmp; cp work.tmp two; rm work.tmp
+  do = sleep 4; cp in work.tmp; cp work.tmp two; rm work.tmp
 """,
         {"in": "x\n"},
         ("clash work.tmp: one (build.ninja:3) makes it, and takes it away again", "so does two (build.ninja:5)"),
