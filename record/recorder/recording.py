@@ -249,8 +249,7 @@ def _add_failed(it, runs, after, ran, begin, seen):
         edge = failed.edge
         if edge.number in runs:
             continue
-        end = failed.time if failed.time is not None else max(0, (failed.came - begin) // _NANOSECONDS)
-        _add_unlogged(it, runs, edge, "fail", end, after, seen)
+        _add_unlogged(it, runs, edge, "fail", failed.milliseconds(begin), after, seen)
         runs[edge.number].code, runs[edge.number].written = failed.code, failed.written
 
 

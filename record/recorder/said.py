@@ -56,13 +56,26 @@ class Written:
 @dataclass(frozen=True)
 class Failed:
     """A command that Ninja says has failed: its exit status where this Ninja tells it (from 1.13 on), Ninja's time of
-    it in milliseconds or None, when the line came (nanoseconds), and what it wrote where Ninja showed that."""
+    it in milliseconds or None, when the line came (nanoseconds), and what it wrote where Ninja showed that.
+
+    Where there is no time, it lies between `since` and `until`, Ninja's times of the status lines before and behind, of
+    which the second may be missing.
+    """
 
     edge: Edge
     code: int | None
     time: int | None
     came: int
     written: Written | None = None
+    since: int = 0
+    until: int | None = None
+
+    def milliseconds(self, begin: int) -> int:
+        """Ninja's time of it, where Ninja began at this time (nanoseconds): at the latest when the line came."""
+        if self.time is not None:
+            return self.time
+        came = max(self.since, (self.came - begin) // 1_000_000)
+        return came if self.until is None else min(came, self.until)
 
 
 @dataclass
@@ -145,7 +158,7 @@ class Said:
             at = mark.end()
             now = int(mark[1]) * 1000 + int(mark[2])
             if now >= self._piece.time:  # else it is that of a Ninja which a command runs
-                self._close()
+                self._close(until=now)
                 self._piece = Piece(now)
         self._piece.add(data[at:])
         self.write(_MARK.sub(b"", data))
@@ -165,8 +178,9 @@ class Said:
                     end = begin + line.start()
         self._close(end)
 
-    def _close(self, end: int | None = None) -> None:
-        """The piece is whole. `end` is where Ninja's last words begin, where it is the last piece."""
+    def _close(self, end: int | None = None, until: int | None = None) -> None:
+        """The piece is whole. `end` is where Ninja's last words begin, where it is the last piece, and `until` the time of
+        the next one, where there is one."""
         piece = self._piece
         if piece.time < 0:
             self._look_at_first(piece)
@@ -183,7 +197,7 @@ class Said:
         if self.keeps_all and piece.time >= 0:
             self._keep(piece, end, bool(failure))
         if at_console:
-            self.failed.append(Failed(at_console[1], at_console[2], None, piece.came))
+            self.failed.append(Failed(at_console[1], at_console[2], None, piece.came, since=piece.time, until=until))
 
     def _look_at_first(self, piece: Piece) -> None:
         """Before its first status line Ninja speaks of itself alone."""

@@ -7,6 +7,7 @@ import subprocess
 import tempfile
 import time
 import unittest
+from dataclasses import replace
 
 from builds import read_deps
 from recorder.checking import check
@@ -377,6 +378,13 @@ class Outputs(unittest.TestCase):
         both = (b"\x1e0.001\x1f[1/3] talk t\nmine\n\x1e0.002\x1f[2/3] w\nFAILED: w \nw\nit\nFAILED: t \ntalk t\n"
                 b"ninja: build stopped: subcommand failed.\n")
         self.assertEqual(self.failed(both), [(b"w", 2, b"it\n"), (b"t", None, None)])
+
+    def test_when_a_command_of_the_console_failed(self):
+        """When its line came, which on a busy machine is late; and between the status lines before and behind it."""
+        text = b"\x1e0.001\x1f[1/3] talk t\nmine\nFAILED: t \ntalk t\n"
+        for behind, came, due in ((b"\x1e0.005\x1f[2/3] w\n", (0, 3, 9), [1, 3, 5]), (b"", (0, 3, 9), [1, 3, 9])):
+            (found,) = self.said(text + behind)[1].failed
+            self.assertEqual([replace(found, came=it * MILLISECOND).milliseconds(0) for it in came], due)
 
     def test_what_is_too_long_is_counted(self):
         for more in (0, 1, 3_000_000):
