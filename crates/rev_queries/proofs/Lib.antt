@@ -1,4 +1,5 @@
 pub mod ListLemmas
 pub mod CopyLemmas
 pub mod ChainLemmas
+pub mod OwnLemmas
 pub mod RebuildLemmas

@@ -1,5 +1,6 @@
 pub mod Critical
 pub mod Edges
+pub mod Own
 pub mod Readings
 pub mod Rebuilds
 pub mod Times

@@ -4,6 +4,7 @@
 
 mod chain;
 mod edges;
+mod own;
 mod reading;
 mod rebuild;
 mod times;

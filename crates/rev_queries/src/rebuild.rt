@@ -6,11 +6,13 @@ ghost use Rattle.std.specs.Option.{option_to_list};
 ghost use Rattle.rev_cells.specs.declared.cell.Cell.{Cell};
 ghost use Rattle.rev_cells.specs.State.{value_at};
 ghost use Rattle.rev_cells.specs.Values.{Fits};
+ghost use Rattle.rev_dirty.specs.Reasons.{reasons_of};
 ghost use Rattle.rev_history.specs.Timeline.{state_at};
 ghost use Rattle.rev_plan.specs.Fault.{Explains};
 ghost use Rattle.rev_plan.specs.Plan.{is_own_reason, plan_refusal};
 ghost use Rattle.rev_queries.specs.Rebuilds.{AreRebuilds, EntryFits, HoldAlike, IsRefusedAfter, IsTouched, entry_in, is_wanted_in as is_wanted_by, rebuild_by as rebuild_with, rebuilds_by, rebuilds_in, touch as touch_of};
 
+use crate::own::own_reason_by_stamps;
 use rev_cells::{Cell, Cells, Mark, Opening, OpeningFault, Value};
 use rev_dirty::{DependencyScan, Reason};
 use rev_graph::Graph;
@@ -155,22 +157,49 @@ fn is_wanted_in(marks: &[Mark], edge: u32) -> bool
     }
 }
 
+// The first reason of an edge that its producers did not give it. The scan is asked only where stamps and records do not
+// tell.
+fn first_reason(
+    alloc: Global,
+    graph: &Graph,
+    cells: &Cells,
+    scan: &mut DependencyScan,
+    edge: u32,
+) -> Result<Option<Reason>, AllocError>
+    requires edge { edge < length graph.now.manifest.builds }
+    requires graph { scan.old.graph ≡ graph.now }
+    requires state { scan.old.state ≡ cells.now.state }
+    ensures reason { IfOk result (λ reason. reason
+        ≡ find is_own_reason (reasons_of graph.now.manifest.builds cells.now.state edge)) }
+    ensures same { scan.new ≡ scan.old }
+{
+    if let Some(reason) = own_reason_by_stamps(alloc, graph, cells, edge)? {
+        return Ok(reason);
+    }
+    let reasons = scan.reasons(edge)?;
+    Ok(own_reason(&reasons))
+}
+
 // Why an edge is to run, where it is wanted.
 fn rebuild_by(
+    alloc: Global,
+    graph: &Graph,
+    cells: &Cells,
     scan: &mut DependencyScan,
     edge: u32,
     wanted: bool,
 ) -> Result<Option<Rebuild>, AllocError>
-    requires { edge < length scan.old.graph.manifest.builds }
+    requires edge { edge < length graph.now.manifest.builds }
+    requires graph { scan.old.graph ≡ graph.now }
+    requires state { scan.old.state ≡ cells.now.state }
     ensures rebuild { IfOk result (λ rebuild. rebuild
-        ≡ rebuild_with scan.old.graph.manifest.builds scan.old.state edge wanted) }
+        ≡ rebuild_with graph.now.manifest.builds cells.now.state edge wanted) }
     ensures same { scan.new ≡ scan.old }
 {
     if !wanted {
         return Ok(None);
     }
-    let reasons = scan.reasons(edge)?;
-    let reason = own_reason(&reasons);
+    let reason = first_reason(alloc, graph, cells, scan, edge)?;
     Ok(Some(Rebuild { edge, reason }))
 }
 
@@ -197,7 +226,14 @@ fn rebuilds_among(
     let mut scan = DependencyScan::new(alloc, graph, cells);
     let mut rebuilds = Vec::new(alloc);
     for edge in 0..graph.edges() {
-        let rebuild = rebuild_by(&mut scan, edge, is_wanted_in(marks, edge))?;
+        let rebuild = rebuild_by(
+            alloc,
+            graph,
+            cells,
+            &mut scan,
+            edge,
+            is_wanted_in(marks, edge),
+        )?;
         add(&mut rebuilds, rebuild)?;
     }
     Ok(rebuilds)
