@@ -22,7 +22,8 @@ from .manifest import Edge, Manifest
 
 BEGIN, END = b"\x1e", b"\x1f"
 MARK_COLUMNS = 7  # those of a mark of the first ten seconds
-_MARK = re.compile(BEGIN + rb"(\d+)\.(\d{3})" + END)
+# Up to 1.11 Ninja takes the clock of the day: where that is set back during a build, there are times below 0.
+_MARK = re.compile(BEGIN + rb"(-?)(\d+)\.(\d{3})" + END)
 _LONGEST_MARK = 32
 _COLOUR = re.compile(rb"\x1b\[[0-9;]*[A-Za-z]")
 _FAILED_LINE = re.compile(rb"^(?:\x1b\[[0-9;]*m)*FAILED: .*\n", re.MULTILINE)
@@ -156,7 +157,7 @@ class Said:
         for mark in _MARK.finditer(data):
             self._piece.add(data[at : mark.start()])
             at = mark.end()
-            now = int(mark[1]) * 1000 + int(mark[2])
+            now = int(mark[1] + mark[2] + mark[3])
             if now >= self._piece.time:  # else it is that of a Ninja which a command runs
                 self._close(until=now)
                 self._piece = Piece(now)
@@ -179,8 +180,8 @@ class Said:
         self._close(end)
 
     def _close(self, end: int | None = None, until: int | None = None) -> None:
-        """The piece is whole. `end` is where Ninja's last words begin, where it is the last piece, and `until` the time of
-        the next one, where there is one."""
+        """The piece is whole. `end` is where Ninja's last words begin, where it is the last piece, and `until` is the
+        time of the next one, where there is one."""
         piece = self._piece
         if piece.time < 0:
             self._look_at_first(piece)

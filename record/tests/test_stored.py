@@ -335,6 +335,11 @@ class Outputs(unittest.TestCase):
                               (b"w", -9, 2000, Written(b""))])
             self.assertEqual(found.stopped, b"interrupted by user.")
 
+    def test_marks_go_where_the_clock_was_set_back(self):
+        text = b"\x1e0.004\x1f[1/3] w\n\x1e-3599.020\x1f[2/3] me\n"
+        for size in (1, 1000):
+            self.assertEqual(self.said(text, size)[0], b"[1/3] w\n[2/3] me\n")
+
     def test_other_control_bytes_stay(self):
         self.assertEqual(self.said(b"a\x1eb\x1f\n\x1e")[0], b"a\x1eb\x1f\n\x1e")
 
