@@ -161,13 +161,18 @@ fn written_for(
     })
 }
 
-// The texts of a line whose first word is asked about an output.
-fn line_about(alloc: Global, texts: &[Vec<u8>], output: &[u8]) -> Result<Vec<Vec<u8>>, AllocError> {
+// The texts of a line with an output in place of the text at a place.
+fn line_about(
+    alloc: Global,
+    texts: &[Vec<u8>],
+    place: usize,
+    output: &[u8],
+) -> Result<Vec<Vec<u8>>, AllocError> {
     let mut line = Vec::new(alloc);
-    if let Some(word) = texts.first() {
-        line.push(Vec::from_slice(alloc, word)?)?;
+    for (index, text) in texts.iter().enumerate() {
+        let text: &[u8] = if index == place { output } else { text };
+        line.push(Vec::from_slice(alloc, text)?)?;
     }
-    line.push(Vec::from_slice(alloc, output)?)?;
     Ok(line)
 }
 
@@ -177,17 +182,17 @@ fn answers_for_each(
     session: &Session<'_>,
     desk: &mut Desk,
     texts: &[Vec<u8>],
-    outputs: &[Vec<u8>],
+    several: &Several,
     style: Style<'_>,
 ) -> Result<Vec<Vec<u8>>, AllocError> {
     let most = if style.all {
-        outputs.len()
+        several.outputs.len()
     } else {
         MOST_OUTPUTS
     };
     let mut answers = Vec::new(alloc);
-    for output in outputs.iter().take(most) {
-        let line = line_about(alloc, texts, output)?;
+    for output in several.outputs.iter().take(most) {
+        let line = line_about(alloc, texts, several.place, output)?;
         let answered = written_for_words(alloc, session, desk, &line, style)?;
         answers.push(Vec::from_slice(alloc, &answered.text)?)?;
     }
@@ -220,21 +225,20 @@ fn written_for_each(
     several: &Several,
     style: Style<'_>,
 ) -> Result<Answered, AllocError> {
-    let outputs = &several.outputs;
-    let answers = answers_for_each(alloc, session, desk, texts, outputs, style)?;
+    let answers = answers_for_each(alloc, session, desk, texts, several, style)?;
     let many = Many {
-        name: match texts.get(1) {
+        name: match texts.get(several.place) {
             Some(name) => name,
             None => &[],
         },
         is_phony: several.is_phony,
-        count: outputs.len(),
+        count: several.outputs.len(),
     };
     Ok(Answered {
         text: each_text(alloc, many, &answers, style)?,
         taken: session.taken,
         repeats: false,
-        is_answer: !outputs.is_empty(),
+        is_answer: !several.outputs.is_empty(),
         ends: false,
     })
 }

@@ -146,8 +146,8 @@ fn path(alloc: Global, text: &[u8]) -> Result<Name, LineFault> {
     }
 }
 
-// Whether a word is that of an event at an edge or at a path.
-fn is_kind(word: &[u8]) -> bool {
+/// Whether a word is that of an event at an edge or at a path.
+pub(crate) fn is_kind(word: &[u8]) -> bool {
     word == b"start".as_slice()
         || word == b"finish".as_slice()
         || word == b"fail".as_slice()
@@ -157,8 +157,8 @@ fn is_kind(word: &[u8]) -> bool {
         || word == b"touch".as_slice()
 }
 
-// Whether a text begins as a number does.
-fn is_number(text: &[u8]) -> bool {
+/// Whether a text names an event by its number or its label.
+pub(crate) fn is_number(text: &[u8]) -> bool {
     !text.is_empty()
         && text
             .iter()
