@@ -1,6 +1,6 @@
 -- What is found is what is told, and with its kind what is to be told.
 use Rattle.std.proofs.Common.{◌≡◌, ℕ, ◌<◌, ◌^◌, Bool, true, false, not, ◌&&◌, ◌||◌, List, [], ◌∷◌, length, get_or, map, slice_get, Option, Some, None, ◌⊎◌, inl, inr, refl, sym, ap, subst, ◌∙◌, arith, true≢false, Contains, if◌then◌else◌, nat_lt}
-use Rattle.std.specs.Prelude.{All}
+use Rattle.std.specs.Prelude.{◌↔◌, All}
 use Rattle.std.specs.List.{AllByRecursion, cons_option, filter_map}
 use Rattle.std.specs.List.Sorted.{IsStrictlySortedBy}
 use Rattle.std.specs.Option.{option_map}
@@ -31,6 +31,22 @@ use Rattle.rev_conflicts.specs.Answer.{AreConflicts, IsConflict, conflict_key}
 use Rattle.rev_conflicts.specs.Tables.{AreEarly, AreMet, AreTouched, HasAt, IsApart, IsKeyAt, IsKeyOf, IsMet, IsOfMeet, SomeBelow, kind_among, kind_told, meet_key, of_kind, told_key, touching, uses_at, with_kind}
 use Rattle.rev_conflicts.proofs.FoundLemmas.{one-told}
 use Rattle.rev_conflicts.proofs.MeetLemmas.{past-end}
+
+-- ALL COMMANDS IN ANOTHER ORDER
+-- each of these numbers is a command's
+pub place-below : (numbers items : List ℕ) (n count j : ℕ) → ((number : ℕ) → Contains numbers number ↔ (number < n)) → items ≡ numbers → n ≡ count → j < length items → get_or items j 0 < count
+place-below numbers items n count j are is same within =
+    let there : Contains numbers (get_or items j 0) = subst (λ (xs : List ℕ). Contains xs (get_or items j 0)) is (Contains-get_or items j 0 within) in
+    let below = (are (get_or items j 0)).0 there in
+    omega (arith, below, same)
+
+-- what holds of each of these numbers holds of each command's
+pub along-all : (Q : ℕ → Type 0) (numbers items : List ℕ) (n count end : ℕ) → ((number : ℕ) → Contains numbers number ↔ (number < n)) → items ≡ numbers → n ≡ count → end ≡ length items
+    → ((j : ℕ) → j < end → Q (get_or items j 0)) → (i : ℕ) → i < count → Q i
+along-all Q numbers items n count end are is same all each i below =
+    let there : Contains items i = subst (λ (xs : List ℕ). Contains xs i) (sym is) ((are i).1 (omega (arith, below, same))) in
+    let within = there.1 in
+    subst Q (get_or_default items there.0 0 i there.1 ∙ there.2) (each there.0 (omega (arith, within, all)))
 
 -- NUMBERS AND WHAT THEY TELL
 contains-key : (told : List Told) (r : Told) → Contains told r → Contains (map told_key told) (told_key r)

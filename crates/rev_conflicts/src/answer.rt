@@ -14,7 +14,7 @@ use crate::found::Found;
 use crate::kinds::with_kinds;
 use crate::meeting::add_of;
 use crate::nexts::with_nexts;
-use crate::search::no_search;
+use crate::search::{grouped, no_search};
 use crate::table::{Tables, make_tables};
 use crate::told::Told;
 use rev_graph::Graph;
@@ -48,7 +48,9 @@ fn found_in(
     let mut direct = vec![in alloc; None; graph.edges() as usize]?;
     let mut search = no_search(alloc);
     let mut found = Found::new(alloc);
-    for (number, command) in commands.iter().enumerate() {
+    let numbers = grouped(alloc, steps, edges)?;
+    for number in &numbers {
+        let place = *number as usize;
         add_of(
             alloc,
             graph,
@@ -57,8 +59,8 @@ fn found_in(
             early,
             &files,
             &folders,
-            command,
-            number,
+            &commands[place],
+            place,
             &mut direct,
             &mut search,
             &mut found,
@@ -76,8 +78,8 @@ fn found_in(
 ///
 /// Who touches a place is noted first. Of each command the places that somebody touches are gone through; others are
 /// not, however long its ranges are. A search goes through what the user's edge waits for only where a command touches
-/// one of these places whose edge the user's edge does not step to. Users that step to the same edges, one after the
-/// other, share a search.
+/// one of these places whose edge the user's edge does not step to. All users that step to the same edges share a
+/// search.
 ///
 /// # Errors
 /// [`AllocError`] only where an allocation was refused.
