@@ -3,7 +3,6 @@ use rev_graph::{Graph, GraphFault};
 use rev_manifest::{Manifest, read};
 use rev_paths::Name;
 use std::alloc::{AllocError, Global};
-use std::test::Fail;
 
 const CHAIN: &str = "rule cc\n  command = cc $in -o $out\nbuild b.o: cc b.c\nbuild b: cc b.o\n";
 
@@ -18,12 +17,13 @@ const ORDER_ONLY_CYCLE: &str = "rule r\n  command = r\nbuild x: r || y\nbuild y:
 const POOLS: &str =
     "pool any\n  depth = 0\npool one\n  depth = 2\nrule r\n  command = r\nbuild x | w: r a |@ v\n  pool = any\nbuild v: r b\n  pool = one\n";
 
-fn manifest_of(alloc: Global, content: &str) -> Result<Manifest, Fail> {
+fn manifest_of(alloc: Global, content: &str) -> Result<Manifest, AllocError> {
     let name = Vec::from_slice(alloc, b"build.ninja")?;
-    let content = Vec::from_slice(alloc, content.as_bytes())?;
-    let files = vec![in alloc; (name, content)]?;
-    let manifest = read(alloc, &files)?;
-    Ok(manifest)
+    let files = vec![in alloc; (name, Vec::from_slice(alloc, content.as_bytes())?)]?;
+    match read(alloc, &files) {
+        Ok(manifest) => Ok(manifest),
+        Err(_) => Err(AllocError),
+    }
 }
 
 // Paths, each behind a space.
@@ -48,17 +48,14 @@ fn push_answer(text: &mut Vec<u8>, answer: &str) -> Result<(), AllocError> {
     text.extend_from_slice(answer.as_bytes())
 }
 
-// The number that a digit says.
-fn edge_of(said: &[u8]) -> u32 {
-    match said.first() {
-        Some(digit) => u32::from(digit.wrapping_sub(b'0')),
-        None => 0,
-    }
-}
-
-fn push_flags(alloc: Global, text: &mut Vec<u8>, graph: &Graph, edge: u32) -> Result<(), Fail> {
+fn push_flags(
+    alloc: Global,
+    text: &mut Vec<u8>,
+    graph: &Graph,
+    edge: u32,
+) -> Result<(), AllocError> {
     if edge >= graph.edges() {
-        return Err(Fail::from("no edge of that number"));
+        return Err(AllocError);
     }
     let told = format!(in alloc;
         "{} {} {} {}",
@@ -67,13 +64,17 @@ fn push_flags(alloc: Global, text: &mut Vec<u8>, graph: &Graph, edge: u32) -> Re
         graph.restat(edge),
         graph.generator(edge)
     )?;
-    push_answer(text, &told)?;
-    Ok(())
+    push_answer(text, &told)
 }
 
-fn push_inputs(alloc: Global, text: &mut Vec<u8>, graph: &Graph, edge: u32) -> Result<(), Fail> {
+fn push_inputs(
+    alloc: Global,
+    text: &mut Vec<u8>,
+    graph: &Graph,
+    edge: u32,
+) -> Result<(), AllocError> {
     if edge >= graph.edges() {
-        return Err(Fail::from("no edge of that number"));
+        return Err(AllocError);
     }
     let inputs = graph.inputs(edge);
     push_lists(text, &[inputs.explicit, inputs.implicit, inputs.order_only])?;
@@ -82,8 +83,19 @@ fn push_inputs(alloc: Global, text: &mut Vec<u8>, graph: &Graph, edge: u32) -> R
         graph.producers(edge),
         graph.counted_producers(edge)
     )?;
-    push_answer(text, &told)?;
-    Ok(())
+    push_answer(text, &told)
+}
+
+fn push_pool(
+    alloc: Global,
+    text: &mut Vec<u8>,
+    graph: &Graph,
+    edge: u32,
+) -> Result<(), AllocError> {
+    if edge >= graph.edges() {
+        return Err(AllocError);
+    }
+    push_answer(text, &format!(in alloc; "{:?}", graph.pool(edge))?)
 }
 
 // What a word asks of an edge.
@@ -91,55 +103,58 @@ fn push_of_edge(
     alloc: Global,
     text: &mut Vec<u8>,
     graph: &Graph,
-    word: &[u8],
+    word: &str,
     edge: u32,
-) -> Result<(), Fail> {
+) -> Result<(), AllocError> {
     if edge >= graph.edges() {
-        return Err(Fail::from("no edge of that number"));
+        return Err(AllocError);
     }
     match word {
-        b"outputs" => {
+        "outputs" => {
             let outputs = graph.outputs(edge);
-            push_lists(text, &[outputs.explicit, outputs.implicit])?;
+            push_lists(text, &[outputs.explicit, outputs.implicit])
         }
-        b"validations" => push_paths(text, graph.validations(edge))?,
-        b"command" => text.extend_from_slice(graph.command(edge))?,
-        b"pool" => push_answer(text, &format!(in alloc; "{:?}", graph.pool(edge))?)?,
-        b"inputs" => push_inputs(alloc, text, graph, edge)?,
-        _ => push_flags(alloc, text, graph, edge)?,
+        "validations" => push_paths(text, graph.validations(edge)),
+        "command" => text.extend_from_slice(graph.command(edge)),
+        "pool" => push_pool(alloc, text, graph, edge),
+        "inputs" => push_inputs(alloc, text, graph, edge),
+        _ => push_flags(alloc, text, graph, edge),
     }
-    Ok(())
 }
 
-// What a word asks of a path.
-fn push_of_path(
+fn named(alloc: Global, path: &str) -> Result<Name, AllocError> {
+    match Name::new(alloc, path.as_bytes()) {
+        Ok(name) => Ok(name),
+        Err(_) => Err(AllocError),
+    }
+}
+
+fn push_producer(
     alloc: Global,
     text: &mut Vec<u8>,
     graph: &Graph,
-    word: &[u8],
-    path: &[u8],
-) -> Result<(), Fail> {
-    let path = Name::new(alloc, path)?;
-    let told = match word {
-        b"producer" => format!(in alloc; "{:?}", graph.producer(&path))?,
-        _ => format!(in alloc; "{}", graph.known(&path))?,
-    };
-    push_answer(text, &told)?;
-    Ok(())
+    path: &str,
+) -> Result<(), AllocError> {
+    let producer = graph.producer(&named(alloc, path)?);
+    push_answer(text, &format!(in alloc; "{producer:?}")?)
 }
 
-// What stands before and behind the first space.
-fn cut(text: &[u8]) -> (&[u8], &[u8]) {
-    match text.iter().position(|it| *it == b' ') {
-        Some(at) => (&text[..at], &text[at + 1..]),
-        None => (text, &[]),
+fn push_known(
+    alloc: Global,
+    text: &mut Vec<u8>,
+    graph: &Graph,
+    path: &str,
+) -> Result<(), AllocError> {
+    match graph.known(&named(alloc, path)?) {
+        true => push_answer(text, "true"),
+        false => push_answer(text, "false"),
     }
 }
 
 // Whether an edge's rank is below another's.
-fn is_below(graph: &Graph, edge: u32, other: u32) -> Result<&'static str, Fail> {
+fn is_below(graph: &Graph, edge: u32, other: u32) -> Result<&'static str, AllocError> {
     if edge >= graph.edges() || other >= graph.edges() {
-        return Err(Fail::from("no edge of that number"));
+        return Err(AllocError);
     }
     if graph.rank(edge) < graph.rank(other) {
         Ok("true")
@@ -148,30 +163,45 @@ fn is_below(graph: &Graph, edge: u32, other: u32) -> Result<&'static str, Fail> 
     }
 }
 
-fn push_told(alloc: Global, text: &mut Vec<u8>, graph: &Graph, line: &[u8]) -> Result<(), Fail> {
-    let (word, said) = cut(line);
-    match word {
-        b"edges" => push_answer(text, &format!(in alloc; "{}", graph.edges())?)?,
-        b"defaults" => push_paths(text, graph.defaults())?,
-        b"producer" | b"known" => push_of_path(alloc, text, graph, word, said)?,
-        b"below" => push_answer(text, is_below(graph, edge_of(said), edge_of(cut(said).1))?)?,
-        _ => push_of_edge(alloc, text, graph, word, edge_of(said))?,
-    }
-    text.extend_from_slice(b"; ")?;
-    Ok(())
+// The number that a text says, which is no edge's where it says none.
+fn edge_of(said: &str) -> u32 {
+    said.parse().unwrap_or(u32::MAX)
 }
 
-fn tell_all(alloc: Global, graph: &Graph, lines: &str) -> Result<Vec<u8>, Fail> {
+fn push_below(text: &mut Vec<u8>, graph: &Graph, said: &str) -> Result<(), AllocError> {
+    match said.split_once(' ') {
+        Some((edge, other)) => push_answer(text, is_below(graph, edge_of(edge), edge_of(other))?),
+        None => Err(AllocError),
+    }
+}
+
+fn push_told(
+    alloc: Global,
+    text: &mut Vec<u8>,
+    graph: &Graph,
+    line: &str,
+) -> Result<(), AllocError> {
+    match line.split_once(' ') {
+        None if line == "edges" => push_answer(text, &format!(in alloc; "{}", graph.edges())?),
+        None => push_paths(text, graph.defaults()),
+        Some(("below", said)) => push_below(text, graph, said),
+        Some(("producer", path)) => push_producer(alloc, text, graph, path),
+        Some(("known", path)) => push_known(alloc, text, graph, path),
+        Some((word, edge)) => push_of_edge(alloc, text, graph, word, edge_of(edge)),
+    }
+}
+
+fn tell_all(alloc: Global, graph: &Graph, lines: &str) -> Result<Vec<u8>, AllocError> {
     let mut text = Vec::new(alloc);
     for line in lines.split("; ") {
-        push_told(alloc, &mut text, graph, line.as_bytes())?;
+        push_told(alloc, &mut text, graph, line)?;
+        text.extend_from_slice(b"; ")?;
     }
     Ok(text)
 }
 
 fn fault_text(alloc: Global, fault: &GraphFault) -> Result<Vec<u8>, AllocError> {
-    let told = format!(in alloc; "fault {:?}", fault.code())?;
-    let mut text = Vec::from_slice(alloc, told.as_bytes())?;
+    let mut text = format!(in alloc; "fault {:?}", fault.code())?.into_bytes();
     if let Some(path) = fault.path() {
         text.push(b' ')?;
         text.extend_from_slice(path.as_bytes())?;
@@ -180,15 +210,23 @@ fn fault_text(alloc: Global, fault: &GraphFault) -> Result<Vec<u8>, AllocError> 
 }
 
 // What a graph answers to lines that stand apart by `; `, or its fault.
-fn told(alloc: Global, content: &str, lines: &str) -> Result<Vec<u8>, Fail> {
+fn told(alloc: Global, content: &str, lines: &str) -> Result<Vec<u8>, AllocError> {
     let manifest = manifest_of(alloc, content)?;
     match &Graph::build(alloc, &manifest) {
         Ok(graph) => tell_all(alloc, graph, lines),
-        Err(fault) => Ok(fault_text(alloc, fault)?),
+        Err(fault) => fault_text(alloc, fault),
     }
 }
 
-const OF_PATHS: &[(&str, &str, &str)] = &[
+fn is_told(alloc: Global, content: &str, lines: &str, wanted: &str) -> bool {
+    match told(alloc, content, lines) {
+        Ok(told) => told.as_slice() == wanted.as_bytes(),
+        Err(_) => false,
+    }
+}
+
+// Manifests, lines, and what is told of them.
+const ROWS: &[(&str, &str, &str)] = &[
     (
         CHAIN,
         "edges; producer b.o; producer b.c",
@@ -203,9 +241,7 @@ const OF_PATHS: &[(&str, &str, &str)] = &[
         "producer w; producer v; known v",
         "Some(0); Some(1); true; ",
     ),
-];
-
-const OF_EDGES: &[(&str, &str, &str)] = &[
+    // Edges.
     (CHAIN, "inputs 1", " b.o | | | [Some(0)] [Some(0)]; "),
     (CHAIN, "outputs 0", " b.o | |; "),
     (
@@ -223,9 +259,7 @@ const OF_EDGES: &[(&str, &str, &str)] = &[
     ),
     // Ranks rise along a chain.
     (CHAIN, "below 0 1; below 1 0", "true; false; "),
-];
-
-const FAULTS: &[(&str, &str, &str)] = &[
+    // Faults.
     // The first second producer is named.
     (TWO_PRODUCERS, "", "fault Some(40) y"),
     // The least edge on a cycle is named.
@@ -235,18 +269,16 @@ const FAULTS: &[(&str, &str, &str)] = &[
     (ORDER_ONLY_CYCLE, "", "fault Some(41) x"),
 ];
 
-const TABLES: &[&[(&str, &str, &str)]] = &[OF_PATHS, OF_EDGES, FAULTS];
-
 #[test]
-fn what_graphs_answer(rt: HostRuntime) -> Result<(), Fail> {
-    for rows in TABLES {
-        for (content, lines, wanted) in *rows {
-            let told = told(rt.alloc(), content, lines)?;
-            assert!(rt; told.as_slice() == wanted.as_bytes(), "{content} {lines}");
-        }
+fn what_graphs_answer(rt: HostRuntime) {
+    for (content, lines, wanted) in ROWS {
+        assert!(rt;
+            is_told(rt.alloc(), content, lines, wanted),
+            "{content} {lines}"
+        );
     }
-    assert!(rt; GraphFault::TooManyEdges.code() == Some(42));
-    assert!(rt; GraphFault::Memory.code() == None);
-    assert!(rt; GraphFault::TooManyEdges.path().is_none());
-    Ok(())
+    let fault = GraphFault::TooManyEdges;
+    assert!(rt;
+        fault.code() == Some(42) && fault.path().is_none() && GraphFault::Memory.code() == None
+    );
 }

@@ -1,13 +1,27 @@
 // Paths as files are named, quoted, and interned.
 use rev_paths::{Name, PathFault, Paths, is_unquoted, quoted};
-use std::alloc::Global;
+use std::alloc::{AllocError, Global};
 use std::cmp::Ordering;
-use std::test::Fail;
 
 // The canonical form of a path.
-fn named(alloc: Global, path: &[u8]) -> Result<Name, Fail> {
-    let name = Name::new(alloc, path)?;
-    Ok(name)
+fn named(alloc: Global, path: &[u8]) -> Result<Name, AllocError> {
+    match Name::new(alloc, path) {
+        Ok(name) => Ok(name),
+        Err(_) => Err(AllocError),
+    }
+}
+
+fn is_named(alloc: Global, path: &[u8], wanted: &[u8]) -> bool {
+    match Name::new(alloc, path) {
+        Ok(name) => name.as_bytes() == wanted,
+        Err(_) => false,
+    }
+}
+
+// Whether a path stands so in a command, and whether it stands there without quotes.
+fn is_quoted(alloc: Global, path: &[u8], wanted: &[u8], safe: bool) -> Result<bool, AllocError> {
+    let name = named(alloc, path)?;
+    Ok(quoted(alloc, &name)?.as_slice() == wanted && is_unquoted(&name) == safe)
 }
 
 const NAMES: &[(&[u8], &[u8])] = &[
@@ -20,104 +34,91 @@ const NAMES: &[(&[u8], &[u8])] = &[
     (b"/../a/", b"/a"),
 ];
 
-// Whether a path of so many letters keeps them all.
-fn is_kept(alloc: Global, letters: usize) -> Result<bool, Fail> {
-    let path = vec![in alloc; b'a'; letters]?;
-    let name = named(alloc, &path)?;
-    Ok(name.as_bytes() == path.as_slice())
-}
-
-#[test]
-fn parts_are_resolved(rt: HostRuntime) -> Result<(), Fail> {
-    for (path, wanted) in NAMES {
-        let name = named(rt.alloc(), path)?;
-        assert!(rt; name.as_bytes() == *wanted);
-    }
-    assert!(rt; is_kept(rt.alloc(), 4096)?);
-    Ok(())
-}
-
-// The number of the fault of a path, which has one.
-fn code_of(alloc: Global, path: &[u8]) -> Result<Option<u16>, Fail> {
-    match Name::new(alloc, path) {
-        Ok(_) => Err(Fail::from("a name")),
-        Err(fault) => Ok(fault.code()),
-    }
-}
-
-#[test]
-fn empty_and_longer_paths_are_refused(rt: HostRuntime) -> Result<(), Fail> {
-    let longer = vec![in rt.alloc(); b'a'; 4097]?;
-    assert!(rt; code_of(rt.alloc(), &longer)? == Some(2));
-    assert!(rt; code_of(rt.alloc(), b"")? == Some(1));
-    assert!(rt; PathFault::EmptyPath.code() == Some(1));
-    assert!(rt; PathFault::LongPath.code() == Some(2));
-    assert!(rt; PathFault::Memory.code() == None);
-    Ok(())
-}
-
-fn same(alloc: Global, path: &[u8], other: &[u8]) -> Result<bool, Fail> {
-    let name = named(alloc, path)?;
-    Ok(name == named(alloc, other)? && name.copy()? == name)
-}
-
-fn is_before(alloc: Global, path: &[u8], other: &[u8]) -> Result<bool, Fail> {
-    let first = named(alloc, path)?;
-    let second = named(alloc, other)?;
-    Ok(first < second && second.cmp(&first) == Ordering::Greater)
-}
-
-#[test]
-fn names_are_compared(rt: HostRuntime) -> Result<(), Fail> {
-    assert!(rt; same(rt.alloc(), b"a/b", b"./a/b")?);
-    assert!(rt; is_before(rt.alloc(), b"a-b", b"a/b")?);
-    Ok(())
-}
-
-// A path as it stands in a command, and whether it stands there without quotes.
-fn quoted_text(alloc: Global, path: &[u8]) -> Result<(Vec<u8>, bool), Fail> {
-    let name = named(alloc, path)?;
-    let text = quoted(alloc, &name)?;
-    Ok((text, is_unquoted(&name)))
-}
-
 const QUOTED: &[(&[u8], &[u8], bool)] = &[
     (b"../Src_1/a+b-c.o", b"../Src_1/a+b-c.o", true),
     (b"it's a $x.o", b"'it'\\''s a $x.o'", false),
 ];
 
-#[test]
-fn all_but_safe_paths_stand_between_quotes(rt: HostRuntime) -> Result<(), Fail> {
-    for (path, wanted, safe) in QUOTED {
-        let (text, is_unquoted) = quoted_text(rt.alloc(), path)?;
-        assert!(rt; text.as_slice() == *wanted && is_unquoted == *safe);
+// What comes of a path of so many letters: whether it keeps them all, or the number of its fault.
+fn of_letters(alloc: Global, letters: usize) -> Result<(bool, Option<u16>), AllocError> {
+    let path = vec![in alloc; b'a'; letters]?;
+    match Name::new(alloc, &path) {
+        Ok(name) => Ok((name.as_bytes() == path.as_slice(), None)),
+        Err(fault) => Ok((false, fault.code())),
     }
+}
+
+const LETTERS: &[(usize, (bool, Option<u16>))] = &[
+    (4096, (true, None)),
+    (4097, (false, Some(2))),
+    (0, (false, Some(1))),
+];
+
+#[test]
+fn paths_are_named_and_quoted(rt: HostRuntime) -> Result<(), AllocError> {
+    for (path, wanted) in NAMES {
+        assert!(rt; is_named(rt.alloc(), path, wanted));
+    }
+    // All but safe paths stand between quotes.
+    for (path, wanted, safe) in QUOTED {
+        assert!(rt; is_quoted(rt.alloc(), path, wanted, *safe)?);
+    }
+    // Empty and longer paths are refused.
+    for (letters, wanted) in LETTERS {
+        assert!(rt; of_letters(rt.alloc(), *letters)? == *wanted);
+    }
+    let codes = [
+        PathFault::EmptyPath.code(),
+        PathFault::LongPath.code(),
+        PathFault::Memory.code(),
+    ];
+    assert!(rt; codes == [Some(1), Some(2), None]);
     Ok(())
 }
 
-// The number that a path gets.
-fn intern(alloc: Global, paths: &mut Paths, path: &[u8]) -> Result<u64, Fail> {
+fn same(alloc: Global, path: &[u8], other: &[u8]) -> Result<bool, AllocError> {
     let name = named(alloc, path)?;
-    let number = paths.intern(&name)?;
-    Ok(number)
+    Ok(name == named(alloc, other)? && name.copy()? == name)
 }
 
-fn find(alloc: Global, paths: &Paths, path: &[u8]) -> Result<Option<u64>, Fail> {
+fn is_before(alloc: Global, path: &[u8], other: &[u8]) -> Result<bool, AllocError> {
+    let first = named(alloc, path)?;
+    let second = named(alloc, other)?;
+    Ok(first < second && second.cmp(&first) == Ordering::Greater)
+}
+
+// Whether a path gets this number.
+fn interned(
+    alloc: Global,
+    paths: &mut Paths,
+    path: &[u8],
+    wanted: u64,
+) -> Result<bool, AllocError> {
     let name = named(alloc, path)?;
-    Ok(paths.find(&name))
+    Ok(paths.intern(&name)? == wanted)
+}
+
+fn is_found(alloc: Global, paths: &Paths, wanted: Option<u64>) -> Result<bool, AllocError> {
+    let name = named(alloc, b"a")?;
+    Ok(paths.find(&name) == wanted)
+}
+
+// Whether `a` is found only once it has a number, and it and `b` keep theirs.
+fn keep_numbers(alloc: Global, paths: &mut Paths) -> Result<bool, AllocError> {
+    Ok(
+        is_found(alloc, paths, None)?
+            && interned(alloc, paths, b"a", 0)?
+            && interned(alloc, paths, b"b", 1)?
+            && interned(alloc, paths, b"a", 0)?
+            && is_found(alloc, paths, Some(0))?,
+    )
 }
 
 #[test]
-fn a_name_keeps_its_number(rt: HostRuntime) -> Result<(), Fail> {
+fn names_are_compared_and_keep_their_numbers(rt: HostRuntime) -> Result<(), AllocError> {
+    assert!(rt; same(rt.alloc(), b"a/b", b"./a/b")? && is_before(rt.alloc(), b"a-b", b"a/b")?);
     let mut paths = Paths::new(rt.alloc());
-    assert!(rt; find(rt.alloc(), &paths, b"a")? == None);
-    for (path, wanted) in [(b"a", 0), (b"b", 1), (b"a", 0)] {
-        assert!(rt; intern(rt.alloc(), &mut paths, path)? == wanted);
-    }
-    assert!(rt; find(rt.alloc(), &paths, b"a")? == Some(0));
-    assert!(rt; paths.len() == 2);
-    if paths.len() == 2 {
-        assert!(rt; paths.path(0).as_bytes() == b"a".as_slice());
-    }
+    assert!(rt; keep_numbers(rt.alloc(), &mut paths)?);
+    assert!(rt; paths.len() == 2 && paths.path(0).as_bytes() == b"a".as_slice());
     Ok(())
 }

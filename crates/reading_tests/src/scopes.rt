@@ -1,67 +1,80 @@
 // Scopes, rules and the variables of edges, as generators write them.
 use rev_paths::Name;
 use rev_scopes::{
-    Bindings, EdgeEnv, EdgeVariables, Rule, RuleFault, RuleTexts, RuleVariable, Scopes, SharedText,
+    Bindings, EdgeEnv, EdgeVariables, Rule, RuleTexts, RuleVariable, Scopes, SharedText,
     ValueFault, compared_command, edge_variables, expand, expand_in_block,
 };
 use rev_syntax::Text;
 use std::alloc::{AllocError, Global};
-use std::test::Fail;
 
-// What stands before and behind the first byte of this value.
-fn cut(text: &[u8], byte: u8) -> (&[u8], &[u8]) {
-    match text.iter().position(|it| *it == byte) {
-        Some(at) => (&text[..at], &text[at + 1..]),
-        None => (text, &[]),
+fn shared(alloc: Global, text: &str) -> Result<SharedText, AllocError> {
+    SharedText::new(Vec::from_slice(alloc, text.as_bytes())?)
+}
+
+fn text_of(text: &str) -> Result<Text<'_>, AllocError> {
+    match Text::new(text.as_bytes()) {
+        Ok(text) => Ok(text),
+        Err(_) => Err(AllocError),
     }
 }
 
-fn shared(alloc: Global, bytes: &[u8]) -> Result<SharedText, AllocError> {
-    SharedText::new(Vec::from_slice(alloc, bytes)?)
+// Adds a scope where `f` is 1, and one below it where `f` is 2.
+fn add_two(alloc: Global, scopes: &mut Scopes) -> Result<(), AllocError> {
+    let outer = scopes.add(alloc, None)?;
+    scopes.bind(alloc, outer, b"f", shared(alloc, "1")?)?;
+    let inner = scopes.add(alloc, Some(outer))?;
+    scopes.bind(alloc, inner, b"f", shared(alloc, "2")?)
 }
 
-// A scope where `f` is 1, and one below it where `f` is 2.
 fn two_scopes(alloc: Global) -> Result<Scopes, AllocError> {
     let mut scopes = Scopes::new(alloc);
-    let outer = scopes.add(alloc, None)?;
-    scopes.bind(alloc, outer, b"f", shared(alloc, b"1")?)?;
-    let inner = scopes.add(alloc, Some(outer))?;
-    scopes.bind(alloc, inner, b"f", shared(alloc, b"2")?)?;
+    add_two(alloc, &mut scopes)?;
     Ok(scopes)
 }
 
-// A line `VARIABLE=TEXT`.
-fn add_text(alloc: Global, texts: &mut RuleTexts, line: &[u8]) -> Result<(), Fail> {
-    let (name, text) = cut(line, b'=');
-    let variable = RuleVariable::named(name).ok_or("no variable of a rule")?;
-    let text = Text::new(text)?;
-    texts.bind(variable, text.to_stored(alloc)?)?;
-    Ok(())
-}
-
-fn add_texts(alloc: Global, texts: &mut RuleTexts, lines: &str) -> Result<(), Fail> {
-    for line in lines.as_bytes().split(|byte| *byte == b'\n') {
-        if !line.is_empty() {
-            add_text(alloc, texts, line)?;
-        }
+// A line `VARIABLE=TEXT`, or an empty one.
+fn add_text(alloc: Global, texts: &mut RuleTexts, line: &str) -> Result<(), AllocError> {
+    let Some((name, text)) = line.split_once('=') else {
+        return if line.is_empty() {
+            Ok(())
+        } else {
+            Err(AllocError)
+        };
+    };
+    match RuleVariable::named(name.as_bytes()) {
+        Some(variable) => texts.bind(variable, text_of(text)?.to_stored(alloc)?),
+        None => Err(AllocError),
     }
-    Ok(())
 }
 
-fn rule_of(alloc: Global, lines: &str) -> Result<Rule, Fail> {
+fn rule_of(alloc: Global, lines: &str) -> Result<Rule, AllocError> {
     let mut texts = RuleTexts::new(alloc);
-    add_texts(alloc, &mut texts, lines)?;
-    Ok(texts.into_rule()?)
+    for line in lines.split('\n') {
+        add_text(alloc, &mut texts, line)?;
+    }
+    texts.into_rule()
 }
 
 // Lines `NAME=VALUE`.
 fn block_of(alloc: Global, lines: &str) -> Result<Bindings, AllocError> {
     let mut block = Bindings::new(alloc);
-    for line in lines.as_bytes().split(|byte| *byte == b'\n') {
-        let (name, value) = cut(line, b'=');
-        block.bind(alloc, name, shared(alloc, value)?)?;
+    for line in lines.split('\n') {
+        if let Some((name, value)) = line.split_once('=') {
+            block.bind(alloc, name.as_bytes(), shared(alloc, value)?)?;
+        }
     }
     Ok(block)
+}
+
+// Binds what a text `NAME=VALUE` says, where it says something.
+fn bind(alloc: Global, scopes: &mut Scopes, scope: usize, said: &str) -> Result<(), AllocError> {
+    match said.split_once('=') {
+        Some((name, value)) if scope < scopes.len() => {
+            scopes.bind(alloc, scope, name.as_bytes(), shared(alloc, value)?)
+        }
+        Some(_) => Err(AllocError),
+        None => Ok(()),
+    }
 }
 
 fn push_answer(text: &mut Vec<u8>, answer: &[u8]) -> Result<(), AllocError> {
@@ -69,18 +82,24 @@ fn push_answer(text: &mut Vec<u8>, answer: &[u8]) -> Result<(), AllocError> {
     text.extend_from_slice(b"; ")
 }
 
-// What is told where a rule is added.
+// What is told where a rule without a text is added.
 fn push_added(
     alloc: Global,
     text: &mut Vec<u8>,
-    added: Result<(), RuleFault>,
+    scopes: &mut Scopes,
+    scope: usize,
+    name: &str,
 ) -> Result<(), AllocError> {
-    match added {
+    let rule = rule_of(alloc, "")?;
+    if scope >= scopes.len() {
+        return Err(AllocError);
+    }
+    match scopes.add_rule(alloc, scope, name.as_bytes(), rule) {
         Ok(()) => push_answer(text, b"ok"),
-        Err(fault) => {
-            let told = format!(in alloc; "{fault:?} {:?}", fault.code())?;
-            push_answer(text, told.as_bytes())
-        }
+        Err(fault) => push_answer(
+            text,
+            format!(in alloc; "{fault:?} {:?}", fault.code())?.as_bytes(),
+        ),
     }
 }
 
@@ -89,54 +108,62 @@ fn push_expanded(
     text: &mut Vec<u8>,
     scopes: &Scopes,
     scope: usize,
-    said: &[u8],
-) -> Result<(), Fail> {
+    said: &str,
+) -> Result<(), AllocError> {
     if scope >= scopes.len() {
-        return Err(Fail::from("no scope of that number"));
+        return Err(AllocError);
     }
-    let value = expand(alloc, Text::new(said)?, scopes, scope)?;
-    push_answer(text, value.as_bytes())?;
-    Ok(())
+    match expand(alloc, text_of(said)?, scopes, scope) {
+        Ok(value) => push_answer(text, value.as_bytes()),
+        Err(_) => Err(AllocError),
+    }
 }
 
-// A line `WORD SCOPE NAME` on scopes, where the scope is a digit.
-fn tell(alloc: Global, scopes: &mut Scopes, text: &mut Vec<u8>, line: &[u8]) -> Result<(), Fail> {
-    let (word, rest) = cut(line, b' ');
-    let (scope, said) = cut(rest, b' ');
-    let scope = usize::from(scope == b"1".as_slice());
+// A word on a scope.
+fn tell(
+    alloc: Global,
+    scopes: &mut Scopes,
+    text: &mut Vec<u8>,
+    word: &str,
+    scope: usize,
+    said: &str,
+) -> Result<(), AllocError> {
     if scope >= scopes.len() {
-        return Err(Fail::from("no scope of that number"));
+        return Err(AllocError);
     }
     match word {
-        b"variable" => push_answer(text, scopes.variable(scope, said))?,
-        b"has" if scopes.rule(scope, said).is_some() => push_answer(text, b"a rule")?,
-        b"has" => push_answer(text, b"none")?,
-        b"bind" => {
-            let (name, value) = cut(said, b'=');
-            scopes.bind(alloc, scope, name, shared(alloc, value)?)?;
+        "variable" => push_answer(text, scopes.variable(scope, said.as_bytes())),
+        "has" if scopes.rule(scope, said.as_bytes()).is_some() => push_answer(text, b"a rule"),
+        "has" => push_answer(text, b"none"),
+        "bind" => bind(alloc, scopes, scope, said),
+        "rule" => push_added(alloc, text, scopes, scope, said),
+        _ => push_expanded(alloc, text, scopes, scope, said),
+    }
+}
+
+// Lines `WORD 0 NAME` or `WORD 1 NAME`, which stand apart by `; `.
+fn push_told(
+    alloc: Global,
+    scopes: &mut Scopes,
+    text: &mut Vec<u8>,
+    lines: &str,
+) -> Result<(), AllocError> {
+    for line in lines.split("; ") {
+        match (line.split_once(" 0 "), line.split_once(" 1 ")) {
+            (Some((word, said)), _) => tell(alloc, scopes, text, word, 0, said)?,
+            (None, Some((word, said))) => tell(alloc, scopes, text, word, 1, said)?,
+            (None, None) => return Err(AllocError),
         }
-        b"rule" => {
-            let rule = rule_of(alloc, "")?;
-            let added = scopes.add_rule(alloc, scope, said, rule);
-            push_added(alloc, text, added)?;
-        }
-        _ => push_expanded(alloc, text, scopes, scope, said)?,
     }
     Ok(())
 }
 
-fn tell_all(alloc: Global, scopes: &mut Scopes, lines: &str) -> Result<Vec<u8>, Fail> {
-    let mut text = Vec::new(alloc);
-    for line in lines.split("; ") {
-        tell(alloc, scopes, &mut text, line.as_bytes())?;
-    }
-    Ok(text)
-}
-
-// What two scopes answer to lines that stand apart by `; `.
-fn told(alloc: Global, lines: &str) -> Result<Vec<u8>, Fail> {
+// What two scopes answer to lines.
+fn told(alloc: Global, lines: &str) -> Result<Vec<u8>, AllocError> {
     let mut scopes = two_scopes(alloc)?;
-    tell_all(alloc, &mut scopes, lines)
+    let mut text = Vec::new(alloc);
+    push_told(alloc, &mut scopes, &mut text, lines)?;
+    Ok(text)
 }
 
 const SCOPES: &[(&str, &str)] = &[
@@ -159,62 +186,53 @@ const SCOPES: &[(&str, &str)] = &[
 ];
 
 // Whether the later of two bindings counts, and a name without one has none.
-fn later_binding_counts(alloc: Global) -> Result<bool, Fail> {
+fn later_binding_counts(alloc: Global) -> Result<bool, AllocError> {
     let block = block_of(alloc, "a=1\na=2")?;
     Ok(block.value(b"a") == Some(b"2".as_slice()) && block.value(b"b") == None)
 }
 
-// Whether a copy of a rule has a text for each of two variables.
-fn texts_of_copy(alloc: Global, lines: &str) -> Result<(bool, bool), Fail> {
-    let rule = rule_of(alloc, lines)?;
-    let copy = rule.copy()?;
-    Ok((
-        copy.text(b"command").is_some(),
-        copy.text(b"depfile").is_some(),
-    ))
+// Whether a copy of a rule has a text for the command, and none for the depfile.
+fn has_command_alone(alloc: Global, lines: &str) -> Result<bool, AllocError> {
+    let copy = rule_of(alloc, lines)?.copy()?;
+    Ok(copy.text(b"command").is_some() && copy.text(b"depfile").is_none())
 }
 
 // The value of a text in the outer scope, behind a block.
-fn expanded(
-    alloc: Global,
-    block: &Bindings,
-    text: &[u8],
-) -> Result<Result<Vec<u8>, ValueFault>, Fail> {
+fn expanded(alloc: Global, block: &Bindings, text: &str) -> Result<Vec<u8>, ValueFault> {
     let scopes = two_scopes(alloc)?;
     if scopes.len() == 0 {
-        return Err(Fail::from("no scope"));
+        return Err(ValueFault::Memory);
     }
-    Ok(expand_in_block(alloc, Text::new(text)?, block, &scopes, 0))
+    expand_in_block(alloc, text_of(text)?, block, &scopes, 0)
 }
 
 // The value of a name that a block binds, and the scopes too.
-fn value_in_block(alloc: Global) -> Result<Vec<u8>, Fail> {
+fn value_in_block(alloc: Global) -> Result<Vec<u8>, ValueFault> {
     let block = block_of(alloc, "f=3")?;
-    Ok(expanded(alloc, &block, b"$f")??)
+    expanded(alloc, &block, "$f")
 }
 
-// The length of a value that is twice that many bytes and these, or its fault.
-fn doubled(alloc: Global, half: usize, more: &[u8]) -> Result<Result<usize, ValueFault>, Fail> {
+// The length of a value in a block where `a` has so many bytes, or its fault.
+fn length_of(alloc: Global, bytes: usize, text: &str) -> Result<usize, ValueFault> {
     let mut block = Bindings::new(alloc);
-    block.bind(alloc, b"a", SharedText::new(vec![in alloc; b'x'; half]?)?)?;
-    Ok(expanded(alloc, &block, more)?.map(|value| value.len()))
+    block.bind(alloc, b"a", SharedText::new(vec![in alloc; b'x'; bytes]?)?)?;
+    Ok(expanded(alloc, &block, text)?.len())
 }
 
 #[test]
-fn values_of_blocks(rt: HostRuntime) -> Result<(), Fail> {
+fn values_of_blocks(rt: HostRuntime) -> Result<(), ValueFault> {
     assert!(rt; later_binding_counts(rt.alloc())?);
     // A block comes before the scopes.
     assert!(rt; value_in_block(rt.alloc())?.as_slice() == b"3".as_slice());
     // The largest value is accepted, and one byte more is too large.
-    assert!(rt; doubled(rt.alloc(), 524_288, b"$a$a")? == Ok(1_048_576));
-    let value = doubled(rt.alloc(), 524_288, b"$a.$a")?;
-    assert!(rt; value.map_err(ValueFault::code) == Err(Some(23)));
+    assert!(rt; length_of(rt.alloc(), 524_288, "$a$a") == Ok(1_048_576));
+    assert!(rt; length_of(rt.alloc(), 524_288, "$a.$a") == Err(ValueFault::TooLarge));
+    assert!(rt; ValueFault::TooLarge.code() == Some(23));
     Ok(())
 }
 
 // An edge to `o`: its rule, its block, what its scope's parent binds beside `f`, its inputs with bars between them, and
 // its scope.
-#[derive(Clone, Copy)]
 struct Edge {
     rule: &'static str,
     block: &'static str,
@@ -298,46 +316,44 @@ const EDGES: &[Edge] = &[
     },
 ];
 
-fn values_text(alloc: Global, values: &EdgeVariables) -> Result<Vec<u8>, AllocError> {
-    let mut text = Vec::from_slice(alloc, &values.command)?;
-    for value in [&values.depfile, &values.restat, &values.generator] {
+// Values behind bars.
+fn push_values(text: &mut Vec<u8>, values: &[&[u8]]) -> Result<(), AllocError> {
+    for value in values {
         text.push(b'|')?;
         text.extend_from_slice(value)?;
     }
-    text.push(b'|')?;
-    if let Some(path) = &values.rspfile {
-        text.extend_from_slice(path)?;
-    }
+    Ok(())
+}
+
+fn values_text(alloc: Global, values: &EdgeVariables) -> Result<Vec<u8>, AllocError> {
+    let mut text = Vec::from_slice(alloc, &values.command)?;
+    let rspfile = match &values.rspfile {
+        Some(path) => path.as_slice(),
+        None => b"".as_slice(),
+    };
+    push_values(
+        &mut text,
+        &[&values.depfile, &values.restat, &values.generator, rspfile],
+    )?;
     Ok(text)
 }
 
 fn edge_text(alloc: Global, edge: &EdgeEnv<'_>) -> Result<Vec<u8>, AllocError> {
     match &edge_variables(alloc, edge) {
         Ok(values) => values_text(alloc, values),
-        Err(fault) => {
-            let told = format!(in alloc; "fault {:?}", fault.code())?;
-            Vec::from_slice(alloc, told.as_bytes())
-        }
+        Err(fault) => Ok(format!(in alloc; "fault {:?}", fault.code())?.into_bytes()),
     }
 }
 
-fn names_of(alloc: Global, paths: &str) -> Result<Vec<Name>, Fail> {
+fn names_of(alloc: Global, paths: &str) -> Result<Vec<Name>, AllocError> {
     let mut names = Vec::new(alloc);
     for path in paths.split('|') {
-        names.push(Name::new(alloc, path.as_bytes())?)?;
+        match Name::new(alloc, path.as_bytes()) {
+            Ok(name) => names.push(name)?,
+            Err(_) => return Err(AllocError),
+        }
     }
     Ok(names)
-}
-
-// Two scopes, of which the outer one has this binding, where there is one.
-fn scopes_of(alloc: Global, outer: &str) -> Result<Scopes, Fail> {
-    let mut scopes = two_scopes(alloc)?;
-    let (name, value) = cut(outer.as_bytes(), b'=');
-    if scopes.len() == 0 {
-        return Err(Fail::from("no scope"));
-    }
-    scopes.bind(alloc, 0, name, shared(alloc, value)?)?;
-    Ok(scopes)
 }
 
 fn told_of(
@@ -346,10 +362,10 @@ fn told_of(
     rule: &Rule,
     block: &Bindings,
     scopes: &Scopes,
-) -> Result<Vec<u8>, Fail> {
+) -> Result<Vec<u8>, AllocError> {
     let scope = edge.scope;
     if scope >= scopes.len() {
-        return Err(Fail::from("no scope of that number"));
+        return Err(AllocError);
     }
     let ins = names_of(alloc, edge.ins)?;
     let outs = names_of(alloc, "o")?;
@@ -361,44 +377,52 @@ fn told_of(
         scopes,
         scope,
     };
-    Ok(edge_text(alloc, &env)?)
+    edge_text(alloc, &env)
 }
 
-fn told_of_edge(alloc: Global, edge: &Edge) -> Result<Vec<u8>, Fail> {
+fn told_of_edge(alloc: Global, edge: &Edge) -> Result<Vec<u8>, AllocError> {
     let rule = rule_of(alloc, edge.rule)?;
     let block = block_of(alloc, edge.block)?;
-    let scopes = scopes_of(alloc, edge.outer)?;
+    let mut scopes = two_scopes(alloc)?;
+    bind(alloc, &mut scopes, 0, edge.outer)?;
     told_of(alloc, edge, &rule, &block, &scopes)
 }
 
 #[test]
-fn scopes_and_variables_of_edges(rt: HostRuntime) -> Result<(), Fail> {
+fn scopes_and_variables_of_edges(rt: HostRuntime) -> Result<(), AllocError> {
     for (lines, wanted) in SCOPES {
-        let told = told(rt.alloc(), lines)?;
-        assert!(rt; told.as_slice() == wanted.as_bytes(), "{lines}");
+        assert!(rt;
+            told(rt.alloc(), lines)?.as_slice() == wanted.as_bytes(),
+            "{lines}"
+        );
     }
     for edge in EDGES {
-        let told = told_of_edge(rt.alloc(), edge)?;
-        assert!(rt; told.as_slice() == edge.wanted.as_bytes(), "{}", edge.rule);
+        assert!(rt;
+            told_of_edge(rt.alloc(), edge)?.as_slice() == edge.wanted.as_bytes(),
+            "{}",
+            edge.rule
+        );
     }
     Ok(())
 }
 
-fn compared(alloc: Global, content: &[u8]) -> Result<Vec<u8>, AllocError> {
-    compared_command(Vec::from_slice(alloc, b"cc")?, content)
+fn is_compared(alloc: Global, content: &[u8], wanted: &[u8]) -> Result<bool, AllocError> {
+    let compared = compared_command(Vec::from_slice(alloc, b"cc")?, content)?;
+    Ok(compared.as_slice() == wanted)
 }
 
 #[test]
-fn rules_and_their_variables(rt: HostRuntime) -> Result<(), Fail> {
+fn rules_and_their_variables(rt: HostRuntime) -> Result<(), AllocError> {
     // A rule has one text for each variable.
-    let found = texts_of_copy(rt.alloc(), "command=one\ncommand=two")?;
-    assert!(rt; found == (true, false));
-    let found = RuleVariable::named(b"rspfile_content");
-    assert!(rt; found == Some(RuleVariable::RspfileContent));
-    assert!(rt; RuleVariable::named(b"dyndep") == None);
-    assert!(rt; RuleVariable::MsvcDepsPrefix.name() == b"msvc_deps_prefix".as_slice());
+    assert!(rt; has_command_alone(rt.alloc(), "command=one\ncommand=two")?);
+    assert!(rt;
+        RuleVariable::named(b"rspfile_content") == Some(RuleVariable::RspfileContent)
+            && RuleVariable::named(b"dyndep") == None
+            && RuleVariable::MsvcDepsPrefix.name() == b"msvc_deps_prefix".as_slice()
+    );
     // The content of a response file is compared.
-    assert!(rt; compared(rt.alloc(), b"")?.as_slice() == b"cc".as_slice());
-    assert!(rt; compared(rt.alloc(), b"a b")?.as_slice() == b"cc;rspfile=a b".as_slice());
+    assert!(rt;
+        is_compared(rt.alloc(), b"", b"cc")? && is_compared(rt.alloc(), b"a b", b"cc;rspfile=a b")?
+    );
     Ok(())
 }

@@ -4,7 +4,6 @@ use rev_syntax::{
     lines_of,
 };
 use std::alloc::{AllocError, Global};
-use std::test::Fail;
 
 // Writes a text: its bytes, and its variables between `<` and `>`.
 fn write_text(shown: &mut Vec<u8>, text: &Text<'_>) -> Result<(), AllocError> {
@@ -144,7 +143,16 @@ fn outcome(alloc: Global, content: &[u8]) -> Result<Vec<u8>, AllocError> {
     Ok(shown)
 }
 
-const STATEMENTS: &[(&[u8], &[u8])] = &[
+fn says(alloc: Global, content: &[u8], said: &[u8]) -> bool {
+    match outcome(alloc, content) {
+        Ok(told) => told.as_slice() == said,
+        Err(_) => false,
+    }
+}
+
+// Files, and what they say.
+const FILES: &[(&[u8], &[u8])] = &[
+    // Statements.
     (b"", b""),
     (
         b"rule cc\n  command = cc $in -o ${out.x}\n  command = $$\n",
@@ -168,9 +176,7 @@ const STATEMENTS: &[(&[u8], &[u8])] = &[
     ),
     (b"a=  b c \nrule.x = $ y", b"1: a=b c ;2: rule.x= y;"),
     (b"a$\nb = 1\r\nc = $\n  #2\r\n", b"1: ab=1;3: c=#2;"),
-];
-
-const TABS_AND_ESCAPES: &[(&[u8], &[u8])] = &[
+    // Tabs and escapes.
     (b"rule r\n\tcommand = r\n", b"fault 2 11"),
     (b"rule r\n \t$%\n", b"fault 2 11"),
     (b"\tx", b"fault 1 11"),
@@ -179,9 +185,7 @@ const TABS_AND_ESCAPES: &[(&[u8], &[u8])] = &[
     (b"a = $% \0\n", b"fault 1 12"),
     (b"a = ${b\n", b"fault 1 12"),
     (b"build $^: r\n", b"fault 1 12"),
-];
-
-const ENDS_OF_FILES: &[(&[u8], &[u8])] = &[
+    // Ends of files.
     (b"rule $", b"fault 1 12"),
     (b"build x$", b"fault 1 12"),
     (b"foo bar$", b"fault 1 10"),
@@ -195,9 +199,7 @@ const ENDS_OF_FILES: &[(&[u8], &[u8])] = &[
         b"1:rule r command=r <in>;fault 3 10",
     ),
     (b"rule r\n  command", b"fault 2 10"),
-];
-
-const PLACES_OF_FAULTS: &[(&[u8], &[u8])] = &[
+    // Places of faults.
     (b"rule $%\n", b"fault 1 10"),
     (b"foo $%\n", b"fault 1 10"),
     (b"include a $%\n", b"fault 1 10"),
@@ -208,27 +210,11 @@ const PLACES_OF_FAULTS: &[(&[u8], &[u8])] = &[
     (b"pool = p\n", b"fault 1 10"),
 ];
 
-const FILES: &[&[(&[u8], &[u8])]] = &[
-    STATEMENTS,
-    TABS_AND_ESCAPES,
-    ENDS_OF_FILES,
-    PLACES_OF_FAULTS,
-];
-
-// Each file says what stands beside it.
-#[test]
-fn statements_of_files(rt: HostRuntime) -> Result<(), Fail> {
-    for cases in FILES {
-        for (content, said) in *cases {
-            assert!(rt; outcome(rt.alloc(), content)?.as_slice() == *said);
-        }
-    }
-    Ok(())
-}
-
 // What a text is once it was stored.
-fn stored_text(alloc: Global, bytes: &[u8]) -> Result<Vec<u8>, Fail> {
-    let text = Text::new(bytes)?;
+fn stored_text(alloc: Global, bytes: &[u8]) -> Result<Vec<u8>, AllocError> {
+    let Ok(text) = Text::new(bytes) else {
+        return Err(AllocError);
+    };
     let stored = text.to_stored(alloc)?;
     let mut shown = Vec::new(alloc);
     if !text.is_empty() {
@@ -238,9 +224,11 @@ fn stored_text(alloc: Global, bytes: &[u8]) -> Result<Vec<u8>, Fail> {
 }
 
 #[test]
-fn stored_texts(rt: HostRuntime) -> Result<(), Fail> {
-    let shown = stored_text(rt.alloc(), b"a$ b$c.d")?;
-    assert!(rt; shown.as_slice() == b"a b<c>.d".as_slice());
+fn statements_of_files_and_stored_texts(rt: HostRuntime) -> Result<(), AllocError> {
+    for (content, said) in FILES {
+        assert!(rt; says(rt.alloc(), content, said));
+    }
+    assert!(rt; stored_text(rt.alloc(), b"a$ b$c.d")?.as_slice() == b"a b<c>.d".as_slice());
     assert!(rt; matches!(Text::new(b"a$".as_slice()), Err(SyntaxKind::BadEscape)));
     Ok(())
 }
