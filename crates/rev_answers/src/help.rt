@@ -33,9 +33,9 @@ kept, history      the kept events; `all`: touches of folders too
 marks [OUT], stamps [PATH], logs [PATH]  the state, as a report writes it
 break KIND OUT, continue, touch PATH N, plan, ..     every command of a script
 help [WORD]        this, or what one word takes; quit, exit, q: the end
-EVENT is a number, `start a.o`, `finish a.o` and so on, or `a.o`, the last kept event there. OUT is an output, or with
-`*` in it each that matches (who, why, with, edge, marks). `--all` after a question tells what a screen leaves out. A
-name with blanks stands in quotes; `#` begins a comment. docs/ASK.md has examples.
+EVENT is a number, `start a.o`, `finish a.o` and so on, or `a.o`, the last kept event there. OUT is an output. With `*`
+in it a question that changes nothing is asked of each output that matches (`needs *.o`). `--all` after a question tells
+what a screen leaves out. A name with blanks stands in quotes; `#` begins a comment. docs/ASK.md has examples.
 ";
 
 // Words that take something: what they take, and an example.

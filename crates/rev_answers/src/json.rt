@@ -3,7 +3,7 @@ use crate::causes::End;
 use crate::events::{push_command_words, push_visible};
 use crate::found_json::found_object;
 use crate::help::push_help;
-use crate::meant::meant;
+use crate::meant::{is_pattern, meant};
 use crate::object::Object;
 use crate::refusals::{
     FULL, Obstacle, Subject, cell_between, obstacle_of, push_full, push_refusal, subject_of,
@@ -88,6 +88,7 @@ fn no_output(alloc: Global, told: Told<'_>, path: &Name) -> Result<Object, Alloc
     let near = meant(alloc, told, path)?;
     let near = names_value(alloc, &near)?;
     object.put(alloc, "meant", near)?;
+    object.put_flag(alloc, "pattern", is_pattern(told, path))?;
     Ok(object)
 }
 

@@ -27,13 +27,22 @@ fn stands_behind(path: &[u8], other: &[u8]) -> bool {
     }
 }
 
+// Whether a last part of a path begins with another one, which is not empty.
+fn begins(part: &[u8], other: &[u8]) -> bool {
+    !other.is_empty() && part.starts_with(other)
+}
+
 // How near an output is to a path: 0 where one of them is the other behind a build folder, 1 where their last parts are
-// the same; else none.
+// the same, 2 where its last part begins with that of the path; else none.
 fn nearness(output: &[u8], path: &[u8]) -> Option<u8> {
     if stands_behind(output, path) || stands_behind(path, output) {
-        Some(0)
-    } else if last_part(output) == last_part(path) {
+        return Some(0);
+    }
+    let (one, other) = (last_part(output), last_part(path));
+    if one == other {
         Some(1)
+    } else if begins(one, other) {
+        Some(2)
     } else {
         None
     }
@@ -69,7 +78,7 @@ fn add_outputs<'a>(
 }
 
 /// The outputs that may have been meant by a path, up to three: those that are the path with a build folder before it,
-/// or without one, and then those with the same last part.
+/// or without one, then those with the same last part, and then those whose last part begins with it.
 pub(crate) fn meant<'a>(
     alloc: Global,
     told: Told<'a>,
@@ -78,10 +87,38 @@ pub(crate) fn meant<'a>(
     let mut near = Vec::new(alloc);
     add_outputs(&mut near, told.session.builds, path.as_bytes(), 0)?;
     add_outputs(&mut near, told.session.builds, path.as_bytes(), 1)?;
+    add_outputs(&mut near, told.session.builds, path.as_bytes(), 2)?;
     Ok(near)
 }
 
-/// Adds that no build statement has a path as an output, and what may have been meant.
+// What is told of a pattern where a question takes none.
+fn takes_no_pattern(question: &Question) -> &'static [u8] {
+    match question {
+        Question::Undo(_) | Question::Redo(_) | Question::Cone(_) => {
+            b": a change of the history is of one event, and takes no pattern"
+        }
+        Question::Without(_) | Question::Until(_) =>
+            b": this is of one output, and takes no pattern",
+        Question::Order(_) => b": an order names one event after the other, and takes no pattern",
+        _ => b"",
+    }
+}
+
+/// Whether a path that is no output is a pattern, where a question takes none.
+pub(crate) fn is_pattern(told: Told<'_>, path: &Name) -> bool {
+    path.as_bytes().contains(&b'*') && !takes_no_pattern(told.question).is_empty()
+}
+
+// Adds that a question takes no pattern, and what names the outputs that match.
+fn push_pattern(text: &mut Vec<u8>, told: Told<'_>, path: &Name) -> Result<(), AllocError> {
+    text.extend_from_slice(takes_no_pattern(told.question))?;
+    text.extend_from_slice(b"; `who ")?;
+    push_shown(text, path.as_bytes())?;
+    text.extend_from_slice(b"` lists the events of all that match")
+}
+
+/// Adds that no build statement has a path as an output, and what may have been meant. Of a pattern it adds that the
+/// question takes none.
 pub(crate) fn push_no_output(
     text: &mut Vec<u8>,
     alloc: Global,
@@ -93,6 +130,9 @@ pub(crate) fn push_no_output(
         text.extend_from_slice(b" is made by no build statement, which it stands in as an input")?;
     } else {
         text.extend_from_slice(b" is no output of a build statement")?;
+    }
+    if is_pattern(told, path) {
+        return push_pattern(text, told, path);
     }
     push_meant(text, alloc, told, path)
 }
@@ -134,15 +174,33 @@ fn take_in<'a>(near: &mut Vec<&'a Name>, name: &'a Name, typed: &[u8]) -> Result
     Ok(())
 }
 
-// Takes those of some paths in that have the last part of one that was typed.
+// How the last parts of paths are like that of one that was typed.
+#[derive(Clone, Copy)]
+enum Like {
+    // They are the same.
+    Same,
+    // They begin with it.
+    Begins,
+}
+
+// Whether the last part of a path is like this one.
+fn is_like(path: &[u8], last: &[u8], like: Like) -> bool {
+    match like {
+        Like::Same => has_last_part(path, last),
+        Like::Begins => begins(last_part(path), last),
+    }
+}
+
+// Takes those of some paths in whose last part is like that of one that was typed.
 fn take_all<'a>(
     near: &mut Vec<&'a Name>,
     names: &'a [Name],
     typed: &[u8],
+    like: Like,
 ) -> Result<(), AllocError> {
     let last = last_part(typed);
     for name in names {
-        if has_last_part(name.as_bytes(), last) {
+        if is_like(name.as_bytes(), last, like) {
             take_in(near, name, typed)?;
         }
     }
@@ -154,13 +212,14 @@ fn take_line<'a>(
     near: &mut Vec<&'a Name>,
     build: &'a Build,
     typed: &[u8],
+    like: Like,
 ) -> Result<(), AllocError> {
-    take_all(near, build.explicit(), typed)?;
-    take_all(near, build.implicit(), typed)?;
-    take_all(near, build.order_only(), typed)?;
-    take_all(near, build.validations(), typed)?;
-    take_all(near, build.explicit_outs(), typed)?;
-    take_all(near, build.implicit_outs(), typed)
+    take_all(near, build.explicit(), typed, like)?;
+    take_all(near, build.implicit(), typed, like)?;
+    take_all(near, build.order_only(), typed, like)?;
+    take_all(near, build.validations(), typed, like)?;
+    take_all(near, build.explicit_outs(), typed, like)?;
+    take_all(near, build.implicit_outs(), typed, like)
 }
 
 // The same of the paths of all edges: those of their build lines and those that they list.
@@ -169,11 +228,12 @@ fn take_edges<'a>(
     told: Told<'a>,
     builds: &'a [Build],
     typed: &[u8],
+    like: Like,
 ) -> Result<(), AllocError> {
     for (edge, build) in builds.iter().enumerate() {
-        take_line(near, build, typed)?;
+        take_line(near, build, typed, like)?;
         if let Ok(edge) = u32::try_from(edge) {
-            take_all(near, listed(told, edge), typed)?;
+            take_all(near, listed(told, edge), typed, like)?;
         }
     }
     Ok(())
@@ -185,11 +245,12 @@ fn take_observed<'a>(
     told: Told<'a>,
     observation: &Observation,
     typed: &[u8],
+    like: Like,
 ) -> Result<(), AllocError> {
     let last = last_part(typed);
     for path in 0..observation.paths().len() {
         if let Some(name) = path_of(told, path)
-            && has_last_part(name.as_bytes(), last)
+            && is_like(name.as_bytes(), last, like)
         {
             take_in(near, name, typed)?;
         }
@@ -197,9 +258,24 @@ fn take_observed<'a>(
     Ok(())
 }
 
+// Takes those of all paths in whose last part is like that of one that was typed.
+fn take_paths<'a>(
+    near: &mut Vec<&'a Name>,
+    told: Told<'a>,
+    typed: &[u8],
+    like: Like,
+) -> Result<(), AllocError> {
+    take_edges(near, told, told.session.builds, typed, like)?;
+    if let Some(observation) = told.session.observation {
+        take_observed(near, told, observation, typed, like)?;
+    }
+    Ok(())
+}
+
 /// The paths that may have been meant by one, up to three: of those that edges name, list or make, or that commands were
-/// seen to look at, those with the same last part. The path itself comes first, then those that are it behind some
-/// folders, or without some, then the others; of paths that are as near the shortest. Each path is looked at once.
+/// seen to look at, those with the same last part; where there is none, those whose last part begins with it. The path
+/// itself comes first, then those that are it behind some folders, or without some, then the others; of paths that are as
+/// near the shortest. Each path is looked at twice at most.
 ///
 /// # Errors
 /// [`AllocError`] only where an allocation was refused.
@@ -210,9 +286,9 @@ pub(crate) fn near_paths<'a>(
 ) -> Result<Vec<&'a Name>, AllocError> {
     let typed = path.as_bytes();
     let mut near = Vec::new(alloc);
-    take_edges(&mut near, told, told.session.builds, typed)?;
-    if let Some(observation) = told.session.observation {
-        take_observed(&mut near, told, observation, typed)?;
+    take_paths(&mut near, told, typed, Like::Same)?;
+    if near.is_empty() {
+        take_paths(&mut near, told, typed, Like::Begins)?;
     }
     Ok(near)
 }
