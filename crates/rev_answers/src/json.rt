@@ -379,7 +379,7 @@ fn step_value(alloc: Global, told: Told<'_>, step: Step) -> Result<Value, AllocE
     let mut object = Object::new(alloc);
     let command = text_value(alloc, &text)?;
     object.put(alloc, "command", command)?;
-    let answer = replied(alloc, told, step.reply, None, subject)?;
+    let answer = replied(alloc, told, step.reply, step.number, subject)?;
     object.put(alloc, "answer", answer.value())?;
     Ok(object.value())
 }
@@ -479,7 +479,20 @@ fn answer_object(alloc: Global, told: Told<'_>, answer: &Answer) -> Result<Objec
         Answer::Run(tally, paused) => tally_object(alloc, told, *tally, *paused),
         Answer::Steps(steps, ended, paused) => steps_object(alloc, told, steps, *ended, *paused),
         Answer::Found(found) => found_object(alloc, told, found),
-        other => events_answer(alloc, told, other),
+        Answer::Nothing => Object::of_kind(alloc, "nothing"),
+        Answer::Kept(_)
+        | Answer::Event(_)
+        | Answer::Who(_, _)
+        | Answer::Needs(_)
+        | Answer::Readers(_, _)
+        | Answer::Writers(_, _)
+        | Answer::Dependents(_, _)
+        | Answer::WouldCone(_, _)
+        | Answer::Cone(_, _)
+        | Answer::Without(_, _, _)
+        | Answer::With(_, _, _)
+        | Answer::Why(_, _, _, _)
+        | Answer::Order(_) => events_answer(alloc, told, answer),
     }
 }
 

@@ -61,6 +61,47 @@ pub(crate) fn push_reason(text: &mut Vec<u8>, because: &Because) -> Result<(), A
     text.extend_from_slice(behind)
 }
 
+// The output that a reason says to be missing.
+fn missing_of(because: Option<&Because>) -> Option<u64> {
+    match because {
+        Some(because) => match because.reason {
+            Reason::Missing(output) => Some(output),
+            _ => None,
+        },
+        None => None,
+    }
+}
+
+// The place of the first of these reasons from a place on that says no lower output than this one to be missing.
+fn missing_from(reasons: &[Because], place: usize, output: u64) -> usize {
+    let mut at = place;
+    for _ in place..reasons.len() {
+        match missing_of(reasons.get(at)) {
+            Some(missing) if missing < output => at = at.saturating_add(1),
+            _ => break,
+        }
+    }
+    at
+}
+
+// Adds reasons, a line each. Those of missing outputs stand first, by the places of the outputs, and so do those of
+// older ones: of an output that is missing it is not told that it is older than an input.
+fn push_reasons(text: &mut Vec<u8>, reasons: &[Because]) -> Result<(), AllocError> {
+    let mut at = 0;
+    for because in reasons {
+        if let Reason::Older(output, _) = because.reason {
+            at = missing_from(reasons, at, output);
+            if missing_of(reasons.get(at)) == Some(output) {
+                continue;
+            }
+        }
+        text.extend_from_slice(b"  ")?;
+        push_reason(text, because)?;
+        text.push(b'\n')?;
+    }
+    Ok(())
+}
+
 // Adds the way from an edge to its reasons, and these.
 fn push_way(text: &mut Vec<u8>, graph: &Graph, way: &Way) -> Result<(), AllocError> {
     for step in &way.steps {
@@ -70,15 +111,10 @@ fn push_way(text: &mut Vec<u8>, graph: &Graph, way: &Way) -> Result<(), AllocErr
         push_name(text, step.input.as_ref())?;
         text.extend_from_slice(b", which is to be made\n")?;
     }
-    for because in &way.reasons {
-        text.extend_from_slice(b"  ")?;
-        push_reason(text, because)?;
-        text.push(b'\n')?;
-    }
     if way.reasons.is_empty() {
-        text.extend_from_slice(b"  nothing\n")?;
+        return text.extend_from_slice(b"  nothing\n");
     }
-    Ok(())
+    push_reasons(text, &way.reasons)
 }
 
 /// Adds why an edge runs, or ran.

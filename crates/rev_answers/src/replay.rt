@@ -2,12 +2,29 @@
 use crate::events::{push_command_words, push_count, push_numbered};
 use crate::refusals::{NEXT_LINE, push_full, push_refusal, subject_of};
 use crate::told::{Told, history_of};
+use rev_commands::Command;
 use rev_desk::Reply;
 use rev_fields::push_number;
 use rev_prompt::{Step, Tally};
 use std::alloc::{AllocError, Global};
 
 const PAUSE: &[u8] = b"a break stands here: `continue` goes on\n";
+
+// Adds a command that was carried out, and the event that it names or took back.
+fn push_done(
+    text: &mut Vec<u8>,
+    alloc: Global,
+    told: Told<'_>,
+    command: &Command,
+    number: Option<u32>,
+) -> Result<(), AllocError> {
+    push_command_words(text, alloc, command)?;
+    let Some(number) = number else {
+        return Ok(());
+    };
+    text.extend_from_slice(b": ")?;
+    push_numbered(text, history_of(told), number)
+}
 
 // Adds a command of the recording and what came of it.
 pub(crate) fn push_step(
@@ -30,7 +47,7 @@ pub(crate) fn push_step(
             let subject = subject_of(told, turn.command);
             push_refusal(text, alloc, told, refusal, subject, NEXT_LINE)
         }
-        Some(_) => push_command_words(text, alloc, turn.command),
+        Some(_) => push_done(text, alloc, told, turn.command, step.number),
         None => push_full(text),
     }
 }

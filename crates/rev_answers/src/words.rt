@@ -1,6 +1,6 @@
 //! Answers in words.
-ghost use Rattle.std.specs.Prelude.{◌≡◌, IfOk};
-ghost use Rattle.rev_answers.specs.Opening.{opening_line};
+ghost use Rattle.std.specs.Prelude.{◌≡◌, ◌++◌, IfOk, OnOk};
+ghost use Rattle.rev_answers.specs.Opening.{counted, opening_line};
 
 use crate::causes::{push_dependents, push_needs};
 use crate::events::{push_count, push_events, push_list, push_numbered, push_visible};
@@ -23,6 +23,18 @@ use rev_prompt::{Answer, Question, User};
 use rev_shown::push_shown;
 use std::alloc::{AllocError, Global};
 
+// Adds a number of things by their noun.
+fn push_counted(text: &mut Vec<u8>, number: u64, noun: &[u8]) -> Result<(), AllocError>
+    ensures { OnOk result (text.new.items ≡ text.old.items ++ counted number noun.now) }
+{
+    push_number(text, number)?;
+    text.extend_from_slice(noun)?;
+    if number != 1 {
+        text.extend_from_slice(b"s")?;
+    }
+    Ok(())
+}
+
 /// The first line: how many commands, edges and lanes a recording has.
 ///
 /// # Errors
@@ -36,10 +48,10 @@ pub fn opening_words(
     ensures { IfOk result (λ text. text.items ≡ opening_line commands edges lanes) }
 {
     let mut text = Vec::new(alloc);
-    push_number(&mut text, commands as u64)?;
-    text.extend_from_slice(b" commands, ")?;
-    push_number(&mut text, u64::from(edges))?;
-    text.extend_from_slice(b" edges, lanes: ")?;
+    push_counted(&mut text, commands as u64, b" command")?;
+    text.extend_from_slice(b", ")?;
+    push_counted(&mut text, u64::from(edges), b" edge")?;
+    text.extend_from_slice(b", lanes: ")?;
     push_number(&mut text, u64::from(lanes))?;
     text.extend_from_slice(b"; `help` lists the words\n")?;
     Ok(text)
@@ -95,8 +107,11 @@ fn push_kept(
     numbers: &[u32],
 ) -> Result<(), AllocError> {
     let history = history_of(told);
-    if numbers.is_empty() {
+    if numbers.is_empty() && told.session.taken < told.session.turns.len() {
         return text.extend_from_slice(b"nothing is kept: `run` replays the recording\n");
+    }
+    if numbers.is_empty() {
+        return text.extend_from_slice(b"nothing is kept\n");
     }
     if let Question::Kept(true) = told.question {
         return push_list(text, history, numbers);
@@ -352,7 +367,18 @@ pub fn answer_words(alloc: Global, told: Told<'_>, answer: &Answer) -> Result<Ve
         }
         Answer::Kept(numbers) => push_kept(&mut text, alloc, told, numbers)?,
         Answer::Found(found) => push_found(&mut text, alloc, told, found, is_all(told.question))?,
-        other => push_events_answer(&mut text, alloc, told, other)?,
+        Answer::Event(_)
+        | Answer::Who(_, _)
+        | Answer::Needs(_)
+        | Answer::Readers(_, _)
+        | Answer::Writers(_, _)
+        | Answer::Dependents(_, _)
+        | Answer::WouldCone(_, _)
+        | Answer::Cone(_, _)
+        | Answer::Without(_, _, _)
+        | Answer::With(_, _, _)
+        | Answer::Why(_, _, _, _)
+        | Answer::Order(_) => push_events_answer(&mut text, alloc, told, answer)?,
     }
     Ok(text)
 }
