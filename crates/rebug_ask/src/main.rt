@@ -4,6 +4,7 @@
 mod answering;
 mod asking;
 mod certifying;
+mod comparing;
 mod files;
 mod forms;
 mod found;
@@ -22,6 +23,7 @@ mod times;
 mod told;
 
 use asking::{Manner, ask};
+use comparing::compare;
 use forms::Form;
 use picturing::picture;
 use rev_asking::{Asked, Word, read_words};
@@ -118,6 +120,9 @@ fn answer<'a, R: Files + Input + Print + Eprint + AllocGlobal>(
     }
     if asked.word == Word::Timeline {
         return timelined(rt, &asked);
+    }
+    if asked.word == Word::Compare {
+        return compare(rt, &asked);
     }
     match question_of(&asked) {
         Ok(question) => tell(rt, question),

@@ -4,7 +4,7 @@ use Rattle.clap.specs.Words.{App, Row, Rule, Shape, Text, first_of, new_app, new
 use Rattle.clap.specs.Simple.{new_shape, on_top}
 use Rattle.clap.specs.declared.builder.action.ArgAction.TheVariants.{Set, SetTrue}
 use Rattle.rev_asking.specs.declared.words.Word.{Word}
-use Rattle.rev_asking.specs.declared.words.Word.TheVariants.{Ask, Certify, Picture, Races, Replay, Timeline}
+use Rattle.rev_asking.specs.declared.words.Word.TheVariants.{Ask, Certify, Compare, Picture, Races, Replay, Timeline}
 
 -- the recording, which has to be given
 abbrev pub recording_rule : Rule
@@ -75,6 +75,16 @@ picture_shape =
 abbrev pub timeline_shape : Shape
 timeline_shape = shape_with (codes "timeline") (recording_rule ∷ out_rule ∷ [])
 
+-- the other recording, which has to be given
+abbrev pub other_rule : Rule
+other_rule = record (new_rule (codes "OTHER")) { required = true; action = Some Set }
+
+-- `compare [--all] [--json] RECORDING OTHER`
+abbrev pub compare_shape : Shape
+compare_shape =
+    shape_with (codes "compare")
+    (flag_rule (codes "all") ∷ flag_rule (codes "json") ∷ recording_rule ∷ other_rule ∷ [])
+
 -- the program without its words: one has to be given
 abbrev pub bare_program : App
 bare_program = on_top (λ s. record s { has_version = true; subcommand_required = true }) (new_app (codes "rebug"))
@@ -84,10 +94,12 @@ abbrev pub program : App
 program =
     with_subcommand
     (with_subcommand
+    (with_subcommand
     (with_subcommand (with_subcommand (with_subcommand (with_subcommand bare_program races_shape) certify_shape)
     replay_shape) ask_shape)
     picture_shape)
-    timeline_shape
+    timeline_shape)
+    compare_shape
 
 -- the word that a name is
 abbrev pub word_named : Text → Word
@@ -96,7 +108,8 @@ word_named name =
     if bytes_eq name (codes "ask") then Ask else
     if bytes_eq name (codes "certify") then Certify else
     if bytes_eq name (codes "picture") then Picture else
-    if bytes_eq name (codes "timeline") then Timeline else Races
+    if bytes_eq name (codes "timeline") then Timeline else
+    if bytes_eq name (codes "compare") then Compare else Races
 
 -- the word that was given, and what was given to it
 abbrev pub given_name : List Text → Text

@@ -2,7 +2,7 @@
 ghost use Rattle.std.specs.Prelude.{◌≡◌, false, IfOk, IsOkAnd};
 ghost use Rattle.clap.specs.Words.{AddsSubcommand, app_of, rule_of, shape_of};
 ghost use Rattle.clap.specs.declared.builder.command.Command.TheViews.{out-Command};
-ghost use Rattle.rev_asking.specs.Asking.{ask_shape, bare_certify, bare_program, bare_races, certify_shape, flag_rule, out_rule, picture_shape, program, races_shape, recording_rule, replay_shape, timeline_shape, value_rule, with_findings};
+ghost use Rattle.rev_asking.specs.Asking.{ask_shape, bare_certify, bare_program, bare_races, certify_shape, compare_shape, flag_rule, other_rule, out_rule, picture_shape, program, races_shape, recording_rule, replay_shape, timeline_shape, value_rule, with_findings};
 
 use clap::{Arg, ArgAction, Command};
 use std::alloc::{AllocError, Global};
@@ -234,6 +234,36 @@ fn timeline<'a>(alloc: Global) -> Result<Command<'a>, AllocError>
         ))
 }
 
+// The other recording.
+fn other<'a>(alloc: Global) -> Arg<'a>
+    ensures rule { rule_of result ≡ other_rule }
+    ensures alone { result.global ≡ false }
+{
+    Arg::new(alloc, "OTHER")
+        .help("The recording to compare with")
+        .required(true)
+        .action(ArgAction::Set)
+}
+
+// `compare [--all] [--json] RECORDING OTHER`
+fn compare<'a>(alloc: Global) -> Result<Command<'a>, AllocError>
+    ensures shape { IfOk result (λ c. shape_of c ≡ compare_shape) }
+    ensures local { IfOk result (λ c. (out-Command c).has_globals ≡ false) }
+{
+    Command::new(alloc, "compare")
+        .about(
+            "What differs between two recordings: statements, runs, and the order of dependent events",
+        )
+        .arg(flag(alloc, "all", "Tells all that differs"))?
+        .arg(flag(
+            alloc,
+            "json",
+            "Writes a JSON object a line in place of words",
+        ))?
+        .arg(recording(alloc))?
+        .arg(other(alloc))
+}
+
 // The program without its words.
 fn bare_command<'a>(alloc: Global) -> Command<'a>
     ensures { app_of result ≡ bare_program }
@@ -266,5 +296,6 @@ pub(crate) fn command<'a>(alloc: Global) -> Result<Command<'a>, AllocError>
     let program = with_word(program, replay(alloc))?;
     let program = with_word(program, ask(alloc))?;
     let program = with_word(program, picture(alloc))?;
-    with_word(program, timeline(alloc))
+    let program = with_word(program, timeline(alloc))?;
+    with_word(program, compare(alloc))
 }

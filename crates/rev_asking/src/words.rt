@@ -22,6 +22,8 @@ pub enum Word {
     Picture,
     /// Its timeline.
     Timeline,
+    /// What differs between it and another recording.
+    Compare,
 }
 
 /// What the words of a command line ask for.
@@ -31,6 +33,8 @@ pub struct Asked<'a> {
     pub word: Word,
     /// The recorder's folder, or its manifest.
     pub recording: &'a str,
+    /// The other recording, if one was named.
+    pub other: Option<&'a str>,
     /// The file to write, if it was named.
     pub out: Option<&'a str>,
     /// Whether a page is written in place of a picture.
@@ -66,6 +70,8 @@ pub fn read_words<'a>(alloc: Global, words: &'a [String]) -> Result<Asked<'a>, E
     ensures word { IfOk result (λ a. a.word ≡ word_named (given_name (map string_bytes words.entry.now))) }
     ensures recording { IfOk result (λ a. a.recording.now
         ≡ unwrap_or (value_in (map string_bytes words.entry.now) (codes "RECORDING")) []) }
+    ensures other { IfOk result (λ a. option_map (λ s. s.now) a.other
+        ≡ value_in (map string_bytes words.entry.now) (codes "OTHER")) }
     ensures out { IfOk result (λ a. option_map (λ s. s.now) a.out
         ≡ value_in (map string_bytes words.entry.now) (codes "OUT")) }
     ensures html { IfOk result (λ a. IsTrue a.html
@@ -113,6 +119,7 @@ fn matches_of<'a>(alloc: Global, words: &'a [String]) -> Result<ArgMatches<'a>, 
 fn asked_of<'a>(name: &str, given: &ArgMatches<'a>) -> Asked<'a>
     ensures word { result.word ≡ word_named name.now }
     ensures recording { result.recording.now ≡ unwrap_or (first_value (found_of given.now) (codes "RECORDING")) [] }
+    ensures other { option_map (λ s. s.now) result.other ≡ first_value (found_of given.now) (codes "OTHER") }
     ensures out { option_map (λ s. s.now) result.out ≡ first_value (found_of given.now) (codes "OUT") }
     ensures html { IsTrue result.html ↔ first_value (found_of given.now) (codes "html") ≡ Some (codes "true") }
     ensures event { option_map (λ s. s.now) result.event ≡ first_value (found_of given.now) (codes "event") }
@@ -129,6 +136,7 @@ fn asked_of<'a>(name: &str, given: &ArgMatches<'a>) -> Asked<'a>
     Asked {
         word: word_named(name),
         recording: recording_of(given),
+        other: given.get_str("OTHER"),
         out: given.get_str("OUT"),
         html: is_on(given, "html"),
         event: given.get_str("event"),
@@ -148,6 +156,7 @@ fn asked_of<'a>(name: &str, given: &ArgMatches<'a>) -> Asked<'a>
 fn nothing_asked<'a>() -> Asked<'a>
     ensures word { result.word ≡ word_named [] }
     ensures recording { result.recording.now ≡ [] }
+    ensures other { option_map (λ s. s.now) result.other ≡ None }
     ensures out { option_map (λ s. s.now) result.out ≡ None }
     ensures html { result.html ≡ false }
     ensures event { option_map (λ s. s.now) result.event ≡ None }
@@ -164,6 +173,7 @@ fn nothing_asked<'a>() -> Asked<'a>
     Asked {
         word: Word::Races,
         recording: "",
+        other: None,
         out: None,
         html: false,
         event: None,
@@ -203,6 +213,8 @@ fn word_named(name: &str) -> Word
         Word::Picture
     } else if name == "timeline" {
         Word::Timeline
+    } else if name == "compare" {
+        Word::Compare
     } else {
         Word::Races
     }

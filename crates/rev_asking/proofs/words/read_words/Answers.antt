@@ -23,6 +23,12 @@ returns-in-Some-clause-html c =
     let is = same words c.in-Some.given.now (codes "html") rows in
     ((λ on. sym is ∙ c.asked_of.ensures.html.0 on), (λ e. c.asked_of.ensures.html.1 (is ∙ e)))
 
+pub returns-in-Some-clause-other : goal.returns-in-Some-clause-other
+returns-in-Some-clause-other c =
+    let words = map string_bytes c.args.words.now in
+    let rows = rows-given words c.in_ok-matches.matches (rows_of (found_of c.in-Some.given.now)) c.in_ok-matches.ensures.rows c.in-Some.ensures.rows in
+    c.asked_of.ensures.other ∙ same words c.in-Some.given.now (codes "OTHER") rows
+
 pub returns-in-Some-clause-out : goal.returns-in-Some-clause-out
 returns-in-Some-clause-out c =
     let words = map string_bytes c.args.words.now in

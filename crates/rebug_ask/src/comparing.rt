@@ -1,0 +1,82 @@
+//! Two recordings side by side.
+use crate::files::{Recording, place_of, read_recording};
+use crate::told::{leave, manifest_of, refuse, trace_of, write};
+use rev_asking::Asked;
+use rev_compared_text::{Form, Side, comparison};
+use rev_desk::Desk;
+use rev_manifest::Manifest;
+use rev_program::ProgramFault;
+use rev_races_text::SOMETHING;
+use rev_recording::{RecordingFault, open, replay};
+use std::alloc::Global;
+use std::rt::Files;
+
+// The desk of a recording that was replayed.
+fn replayed(alloc: Global, manifest: &Manifest, read: &Recording) -> Result<Desk, RecordingFault> {
+    let trace = trace_of(alloc, &read.trace)?;
+    let mut desk = open(alloc, manifest, &trace)?;
+    replay(alloc, &mut desk, &trace)?;
+    Ok(desk)
+}
+
+// A recording that was replayed, with its manifest.
+fn replayed_in(alloc: Global, read: &Recording) -> Result<(Manifest, Desk), RecordingFault> {
+    let manifest = manifest_of(alloc, &read.files)?;
+    let desk = replayed(alloc, &manifest, read)?;
+    Ok((manifest, desk))
+}
+
+// What is compared of a recording.
+fn side_of<'a>(
+    name: &'a str,
+    read: &'a Recording,
+    manifest: &'a Manifest,
+    desk: &'a Desk,
+) -> Side<'a> {
+    Side {
+        name: name.as_bytes(),
+        files: &read.files,
+        manifest,
+        history: desk.history(),
+    }
+}
+
+// The form that is asked for.
+fn form_of(asked: &Asked<'_>) -> Form {
+    if asked.json {
+        Form::Json
+    } else if asked.all {
+        Form::AllWords
+    } else {
+        Form::Words
+    }
+}
+
+/// Writes what differs between two recordings, and gives the program's status: 0 where nothing does, else 1.
+///
+/// # Errors
+/// As [`read_recording`] where a recording is not read.
+pub fn compare<'a, R: Files + Print + Eprint + AllocGlobal>(
+    rt: &R,
+    asked: &Asked<'a>,
+) -> Result<u8, ProgramFault<'a>> {
+    let alloc = rt.alloc();
+    let other = asked.other.unwrap_or("");
+    let read = read_recording(rt, asked.recording, place_of(rt, asked.recording))?;
+    let other_read = read_recording(rt, other, place_of(rt, other))?;
+    let (manifest, desk) = match replayed_in(alloc, &read) {
+        Ok(replayed) => replayed,
+        Err(fault) => return refuse(rt, &read, &fault),
+    };
+    let (other_manifest, other_desk) = match replayed_in(alloc, &other_read) {
+        Ok(replayed) => replayed,
+        Err(fault) => return refuse(rt, &other_read, &fault),
+    };
+    let one = side_of(asked.recording, &read, &manifest, &desk);
+    let two = side_of(other, &other_read, &other_manifest, &other_desk);
+    let compared = comparison(alloc, one, two, form_of(asked))?;
+    write(rt, &compared.text)?;
+    leave(desk);
+    leave(other_desk);
+    Ok(if compared.is_alike { 0 } else { SOMETHING })
+}

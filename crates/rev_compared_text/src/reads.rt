@@ -1,0 +1,126 @@
+//! Which paths and outputs stand on one side alone.
+use crate::side::Side;
+use indexmap::IndexMap;
+use rev_compared::Last;
+use rev_events::{Event, Listing};
+use rev_paths::Name;
+use rev_races_text::Shown;
+use std::alloc::{AllocError, Global};
+
+// The event that ended a run.
+fn end_of<'a>(side: Side<'a>, last: &Last) -> Option<&'a Event> {
+    side.history.event(last.ended?)
+}
+
+/// The paths that a command is said to have read, where they were listed.
+pub(crate) fn listed<'a>(side: Side<'a>, last: &Last) -> &'a [Name] {
+    match end_of(side, last) {
+        Some(
+            Event::Finish {
+                listing: Listing::Paths(paths),
+                ..
+            },
+        ) => paths.as_slice(),
+        _ => &[],
+    }
+}
+
+// The stamps that the end of a run gave the outputs.
+fn stamps<'a>(side: Side<'a>, last: &Last) -> &'a [u64] {
+    match end_of(side, last) {
+        Some(Event::Finish { stamps, .. }) => stamps.as_slice(),
+        Some(Event::Fail { stamps, .. }) => stamps.as_slice(),
+        Some(Event::Abort { stamps, .. }) => stamps.as_slice(),
+        _ => &[],
+    }
+}
+
+/// Paths, to look one up.
+pub(crate) fn set_of(alloc: Global, paths: &[Name]) -> Result<IndexMap<Name, ()>, AllocError> {
+    let mut set = IndexMap::new(alloc);
+    for path in paths {
+        set.insert(path.copy()?, ())?;
+    }
+    Ok(set)
+}
+
+/// The paths of some that are not among others.
+pub(crate) fn beside<'a>(
+    alloc: Global,
+    paths: &'a [Name],
+    others: &[Name],
+) -> Result<Vec<Shown<'a>>, AllocError> {
+    let set = set_of(alloc, others)?;
+    let mut alone = Vec::new(alloc);
+    for path in paths {
+        if !set.contains_key(path) {
+            alone.push(Shown(path.as_bytes()))?;
+        }
+    }
+    Ok(alone)
+}
+
+// Adds the outputs of one list that are there after one run and not after the other.
+fn add_there<'a>(
+    outputs: &'a [Name],
+    stamps: &[u64],
+    others: &[u64],
+    from: usize,
+    there: &mut Vec<Shown<'a>>,
+) -> Result<(), AllocError> {
+    for (place, output) in outputs.iter().enumerate() {
+        let at = place.saturating_add(from);
+        let stamp = stamps.get(at).copied().unwrap_or(0);
+        let other = others.get(at).copied().unwrap_or(0);
+        if stamp != 0 && other == 0 {
+            there.push(Shown(output.as_bytes()))?;
+        }
+    }
+    Ok(())
+}
+
+/// The outputs of an edge that are there after its run, and of which those of its twin are not after the other run, by
+/// their places in the statement.
+pub(crate) fn there_alone<'a>(
+    alloc: Global,
+    side: Side<'a>,
+    edge: u32,
+    last: &Last,
+    other: Side<'a>,
+    other_last: &Last,
+) -> Result<Vec<Shown<'a>>, AllocError> {
+    let mut there = Vec::new(alloc);
+    let Some(build) = side.manifest.builds().get(edge as usize) else {
+        return Ok(there);
+    };
+    let here = stamps(side, last);
+    let others = stamps(other, other_last);
+    let explicit = build.explicit_outs();
+    add_there(explicit, here, others, 0, &mut there)?;
+    add_there(
+        build.implicit_outs(),
+        here,
+        others,
+        explicit.len(),
+        &mut there,
+    )?;
+    Ok(there)
+}
+
+/// Whether one of the outputs of an edge is among some paths.
+pub(crate) fn makes_one<'a>(side: Side<'a>, edge: u32, paths: &IndexMap<Name, ()>) -> bool {
+    let Some(build) = side.manifest.builds().get(edge as usize) else {
+        return false;
+    };
+    for output in build.explicit_outs() {
+        if paths.contains_key(output) {
+            return true;
+        }
+    }
+    for output in build.implicit_outs() {
+        if paths.contains_key(output) {
+            return true;
+        }
+    }
+    false
+}

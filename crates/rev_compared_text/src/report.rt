@@ -1,0 +1,52 @@
+//! The comparison of two recordings.
+use crate::facts::facts_of;
+use crate::json::comparison_json;
+use crate::side::Side;
+use crate::words::comparison_words;
+use std::alloc::{AllocError, Global};
+
+// How many lines a section of the words has, unless they have all.
+const FEW: usize = 8;
+// Of how many commands that failed in A alone the makers are told that had finished before them in B.
+const FLAKES: usize = 20;
+
+/// The form of an answer.
+#[derive(Clone, Copy, Debug, PartialEq, Eq)]
+pub enum Form {
+    /// Words, about a screen of them.
+    Words,
+    /// All words.
+    AllWords,
+    /// JSON objects, one a line.
+    Json,
+}
+
+/// The comparison of two recordings.
+#[derive(Drop)]
+pub struct Compared {
+    /// Its text.
+    pub text: Vec<u8>,
+    /// Whether nothing differs.
+    pub is_alike: bool,
+}
+
+/// The comparison of two recordings, `one` as A and `other` as B: what the calls of `rev_compared` tell, in the form
+/// that is asked for.
+///
+/// # Errors
+/// [`AllocError`] only where an allocation was refused.
+pub fn comparison<'a>(
+    alloc: Global,
+    one: Side<'a>,
+    other: Side<'a>,
+    form: Form,
+) -> Result<Compared, AllocError> {
+    let facts = facts_of(alloc, one, other)?;
+    let is_alike = facts.are_none();
+    let text = match form {
+        Form::Words => comparison_words(alloc, one, other, &facts, FEW)?.into_bytes(),
+        Form::AllWords => comparison_words(alloc, one, other, &facts, usize::MAX)?.into_bytes(),
+        Form::Json => comparison_json(alloc, one, other, &facts, FLAKES)?,
+    };
+    Ok(Compared { text, is_alike })
+}
