@@ -1,6 +1,7 @@
 //! Two recordings side by side.
 use crate::files::{Recording, place_of, read_recording};
-use crate::told::{leave, manifest_of, refuse, trace_of, write};
+use crate::told::{leave, manifest_of, refuse, say, trace_of, write};
+use rev_answers::screen_of;
 use rev_asking::Asked;
 use rev_compared_text::{Form, Side, comparison};
 use rev_desk::Desk;
@@ -8,7 +9,7 @@ use rev_manifest::Manifest;
 use rev_program::ProgramFault;
 use rev_races_text::SOMETHING;
 use rev_recording::{RecordingFault, open, replay};
-use std::alloc::Global;
+use std::alloc::{AllocError, Global};
 use std::rt::Files;
 
 // The desk of a recording that was replayed.
@@ -52,7 +53,16 @@ fn form_of(asked: &Asked<'_>) -> Form {
     }
 }
 
-/// Writes what differs between two recordings, and gives the program's status: 0 where nothing does, else 1.
+// What of an answer is written: a screen of the words, unless all are asked for.
+fn written(alloc: Global, text: Vec<u8>, form: Form) -> Result<Vec<u8>, AllocError> {
+    if form == Form::Words {
+        return screen_of(alloc, &text, false);
+    }
+    Ok(text)
+}
+
+/// Writes what differs between two recordings, and gives the program's status: 0 where nothing does, and
+/// [`SOMETHING`] where something does. Of a recording with a fault it says the fault, and gives its status.
 ///
 /// # Errors
 /// As [`read_recording`] where a recording is not read.
@@ -66,17 +76,25 @@ pub fn compare<'a, R: Files + Print + Eprint + AllocGlobal>(
     let other_read = read_recording(rt, other, place_of(rt, other))?;
     let (manifest, desk) = match replayed_in(alloc, &read) {
         Ok(replayed) => replayed,
-        Err(fault) => return refuse(rt, &read, &fault),
+        Err(fault) => {
+            say(rt, "the first recording has a fault");
+            return refuse(rt, &read, &fault);
+        }
     };
     let (other_manifest, other_desk) = match replayed_in(alloc, &other_read) {
         Ok(replayed) => replayed,
-        Err(fault) => return refuse(rt, &other_read, &fault),
+        Err(fault) => {
+            say(rt, "the second recording has a fault");
+            return refuse(rt, &other_read, &fault);
+        }
     };
     let one = side_of(asked.recording, &read, &manifest, &desk);
     let two = side_of(other, &other_read, &other_manifest, &other_desk);
-    let compared = comparison(alloc, one, two, form_of(asked))?;
-    write(rt, &compared.text)?;
+    let form = form_of(asked);
+    let compared = comparison(alloc, one, two, form)?;
+    let is_alike = compared.is_alike;
+    write(rt, &written(alloc, compared.text, form)?)?;
     leave(desk);
     leave(other_desk);
-    Ok(if compared.is_alike { 0 } else { SOMETHING })
+    Ok(if is_alike { 0 } else { SOMETHING })
 }

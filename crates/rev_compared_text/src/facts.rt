@@ -1,5 +1,5 @@
 //! What differs between two recordings.
-use crate::side::{Side, last_in, twin_in};
+use crate::side::{Day, Side, last_in, twin_in};
 use rev_compared::{
     Changes, Differences, Ending, Last, awaited, compare_runs, compare_statements, first_inverted,
     last_runs, matched, ran_alone, twins,
@@ -29,8 +29,8 @@ pub(crate) struct Differing {
 pub(crate) struct Inverted {
     pub(crate) first: u32,
     pub(crate) second: u32,
-    pub(crate) other_first: Option<u32>,
-    pub(crate) other_second: Option<u32>,
+    pub(crate) other_first: u32,
+    pub(crate) other_second: u32,
 }
 
 /// What differs between two recordings, by the numbers of edges.
@@ -67,8 +67,8 @@ fn is_difference(differences: Differences) -> bool {
 
 // What differs between an edge and its twin, where anything does.
 fn change_of<'a>(one: Side<'a>, other: Side<'a>, edge: u32, twin: u32) -> Option<Changed> {
-    let build = one.manifest.builds().get(edge as usize)?;
-    let other_build = other.manifest.builds().get(twin as usize)?;
+    let build = one.build(edge)?;
+    let other_build = other.build(twin)?;
     let changes = compare_statements(one.manifest, other.manifest, build, other_build);
     if is_change(changes) {
         return Some(Changed {
@@ -88,7 +88,7 @@ fn changed_in<'a>(
     twins: &[Option<u32>],
 ) -> Result<Vec<Changed>, AllocError> {
     let mut changed = Vec::new(alloc);
-    for edge in 0..one.history.graph().edges() {
+    for edge in 0..one.edges() {
         if let Some(twin) = twin_in(twins, edge) {
             if let Some(change) = change_of(one, other, edge, twin) {
                 changed.push(change)?;
@@ -132,7 +132,7 @@ fn differing_in<'a>(
     others: &[Option<Last>],
 ) -> Result<Vec<Differing>, AllocError> {
     let mut differing = Vec::new(alloc);
-    for edge in 0..one.history.graph().edges() {
+    for edge in 0..one.edges() {
         if let Some(twin) = twin_in(twins, edge) {
             let last = last_in(lasts, edge);
             let other_last = last_in(others, twin);
@@ -144,7 +144,7 @@ fn differing_in<'a>(
     Ok(differing)
 }
 
-// The first pair of dependent events that stand the other way round.
+// The first pair of dependent events that stand the other way round. Both have a number there.
 fn inverted_in<'a>(
     alloc: Global,
     one: Side<'a>,
@@ -157,8 +157,8 @@ fn inverted_in<'a>(
         Some((first, second)) => Ok(Some(Inverted {
             first,
             second,
-            other_first: twin_in(&same, first),
-            other_second: twin_in(&same, second),
+            other_first: twin_in(&same, first).unwrap_or(0),
+            other_second: twin_in(&same, second).unwrap_or(0),
         })),
         None => Ok(None),
     }
@@ -197,27 +197,26 @@ pub(crate) fn facts_of<'a>(
 }
 
 impl Facts {
-    /// Whether a command failed in the one and passed in the other.
-    pub(crate) fn is_flake(differing: &Differing) -> bool {
-        differing.last.ending == Ending::Failed && differing.other.ending == Ending::Well
+    /// The one recording beside the other.
+    pub(crate) fn one<'a>(&'a self, side: Side<'a>) -> Day<'a> {
+        Day {
+            letter: "A",
+            key: "a",
+            side,
+            lasts: self.lasts.as_slice(),
+            twins: self.twins.as_slice(),
+        }
     }
 
-    /// The edges of the other manifest whose commands had finished there before this one began, and not here.
-    pub(crate) fn finished<'a>(
-        &self,
-        alloc: Global,
-        other: Side<'a>,
-        differing: &Differing,
-    ) -> Result<Vec<u32>, AllocError> {
-        awaited(
-            alloc,
-            other.history.graph().edges(),
-            &self.others,
-            differing.other.began,
-            &self.back,
-            &self.lasts,
-            differing.last.began,
-        )
+    /// The other recording beside the one.
+    pub(crate) fn other<'a>(&'a self, side: Side<'a>) -> Day<'a> {
+        Day {
+            letter: "B",
+            key: "b",
+            side,
+            lasts: self.others.as_slice(),
+            twins: self.back.as_slice(),
+        }
     }
 
     /// Whether nothing differs.
@@ -230,11 +229,6 @@ impl Facts {
             && self.differing.is_empty()
             && self.inverted.is_none()
             && self.other_inverted.is_none()
-    }
-
-    /// The last run here of the twin of an edge there.
-    pub(crate) fn last_here(&self, edge: u32) -> Option<Last> {
-        last_in(&self.lasts, twin_in(&self.back, edge)?)
     }
 }
 

@@ -1,15 +1,19 @@
 //! The comparison as JSON objects, one a line.
+use crate::changes::{flags_that_differ, inputs_alone, outputs_alone};
 use crate::facts::{Changed, Differing, Facts, Inverted, alone_in, counts};
-use crate::reads::{beside, listed, makes_one, set_of, there_alone};
-use crate::side::{Side, ending_word, event_name, last_in};
-use rev_compared::Last;
+use crate::flakes::{Days, Flake, Maker, failed_in_one, failed_in_other, makers_of};
+use crate::reads::{beside, listed, there_alone};
+use crate::side::{Day, ending_word, event_name};
 use rev_races_text::{Edge, Shown, Text, push_object};
 use serde::Serialize;
 use std::alloc::{AllocError, Global};
 
+// Of how many commands that failed on one day alone the makers are told.
+const FLAKES: usize = 20;
+
 // One of the recordings.
 #[derive(Clone, Copy, Serialize)]
-struct SideObject<'a> {
+struct RecordingObject<'a> {
     side: &'static str,
     recording: Text<'a>,
     edges: u32,
@@ -17,25 +21,40 @@ struct SideObject<'a> {
     failed: u64,
 }
 
-// An edge whose statements differ.
+// A command that failed on one day and passed on the other, with a maker that had finished before it on the good day
+// alone. `side` is the good day. The edges have their events there, and under `other` those of the bad day.
 #[derive(Clone, Copy, Serialize)]
-struct StatementObject<'a> {
-    a: Edge<'a>,
-    b: Edge<'a>,
-    outputs: bool,
-    inputs: bool,
-    command: bool,
-    flags: bool,
-    a_command: Text<'a>,
-    b_command: Text<'a>,
+struct FinishedObject<'a> {
+    side: &'static str,
+    user: Edge<'a>,
+    maker: Edge<'a>,
+    listed: bool,
+    other_user: Edge<'a>,
+    other_maker: Option<Edge<'a>>,
+    other_status: Option<&'static str>,
 }
 
-// An edge of one manifest alone, or one that ran in one recording alone.
+// An event.
 #[derive(Clone, Copy, Serialize)]
-struct EdgeObject<'a> {
+struct EventObject<'a> {
+    event: &'static str,
+    output: Shown<'a>,
+    number: u32,
+}
+
+// An event in both recordings.
+#[derive(Clone, Copy, Serialize)]
+struct EventsObject<'a> {
+    a: EventObject<'a>,
+    b: EventObject<'a>,
+}
+
+// Two events that depend on each other in the recording on whose side they are told, and stand there in this order.
+#[derive(Clone, Copy, Serialize)]
+struct InvertedObject<'a> {
     side: &'static str,
-    edge: Edge<'a>,
-    status: Option<&'static str>,
+    first: EventsObject<'a>,
+    second: EventsObject<'a>,
 }
 
 // An edge whose runs differ.
@@ -54,130 +73,147 @@ struct RunObject<'a> {
     b_reads: Vec<Shown<'a>>,
 }
 
-// A maker that had finished before a command in B alone.
-#[derive(Clone, Copy, Serialize)]
-struct FinishedObject<'a> {
-    user: Edge<'a>,
-    maker: Edge<'a>,
-    listed: bool,
-    a_status: Option<&'static str>,
+// An edge whose statements differ.
+#[derive(Drop, Serialize)]
+struct StatementObject<'a> {
+    a: Edge<'a>,
+    b: Edge<'a>,
+    outputs: bool,
+    inputs: bool,
+    command: bool,
+    flags: Vec<&'static str>,
+    a_outputs: Vec<Shown<'a>>,
+    b_outputs: Vec<Shown<'a>>,
+    a_inputs: Vec<Shown<'a>>,
+    b_inputs: Vec<Shown<'a>>,
+    a_command: Text<'a>,
+    b_command: Text<'a>,
 }
 
-// An event of an inverted pair, by its number in the recording whose events depend on each other, and in the other.
+// An edge of one manifest alone, or one that ran in one recording alone.
 #[derive(Clone, Copy, Serialize)]
-struct EventObject<'a> {
-    event: &'static str,
-    output: Shown<'a>,
-    here: u32,
-    there: Option<u32>,
-}
-
-// The inverted pair.
-#[derive(Clone, Copy, Serialize)]
-struct InvertedObject<'a> {
+struct AloneObject<'a> {
     side: &'static str,
-    first: EventObject<'a>,
-    second: EventObject<'a>,
+    edge: Edge<'a>,
+    status: Option<&'static str>,
 }
 
-// An edge with the events of its last run.
-fn edge_with<'a>(side: Side<'a>, number: u32, last: Option<Last>) -> Edge<'a> {
-    let edge = side.edge(number);
-    let (began, ended) = match last {
-        Some(last) => (Some(last.began), last.ended),
-        None => (None, None),
-    };
-    Edge {
-        began,
-        ended,
-        file: edge.file,
-        line: edge.line,
-        output: edge.output,
-    }
+// The two recordings.
+#[derive(Clone, Copy)]
+struct Both<'a> {
+    a: Day<'a>,
+    b: Day<'a>,
 }
 
-// The word of how a run ended, if there is one.
-fn status_of(last: Option<Last>) -> Option<&'static str> {
-    match last {
-        Some(last) => Some(ending_word(last.ending)),
-        None => None,
-    }
-}
-
-// The command of an edge.
-fn command_of<'a>(side: Side<'a>, edge: u32) -> Text<'a> {
-    match side.manifest.builds().get(edge as usize) {
-        Some(build) => Text(build.command()),
-        None => Text(b""),
-    }
-}
-
-fn push_side<'a>(
-    alloc: Global,
-    text: &mut Vec<u8>,
-    letter: &'static str,
-    side: Side<'a>,
-    lasts: &[Option<Last>],
-) -> Result<(), AllocError> {
-    let (ran, failed) = counts(lasts);
-    let object = SideObject {
-        side: letter,
-        recording: Text(side.name),
-        edges: side.history.graph().edges(),
+fn push_recording<'a>(alloc: Global, text: &mut Vec<u8>, day: Day<'a>) -> Result<(), AllocError> {
+    let (ran, failed) = counts(day.lasts);
+    let object = RecordingObject {
+        side: day.key,
+        recording: Text(day.side.name),
+        edges: day.side.edges(),
         ran,
         failed,
     };
     push_object(alloc, text, "recording", &object)
 }
 
-fn push_change<'a>(
+fn push_finished<'a>(
     alloc: Global,
     text: &mut Vec<u8>,
-    one: Side<'a>,
-    other: Side<'a>,
-    changed: &Changed,
+    days: Days<'a>,
+    flake: &Flake,
+    maker: &Maker,
 ) -> Result<(), AllocError> {
-    let object = StatementObject {
-        a: one.edge(changed.edge),
-        b: other.edge(changed.twin),
-        outputs: changed.changes.outputs,
-        inputs: changed.changes.inputs,
-        command: changed.changes.command,
-        flags: changed.changes.flags,
-        a_command: command_of(one, changed.edge),
-        b_command: command_of(other, changed.twin),
+    let (other_maker, other_status) = match maker.twin {
+        Some(twin) => (Some(days.bad.edge(twin)), days.bad.status(twin)),
+        None => (None, None),
     };
-    push_object(alloc, text, "statement", &object)
+    let object = FinishedObject {
+        side: days.good.key,
+        user: days.good.edge(flake.good_edge),
+        maker: days.good.edge(maker.edge),
+        listed: maker.is_listed,
+        other_user: days.bad.edge(flake.bad_edge),
+        other_maker,
+        other_status,
+    };
+    push_object(alloc, text, "finished", &object)
 }
 
-fn push_edges<'a>(
+fn push_flakes<'a>(
     alloc: Global,
     text: &mut Vec<u8>,
-    kind: &'static str,
-    letter: &'static str,
-    side: Side<'a>,
-    edges: &[u32],
-    lasts: &[Option<Last>],
+    days: Days<'a>,
+    flakes: &[Flake],
 ) -> Result<(), AllocError> {
-    for edge in edges {
-        let last = last_in(lasts, *edge);
-        let object = EdgeObject {
-            side: letter,
-            edge: edge_with(side, *edge, last),
-            status: status_of(last),
-        };
-        push_object(alloc, text, kind, &object)?;
+    for flake in flakes.iter().take(FLAKES) {
+        let makers = makers_of(alloc, days, flake)?;
+        for maker in &makers {
+            push_finished(alloc, text, days, flake, maker)?;
+        }
     }
     Ok(())
+}
+
+fn event_object<'a>(day: Day<'a>, number: u32) -> EventObject<'a> {
+    let (event, output) = event_name(day.side, number);
+    EventObject {
+        event,
+        output,
+        number,
+    }
+}
+
+fn events_object<'a>(both: Both<'a>, number: u32, other: u32) -> EventsObject<'a> {
+    EventsObject {
+        a: event_object(both.a, number),
+        b: event_object(both.b, other),
+    }
+}
+
+// Adds the pair that depends in A.
+fn push_inverted<'a>(
+    alloc: Global,
+    text: &mut Vec<u8>,
+    both: Both<'a>,
+    inverted: Option<Inverted>,
+) -> Result<(), AllocError> {
+    let Some(inverted) = inverted else {
+        return Ok(());
+    };
+    let object = InvertedObject {
+        side: both.a.key,
+        first: events_object(both, inverted.first, inverted.other_first),
+        second: events_object(both, inverted.second, inverted.other_second),
+    };
+    push_object(alloc, text, "inverted", &object)
+}
+
+// Adds the pair that depends in B.
+fn push_other_inverted<'a>(
+    alloc: Global,
+    text: &mut Vec<u8>,
+    both: Both<'a>,
+    inverted: Option<Inverted>,
+) -> Result<(), AllocError> {
+    let Some(inverted) = inverted else {
+        return Ok(());
+    };
+    let object = InvertedObject {
+        side: both.b.key,
+        first: events_object(both, inverted.other_first, inverted.first),
+        second: events_object(both, inverted.other_second, inverted.second),
+    };
+    push_object(alloc, text, "inverted", &object)
 }
 
 fn push_difference<'a>(
     alloc: Global,
     text: &mut Vec<u8>,
-    one: Side<'a>,
-    other: Side<'a>,
+    both: Both<'a>,
     d: &Differing,
 ) -> Result<(), AllocError> {
+    let (one, other) = (both.a.side, both.b.side);
     let here = listed(one, &d.last);
     let there = listed(other, &d.other);
     let a_outputs = there_alone(alloc, one, d.edge, &d.last, other, &d.other)?;
@@ -185,8 +221,8 @@ fn push_difference<'a>(
     let a_reads = beside(alloc, here, there)?;
     let b_reads = beside(alloc, there, here)?;
     let object = RunObject {
-        a: edge_with(one, d.edge, Some(d.last)),
-        b: edge_with(other, d.twin, Some(d.other)),
+        a: both.a.edge(d.edge),
+        b: both.b.edge(d.twin),
         status: d.differences.status,
         presence: d.differences.presence,
         reads: d.differences.reads,
@@ -200,103 +236,105 @@ fn push_difference<'a>(
     push_object(alloc, text, "run", &object)
 }
 
-fn push_finished<'a>(
+fn push_change<'a>(
     alloc: Global,
     text: &mut Vec<u8>,
-    other: Side<'a>,
-    facts: &Facts,
-    d: &Differing,
+    both: Both<'a>,
+    changed: &Changed,
 ) -> Result<(), AllocError> {
-    let makers = facts.finished(alloc, other, d)?;
-    let reads = set_of(alloc, listed(other, &d.other))?;
-    for maker in &makers {
-        let object = FinishedObject {
-            user: edge_with(other, d.twin, Some(d.other)),
-            maker: edge_with(other, *maker, last_in(&facts.others, *maker)),
-            listed: makes_one(other, *maker, &reads),
-            a_status: status_of(facts.last_here(*maker)),
+    let (one, other) = (both.a.side, both.b.side);
+    let (Some(build), Some(twin)) = (one.build(changed.edge), other.build(changed.twin)) else {
+        return Ok(());
+    };
+    let flags = flags_that_differ(alloc, one, build, other, twin)?;
+    let a_outputs = outputs_alone(alloc, build, twin)?;
+    let b_outputs = outputs_alone(alloc, twin, build)?;
+    let a_inputs = inputs_alone(alloc, build, twin)?;
+    let b_inputs = inputs_alone(alloc, twin, build)?;
+    let object = StatementObject {
+        a: both.a.edge(changed.edge),
+        b: both.b.edge(changed.twin),
+        outputs: changed.changes.outputs,
+        inputs: changed.changes.inputs,
+        command: changed.changes.command,
+        flags,
+        a_outputs,
+        b_outputs,
+        a_inputs,
+        b_inputs,
+        a_command: Text(build.command()),
+        b_command: Text(twin.command()),
+    };
+    push_object(alloc, text, "statement", &object)
+}
+
+fn push_edges<'a>(
+    alloc: Global,
+    text: &mut Vec<u8>,
+    kind: &'static str,
+    day: Day<'a>,
+    edges: &[u32],
+) -> Result<(), AllocError> {
+    for edge in edges {
+        let object = AloneObject {
+            side: day.key,
+            edge: day.edge(*edge),
+            status: day.status(*edge),
         };
-        push_object(alloc, text, "finished", &object)?;
+        push_object(alloc, text, kind, &object)?;
     }
     Ok(())
 }
 
-fn event_object<'a>(side: Side<'a>, number: u32, there: Option<u32>) -> EventObject<'a> {
-    let (event, output) = event_name(side, number);
-    EventObject {
-        event,
-        output,
-        here: number,
-        there,
-    }
-}
-
-fn push_inverted<'a>(
+// Adds the edges that stand or ran in one recording alone.
+fn push_alone<'a>(
     alloc: Global,
     text: &mut Vec<u8>,
-    letter: &'static str,
-    side: Side<'a>,
-    inverted: Option<Inverted>,
+    both: Both<'a>,
+    facts: &Facts,
 ) -> Result<(), AllocError> {
-    let Some(inverted) = inverted else {
-        return Ok(());
-    };
-    let object = InvertedObject {
-        side: letter,
-        first: event_object(side, inverted.first, inverted.other_first),
-        second: event_object(side, inverted.second, inverted.other_second),
-    };
-    push_object(alloc, text, "inverted", &object)
+    let only = alone_in(alloc, both.a.twins)?;
+    push_edges(alloc, text, "edge", both.a, &only)?;
+    let other_only = alone_in(alloc, both.b.twins)?;
+    push_edges(alloc, text, "edge", both.b, &other_only)?;
+    push_edges(alloc, text, "ran", both.a, &facts.ran)?;
+    push_edges(alloc, text, "ran", both.b, &facts.other_ran)
 }
 
-/// The comparison of two recordings, `one` as A and `other` as B, as JSON objects, one a line. Makers that had finished
-/// are told of so many commands.
+// Adds the commands that failed in one recording and passed in the other.
+fn push_both_flakes<'a>(
+    alloc: Global,
+    text: &mut Vec<u8>,
+    both: Both<'a>,
+    differing: &[Differing],
+) -> Result<(), AllocError> {
+    let (a, b) = (both.a, both.b);
+    let flakes = failed_in_one(alloc, differing)?;
+    push_flakes(alloc, text, Days { bad: a, good: b }, &flakes)?;
+    let flakes = failed_in_other(alloc, differing)?;
+    push_flakes(alloc, text, Days { bad: b, good: a }, &flakes)
+}
+
+/// The comparison of two recordings as JSON objects, one a line.
 pub(crate) fn comparison_json<'a>(
     alloc: Global,
-    one: Side<'a>,
-    other: Side<'a>,
+    a: Day<'a>,
+    b: Day<'a>,
     facts: &Facts,
-    most: usize,
 ) -> Result<Vec<u8>, AllocError> {
+    let both = Both { a, b };
     let mut text = Vec::new(alloc);
-    push_side(alloc, &mut text, "a", one, &facts.lasts)?;
-    push_side(alloc, &mut text, "b", other, &facts.others)?;
+    push_recording(alloc, &mut text, a)?;
+    push_recording(alloc, &mut text, b)?;
+    push_both_flakes(alloc, &mut text, both, &facts.differing)?;
+    push_inverted(alloc, &mut text, both, facts.inverted)?;
+    push_other_inverted(alloc, &mut text, both, facts.other_inverted)?;
+    for difference in &facts.differing {
+        push_difference(alloc, &mut text, both, difference)?;
+    }
     for changed in &facts.changed {
-        push_change(alloc, &mut text, one, other, changed)?;
+        push_change(alloc, &mut text, both, changed)?;
     }
-    let only = alone_in(alloc, &facts.twins)?;
-    push_edges(alloc, &mut text, "edge", "a", one, &only, &facts.lasts)?;
-    let other_only = alone_in(alloc, &facts.back)?;
-    push_edges(
-        alloc,
-        &mut text,
-        "edge",
-        "b",
-        other,
-        &other_only,
-        &facts.others,
-    )?;
-    push_edges(alloc, &mut text, "ran", "a", one, &facts.ran, &facts.lasts)?;
-    push_edges(
-        alloc,
-        &mut text,
-        "ran",
-        "b",
-        other,
-        &facts.other_ran,
-        &facts.others,
-    )?;
-    for difference in &facts.differing {
-        push_difference(alloc, &mut text, one, other, difference)?;
-    }
-    let mut told: usize = 0;
-    for difference in &facts.differing {
-        if Facts::is_flake(difference) && told < most {
-            told = told.saturating_add(1);
-            push_finished(alloc, &mut text, other, facts, difference)?;
-        }
-    }
-    push_inverted(alloc, &mut text, "a", one, facts.inverted)?;
-    push_inverted(alloc, &mut text, "b", other, facts.other_inverted)?;
+    push_alone(alloc, &mut text, both, facts)?;
     Ok(text)
 }

@@ -1,7 +1,9 @@
 //! What differs between two recordings, in words and as JSON.
 #![tactic(auto)]
 
+mod changes;
 mod facts;
+mod flakes;
 mod json;
 mod reads;
 mod report;

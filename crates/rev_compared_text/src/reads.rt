@@ -90,7 +90,7 @@ pub(crate) fn there_alone<'a>(
     other_last: &Last,
 ) -> Result<Vec<Shown<'a>>, AllocError> {
     let mut there = Vec::new(alloc);
-    let Some(build) = side.manifest.builds().get(edge as usize) else {
+    let Some(build) = side.build(edge) else {
         return Ok(there);
     };
     let here = stamps(side, last);
@@ -109,7 +109,7 @@ pub(crate) fn there_alone<'a>(
 
 /// Whether one of the outputs of an edge is among some paths.
 pub(crate) fn makes_one<'a>(side: Side<'a>, edge: u32, paths: &IndexMap<Name, ()>) -> bool {
-    let Some(build) = side.manifest.builds().get(edge as usize) else {
+    let Some(build) = side.build(edge) else {
         return false;
     };
     for output in build.explicit_outs() {

@@ -5,15 +5,10 @@ use crate::side::Side;
 use crate::words::comparison_words;
 use std::alloc::{AllocError, Global};
 
-// How many lines a section of the words has, unless they have all.
-const FEW: usize = 8;
-// Of how many commands that failed in A alone the makers are told that had finished before them in B.
-const FLAKES: usize = 20;
-
 /// The form of an answer.
 #[derive(Clone, Copy, Debug, PartialEq, Eq)]
 pub enum Form {
-    /// Words, about a screen of them.
+    /// Words, a few entries of each section.
     Words,
     /// All words.
     AllWords,
@@ -43,10 +38,11 @@ pub fn comparison<'a>(
 ) -> Result<Compared, AllocError> {
     let facts = facts_of(alloc, one, other)?;
     let is_alike = facts.are_none();
+    let (a, b) = (facts.one(one), facts.other(other));
     let text = match form {
-        Form::Words => comparison_words(alloc, one, other, &facts, FEW)?.into_bytes(),
-        Form::AllWords => comparison_words(alloc, one, other, &facts, usize::MAX)?.into_bytes(),
-        Form::Json => comparison_json(alloc, one, other, &facts, FLAKES)?,
+        Form::Words => comparison_words(alloc, a, b, &facts, false)?.into_bytes(),
+        Form::AllWords => comparison_words(alloc, a, b, &facts, true)?.into_bytes(),
+        Form::Json => comparison_json(alloc, a, b, &facts)?,
     };
     Ok(Compared { text, is_alike })
 }

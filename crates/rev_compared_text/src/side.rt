@@ -2,7 +2,7 @@
 use rev_compared::{Ending, Last};
 use rev_events::Event;
 use rev_history::History;
-use rev_manifest::Manifest;
+use rev_manifest::{Build, Manifest};
 use rev_races_text::{Edge, Shown, Sources};
 
 /// One of two recordings.
@@ -18,24 +18,64 @@ pub struct Side<'a> {
     pub history: &'a History,
 }
 
+/// A recording beside the other one.
+#[derive(Clone, Copy)]
+pub(crate) struct Day<'a> {
+    /// What words call it, and what JSON does.
+    pub(crate) letter: &'static str,
+    pub(crate) key: &'static str,
+    pub(crate) side: Side<'a>,
+    /// The last runs of its edges.
+    pub(crate) lasts: &'a [Option<Last>],
+    /// The twins of its edges in the other one.
+    pub(crate) twins: &'a [Option<u32>],
+}
+
 impl<'a> Side<'a> {
-    /// What says of its edges how they are called.
-    pub(crate) fn sources(&self) -> Sources<'a> {
-        Sources {
+    /// One of its edges, by its number.
+    pub(crate) fn edge(&self, number: u32) -> Edge<'a> {
+        let sources = Sources {
             builds: self.manifest.builds(),
             files: self.files,
             runs: &[],
+        };
+        sources.edge(number)
+    }
+
+    /// The build statement of one of its edges.
+    pub(crate) fn build(&self, number: u32) -> Option<&'a Build> {
+        self.manifest.builds().get(number as usize)
+    }
+
+    /// How many edges it has.
+    pub(crate) fn edges(&self) -> u32 {
+        self.history.graph().edges()
+    }
+}
+
+impl<'a> Day<'a> {
+    /// One of its edges, with the events of its last run.
+    pub(crate) fn edge(&self, number: u32) -> Edge<'a> {
+        let edge = self.side.edge(number);
+        let (began, ended) = match last_in(self.lasts, number) {
+            Some(last) => (Some(last.began), last.ended),
+            None => (None, None),
+        };
+        Edge {
+            began,
+            ended,
+            file: edge.file,
+            line: edge.line,
+            output: edge.output,
         }
     }
 
-    /// One of its edges, by its number.
-    pub(crate) fn edge(&self, number: u32) -> Edge<'a> {
-        self.sources().edge(number)
-    }
-
-    /// The first output of one of its edges.
-    pub(crate) fn output(&self, number: u32) -> Shown<'a> {
-        self.edge(number).output.unwrap_or(Shown(b""))
+    /// How the last run of one of its edges ended, in a word.
+    pub(crate) fn status(&self, number: u32) -> Option<&'static str> {
+        match last_in(self.lasts, number) {
+            Some(last) => Some(ending_word(last.ending)),
+            None => None,
+        }
     }
 }
 

@@ -1,145 +1,197 @@
 //! The comparison in words.
+use crate::changes::{Part, flags_that_differ, inputs_alone, outputs_alone, part_of};
 use crate::facts::{Changed, Differing, Facts, Inverted, alone_in, counts};
-use crate::reads::{beside, listed, makes_one, set_of, there_alone};
-use crate::side::{Side, ending_word, event_name};
-use indexmap::IndexMap;
-use rev_compared::{Changes, Last};
-use rev_paths::Name;
+use crate::flakes::{Days, Flake, Maker, failed_in_one, failed_in_other, makers_of, story_of};
+use crate::reads::{beside, listed, there_alone};
+use crate::side::{Day, Side, ending_word, event_name};
+use rev_manifest::Build;
 use rev_races_text::{Shown, Text};
 use std::alloc::{AllocError, Global};
 
-// How many paths of one command the words have.
+// How many entries a section has, and how many paths a line, unless the words tell all.
 const FEW: usize = 5;
-// How many commands that failed in A alone are told with the makers that had finished.
-const FLAKES: usize = 5;
+// Of how many commands that failed on one day alone the makers are told, and of how many where the words tell all.
+const FLAKES: usize = 3;
 
-// Adds how many are left out.
-fn push_rest(text: &mut String, count: usize, most: usize) -> Result<(), AllocError> {
+const ALL_FLAKES: usize = 20;
+
+// How many entries a section has.
+fn entries(all: bool) -> usize {
+    if all { usize::MAX } else { FEW }
+}
+
+// Adds how many entries are left out.
+fn push_rest(text: &mut String, indent: &str, count: usize, most: usize) -> Result<(), AllocError> {
     let more = count.saturating_sub(most);
     if more == 0 {
         return Ok(());
     }
-    write!(text, "  and {more} more (--all tells them)\n")
+    write!(text, "{indent}and {more} more (--all tells them)\n")
 }
 
 // Adds what one recording has.
-fn push_side<'a>(
-    text: &mut String,
-    letter: &str,
-    side: Side<'a>,
-    lasts: &[Option<Last>],
-) -> Result<(), AllocError> {
-    let name = Text(side.name);
-    let edges = side.history.graph().edges();
-    let (ran, failed) = counts(lasts);
+fn push_day<'a>(text: &mut String, day: Day<'a>) -> Result<(), AllocError> {
+    let letter = day.letter;
+    let name = Text(day.side.name);
+    let edges = day.side.edges();
+    let (ran, failed) = counts(day.lasts);
     write!(
         text,
         "{letter}: {name}, {edges} edges, {ran} ran, {failed} failed\n"
     )
 }
 
-// Adds edges, each with its place.
+// Adds edges of one recording, each with its place.
 fn push_edges<'a>(
     text: &mut String,
     heading: &str,
-    side: Side<'a>,
+    day: Day<'a>,
     edges: &[u32],
-    most: usize,
+    all: bool,
 ) -> Result<(), AllocError> {
     let count = edges.len();
     if count == 0 {
         return Ok(());
     }
-    write!(text, "{heading}: {count}\n")?;
+    let letter = day.letter;
+    write!(text, "{heading} {letter} alone: {count}\n")?;
+    let most = entries(all);
     for edge in edges.iter().take(most) {
-        let placed = side.edge(*edge);
+        let placed = day.side.edge(*edge);
         write!(text, "  {placed}\n")?;
     }
-    push_rest(text, count, most)
+    push_rest(text, "  ", count, most)
 }
 
-// Adds a word where it is asked for.
-fn push_word(text: &mut String, differs: bool, word: &str) -> Result<(), AllocError> {
-    if differs {
-        write!(text, " {word}")?;
+// Adds paths that stand on one side alone, and says whether there are any.
+fn push_paths(
+    text: &mut String,
+    heading: &str,
+    letter: &str,
+    paths: &[Shown<'_>],
+    all: bool,
+) -> Result<bool, AllocError> {
+    let count = paths.len();
+    if count == 0 {
+        return Ok(false);
+    }
+    let most = entries(all);
+    write!(text, "    {heading} in {letter} alone:")?;
+    for path in paths.iter().take(most) {
+        write!(text, " {path}")?;
+    }
+    let more = count.saturating_sub(most);
+    if more != 0 {
+        write!(text, " and {more} more")?;
+    }
+    text.push_str("\n")?;
+    Ok(true)
+}
+
+// Adds a part of a command.
+fn push_part(text: &mut String, letter: &str, part: Part<'_>) -> Result<(), AllocError> {
+    let before = if part.has_before { ".. " } else { "" };
+    let behind = if part.has_behind { " .." } else { "" };
+    let command = Text(part.text);
+    write!(text, "    {letter}: {before}{command}{behind}\n")
+}
+
+// Adds which inputs two statements do not share.
+fn push_inputs(
+    alloc: Global,
+    text: &mut String,
+    build: &Build,
+    other: &Build,
+    all: bool,
+) -> Result<(), AllocError> {
+    let here = inputs_alone(alloc, build, other)?;
+    let has_here = push_paths(text, "inputs", "A", &here, all)?;
+    let there = inputs_alone(alloc, other, build)?;
+    let has_there = push_paths(text, "inputs", "B", &there, all)?;
+    if !has_here && !has_there {
+        text.push_str("    the same inputs, of other kinds or in another order\n")?;
     }
     Ok(())
 }
 
-// Adds what differs between the statements of an edge.
-fn push_changes(text: &mut String, changes: Changes) -> Result<(), AllocError> {
-    push_word(text, changes.outputs, "outputs")?;
-    push_word(text, changes.inputs, "inputs")?;
-    push_word(text, changes.command, "command")?;
-    push_word(text, changes.flags, "flags")
+// Adds which outputs two statements do not share.
+fn push_outputs(
+    alloc: Global,
+    text: &mut String,
+    build: &Build,
+    other: &Build,
+    all: bool,
+) -> Result<(), AllocError> {
+    let here = outputs_alone(alloc, build, other)?;
+    let has_here = push_paths(text, "outputs", "A", &here, all)?;
+    let there = outputs_alone(alloc, other, build)?;
+    let has_there = push_paths(text, "outputs", "B", &there, all)?;
+    if !has_here && !has_there {
+        text.push_str("    the same outputs, of other kinds or in another order\n")?;
+    }
+    Ok(())
 }
 
-// Adds the command of an edge.
-fn push_command<'a>(
-    text: &mut String,
-    letter: &str,
-    side: Side<'a>,
-    edge: u32,
-) -> Result<(), AllocError> {
-    let Some(build) = side.manifest.builds().get(edge as usize) else {
+// Adds the names of flags.
+fn push_flags(text: &mut String, flags: &[&'static str]) -> Result<(), AllocError> {
+    if flags.is_empty() {
         return Ok(());
-    };
-    let command = Text(build.command());
-    write!(text, "    {letter}: {command}\n")
+    }
+    text.push_str("    flags:")?;
+    for flag in flags {
+        write!(text, " {flag}")?;
+    }
+    text.push_str("\n")
 }
 
 // Adds an edge whose statements differ.
 fn push_change<'a>(
+    alloc: Global,
     text: &mut String,
     one: Side<'a>,
     other: Side<'a>,
     changed: &Changed,
+    all: bool,
 ) -> Result<(), AllocError> {
     let placed = one.edge(changed.edge);
-    write!(text, "  {placed}:")?;
-    push_changes(text, changed.changes)?;
-    text.push_str("\n")?;
-    if changed.changes.command {
-        push_command(text, "A", one, changed.edge)?;
-        push_command(text, "B", other, changed.twin)?;
+    write!(text, "  {placed}\n")?;
+    let (Some(build), Some(twin)) = (one.build(changed.edge), other.build(changed.twin)) else {
+        return Ok(());
+    };
+    let changes = changed.changes;
+    if changes.outputs {
+        push_outputs(alloc, text, build, twin, all)?;
     }
-    Ok(())
+    if changes.inputs {
+        push_inputs(alloc, text, build, twin, all)?;
+    }
+    if changes.command {
+        push_part(text, "A", part_of(build.command(), twin.command(), all))?;
+        push_part(text, "B", part_of(twin.command(), build.command(), all))?;
+    }
+    let flags = flags_that_differ(alloc, one, build, other, twin)?;
+    push_flags(text, &flags)
 }
 
 // Adds the edges whose statements differ.
 fn push_changed<'a>(
+    alloc: Global,
     text: &mut String,
     one: Side<'a>,
     other: Side<'a>,
     changed: &[Changed],
-    most: usize,
+    all: bool,
 ) -> Result<(), AllocError> {
     let count = changed.len();
     if count == 0 {
         return Ok(());
     }
     write!(text, "statements that differ: {count}\n")?;
+    let most = entries(all);
     for change in changed.iter().take(most) {
-        push_change(text, one, other, change)?;
+        push_change(alloc, text, one, other, change, all)?;
     }
-    push_rest(text, count, most)
-}
-
-// Adds paths that stand on one side alone.
-fn push_paths(text: &mut String, letter: &str, paths: &[Shown<'_>]) -> Result<(), AllocError> {
-    let count = paths.len();
-    if count == 0 {
-        return Ok(());
-    }
-    write!(text, "    in {letter} alone:")?;
-    for path in paths.iter().take(FEW) {
-        write!(text, " {path}")?;
-    }
-    let more = count.saturating_sub(FEW);
-    if more != 0 {
-        write!(text, " and {more} more")?;
-    }
-    text.push_str("\n")
+    push_rest(text, "  ", count, most)
 }
 
 // Adds which outputs are there on one side alone.
@@ -149,29 +201,35 @@ fn push_presence<'a>(
     one: Side<'a>,
     other: Side<'a>,
     d: &Differing,
+    all: bool,
 ) -> Result<(), AllocError> {
-    text.push_str("    outputs that are there afterwards differ\n")?;
+    let heading = "outputs that are there afterwards";
     let here = there_alone(alloc, one, d.edge, &d.last, other, &d.other)?;
-    push_paths(text, "A", &here)?;
+    push_paths(text, heading, "A", &here, all)?;
     let there = there_alone(alloc, other, d.twin, &d.other, one, &d.last)?;
-    push_paths(text, "B", &there)
+    push_paths(text, heading, "B", &there, all)?;
+    Ok(())
 }
 
-// Adds which paths were read on one side alone.
+// Adds which paths are listed as read on one side alone.
 fn push_reads<'a>(
     alloc: Global,
     text: &mut String,
     one: Side<'a>,
     other: Side<'a>,
     d: &Differing,
+    all: bool,
 ) -> Result<(), AllocError> {
-    text.push_str("    the lists of what was read differ\n")?;
     let here = listed(one, &d.last);
     let there = listed(other, &d.other);
     let alone = beside(alloc, here, there)?;
-    push_paths(text, "A", &alone)?;
+    let has_here = push_paths(text, "listed as read", "A", &alone, all)?;
     let other_alone = beside(alloc, there, here)?;
-    push_paths(text, "B", &other_alone)
+    let has_there = push_paths(text, "listed as read", "B", &other_alone, all)?;
+    if !has_here && !has_there {
+        text.push_str("    the lists of what was read differ in their order\n")?;
+    }
+    Ok(())
 }
 
 // Adds an edge whose runs differ.
@@ -181,16 +239,17 @@ fn push_difference<'a>(
     one: Side<'a>,
     other: Side<'a>,
     d: &Differing,
+    all: bool,
 ) -> Result<(), AllocError> {
     let placed = one.edge(d.edge);
     let ending = ending_word(d.last.ending);
     let other_ending = ending_word(d.other.ending);
     write!(text, "  {placed}: {ending} in A, {other_ending} in B\n")?;
     if d.differences.presence {
-        push_presence(alloc, text, one, other, d)?;
+        push_presence(alloc, text, one, other, d, all)?;
     }
     if d.differences.reads {
-        push_reads(alloc, text, one, other, d)?;
+        push_reads(alloc, text, one, other, d, all)?;
     }
     Ok(())
 }
@@ -202,145 +261,172 @@ fn push_differing<'a>(
     one: Side<'a>,
     other: Side<'a>,
     differing: &[Differing],
-    most: usize,
+    all: bool,
 ) -> Result<(), AllocError> {
     let count = differing.len();
     if count == 0 {
         return Ok(());
     }
     write!(text, "runs that differ: {count}\n")?;
+    let most = entries(all);
     for difference in differing.iter().take(most) {
-        push_difference(alloc, text, one, other, difference)?;
+        push_difference(alloc, text, one, other, difference, all)?;
     }
-    push_rest(text, count, most)
+    push_rest(text, "  ", count, most)
 }
 
-// Adds a maker that had finished in B alone, and what it did in A.
-fn push_maker<'a>(
-    text: &mut String,
-    other: Side<'a>,
-    facts: &Facts,
-    maker: u32,
-    is_listed: bool,
-) -> Result<(), AllocError> {
-    let placed = other.edge(maker);
-    let word = match facts.last_here(maker) {
-        Some(_last) => "later in A",
-        None => "did not run in A",
-    };
-    let listed = if is_listed {
-        ", and B's list of what was read has it"
-    } else {
-        ""
-    };
-    write!(text, "    {placed}: {word}{listed}\n")
+// Adds a maker that had finished on the good day alone, and what became of it on the bad day.
+fn push_maker<'a>(text: &mut String, days: Days<'a>, maker: &Maker) -> Result<(), AllocError> {
+    let placed = days.good.side.edge(maker.edge);
+    let story = story_of(days.bad, maker);
+    let (bad, good) = (days.bad.letter, days.good.letter);
+    write!(text, "    {placed}: {story} in {bad}")?;
+    if maker.is_listed {
+        write!(text, "; listed as read in {good}")?;
+    }
+    text.push_str("\n")
 }
 
-// Adds those of some makers of which B's list has an output, or the others, at most so many.
+// Adds those makers that are listed as read, or the others, at most so many, and gives how many it adds.
 fn push_makers<'a>(
     text: &mut String,
-    other: Side<'a>,
-    facts: &Facts,
-    makers: &[u32],
-    reads: &IndexMap<Name, ()>,
+    days: Days<'a>,
+    makers: &[Maker],
     are_listed: bool,
     most: usize,
-) -> Result<(), AllocError> {
+) -> Result<usize, AllocError> {
     let mut told: usize = 0;
     for maker in makers {
-        if makes_one(other, *maker, reads) == are_listed && told < most {
+        if maker.is_listed == are_listed && told < most {
             told = told.saturating_add(1);
-            push_maker(text, other, facts, *maker, are_listed)?;
+            push_maker(text, days, maker)?;
         }
     }
-    Ok(())
+    Ok(told)
 }
 
-// Adds the makers that had finished in B before a command, and had not in A: first those of which its list in B has an
-// output.
+// Adds the makers that had finished before a command on the good day alone: first those that are listed as read.
 fn push_flake<'a>(
     alloc: Global,
     text: &mut String,
-    one: Side<'a>,
-    other: Side<'a>,
-    facts: &Facts,
-    d: &Differing,
-    most: usize,
+    days: Days<'a>,
+    flake: &Flake,
+    all: bool,
 ) -> Result<(), AllocError> {
-    let output = one.output(d.edge);
-    let makers = facts.finished(alloc, other, d)?;
-    let reads = set_of(alloc, listed(other, &d.other))?;
+    let placed = days.bad.side.edge(flake.bad_edge);
+    let (bad, good) = (days.bad.letter, days.good.letter);
+    let makers = makers_of(alloc, days, flake)?;
     let count = makers.len();
     write!(
         text,
-        "  {output}: {count} had finished before it in B and not in A\n"
+        "  {placed}: {count} had finished before it in {good} and not in {bad}\n"
     )?;
-    push_makers(text, other, facts, &makers, &reads, true, most)?;
-    push_makers(text, other, facts, &makers, &reads, false, most)
+    let most = entries(all);
+    let told = push_makers(text, days, &makers, true, most)?;
+    push_makers(text, days, &makers, false, most.saturating_sub(told))?;
+    push_rest(text, "    ", count, most)
 }
 
-// Adds the commands that failed in A and passed in B.
+// Adds the commands that failed on the bad day and passed on the good day.
 fn push_flakes<'a>(
     alloc: Global,
     text: &mut String,
-    one: Side<'a>,
-    other: Side<'a>,
-    facts: &Facts,
-    most: usize,
+    days: Days<'a>,
+    flakes: &[Flake],
+    all: bool,
 ) -> Result<(), AllocError> {
-    let mut told: usize = 0;
-    for difference in &facts.differing {
-        if Facts::is_flake(difference) && told < FLAKES {
-            if told == 0 {
-                text.push_str("failed in A and passed in B\n")?;
-            }
-            told = told.saturating_add(1);
-            push_flake(alloc, text, one, other, facts, difference, most)?;
-        }
+    let count = flakes.len();
+    if count == 0 {
+        return Ok(());
+    }
+    let (bad, good) = (days.bad.letter, days.good.letter);
+    write!(text, "failed in {bad} and passed in {good}: {count}\n")?;
+    let most = if all { ALL_FLAKES } else { FLAKES };
+    for flake in flakes.iter().take(most) {
+        push_flake(alloc, text, days, flake, all)?;
+    }
+    let more = count.saturating_sub(most);
+    if more != 0 {
+        write!(
+            text,
+            "  and {more} more, which are among the runs that differ\n"
+        )?;
     }
     Ok(())
 }
 
-// Adds the pair of events of one recording that stand the other way round in the other.
-fn push_inverted<'a>(
+// Adds two events of a recording in their order.
+fn push_order<'a>(
     text: &mut String,
     letter: &str,
-    other_letter: &str,
     side: Side<'a>,
+    first: u32,
+    second: u32,
+) -> Result<(), AllocError> {
+    let (word, output) = event_name(side, first);
+    let (later, later_output) = event_name(side, second);
+    write!(text, "  {letter}: {word} {output} ({first})")?;
+    write!(text, " before {later} {later_output} ({second})\n")
+}
+
+// Adds the pair of dependent events of one recording that stand the other way round in the other.
+fn push_inverted<'a>(
+    text: &mut String,
+    here: Day<'a>,
+    there: Day<'a>,
     inverted: Option<Inverted>,
 ) -> Result<(), AllocError> {
     let Some(inverted) = inverted else {
         return Ok(());
     };
-    let (first, second) = (inverted.first, inverted.second);
-    let (word, output) = event_name(side, first);
-    let (later, later_output) = event_name(side, second);
-    write!(text, "dependent in {letter}, and the other way round in {other_letter}: ")?;
-    write!(text, "{word} {output} ({first}) before {later} {later_output} ({second})\n")
+    let (letter, other_letter) = (here.letter, there.letter);
+    write!(
+        text,
+        "dependent in {letter}, and the other way round in {other_letter}\n"
+    )?;
+    push_order(text, letter, here.side, inverted.first, inverted.second)?;
+    let (first, second) = (inverted.other_first, inverted.other_second);
+    push_order(text, other_letter, there.side, second, first)
 }
 
-/// The comparison of two recordings, `one` as A and `other` as B, in words. A section has at most so many lines.
+// Adds the edges that stand or ran in one recording alone.
+fn push_alone<'a>(
+    alloc: Global,
+    text: &mut String,
+    a: Day<'a>,
+    b: Day<'a>,
+    facts: &Facts,
+    all: bool,
+) -> Result<(), AllocError> {
+    let only = alone_in(alloc, a.twins)?;
+    push_edges(text, "edges of", a, &only, all)?;
+    let other_only = alone_in(alloc, b.twins)?;
+    push_edges(text, "edges of", b, &other_only, all)?;
+    push_edges(text, "ran in", a, &facts.ran, all)?;
+    push_edges(text, "ran in", b, &facts.other_ran, all)
+}
+
+/// The comparison of two recordings in words: a few entries of each section, or all.
 pub(crate) fn comparison_words<'a>(
     alloc: Global,
-    one: Side<'a>,
-    other: Side<'a>,
+    a: Day<'a>,
+    b: Day<'a>,
     facts: &Facts,
-    most: usize,
+    all: bool,
 ) -> Result<String, AllocError> {
+    let (one, other) = (a.side, b.side);
     let mut text = String::new(alloc);
-    push_side(&mut text, "A", one, &facts.lasts)?;
-    push_side(&mut text, "B", other, &facts.others)?;
-    push_changed(&mut text, one, other, &facts.changed, most)?;
-    let only = alone_in(alloc, &facts.twins)?;
-    push_edges(&mut text, "edges of A alone", one, &only, most)?;
-    let other_only = alone_in(alloc, &facts.back)?;
-    push_edges(&mut text, "edges of B alone", other, &other_only, most)?;
-    push_edges(&mut text, "ran in A alone", one, &facts.ran, most)?;
-    push_edges(&mut text, "ran in B alone", other, &facts.other_ran, most)?;
-    push_differing(alloc, &mut text, one, other, &facts.differing, most)?;
-    push_flakes(alloc, &mut text, one, other, facts, most)?;
-    push_inverted(&mut text, "A", "B", one, facts.inverted)?;
-    push_inverted(&mut text, "B", "A", other, facts.other_inverted)?;
+    push_day(&mut text, a)?;
+    push_day(&mut text, b)?;
+    let flakes = failed_in_one(alloc, &facts.differing)?;
+    push_flakes(alloc, &mut text, Days { bad: a, good: b }, &flakes, all)?;
+    let flakes = failed_in_other(alloc, &facts.differing)?;
+    push_flakes(alloc, &mut text, Days { bad: b, good: a }, &flakes, all)?;
+    push_inverted(&mut text, a, b, facts.inverted)?;
+    push_inverted(&mut text, b, a, facts.other_inverted)?;
+    push_differing(alloc, &mut text, one, other, &facts.differing, all)?;
+    push_changed(alloc, &mut text, one, other, &facts.changed, all)?;
+    push_alone(alloc, &mut text, a, b, facts, all)?;
     if facts.are_none() {
         text.push_str("nothing differs\n")?;
     }

@@ -1,0 +1,204 @@
+//! What differs between two build statements, by name.
+use crate::side::Side;
+use indexmap::IndexMap;
+use rev_manifest::Build;
+use rev_paths::Name;
+use rev_races_text::Shown;
+use std::alloc::{AllocError, Global};
+
+// A command of at most so many bytes is told whole.
+const SHORT: usize = 80;
+// The most bytes of a command that words tell, unless they tell all.
+const PART: usize = 240;
+
+// Adds the paths to those that are there.
+fn add_to_set(set: &mut IndexMap<Name, ()>, paths: &[Name]) -> Result<(), AllocError> {
+    for path in paths {
+        set.insert(path.copy()?, ())?;
+    }
+    Ok(())
+}
+
+// Adds the paths that are not among some.
+fn add_others<'a>(
+    alone: &mut Vec<Shown<'a>>,
+    paths: &'a [Name],
+    set: &IndexMap<Name, ()>,
+) -> Result<(), AllocError> {
+    for path in paths {
+        if !set.contains_key(path) {
+            alone.push(Shown(path.as_bytes()))?;
+        }
+    }
+    Ok(())
+}
+
+/// The inputs of a statement, of whichever kind, that are not inputs of another one.
+pub(crate) fn inputs_alone<'a>(
+    alloc: Global,
+    build: &'a Build,
+    other: &Build,
+) -> Result<Vec<Shown<'a>>, AllocError> {
+    let mut set = IndexMap::new(alloc);
+    add_to_set(&mut set, other.explicit())?;
+    add_to_set(&mut set, other.implicit())?;
+    add_to_set(&mut set, other.order_only())?;
+    add_to_set(&mut set, other.validations())?;
+    let mut alone = Vec::new(alloc);
+    add_others(&mut alone, build.explicit(), &set)?;
+    add_others(&mut alone, build.implicit(), &set)?;
+    add_others(&mut alone, build.order_only(), &set)?;
+    add_others(&mut alone, build.validations(), &set)?;
+    Ok(alone)
+}
+
+/// The outputs of a statement that are not outputs of another one.
+pub(crate) fn outputs_alone<'a>(
+    alloc: Global,
+    build: &'a Build,
+    other: &Build,
+) -> Result<Vec<Shown<'a>>, AllocError> {
+    let mut set = IndexMap::new(alloc);
+    add_to_set(&mut set, other.explicit_outs())?;
+    add_to_set(&mut set, other.implicit_outs())?;
+    let mut alone = Vec::new(alloc);
+    add_others(&mut alone, build.explicit_outs(), &set)?;
+    add_others(&mut alone, build.implicit_outs(), &set)?;
+    Ok(alone)
+}
+
+// Adds the name of a flag that differs.
+fn add_flag(
+    flags: &mut Vec<&'static str>,
+    differs: bool,
+    name: &'static str,
+) -> Result<(), AllocError> {
+    if differs {
+        flags.push(name)?;
+    }
+    Ok(())
+}
+
+// Whether two statements have the same pool: of the same name and depth, or none.
+fn have_same_pool<'a>(one: Side<'a>, build: &Build, other: Side<'a>, other_build: &Build) -> bool {
+    let (Some(number), Some(other_number)) = (build.pool(), other_build.pool()) else {
+        return build.pool().is_none() && other_build.pool().is_none();
+    };
+    let pool = one.manifest.pools().get(number as usize);
+    let other_pool = other.manifest.pools().get(other_number as usize);
+    match (pool, other_pool) {
+        (Some((name, depth)), Some((other_name, other_depth))) => {
+            name == other_name && depth == other_depth
+        }
+        _ => false,
+    }
+}
+
+/// The names of the flags in which two statements differ.
+pub(crate) fn flags_that_differ<'a>(
+    alloc: Global,
+    one: Side<'a>,
+    build: &Build,
+    other: Side<'a>,
+    other_build: &Build,
+) -> Result<Vec<&'static str>, AllocError> {
+    let mut flags = Vec::new(alloc);
+    add_flag(&mut flags, build.phony() != other_build.phony(), "phony")?;
+    add_flag(
+        &mut flags,
+        build.depfile() != other_build.depfile(),
+        "depfile",
+    )?;
+    add_flag(
+        &mut flags,
+        build.keeps_deps() != other_build.keeps_deps(),
+        "deps",
+    )?;
+    add_flag(
+        &mut flags,
+        build.rspfile() != other_build.rspfile(),
+        "rspfile",
+    )?;
+    add_flag(&mut flags, build.restat() != other_build.restat(), "restat")?;
+    add_flag(
+        &mut flags,
+        build.generator() != other_build.generator(),
+        "generator",
+    )?;
+    let same_pool = have_same_pool(one, build, other, other_build);
+    add_flag(&mut flags, !same_pool, "pool")?;
+    Ok(flags)
+}
+
+/// A part of a command, and whether there is more before it and behind it.
+#[derive(Clone, Copy)]
+pub(crate) struct Part<'a> {
+    pub(crate) text: &'a [u8],
+    pub(crate) has_before: bool,
+    pub(crate) has_behind: bool,
+}
+
+// The byte at a place, or 0.
+fn byte_at(text: &[u8], place: usize) -> u8 {
+    match text.get(place) {
+        Some(byte) => *byte,
+        None => 0,
+    }
+}
+
+// How many bytes two texts begin with alike, up to the end of a word and the space behind it.
+fn alike_before(text: &[u8], other: &[u8], most: usize) -> usize {
+    let mut alike = 0;
+    for place in 0..most {
+        let byte = byte_at(text, place);
+        if byte != byte_at(other, place) {
+            return alike;
+        }
+        if byte == b' ' {
+            alike = place.saturating_add(1);
+        }
+    }
+    alike
+}
+
+// How many of so many last bytes of two texts are alike, from a space on.
+fn alike_behind(text: &[u8], other: &[u8], most: usize) -> usize {
+    let mut alike = 0;
+    for place in 0..most {
+        let count = place.saturating_add(1);
+        let byte = byte_at(text, text.len().saturating_sub(count));
+        if byte != byte_at(other, other.len().saturating_sub(count)) {
+            return alike;
+        }
+        if byte == b' ' {
+            alike = count;
+        }
+    }
+    alike
+}
+
+// The part of a text between two places, and no more than words tell.
+fn part_between(text: &[u8], before: usize, end: usize) -> Part<'_> {
+    let shown = end.min(before.saturating_add(PART));
+    Part {
+        text: text.get(before..shown).unwrap_or(text),
+        has_before: before > 0,
+        has_behind: shown < text.len(),
+    }
+}
+
+/// The part of a command in which it differs from another one, in whole words; the whole command where it is short, or
+/// all is told.
+pub(crate) fn part_of<'a>(command: &'a [u8], other: &[u8], all: bool) -> Part<'a> {
+    if all || (command.len() <= SHORT && other.len() <= SHORT) {
+        return Part {
+            text: command,
+            has_before: false,
+            has_behind: false,
+        };
+    }
+    let most = command.len().min(other.len());
+    let before = alike_before(command, other, most);
+    let behind = alike_behind(command, other, most.saturating_sub(before));
+    part_between(command, before, command.len().saturating_sub(behind))
+}
