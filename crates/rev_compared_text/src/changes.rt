@@ -68,13 +68,13 @@ pub(crate) fn outputs_alone<'a>(
 }
 
 // Adds the name of a flag that differs.
-fn add_flag(
-    flags: &mut Vec<&'static str>,
+fn add_flag<'a>(
+    flags: &mut Vec<Shown<'a>>,
     differs: bool,
-    name: &'static str,
+    name: &'a [u8],
 ) -> Result<(), AllocError> {
     if differs {
-        flags.push(name)?;
+        flags.push(Shown(name))?;
     }
     Ok(())
 }
@@ -101,32 +101,33 @@ pub(crate) fn flags_that_differ<'a>(
     build: &Build,
     other: Side<'a>,
     other_build: &Build,
-) -> Result<Vec<&'static str>, AllocError> {
+) -> Result<Vec<Shown<'a>>, AllocError> {
+    let other_deps = build.keeps_deps() != other_build.keeps_deps();
+    let other_pool = !have_same_pool(one, build, other, other_build);
     let mut flags = Vec::new(alloc);
-    add_flag(&mut flags, build.phony() != other_build.phony(), "phony")?;
+    add_flag(&mut flags, build.phony() != other_build.phony(), b"phony")?;
     add_flag(
         &mut flags,
         build.depfile() != other_build.depfile(),
-        "depfile",
+        b"depfile",
     )?;
-    add_flag(
-        &mut flags,
-        build.keeps_deps() != other_build.keeps_deps(),
-        "deps",
-    )?;
+    add_flag(&mut flags, other_deps, b"deps")?;
     add_flag(
         &mut flags,
         build.rspfile() != other_build.rspfile(),
-        "rspfile",
+        b"rspfile",
     )?;
-    add_flag(&mut flags, build.restat() != other_build.restat(), "restat")?;
+    add_flag(
+        &mut flags,
+        build.restat() != other_build.restat(),
+        b"restat",
+    )?;
     add_flag(
         &mut flags,
         build.generator() != other_build.generator(),
-        "generator",
+        b"generator",
     )?;
-    let same_pool = have_same_pool(one, build, other, other_build);
-    add_flag(&mut flags, !same_pool, "pool")?;
+    add_flag(&mut flags, other_pool, b"pool")?;
     Ok(flags)
 }
 

@@ -81,7 +81,7 @@ struct StatementObject<'a> {
     outputs: bool,
     inputs: bool,
     command: bool,
-    flags: Vec<&'static str>,
+    flags: Vec<Shown<'a>>,
     a_outputs: Vec<Shown<'a>>,
     b_outputs: Vec<Shown<'a>>,
     a_inputs: Vec<Shown<'a>>,

@@ -133,7 +133,7 @@ fn push_outputs(
 }
 
 // Adds the names of flags.
-fn push_flags(text: &mut String, flags: &[&'static str]) -> Result<(), AllocError> {
+fn push_flags(text: &mut String, flags: &[Shown<'_>]) -> Result<(), AllocError> {
     if flags.is_empty() {
         return Ok(());
     }
