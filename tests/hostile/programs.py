@@ -40,7 +40,9 @@ ASKED: list[tuple[list[str], tuple[int, ...]]] = [
     (["certify", "--format", "junit"], (0, 1, 3, 4, 5)), (["races", "--witness", "9"], (0, 1, 2)),
     (["races", "--provoke", "1"], (0, 1, 2)), (["replay"], (0, 1, 4)),
     (["ask"], (0, 1)), (["ask", "--json"], (0, 1)), (["picture"], (0, 1)), (["picture", "--html"], (0, 1)),
-    (["picture", "--event", "3"], (0, 1, 2)), (["timeline"], (0, 1, 2))]
+    (["picture", "--event", "3"], (0, 1, 2)), (["timeline"], (0, 1, 2)), (["compare", "."], (0, 1)),
+    (["compare", "--all", f"{TOP}/examples/flaky/failed"], (1, 4)),
+    (["compare", "--json", f"{TOP}/examples/flaky/failed"], (1, 4))]
 # What is asked at the prompt, with the name of an output or of another path.
 QUESTIONS = [b"run", b"next", b"next 3", b"kept", b"marks", b"stamps", b"logs", b"help", b"", b"nonsense", b"who %b",
              b"why %b", b"with %b", b"what finish %b", b"needs %b all", b"dependents %b", b"would cone %b",
@@ -223,7 +225,7 @@ class RebugAsk:
                 json.loads(out)
             except ValueError as why:
                 yield f"no timeline: {why}"
-        elif words[0] in ("replay", "ask") or words in (["races"], ["races", "--all"], ["certify"]):
+        elif words[0] in ("replay", "ask", "compare") or words in (["races"], ["races", "--all"], ["certify"]):
             raw = RAW.search(out)
             if raw:
                 yield f"a byte that no terminal should get: {out[max(0, raw.start() - 40) : raw.end()]!r}"

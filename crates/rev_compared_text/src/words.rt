@@ -227,7 +227,7 @@ fn push_reads<'a>(
     let other_alone = beside(alloc, there, here)?;
     let has_there = push_paths(text, "listed as read", "B", &other_alone, all)?;
     if !has_here && !has_there {
-        text.push_str("    the lists of what was read differ in their order\n")?;
+        text.push_str("    the lists of what was read differ in their order or form\n")?;
     }
     Ok(())
 }
