@@ -11,10 +11,10 @@ use rev_manifest::Build;
 use rev_named::{LastComponents, last_components, named_outputs};
 use rev_paths::Name;
 use rev_printed::Entry;
-use rev_races::{Race, path_of, races, stories};
+use rev_races::{Race, listed, path_of, races, stories};
 use rev_races_text::{
-    Basis, Change, Clash, Evidence, Failure, Kind, ListedBefore, Printed, Progress, Run, Shown,
-    Sources, Story, Suspect, Told, Untold,
+    Basis, Change, Clash, Edge, Evidence, Failure, Kind, ListedBefore, Printed, Progress, Run,
+    Shown, Sources, Story, Suspect, Told, Untold,
 };
 use rev_runs::runs;
 use rev_shown::first_output;
@@ -415,6 +415,40 @@ fn first_edges(alloc: Global, numbers: &[u32]) -> Result<Vec<u32>, AllocError> {
     Ok(edges)
 }
 
+// Whether an edge keeps a list of what its command read, and has one.
+fn has_list(history: &History, edge: u32) -> bool {
+    edge < history.graph().edges() && listed(history, edge).is_some()
+}
+
+// Whether a command that ran at a change is told before another: one without a list of what it read, since most with
+// one compile, and then the one that ended sooner. One that did not end has no number of an end.
+fn is_before(one: (bool, Option<u32>), other: (bool, Option<u32>)) -> bool {
+    let (has_list, ended) = one;
+    let (other_list, other_ended) = other;
+    if has_list != other_list {
+        return other_list;
+    }
+    match (ended, other_ended) {
+        (Some(ended), Some(other_ended)) => ended < other_ended,
+        (ended, _) => ended.is_some(),
+    }
+}
+
+// Of the commands that ran at a change the one that is told by its name.
+fn first_of<'a>(history: &History, sources: &Sources<'a>, ran: &[u32]) -> Option<Edge<'a>> {
+    let mut first: Option<Edge<'a>> = None;
+    let mut first_key = (true, None);
+    for number in ran {
+        let edge = sources.edge(*number);
+        let key = (has_list(history, *number), edge.ended);
+        if first.is_none() || is_before(key, first_key) {
+            first = Some(edge);
+            first_key = key;
+        }
+    }
+    first
+}
+
 /// The changed files that give hints. `names` has the other names of outputs, and `whole` the edges whose commands were
 /// observed whole: where that is so of the user and of all that ran, the observation tells who wrote the file.
 pub fn told_changes<'a>(
@@ -434,7 +468,7 @@ pub fn told_changes<'a>(
                 at: hint.number,
                 commands: hint.ran.len() as u64,
                 path: Shown(path.as_bytes()),
-                first: hint.ran.first().map(|edge| sources.edge(*edge)),
+                first: first_of(history, sources, &hint.ran),
                 ran: first_edges(alloc, &hint.ran)?,
                 user: sources.edge(hint.user),
             })?;

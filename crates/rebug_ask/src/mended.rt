@@ -281,7 +281,7 @@ impl<'a> Patched<'a> {
         }
         if mends.len() > MOST_TRIED {
             return text.extend_from_slice(
-                b"# no patch: with all these orders together a command waits for itself; add them one by one\n",
+                b"# no patch: with all these orders together a command waits for itself; add some, and ask again\n",
             );
         }
         let mends = self.together(alloc, text, &mends)?;

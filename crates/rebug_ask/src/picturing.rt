@@ -15,7 +15,7 @@ use rev_history::History;
 use rev_manifest::Manifest;
 use rev_paths::Name;
 use rev_program::{ProgramFault, USAGE};
-use rev_races::{Race, Story, races, stories};
+use rev_races::{Kind, Race, Story, races, stories};
 use rev_races_text::Replayed;
 use rev_recording::{RecordingFault, open, refused_count, replay};
 use rev_runs::runs;
@@ -29,6 +29,63 @@ use std::rt::Files;
 struct Wish {
     html: bool,
     event: Option<u32>,
+}
+
+/// The files of a recording that a picture or a timeline is made of.
+pub struct DrawnFiles {
+    /// The manifest's files and the trace.
+    pub read: Recording,
+    // The file `times`; empty where there is none.
+    times: Vec<u8>,
+    // The file `observed`, where there is one.
+    observed: Option<Vec<u8>>,
+    // The file `filters`, where there is one.
+    filters: Option<Vec<u8>>,
+}
+
+// Written, since a derived drop is proved again at each exit of each caller.
+impl Drop for DrawnFiles {
+    fn drop(self) {
+        let DrawnFiles {
+            read: _read,
+            times: _times,
+            observed: _observed,
+            filters: _filters,
+        } = self;
+    }
+}
+
+impl DrawnFiles {
+    /// What is made of them, lent.
+    pub fn lent(&self) -> Bytes<'_> {
+        Bytes {
+            read: &self.read,
+            times: &self.times,
+            observed: self.observed.as_deref(),
+            filters: self.filters.as_deref(),
+        }
+    }
+}
+
+/// Reads the files of a recording that a picture or a timeline is made of.
+///
+/// # Errors
+/// As [`read_recording`], and as [`read_times`] of the files beside the trace.
+pub fn read_drawn<'a, R: Files + AllocGlobal>(
+    rt: &R,
+    recording: &'a str,
+) -> Result<DrawnFiles, ProgramFault<'a>> {
+    let place = place_of(rt, recording);
+    let read = read_recording(rt, recording, place)?;
+    let times = read_times(rt, recording, place)?;
+    let observed = read_observed(rt, recording, place)?;
+    let filters = read_filters(rt, recording, place)?;
+    Ok(DrawnFiles {
+        read,
+        times,
+        observed,
+        filters,
+    })
 }
 
 /// What a picture or a timeline is made of, beside the desk of the recording.
@@ -120,6 +177,21 @@ pub fn maybe_sight_of(
     }
 }
 
+/// The races and the cycles of a history whose manifest was read from these files, as they are drawn between two
+/// commands. A path that its own command lists is of one.
+///
+/// # Errors
+/// [`AllocError`] only where an allocation was refused.
+pub fn races_of_two(
+    alloc: Global,
+    history: &History,
+    files: &[Name],
+) -> Result<Vec<Race>, AllocError> {
+    let mut races = races(alloc, history, files)?;
+    races.retain(|race| race.kind != Kind::Own);
+    Ok(races)
+}
+
 // How many commands had not ended when the recording did.
 fn running_count(alloc: Global, history: &History) -> Result<u64, AllocError> {
     let runs = runs(alloc, history)?;
@@ -200,7 +272,7 @@ fn drawn_desk(
     replayed: &[u8],
     wish: Wish,
 ) -> Result<Vec<u8>, AllocError> {
-    let races = races(alloc, desk.history(), files)?;
+    let races = races_of_two(alloc, desk.history(), files)?;
     let stories = stories(alloc, desk.history(), &races)?;
     let times = times_in(alloc, desk, bytes.times)?;
     drawn_races(alloc, desk, &times, &races, &stories, sight, replayed, wish)
@@ -327,18 +399,8 @@ fn picture_wished<'a, R: Files + Print + Eprint + AllocGlobal>(
     asked: &Asked<'a>,
     wish: Wish,
 ) -> Result<u8, ProgramFault<'a>> {
-    let place = place_of(rt, asked.recording);
-    let read = read_recording(rt, asked.recording, place)?;
-    let times = read_times(rt, asked.recording, place)?;
-    let observed = read_observed(rt, asked.recording, place)?;
-    let filters = read_filters(rt, asked.recording, place)?;
-    let bytes = Bytes {
-        read: &read,
-        times: &times,
-        observed: observed.as_deref(),
-        filters: filters.as_deref(),
-    };
-    match picture_of_bytes(rt.alloc(), bytes, wish) {
+    let files = read_drawn(rt, asked.recording)?;
+    match picture_of_bytes(rt.alloc(), files.lent(), wish) {
         Ok(Made::Text(text, replayed)) => {
             put(rt, asked.out, &text)?;
             say_lines(rt, &replayed);
@@ -348,7 +410,7 @@ fn picture_wished<'a, R: Files + Print + Eprint + AllocGlobal>(
             say_no_event(rt, last);
             Ok(USAGE)
         }
-        Err(fault) => refuse(rt, &read, &fault),
+        Err(fault) => refuse(rt, &files.read, &fault),
     }
 }
 

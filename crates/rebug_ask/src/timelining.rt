@@ -1,9 +1,10 @@
 //! The timeline of a recording.
 ghost use Rattle.std.specs.Prelude.{◌≡◌, ◌+◌, ◌≤◌, length};
 
-use crate::files::{Recording, place_of, read_recording, read_times};
-use crate::observed::{read_filters, read_observed};
-use crate::picturing::{Bytes, Sight, maybe_sight_of, put, replayed_text, say_lines};
+use crate::files::Recording;
+use crate::picturing::{
+    Bytes, Sight, maybe_sight_of, put, races_of_two, read_drawn, replayed_text, say_lines,
+};
 use crate::times::times_in;
 use crate::told::{command_count, leave, manifest_of, names_of, refuse, say, trace_of};
 use rev_asking::Asked;
@@ -16,7 +17,7 @@ use rev_manifest::Manifest;
 use rev_program::{ProgramFault, USAGE};
 use rev_prompt::state_by;
 use rev_queries::{Chain, critical, timed_runs};
-use rev_races::{Race, races};
+use rev_races::Race;
 use rev_races_text::Sources;
 use rev_recording::{RecordingFault, open, replay};
 use rev_timeline::{Planned, Timeline, timeline_text};
@@ -132,7 +133,7 @@ fn drawn<'a>(
 ) -> Result<Vec<u8>, AllocError> {
     let history = desk.history();
     let files = names_of(alloc, &bytes.read.files)?;
-    let races = races(alloc, history, &files)?;
+    let races = races_of_two(alloc, history, &files)?;
     let plan = last_plan(history);
     let chain = chain_of(alloc, history, times, plan)?;
     let state = state_of(alloc, history, trace, plan)?;
@@ -211,18 +212,8 @@ fn timelined_in<'a, R: Files + Print + Eprint + AllocGlobal>(
     rt: &R,
     asked: &Asked<'a>,
 ) -> Result<u8, ProgramFault<'a>> {
-    let place = place_of(rt, asked.recording);
-    let read = read_recording(rt, asked.recording, place)?;
-    let times = read_times(rt, asked.recording, place)?;
-    let observed = read_observed(rt, asked.recording, place)?;
-    let filters = read_filters(rt, asked.recording, place)?;
-    let bytes = Bytes {
-        read: &read,
-        times: &times,
-        observed: observed.as_deref(),
-        filters: filters.as_deref(),
-    };
-    match timeline_of_bytes(rt.alloc(), asked.recording.as_bytes(), bytes) {
+    let files = read_drawn(rt, asked.recording)?;
+    match timeline_of_bytes(rt.alloc(), asked.recording.as_bytes(), files.lent()) {
         Ok(Made::Text(text, replayed)) => {
             put(rt, asked.out, &text)?;
             say_lines(rt, &replayed);
@@ -235,7 +226,7 @@ fn timelined_in<'a, R: Files + Print + Eprint + AllocGlobal>(
             );
             Ok(USAGE)
         }
-        Err(fault) => refuse(rt, &read, &fault),
+        Err(fault) => refuse(rt, &files.read, &fault),
     }
 }
 
