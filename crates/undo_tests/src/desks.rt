@@ -1,76 +1,33 @@
 // Small builds told line by line: what the journal says then, as reports have it.
-use crate::builds::{cut, event_of, graph_of, number, opening_of, path_of};
-use rev_desk::{Command, Desk, Entry, Point, Reply, Which};
+use crate::builds::{SOURCES, command_of, graph_of, trace_of};
+use rev_desk::{Desk, Entry, Reply};
+use rev_fields::next_number;
+use rev_trace::which_of;
 use std::alloc::{AllocError, Global};
-use std::test::Fail;
 
 // Two objects and a program.
-const BUILD: &[u8; 104] =
-    b"rule cc\n  command = cc\nrule ld\n  command = ld\nbuild a.o: cc a.c\nbuild b.o: cc b.c\nbuild app: ld a.o b.o\n";
+const BUILD: &str =
+    "rule cc\n  command = cc\nrule ld\n  command = ld\nbuild a.o: cc a.c\nbuild b.o: cc b.c\nbuild app: ld a.o b.o\n";
 
 // A desk of three lanes and two jobs, where the sources are there.
-fn desk_of(alloc: Global) -> Result<Desk, Fail> {
-    let graph = graph_of(alloc, BUILD)?;
-    let opening = opening_of(alloc, &["stamp a.c 10", "stamp b.c 20"])?;
-    let desk = Desk::new(alloc, graph, &opening, 3)?;
-    Ok(desk)
-}
-
-// A number, or a label: a lane, a colon and a place.
-fn which(text: &[u8]) -> Which {
-    let (first, second) = cut(text, b':');
-    if second.is_empty() {
-        return Which::Number(number(first));
-    }
-    Which::Label {
-        lane: number(first),
-        place: number(second),
-    }
-}
-
-// The command that a line says; of breaks, those of finishes.
-fn command_of(alloc: Global, line: &[u8]) -> Result<Command, Fail> {
-    let (word, said) = cut(line, b' ');
-    match word {
-        b"undo" => Ok(Command::Undo(which(said))),
-        b"redo" => Ok(Command::Redo(which(said))),
-        b"cone" => Ok(Command::Cone(which(said))),
-        b"back" => Ok(Command::Back),
-        b"break" => {
-            let (_kind, out) = cut(said, b' ');
-            Ok(Command::Break(Point::Finish(path_of(alloc, out)?)))
-        }
-        b"unbreak" => Ok(Command::Unbreak(number(said))),
-        b"continue" => Ok(Command::Continue),
-        _ => Ok(Command::Event(event_of(alloc, word, said)?)),
+fn desk_of(alloc: Global) -> Result<Desk, AllocError> {
+    let trace = trace_of(alloc, SOURCES)?;
+    match Desk::new(alloc, graph_of(alloc, BUILD)?, &trace.opening, 3) {
+        Ok(desk) => Ok(desk),
+        Err(_) => Err(AllocError),
     }
 }
 
 // A lane says a line.
-fn say(alloc: Global, desk: &mut Desk, lane: u32, line: &[u8]) -> Result<(), Fail> {
+fn say(alloc: Global, desk: &mut Desk, lane: &str, line: &str) -> Result<(), AllocError> {
     let command = command_of(alloc, line)?;
+    let lane = lane.parse().unwrap_or(u32::MAX);
     if lane >= desk.lanes() {
-        return Err(Fail::from("no lane of that number"));
+        return Err(AllocError);
     }
-    desk.apply(lane, command)?;
-    Ok(())
-}
-
-// A space and a number below 100.
-fn push_number(text: &mut Vec<u8>, number: u64) -> Result<(), AllocError> {
-    text.push(b' ')?;
-    if number >= 10 {
-        text.push(sign(number / 10))?;
-    }
-    text.push(sign(number % 10))?;
-    Ok(())
-}
-
-// The sign of a digit.
-fn sign(digit: u64) -> u8 {
-    match u8::try_from(digit) {
-        Ok(digit) => digit.wrapping_add(b'0'),
-        Err(_) => b'?',
+    match desk.apply(lane, command) {
+        Ok(_) => Ok(()),
+        Err(_) => Err(AllocError),
     }
 }
 
@@ -79,7 +36,7 @@ fn push_accepted(text: &mut Vec<u8>, met: Option<u32>) -> Result<(), AllocError>
     match met {
         Some(met) => {
             text.extend_from_slice(b" break")?;
-            push_number(text, u64::from(met))
+            next_number(text, u64::from(met))
         }
         None => Ok(()),
     }
@@ -91,14 +48,14 @@ fn push_reply(text: &mut Vec<u8>, reply: Reply) -> Result<(), AllocError> {
         Reply::Accepted(_, met) => push_accepted(text, met)?,
         Reply::Coned(_, count) => {
             text.extend_from_slice(b" cone")?;
-            push_number(text, count)?;
+            next_number(text, count)?;
         }
         Reply::Refused(refusal) => {
             text.extend_from_slice(b" refused")?;
-            push_number(text, u64::from(refusal.code()))?;
+            next_number(text, u64::from(refusal.code()))?;
             for number in refusal.numbers() {
                 if let Some(number) = number {
-                    push_number(text, number)?;
+                    next_number(text, number)?;
                 }
             }
         }
@@ -110,16 +67,24 @@ fn push_reply(text: &mut Vec<u8>, reply: Reply) -> Result<(), AllocError> {
 // Each entry's lane and reply, a line for each, in the journal's order.
 fn push_report(text: &mut Vec<u8>, entries: &[Entry]) -> Result<(), AllocError> {
     for entry in entries {
-        push_number(text, u64::from(entry.lane))?;
+        next_number(text, u64::from(entry.lane))?;
         push_reply(text, entry.reply)?;
     }
     Ok(())
 }
 
-// What a label names.
-fn push_named(text: &mut Vec<u8>, named: Option<u32>) -> Result<(), AllocError> {
-    match named {
-        Some(number) => push_number(text, u64::from(number))?,
+// What a number or a label names.
+fn push_named(
+    alloc: Global,
+    text: &mut Vec<u8>,
+    desk: &Desk,
+    said: &str,
+) -> Result<(), AllocError> {
+    let Ok(which) = which_of(alloc, said.as_bytes()) else {
+        return Err(AllocError);
+    };
+    match desk.named(which) {
+        Some(number) => next_number(text, u64::from(number))?,
         None => text.extend_from_slice(b" -")?,
     }
     text.push(b'\n')?;
@@ -128,20 +93,24 @@ fn push_named(text: &mut Vec<u8>, named: Option<u32>) -> Result<(), AllocError> 
 
 // Whether the desk is paused, how many breaks stand, and the kept events.
 fn push_state(text: &mut Vec<u8>, desk: &Desk) -> Result<(), AllocError> {
-    push_number(text, u64::from(desk.paused()))?;
-    push_number(text, desk.breaks().len() as u64)?;
+    next_number(text, u64::from(desk.paused()))?;
+    next_number(text, desk.breaks().len() as u64)?;
     for number in desk.history().kept() {
-        push_number(text, u64::from(*number))?;
+        next_number(text, u64::from(*number))?;
     }
     text.push(b'\n')?;
     Ok(())
 }
 
 // The reply that a line would have.
-fn verdict(alloc: Global, desk: &Desk, line: &[u8]) -> Result<Reply, Fail> {
-    let command = command_of(alloc, line)?;
-    let verdict = desk.verdict(&command)?;
-    Ok(verdict)
+fn push_verdict(
+    alloc: Global,
+    text: &mut Vec<u8>,
+    desk: &Desk,
+    said: &str,
+) -> Result<(), AllocError> {
+    let command = command_of(alloc, said)?;
+    push_reply(text, desk.verdict(&command)?)
 }
 
 // A line asks for a name, for a verdict or for the state, or it is a command that a lane says.
@@ -149,39 +118,40 @@ fn tell(
     alloc: Global,
     desk: &mut Desk,
     text: &mut Vec<u8>,
-    lane: u32,
-    line: &[u8],
-) -> Result<(), Fail> {
-    let (word, said) = cut(line, b' ');
-    match word {
-        b"named" => push_named(text, desk.named(which(said)))?,
-        b"verdict" => push_reply(text, verdict(alloc, desk, said)?)?,
-        b"state" => push_state(text, desk)?,
-        _ => say(alloc, desk, lane, line)?,
+    lane: &str,
+    line: &str,
+) -> Result<(), AllocError> {
+    match line.split_once(' ') {
+        Some(("named", said)) => push_named(alloc, text, desk, said),
+        Some(("verdict", said)) => push_verdict(alloc, text, desk, said),
+        _ if line == "state" => push_state(text, desk),
+        _ => say(alloc, desk, lane, line),
+    }
+}
+
+// The answers to lines that stand apart by `; `, each behind its lane.
+fn push_answers(
+    alloc: Global,
+    desk: &mut Desk,
+    text: &mut Vec<u8>,
+    lines: &str,
+) -> Result<(), AllocError> {
+    for line in lines.split("; ") {
+        let Some((lane, said)) = line.split_once(' ') else {
+            return Err(AllocError);
+        };
+        tell(alloc, desk, text, lane, said)?;
     }
     Ok(())
 }
 
-// A line with the digit of its lane before it.
-fn tell_line(alloc: Global, desk: &mut Desk, text: &mut Vec<u8>, line: &[u8]) -> Result<(), Fail> {
-    let (lane, said) = cut(line, b' ');
-    tell(alloc, desk, text, number(lane), said)
-}
-
-// The answers to lines that stand apart by `; `, and behind them the journal's report.
-fn answers(alloc: Global, desk: &mut Desk, lines: &str) -> Result<Vec<u8>, Fail> {
+// What a new desk answers to these lines, and behind that the journal's report.
+fn answered(alloc: Global, lines: &str) -> Result<Vec<u8>, AllocError> {
+    let mut desk = desk_of(alloc)?;
     let mut text = Vec::new(alloc);
-    for line in lines.split("; ") {
-        tell_line(alloc, desk, &mut text, line.as_bytes())?;
-    }
+    push_answers(alloc, &mut desk, &mut text, lines)?;
     push_report(&mut text, desk.journal())?;
     Ok(text)
-}
-
-// What a new desk answers to these lines.
-fn answered(alloc: Global, lines: &str) -> Result<Vec<u8>, Fail> {
-    let mut desk = desk_of(alloc)?;
-    answers(alloc, &mut desk, lines)
 }
 
 const DESKS: &[(&str, &str)] = &[
@@ -212,11 +182,17 @@ const DESKS: &[(&str, &str)] = &[
     ),
 ];
 
-#[test]
-fn desks_told_line_by_line(rt: HostRuntime) -> Result<(), Fail> {
-    for (lines, wanted) in DESKS {
-        let told = answered(rt.alloc(), lines)?;
-        assert!(rt; told.as_slice() == wanted.as_bytes(), "{lines}");
+// Whether it answers this.
+fn is_answered(alloc: Global, lines: &str, wanted: &str) -> bool {
+    match answered(alloc, lines) {
+        Ok(text) => text.as_slice() == wanted.as_bytes(),
+        Err(_) => false,
     }
-    Ok(())
+}
+
+#[test]
+fn desks_told_line_by_line(rt: HostRuntime) {
+    for (lines, wanted) in DESKS {
+        assert!(rt; is_answered(rt.alloc(), lines, wanted), "{lines}");
+    }
 }
