@@ -1,5 +1,5 @@
 // What is told of a small build, by what its commands were seen to do (docs/RACES.md, "By observation").
-use crate::seen::{graph_of, named, observation_of};
+use crate::seen::{graph_of, named, observation_of, output_of};
 use rev_conflicts::{Conflict, Place, conflicts};
 use rev_graph::Graph;
 use rev_observed::{Observation, edges};
@@ -119,17 +119,6 @@ const QUIET: [(&str, &str); 4] = [
         "",
     ),
 ];
-
-// The first output of an edge.
-fn output_of(graph: &Graph, edge: u32) -> &[u8] {
-    if edge >= graph.edges() {
-        return b"no edge";
-    }
-    match graph.outputs(edge).explicit.first() {
-        Some(output) => output.as_bytes(),
-        None => b"no output",
-    }
-}
 
 // A place by its path, and a folder's entries with a slash behind it.
 fn push_place(

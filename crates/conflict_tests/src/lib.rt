@@ -10,3 +10,5 @@ mod conflicts;
 mod filters;
 #[cfg(test)]
 mod seen;
+#[cfg(test)]
+mod unlisted;

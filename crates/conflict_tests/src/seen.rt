@@ -6,16 +6,16 @@ use rev_paths::Name;
 use std::alloc::{AllocError, Global};
 use std::test::Fail;
 
-pub(crate) fn manifest_of(alloc: Global, build: &str) -> Result<Manifest, Fail> {
+pub(crate) fn manifest_of(alloc: Global, build: &[u8]) -> Result<Manifest, Fail> {
     let name = Vec::from_slice(alloc, b"build.ninja")?;
-    let content = Vec::from_slice(alloc, build.as_bytes())?;
+    let content = Vec::from_slice(alloc, build)?;
     let files = vec![in alloc; (name, content)]?;
     let manifest = read(alloc, &files)?;
     Ok(manifest)
 }
 
 pub(crate) fn graph_of(alloc: Global, build: &str) -> Result<Graph, Fail> {
-    let manifest = manifest_of(alloc, build)?;
+    let manifest = manifest_of(alloc, build.as_bytes())?;
     let graph = Graph::build(alloc, &manifest)?;
     Ok(graph)
 }
@@ -23,6 +23,17 @@ pub(crate) fn graph_of(alloc: Global, build: &str) -> Result<Graph, Fail> {
 pub(crate) fn named(alloc: Global, path: &str) -> Result<Name, Fail> {
     let name = Name::new(alloc, path.as_bytes())?;
     Ok(name)
+}
+
+// The first output of an edge.
+pub(crate) fn output_of(graph: &Graph, edge: u32) -> &[u8] {
+    if edge >= graph.edges() {
+        return b"no edge";
+    }
+    match graph.outputs(edge).explicit.first() {
+        Some(output) => output.as_bytes(),
+        None => b"no output",
+    }
 }
 
 // The first line, and those of the paths.
