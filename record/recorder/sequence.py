@@ -89,6 +89,9 @@ class _Places:
     def give_back(self, place: int) -> None:
         self.free.append(place)
 
+    def is_full(self) -> bool:
+        return self.used >= self.count and not self.free
+
 
 class Sequencer:
     """Hands events to the rules one by one, with the passes and cleans that become possible after each."""
@@ -103,6 +106,7 @@ class Sequencer:
         self.targets: list[bytes] = []
         self.jobs = _Places(most_jobs)
         self.pools: dict[bytes, _Places] = {}
+        self.waiting: dict[bytes, dict[int, EdgeRun]] = {}
         self.held: dict[int, tuple[int, Optional[int]]] = {}
         self.waits: dict[int, int] = {}
         self.users: dict[int, list[int]] = {}
@@ -155,15 +159,36 @@ class Sequencer:
                 heapq.heappush(self.ready, user)
 
     def start(self, run: EdgeRun) -> None:
-        edge = run.edge
+        """Starts a command. One that did not end well has a start by the clock, which may be milliseconds early. So it
+        waits while its pool is full, as it did in Ninja."""
+        pool = self.pool(run.edge)
+        if run.word != "finish" and pool is not None and pool.is_full():
+            self.waiting.setdefault(run.edge.pool, {})[run.edge.number] = run
+        else:
+            self.start_now(run)
+
+    def start_now(self, run: EdgeRun) -> None:
+        edge, pool = run.edge, self.pool(run.edge)
         below = self.below(edge) if self.as_run else set()
-        job, depth = self.jobs.take(edge, below), self.build.manifest.depth(edge)
-        slot = self.pools.setdefault(edge.pool, _Places(depth)).take(edge, below) if depth else None
+        job, slot = self.jobs.take(edge, below), None if pool is None else pool.take(edge, below)
         self.held[edge.number] = job, slot
         self.put(Start(edge.name, job, slot))
 
+    def pool(self, edge: Edge) -> Optional[_Places]:
+        """The slots of the edge's pool, where that has a depth."""
+        depth = self.build.manifest.depth(edge)
+        return self.pools.setdefault(edge.pool, _Places(depth)) if depth else None
+
+    def start_waiting(self, pool: bytes, always: bool = False) -> None:
+        """Starts those that wait for the pool, as far as it has room, or all."""
+        waiting = self.waiting.get(pool, {})
+        while waiting and (always or not self.pools[pool].is_full()):
+            self.start_now(waiting.pop(next(iter(waiting))))
+
     def end(self, run: EdgeRun) -> None:
         edge = run.edge
+        if self.waiting.get(edge.pool, {}).pop(edge.number, None) is not None:
+            self.start_now(run)
         job, slot = self.held.pop(edge.number)
         self.jobs.give_back(job)
         if slot is not None:
@@ -237,6 +262,8 @@ def sequence(build: Build, targets: list[bytes], runs: list[EdgeRun], touches: I
     if interrupted:
         it.failures_left = 0
         it.now = max((run.end for run in runs), default=0)
+        for pool in it.waiting:
+            it.start_waiting(pool, always=True)
         it.put(Interrupt())
         for run in runs:
             if run.word == "abort":
@@ -250,7 +277,8 @@ def sequence(build: Build, targets: list[bytes], runs: list[EdgeRun], touches: I
 
 
 def _take(it: Sequencer, moment: _Moment) -> None:
-    """All of one millisecond: what was touched, the ends in the log's order, then the starts in Ninja's order."""
+    """All of one millisecond: what was touched, the ends in the log's order, then the starts in Ninja's order, and then
+    those that waited for the pools of the ends."""
     ends, starts = moment.ends, moment.starts
     if ends:
         it.found.tied += [run.edge for run in starts if it.can_start(run) and any(end is not run for end in ends)]
@@ -264,3 +292,5 @@ def _take(it: Sequencer, moment: _Moment) -> None:
         it.end(run)
     for run in sorted(starts, key=it.place_among_starts) if len(starts) > 1 else starts:
         it.start(run)
+    for pool in dict.fromkeys(run.edge.pool for run in ends) if it.waiting else ():
+        it.start_waiting(pool)

@@ -281,6 +281,17 @@ class Orders(unittest.TestCase):
         self.assertEqual(slots, {b"a": 0, b"b": 1, b"c": 2, b"d": 0, b"e": 0, b"f": 2})
         self.assertEqual(found.refused, [])
 
+    def test_a_start_that_is_guessed_waits_for_its_pool(self):
+        """Of those that did not end well the start is by the clock, and may be early."""
+        text = b"pool p\n  depth = 1\nrule r\n  command = r\n  pool = p\n" + b"".join(
+            b"build %c: r\n" % it for it in b"abcd")
+        found = self.events(text, [(b"a", 0, 5), (b"b", 4, 7, "fail"), (b"c", 6, 8, "fail"), (b"d", 8, 9)], failures=9)
+        self.assertEqual(found[1:], ["start a 0", "finish a 105", "start b 1", "fail b 107", "start c 2", "fail c 108",
+                                     "start d 3", "finish d 109"])
+        self.assertEqual(self.found.times[1:], [0, 5, 5, 7, 7, 8, 8, 9])
+        found = self.events(text, [(b"a", 0, 5), (b"b", 4, 9, "abort")], interrupted=True)
+        self.assertEqual(found[1:], ["start a 0", "finish a 105", "start b 1", "interrupt", "abort b 109"])
+
     def test_each_event_has_its_time(self):
         self.events(FOUR, [(b"a", 0, 5), (b"b", 0, 9, "abort"), (b"c", 6, 9)], touches=[(7, b"s", 90), (None, b"t", 3)],
                     interrupted=True)
