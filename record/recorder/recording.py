@@ -73,7 +73,7 @@ def record(ninja, folder, manifest, words, jobs, before, after, ran):
     touches = _touches(it, before, after, runs, begin, ran.begin, folder)
     build = Build(manifest, it.jobs, it.stamps, it.built, it.deps)
     it.found = sequence(build, it.targets, runs, touches, words.failures, ran.interrupted, as_run=jobs is not None,
-                        longest_way_first=ninja.starts_longest_way_first)
+                        longest_way_first=ninja.starts_longest_way_first, side_by_side=jobs or words.jobs or None)
     it.jobs = min(MOST_JOBS, max(it.jobs if jobs else len(runs), it.found.jobs, 1))
     _note_order(it, runs)
     if ran.interrupted and not any(run.word == "abort" for run in runs):

@@ -97,8 +97,8 @@ class Sequencer:
     """Hands events to the rules one by one, with the passes and cleans that become possible after each."""
 
     def __init__(self, build: Build, failures: int, most_jobs: int, as_run: bool,
-                 longest_way_first: bool = False) -> None:
-        self.longest_way_first = longest_way_first
+                 longest_way_first: bool = False, side_by_side: Optional[int] = None) -> None:
+        self.longest_way_first, self.side_by_side = longest_way_first, side_by_side
         self.ways: Optional[dict[int, int]] = None
         self.build, self.edges, self.producer = build, build.edges, build.producer
         self.failures_left, self.found, self.as_run = failures, Sequence(), as_run
@@ -106,7 +106,7 @@ class Sequencer:
         self.targets: list[bytes] = []
         self.jobs = _Places(most_jobs)
         self.pools: dict[bytes, _Places] = {}
-        self.waiting: dict[bytes, dict[int, EdgeRun]] = {}
+        self.waiting: dict[int, EdgeRun] = {}
         self.held: dict[int, tuple[int, Optional[int]]] = {}
         self.waits: dict[int, int] = {}
         self.users: dict[int, list[int]] = {}
@@ -160,12 +160,16 @@ class Sequencer:
 
     def start(self, run: EdgeRun) -> None:
         """Starts a command. One that did not end well has a start by the clock, which may be milliseconds early. So it
-        waits while its pool is full, as it did in Ninja."""
-        pool = self.pool(run.edge)
-        if run.word != "finish" and pool is not None and pool.is_full():
-            self.waiting.setdefault(run.edge.pool, {})[run.edge.number] = run
+        waits while its pool is full, or Ninja's jobs are, as it did in Ninja."""
+        if run.word != "finish" and not self.has_room(run.edge):
+            self.waiting[run.edge.number] = run
         else:
             self.start_now(run)
+
+    def has_room(self, edge: Edge) -> bool:
+        """Whether Ninja could start the edge by the number of commands that run."""
+        pool = self.pool(edge)
+        return (self.side_by_side is None or len(self.held) < self.side_by_side) and not (pool and pool.is_full())
 
     def start_now(self, run: EdgeRun) -> None:
         edge, pool = run.edge, self.pool(run.edge)
@@ -179,15 +183,15 @@ class Sequencer:
         depth = self.build.manifest.depth(edge)
         return self.pools.setdefault(edge.pool, _Places(depth)) if depth else None
 
-    def start_waiting(self, pool: bytes, always: bool = False) -> None:
-        """Starts those that wait for the pool, as far as it has room, or all."""
-        waiting = self.waiting.get(pool, {})
-        while waiting and (always or not self.pools[pool].is_full()):
-            self.start_now(waiting.pop(next(iter(waiting))))
+    def start_waiting(self, always: bool = False) -> None:
+        """Starts those that wait, as far as there is room for them, or all."""
+        for run in list(self.waiting.values()):
+            if always or self.has_room(run.edge):
+                self.start_now(self.waiting.pop(run.edge.number))
 
     def end(self, run: EdgeRun) -> None:
         edge = run.edge
-        if self.waiting.get(edge.pool, {}).pop(edge.number, None) is not None:
+        if self.waiting.pop(edge.number, None):
             self.start_now(run)
         job, slot = self.held.pop(edge.number)
         self.jobs.give_back(job)
@@ -237,14 +241,16 @@ class _Moment:
 
 
 def sequence(build: Build, targets: list[bytes], runs: list[EdgeRun], touches: Iterable[Touched], failures: int,
-             interrupted: bool = False, as_run: bool = False, longest_way_first: bool = False) -> Sequence:
+             interrupted: bool = False, as_run: bool = False, longest_way_first: bool = False,
+             side_by_side: Optional[int] = None) -> Sequence:
     """The order of a whole run. `touches` has (milliseconds or None, path, stamp); those without a time come last.
 
     Each start takes a job of its own, as far as MOST_JOBS go; `as_run` takes as few as ran side by side. Of starts in
-    one millisecond Ninja's first one is first: `longest_way_first` says how it orders them.
+    one millisecond Ninja's first one is first: `longest_way_first` says how it orders them. `side_by_side` is how many
+    commands Ninja ran at one time at most, where that is known.
     """
     most_jobs = build.job_count if as_run else min(len(runs), MOST_JOBS)
-    it = Sequencer(build, failures, most_jobs, as_run, longest_way_first)
+    it = Sequencer(build, failures, most_jobs, as_run, longest_way_first, side_by_side)
     it.will_run = {run.edge.number for run in runs}
     build.job_count = max(build.job_count, len(runs))  # whatever the order asks for is given, and written as `jobs`
     it.plan(targets)
@@ -262,8 +268,7 @@ def sequence(build: Build, targets: list[bytes], runs: list[EdgeRun], touches: I
     if interrupted:
         it.failures_left = 0
         it.now = max((run.end for run in runs), default=0)
-        for pool in it.waiting:
-            it.start_waiting(pool, always=True)
+        it.start_waiting(always=True)
         it.put(Interrupt())
         for run in runs:
             if run.word == "abort":
@@ -277,8 +282,8 @@ def sequence(build: Build, targets: list[bytes], runs: list[EdgeRun], touches: I
 
 
 def _take(it: Sequencer, moment: _Moment) -> None:
-    """All of one millisecond: what was touched, the ends in the log's order, then the starts in Ninja's order, and then
-    those that waited for the pools of the ends."""
+    """All of one millisecond: what was touched, the ends in the log's order, then the starts in Ninja's order, and
+    then those that waited for the ends."""
     ends, starts = moment.ends, moment.starts
     if ends:
         it.found.tied += [run.edge for run in starts if it.can_start(run) and any(end is not run for end in ends)]
@@ -292,5 +297,5 @@ def _take(it: Sequencer, moment: _Moment) -> None:
         it.end(run)
     for run in sorted(starts, key=it.place_among_starts) if len(starts) > 1 else starts:
         it.start(run)
-    for pool in dict.fromkeys(run.edge.pool for run in ends) if it.waiting else ():
-        it.start_waiting(pool)
+    if ends:
+        it.start_waiting()

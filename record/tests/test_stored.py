@@ -292,6 +292,12 @@ class Orders(unittest.TestCase):
         found = self.events(text, [(b"a", 0, 5), (b"b", 4, 9, "abort")], interrupted=True)
         self.assertEqual(found[1:], ["start a 0", "finish a 105", "start b 1", "interrupt", "abort b 109"])
 
+    def test_a_start_that_is_guessed_waits_for_a_job(self):
+        runs = [(b"a", 0, 5), (b"b", 4, 9, "fail"), (b"c", 9, 12)]
+        for jobs, first in ((1, ["finish a 105", "start b 1"]), (2, ["start b 1", "finish a 105"])):
+            found = self.events(FOUR, runs, failures=9, side_by_side=jobs)
+            self.assertEqual(found[1:6], ["start a 0", *first, "fail b 109", "start c 2"])
+
     def test_each_event_has_its_time(self):
         self.events(FOUR, [(b"a", 0, 5), (b"b", 0, 9, "abort"), (b"c", 6, 9)], touches=[(7, b"s", 90), (None, b"t", 3)],
                     interrupted=True)
