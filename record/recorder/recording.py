@@ -135,7 +135,7 @@ def _runs(it, ninja, before, after, ran):
     """The commands that ran, and when Ninja began (nanoseconds of the disk's clock)."""
     manifest, entries = it.manifest, new_entries(before.log, after.log)
     entries = _without_manifest_edges(it, entries)
-    told_begin = _told_beginning(ninja, manifest, entries, ran)
+    told_begin, earliest = _told_beginning(ninja, manifest, entries, ran)
     begin = ran.begin if told_begin is None else told_begin
     runs: dict[int, EdgeRun] = {}
     for entry in entries:
@@ -150,7 +150,7 @@ def _runs(it, ninja, before, after, ran):
             run = _finished(it, ninja, edge, entry, after)
             _look_at_later_changes(it, run, None if ninja.stamps_are_of_outputs else told_begin, after)
             runs[edge.number] = _left_alone(it, run, before, after)
-    seen = _seen_commands(ran, begin)
+    seen = _seen_commands(ran, begin if earliest is None else earliest)
     _add_failed(it, runs, after, ran, begin, seen)
     if ran.interrupted:
         _add_interrupted(it, runs, before, after, seen)
@@ -170,7 +170,7 @@ def _without_manifest_edges(it, entries):
 
 def _told_beginning(ninja, manifest, entries, ran):
     """When Ninja began, in nanoseconds of the disk's clock: its log has times that count from there, and stamps. None
-    where the log does not tell it.
+    where the log does not tell it. And the earliest moment that it can have been by that.
 
     Where the stamp is of the outputs, it is not later than the end. Where it is of the moment at which the command
     began, it is as early as the clock is coarse, and sometimes late, so the middle one of all counts.
@@ -186,8 +186,9 @@ def _told_beginning(ninja, manifest, entries, ran):
             times.append(entry.stamp - entry.start * _NANOSECONDS)
     near = [it for it in times if abs(it - ran.begin) < _LONGEST_BEGINNING]
     if not near:
-        return None
-    return max(ran.begin, max(near) if ninja.stamps_are_of_outputs else statistics.median_low(near))
+        return None, None
+    found = (max(near), max(near)) if ninja.stamps_are_of_outputs else (statistics.median_low(near), min(near))
+    return max(ran.begin, found[0]), max(ran.begin, found[1])
 
 
 def _finished(it, ninja, edge, entry, after):
@@ -249,7 +250,7 @@ def _add_failed(it, runs, after, ran, begin, seen):
         edge = failed.edge
         if edge.number in runs:
             continue
-        _add_unlogged(it, runs, edge, "fail", failed.milliseconds(begin), after, seen)
+        _add_unlogged(it, runs, edge, "fail", failed.milliseconds(begin), after, seen, failed.began)
         runs[edge.number].code, runs[edge.number].written = failed.code, failed.written
 
 
@@ -264,9 +265,10 @@ def _add_interrupted(it, runs, before, after, seen):
             _add_unlogged(it, runs, edge, "abort", end, after, seen)
 
 
-def _add_unlogged(it, runs, edge, word, end, after, seen):
-    """A command that Ninja's log does not have. It starts when it was seen, else as late as can be."""
-    start = _seen_at(edge, seen)
+def _add_unlogged(it, runs, edge, word, end, after, seen, began=None):
+    """A command that Ninja's log does not have. It starts when Ninja said so, or when it was seen, else as late as can
+    be."""
+    start = _seen_at(edge, seen) if began is None else began
     stamps = [after.stamps.get(path, 0) for path in edge.outputs]
     found = runs[edge.number] = EdgeRun(edge, word, end, end, stamps, is_start_known=start is not None)
     if start is not None:
@@ -290,7 +292,10 @@ def _last_end_below(manifest, runs, edge):
 
 
 def _seen_commands(ran, begin):
-    """When each command was first seen running, in milliseconds. A shell may have put the command in its own place."""
+    """When each command was first seen running, in milliseconds. A shell may have put the command in its own place.
+
+    No command is seen before it began, so `begin` is the earliest moment at which Ninja can have begun.
+    """
     seen: dict[bytes, int] = {}
     for child in ran.children:
         is_shell = child.words[1:2] == [b"-c"] and len(child.words) == 3

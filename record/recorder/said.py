@@ -59,8 +59,8 @@ class Failed:
     """A command that Ninja says has failed: its exit status where this Ninja tells it (from 1.13 on), Ninja's time of
     it in milliseconds or None, when the line came (nanoseconds), and what it wrote where Ninja showed that.
 
-    Where there is no time, it lies between `since` and `until`, Ninja's times of the status lines before and behind, of
-    which the second may be missing.
+    Where there is no time, the command is one of the console pool. It began at `began`, the time of its own status
+    line, and ended between `since` and `until`, those of the status lines before and behind, which may be missing.
     """
 
     edge: Edge
@@ -68,6 +68,7 @@ class Failed:
     time: int | None
     came: int
     written: Written | None = None
+    began: int | None = None
     since: int = 0
     until: int | None = None
 
@@ -146,6 +147,7 @@ class Said:
             lines = text.count(b"\n")
             self._console_texts[lines] = (*self._console_texts.get(lines, ()), text)
         self._at_console: list[Edge] = []
+        self._console_began = 0
 
     def take(self, data: bytes) -> None:
         """Takes the next bytes. What may be the beginning of a mark waits for the rest of it."""
@@ -198,7 +200,8 @@ class Said:
         if self.keeps_all and piece.time >= 0:
             self._keep(piece, end, bool(failure))
         if at_console:
-            self.failed.append(Failed(at_console[1], at_console[2], None, piece.came, since=piece.time, until=until))
+            _, edge, code = at_console
+            self.failed.append(Failed(edge, code, None, piece.came, None, self._console_began, piece.time, until))
 
     def _look_at_first(self, piece: Piece) -> None:
         """Before its first status line Ninja speaks of itself alone."""
@@ -242,6 +245,7 @@ class Said:
         begun: list[Edge] = []
         if any(behind_status_line(piece, texts, self) for texts in self._console_texts.values()):
             begun = [edge for edge, shown in self._console.items() if behind_status_line(piece, shown, self)]
+            self._console_began = piece.time
         self._at_console = begun or self._at_console
         found = None
         for begin, text in piece.parts() if piece.came else ():

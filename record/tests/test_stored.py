@@ -407,6 +407,10 @@ class Outputs(unittest.TestCase):
         for behind, came, due in ((b"\x1e0.005\x1f[2/3] w\n", (0, 3, 9), [1, 3, 5]), (b"", (0, 3, 9), [1, 3, 9])):
             (found,) = self.said(text + behind)[1].failed
             self.assertEqual([replace(found, came=it * MILLISECOND).milliseconds(0) for it in came], due)
+            self.assertEqual(found.began, 1)
+        text = text.replace(b"FAILED", b"\x1e0.003\x1f[2/3] MAKE x\nFAILED")
+        (found,) = self.said(text)[1].failed
+        self.assertEqual((found.began, found.since, found.until), (1, 3, None))
 
     def test_what_is_too_long_is_counted(self):
         for more in (0, 1, 3_000_000):
