@@ -1,10 +1,9 @@
 // The reasons of edges of small builds that are written as manifests.
-use crate::small::{Build, build_of, cells_of, graph_of, names};
+use crate::small::{Build, build_of, graph_of, names};
 use rev_cells::{Cell, Cells, Mark, Positions, Value};
 use rev_dirty::{DependencyScan, Reason, producers_of, reasons};
 use rev_graph::Graph;
 use std::alloc::{AllocError, Global};
-use std::test::Fail;
 
 // Two objects and a program.
 const PROGRAM: &str =
@@ -45,22 +44,22 @@ fn reasons_text(alloc: Global, reasons: &[Reason]) -> Result<String, AllocError>
 }
 
 // The reasons of an edge that has to be there.
-fn found(alloc: Global, build: &Build, edge: u32) -> Result<String, Fail> {
+fn found(alloc: Global, build: &Build, edge: u32) -> Result<String, AllocError> {
     if edge >= build.graph.edges() {
-        return Err(Fail::from("no edge of that number"));
+        return Err(AllocError);
     }
     let reasons = reasons(alloc, &build.graph, &build.cells, edge)?;
-    Ok(reasons_text(alloc, &reasons)?)
+    reasons_text(alloc, &reasons)
 }
 
 // The reasons of an edge of a manifest that opens so.
-fn explained(alloc: Global, content: &str, records: &str, edge: u32) -> Result<String, Fail> {
-    let build = build_of(alloc, content, 1, records)?;
+fn explained(alloc: Global, content: &str, records: &str, edge: u32) -> Result<String, AllocError> {
+    let build = build_of(alloc, content, records)?;
     found(alloc, &build, edge)
 }
 
 // A manifest, what it opens with, an edge, and its reasons.
-type Row<'a> = (&'a str, &'a str, u32, &'a str);
+type Row = (&'static str, &'static str, u32, &'static str);
 
 // Makes the first edge done, with its first output changed.
 fn finish(alloc: Global, cells: &mut Cells) -> Result<(), AllocError> {
@@ -72,8 +71,13 @@ fn finish(alloc: Global, cells: &mut Cells) -> Result<(), AllocError> {
 }
 
 // The reasons of an edge once the first edge is done.
-fn explained_after(alloc: Global, content: &str, records: &str, edge: u32) -> Result<String, Fail> {
-    let mut build = build_of(alloc, content, 1, records)?;
+fn explained_after(
+    alloc: Global,
+    content: &str,
+    records: &str,
+    edge: u32,
+) -> Result<String, AllocError> {
+    let mut build = build_of(alloc, content, records)?;
     finish(alloc, &mut build.cells)?;
     found(alloc, &build, edge)
 }
@@ -84,56 +88,58 @@ fn found_over_sources(
     graph: &Graph,
     cells: &Cells,
     edge: u32,
-) -> Result<Vec<Reason>, Fail> {
+) -> Result<Vec<Reason>, AllocError> {
     if edge >= graph.edges() {
-        return Err(Fail::from("no edge of that number"));
+        return Err(AllocError);
     }
     if graph.keeps_deps(edge) {
-        return Err(Fail::from("an edge that keeps deps"));
+        return Err(AllocError);
     }
     let mut scan = DependencyScan::new(alloc, graph, cells);
-    let reasons = scan.reasons_over_sources(edge)?;
-    Ok(reasons)
+    scan.reasons_over_sources(edge)
 }
 
-fn explained_over_sources(alloc: Global, records: &str, edge: u32) -> Result<String, Fail> {
-    let build = build_of(alloc, PROGRAM, 1, records)?;
+fn explained_over_sources(alloc: Global, records: &str, edge: u32) -> Result<String, AllocError> {
+    let build = build_of(alloc, PROGRAM, records)?;
     let reasons = found_over_sources(alloc, &build.graph, &build.cells, edge)?;
-    Ok(reasons_text(alloc, &reasons)?)
+    reasons_text(alloc, &reasons)
 }
 
 // Whether an edge that has to be there lacks its first output.
-fn lacks_first(alloc: Global, build: &Build, edge: u32) -> Result<bool, Fail> {
+fn lacks_first(alloc: Global, build: &Build, edge: u32) -> Result<bool, AllocError> {
     if edge >= build.graph.edges() {
-        return Err(Fail::from("no edge of that number"));
+        return Err(AllocError);
     }
     let scan = DependencyScan::new(alloc, &build.graph, &build.cells);
     Ok(scan.lacks_first_output(edge))
 }
 
 #[test]
-fn a_missing_output_is_found_without_inputs(rt: HostRuntime) -> Result<(), Fail> {
-    let build = build_of(rt.alloc(), PROGRAM, 1, "stamp 10 a.o")?;
+fn a_missing_output_is_found_without_inputs(rt: HostRuntime) -> Result<(), AllocError> {
+    let build = build_of(rt.alloc(), PROGRAM, "stamp a.o 10\n")?;
     for (edge, lacks) in [(0, false), (1, true)] {
         assert!(rt; lacks_first(rt.alloc(), &build, edge)? == lacks);
     }
     Ok(())
 }
 
-fn producers_in_program(alloc: Global, paths: &str) -> Result<Vec<Option<u32>>, Fail> {
+fn producers_in_program(alloc: Global, paths: &str) -> Result<Vec<Option<u32>>, AllocError> {
     let graph = graph_of(alloc, PROGRAM)?;
-    let paths = names(alloc, paths.as_bytes())?;
-    let producers = producers_of(alloc, &graph, &paths)?;
-    Ok(producers)
+    let paths = names(alloc, paths)?;
+    producers_of(alloc, &graph, &paths)
 }
 
-const RESPONSE_RECORDS: &str = "stamp 1 a b\nstamp 1 it's\nstamp 5 o\nbuilt 5 o r @o.rsp;rspfile=x";
+const RESPONSE_RECORDS: &str =
+    "stamp a\\sb 1\nstamp it's 1\nstamp o 5\nbuilt o 5 r\\s@o.rsp;rspfile=x\n";
 
-const COMMANDS_AND_OUTPUTS: &[Row<'static>] = &[
+const CHAIN_RECORDS: &str = "stamp a 30\nstamp x 20\nbuilt x 20 r\\ss\n";
+
+const ROWS: &[Row] = &[
+    // Commands and outputs.
     // A missing object is dirty.
     (
         PROGRAM,
-        "stamp 10 a.c\nstamp 20 b.c\nstamp 110 b.o\nstamp 120 app",
+        "stamp a.c 10\nstamp b.c 20\nstamp b.o 110\nstamp app 120\n",
         0,
         "Missing(0) Older(0, 0) NoRecord(0) ",
     ),
@@ -141,58 +147,60 @@ const COMMANDS_AND_OUTPUTS: &[Row<'static>] = &[
     (RESPONSES, RESPONSE_RECORDS, 0, "Command(0) "),
     (GENERATED, RESPONSE_RECORDS, 0, ""),
     // Only a phony edge without inputs is dirty.
-    (BARE, "stamp 3 y", 0, "Missing(0) "),
-    (BARE, "stamp 3 y", 1, ""),
-];
-
-const LISTED_INPUTS: &[Row<'static>] = &[
+    (BARE, "stamp y 3\n", 0, "Missing(0) "),
+    (BARE, "stamp y 3\n", 1, ""),
+    // Listed inputs.
     // Deps without a record are unknown.
     (
         OBJECT,
-        "stamp 10 a.c\nstamp 5 h.h",
+        "stamp a.c 10\nstamp h.h 5\n",
         0,
         "Missing(0) NoDeps Older(0, 0) NoRecord(0) ",
     ),
     // Deps that were listed before the object are old.
     (
         OBJECT,
-        "stamp 10 a.c\nstamp 5 h.h\nstamp 100 a.o\nbuilt 100 a.o cc a.c\ndeps 50 a.o a.c h.h",
+        "stamp a.c 10\nstamp h.h 5\nstamp a.o 100\nbuilt a.o 100 cc\\sa.c\ndeps a.o 50 a.c h.h\n",
         0,
         "DepsOld ",
     ),
     // A listed header is missing.
     (
         OBJECT,
-        "stamp 10 a.c\nstamp 100 a.o\nbuilt 100 a.o cc a.c\ndeps 100 a.o a.c h.h",
+        "stamp a.c 10\nstamp a.o 100\nbuilt a.o 100 cc\\sa.c\ndeps a.o 100 a.c h.h\n",
         0,
         "MissingDep(2) ",
     ),
-];
-
-const OLDER_OUTPUTS: &[Row<'static>] = &[
+    // Older outputs.
     // An input that stands twice is newest once.
     (
         TWICE,
-        "stamp 9 m\nstamp 5 x\nbuilt 5 x r m m",
+        "stamp m 9\nstamp x 5\nbuilt x 5 r\\sm\\sm\n",
         1,
         "Older(0, 0) ",
     ),
     // Restat takes the greater stamp.
-    (RESTATED, "stamp 30 a\nstamp 20 x\nbuilt 40 x r a", 0, ""),
-    (RESTATED, "stamp 15 a\nstamp 20 x\nbuilt 10 x r a", 0, ""),
     (
         RESTATED,
-        "stamp 30 a\nstamp 20 x\nbuilt 10 x r a",
+        "stamp a 30\nstamp x 20\nbuilt x 40 r\\sa\n",
+        0,
+        "",
+    ),
+    (
+        RESTATED,
+        "stamp a 15\nstamp x 20\nbuilt x 10 r\\sa\n",
+        0,
+        "",
+    ),
+    (
+        RESTATED,
+        "stamp a 30\nstamp x 20\nbuilt x 10 r\\sa\n",
         0,
         "Older(0, 0) ",
     ),
     // Order-only inputs are no reason.
-    (ORDERED, "stamp 30 a\nstamp 20 x\nbuilt 20 x r ", 0, ""),
-];
-
-const CHAIN_RECORDS: &str = "stamp 30 a\nstamp 20 x\nbuilt 20 x r s";
-
-const STAMPS_BEHIND_PHONY_EDGES: &[Row<'static>] = &[
+    (ORDERED, "stamp a 30\nstamp x 20\nbuilt x 20 r\\s\n", 0, ""),
+    // Stamps behind phony edges.
     // A stamp shows through a chain.
     (CHAIN, CHAIN_RECORDS, 0, ""),
     (CHAIN, CHAIN_RECORDS, 1, ""),
@@ -201,13 +209,13 @@ const STAMPS_BEHIND_PHONY_EDGES: &[Row<'static>] = &[
     // What a phony edge has order-only does not show.
     (
         GROUP,
-        "stamp 10 a\nstamp 15 g\nstamp 30 h\nstamp 20 x\nbuilt 20 x r a",
+        "stamp a 10\nstamp g 15\nstamp h 30\nstamp x 20\nbuilt x 20 r\\sa\n",
         1,
         "",
     ),
     (
         GROUP,
-        "stamp 10 a\nstamp 30 g\nstamp 15 h\nstamp 20 x\nbuilt 20 x r a",
+        "stamp a 10\nstamp g 30\nstamp h 15\nstamp x 20\nbuilt x 20 r\\sa\n",
         1,
         "Older(0, 1) ",
     ),
@@ -224,49 +232,60 @@ fn ladder(alloc: Global) -> Result<String, AllocError> {
     Ok(content)
 }
 
-fn explained_on_a_ladder(alloc: Global) -> Result<String, Fail> {
+fn explained_on_a_ladder(alloc: Global) -> Result<String, AllocError> {
     let ladder = ladder(alloc)?;
-    explained(alloc, &ladder, "stamp 30 p40\nstamp 20 x\nbuilt 20 x r", 0)
+    explained(
+        alloc,
+        &ladder,
+        "stamp p40 30\nstamp x 20\nbuilt x 20 r\n",
+        0,
+    )
 }
 
-const TABLES: &[&[Row<'static>]] = &[
-    COMMANDS_AND_OUTPUTS,
-    LISTED_INPUTS,
-    OLDER_OUTPUTS,
-    STAMPS_BEHIND_PHONY_EDGES,
-];
+// Whether an edge has the reasons of a row.
+fn is_explained(alloc: Global, row: &Row) -> bool {
+    let (content, records, edge, wanted) = *row;
+    match explained(alloc, content, records, edge) {
+        Ok(told) => told.as_str() == wanted,
+        Err(_) => false,
+    }
+}
 
 #[test]
-fn reasons_of_edges(rt: HostRuntime) -> Result<(), Fail> {
-    for rows in TABLES {
-        for (content, records, edge, wanted) in *rows {
-            let told = explained(rt.alloc(), content, records, *edge)?;
-            assert!(rt;
-                told.as_str() == *wanted,
-                "{content} {records} {edge} {told}"
-            );
-        }
+fn reasons_of_edges(rt: HostRuntime) -> Result<(), AllocError> {
+    for row in ROWS {
+        assert!(rt;
+            is_explained(rt.alloc(), row),
+            "{} {} {}",
+            row.0,
+            row.1,
+            row.2
+        );
     }
     // A ladder is walked rung by rung.
-    let told = explained_on_a_ladder(rt.alloc())?;
-    assert!(rt; told.as_str() == "Older(0, 0) ");
+    assert!(rt; explained_on_a_ladder(rt.alloc())?.as_str() == "Older(0, 0) ");
     // An input that stands twice is rebuilt twice.
-    let records = "stamp 1 a\nstamp 5 m\nstamp 9 x\nbuilt 9 x r m m";
-    let told = explained_after(rt.alloc(), TWICE, records, 1)?;
+    let told = explained_after(rt.alloc(), TWICE, TWICE_RECORDS, 1)?;
     assert!(rt; told.as_str() == "Rebuilt(0) Rebuilt(1) ");
     Ok(())
 }
 
+const TWICE_RECORDS: &str = "stamp a 1\nstamp m 5\nstamp x 9\nbuilt x 9 r\\sm\\sm\n";
+
 #[test]
-fn producers_and_kinds_of_reasons(rt: HostRuntime) -> Result<(), Fail> {
+fn producers_and_kinds_of_reasons(rt: HostRuntime) -> Result<(), AllocError> {
     // An edge over sources has the same reasons.
-    let told = explained_over_sources(rt.alloc(), "stamp 10 a.c", 0)?;
+    let told = explained_over_sources(rt.alloc(), "stamp a.c 10\n", 0)?;
     assert!(rt; told.as_str() == "Missing(0) Older(0, 0) NoRecord(0) ");
     // Outputs alone have producers.
-    let producers = producers_in_program(rt.alloc(), "b.o b.c")?;
-    assert!(rt; producers.as_slice() == [Some(1), None].as_slice());
-    assert!(rt; Reason::Missing(7).kind() == 1);
-    assert!(rt; Reason::Older(0, 0).kind() == 6);
-    assert!(rt; Reason::Command(0).kind() == 8);
+    assert!(rt;
+        producers_in_program(rt.alloc(), "b.o b.c")?.as_slice() == [Some(1), None].as_slice()
+    );
+    let kinds = [
+        Reason::Missing(7).kind(),
+        Reason::Older(0, 0).kind(),
+        Reason::Command(0).kind(),
+    ];
+    assert!(rt; kinds == [1, 6, 8]);
     Ok(())
 }
