@@ -1,16 +1,17 @@
 //! Small builds, and lanes that say a trace to a desk of one.
 ghost use Rattle.std.specs.Prelude.{◌≡◌, ◌<◌, ◌≤◌, length};
 
+use crate::gates::Gates;
 use rev_desk::{Desk, Reply};
+use rev_events::Refusal;
 use rev_graph::Graph;
 use rev_manifest::Manifest;
 use rev_trace::Trace;
-use rev_workers::{CloseFault, Gate, Shared, run_workers};
-use std::alloc::Global;
+use rev_workers::{CloseFault, Shared, run_workers};
+use std::alloc::{AllocError, Global};
 use std::marker::Brand;
 use std::sync::Wait;
 use std::sync::ledger::{Blank, Ledger};
-use std::test::Fail;
 use std::thread::Threads;
 
 /// Two objects and a program.
@@ -18,31 +19,39 @@ pub(crate) const MANIFEST: &str =
     "rule cc\n  command = cc -c $in -o $out\nrule ld\n  command = ld $in -o $out\n\
 build a.o: cc a.c\nbuild b.o: cc b.c\nbuild app: ld a.o b.o\n";
 
-fn manifest_of(alloc: Global, content: &str) -> Result<Manifest, Fail> {
+fn manifest_of(alloc: Global, content: &str) -> Result<Manifest, AllocError> {
     let name = Vec::from_slice(alloc, b"build.ninja")?;
-    let content = Vec::from_slice(alloc, content.as_bytes())?;
-    let files = vec![in alloc; (name, content)]?;
-    let manifest = rev_manifest::read(alloc, &files)?;
-    Ok(manifest)
+    let files = vec![in alloc; (name, Vec::from_slice(alloc, content.as_bytes())?)]?;
+    match rev_manifest::read(alloc, &files) {
+        Ok(manifest) => Ok(manifest),
+        Err(_) => Err(AllocError),
+    }
 }
 
-fn graph_of(alloc: Global, content: &str) -> Result<Graph, Fail> {
+fn graph_of(alloc: Global, content: &str) -> Result<Graph, AllocError> {
     let manifest = manifest_of(alloc, content)?;
-    let graph = Graph::build(alloc, &manifest)?;
-    Ok(graph)
+    match Graph::build(alloc, &manifest) {
+        Ok(graph) => Ok(graph),
+        Err(_) => Err(AllocError),
+    }
 }
 
-pub(crate) fn trace_of(alloc: Global, text: &str) -> Result<Trace, Fail> {
-    let trace = rev_trace::read(alloc, text.as_bytes())?;
-    Ok(trace)
+pub(crate) fn trace_of(alloc: Global, text: &str) -> Result<Trace, AllocError> {
+    match rev_trace::read(alloc, text.as_bytes()) {
+        Ok(trace) => Ok(trace),
+        Err(_) => Err(AllocError),
+    }
 }
 
 // A new desk over a manifest, of a trace's lanes.
-pub(crate) fn desk_of(alloc: Global, content: &str, trace: &Trace) -> Result<Desk, Fail> {
-    let lanes = u32::try_from(trace.lanes.len())?;
-    let graph = graph_of(alloc, content)?;
-    let desk = Desk::new(alloc, graph, &trace.opening, lanes)?;
-    Ok(desk)
+pub(crate) fn desk_of(alloc: Global, content: &str, trace: &Trace) -> Result<Desk, AllocError> {
+    let Ok(lanes) = u32::try_from(trace.lanes.len()) else {
+        return Err(AllocError);
+    };
+    match Desk::new(alloc, graph_of(alloc, content)?, &trace.opening, lanes) {
+        Ok(desk) => Ok(desk),
+        Err(_) => Err(AllocError),
+    }
 }
 
 // What lanes on a desk came to.
@@ -54,13 +63,13 @@ pub(crate) enum Outcome {
     Fault(CloseFault),
 }
 
-fn run_at<L: Ledger + Send + Sync, R: Threads + Wait + Sync, G: Gate>(
+fn run_at<L: Ledger + Send + Sync, R: Threads + Wait + Sync>(
     rt: &R,
     alloc: Global,
     blank: Blank,
     desk: Desk,
     trace: Trace,
-    gate: &G,
+    gate: &Gates,
 ) -> Outcome
     requires name { blank.name ≡ L.name }
     requires parts { blank.parts ≡ L.parts }
@@ -77,28 +86,28 @@ fn run_at<L: Ledger + Send + Sync, R: Threads + Wait + Sync, G: Gate>(
 }
 
 // Lanes say a trace to a desk.
-pub(crate) fn run_desk<R: Threads + Wait + Sync, G: Gate>(
+pub(crate) fn run_desk<R: Threads + Wait + Sync>(
     rt: &R,
     alloc: Global,
     desk: Desk,
     trace: Trace,
-    gate: &G,
+    gate: &Gates,
 ) -> Outcome {
     if trace.lanes.len() > desk.lanes() as usize {
         return Outcome::TooManyLanes;
     }
     let blank = Blank::new(u64::from(desk.lanes()));
-    run_at::<Brand, R, G>(rt, alloc, blank, desk, trace, gate)
+    run_at::<Brand, R>(rt, alloc, blank, desk, trace, gate)
 }
 
 // Lanes say a trace to a new desk over a manifest.
-pub(crate) fn run<R: Threads + Wait + Sync, G: Gate>(
+pub(crate) fn run<R: Threads + Wait + Sync>(
     rt: &R,
     alloc: Global,
     content: &str,
     text: &str,
-    gate: &G,
-) -> Result<Outcome, Fail> {
+    gate: &Gates,
+) -> Result<Outcome, AllocError> {
     let trace = trace_of(alloc, text)?;
     let desk = desk_of(alloc, content, &trace)?;
     Ok(run_desk(rt, alloc, desk, trace, gate))
@@ -112,54 +121,61 @@ pub(crate) fn code_of(reply: Reply) -> u16 {
     }
 }
 
-// A reply as reports have it, but for the number of its entry.
-fn reply_text(alloc: Global, reply: Reply) -> Result<String, Fail> {
-    let text = match reply {
-        Reply::Accepted(_, None) => format!(in alloc; "ok")?,
-        Reply::Accepted(_, Some(met)) => format!(in alloc; "ok break {met}")?,
-        Reply::Coned(_, count) => format!(in alloc; "cone {count}")?,
-        Reply::Refused(refusal) => {
-            let [first, second] = refusal.numbers();
-            match (first, second) {
-                (None, _) => format!(in alloc; "refused {}", refusal.code())?,
-                (Some(first), None) => format!(in alloc; "refused {} {first}", refusal.code())?,
-                (Some(first), Some(second)) => {
-                    format!(in alloc; "refused {} {first} {second}", refusal.code())?
-                }
-            }
+fn push_refusal(alloc: Global, text: &mut String, refusal: Refusal) -> Result<(), AllocError> {
+    text.push_str(&format!(in alloc; " refused {}", refusal.code())?)?;
+    for number in refusal.numbers() {
+        if let Some(number) = number {
+            text.push_str(&format!(in alloc; " {number}")?)?;
         }
-    };
-    Ok(text)
+    }
+    Ok(())
+}
+
+// A reply as reports have it, but for the number of its entry.
+fn push_reply(alloc: Global, text: &mut String, reply: Reply) -> Result<(), AllocError> {
+    match reply {
+        Reply::Accepted(_, None) => text.push_str(" ok"),
+        Reply::Accepted(_, Some(met)) => text.push_str(&format!(in alloc; " ok break {met}")?),
+        Reply::Coned(_, count) => text.push_str(&format!(in alloc; " cone {count}")?),
+        Reply::Refused(refusal) => push_refusal(alloc, text, refusal),
+    }
 }
 
 // Lanes and replies of a desk's journal, as reports have them.
-pub(crate) fn journal_text(alloc: Global, desk: &Desk) -> Result<String, Fail> {
+pub(crate) fn journal_text(alloc: Global, desk: &Desk) -> Result<String, AllocError> {
     let mut text = String::new(alloc);
     for entry in desk.journal() {
-        let reply = reply_text(alloc, entry.reply)?;
-        text.push_str(&format!(in alloc; "{} {reply}; ", entry.lane)?)?;
+        text.push_str(&format!(in alloc; "{}", entry.lane)?)?;
+        push_reply(alloc, &mut text, entry.reply)?;
+        text.push_str("; ")?;
     }
     Ok(text)
 }
 
-// The desk that comes back where lanes say a trace to a new one.
-pub(crate) fn closed_desk(outcome: Outcome) -> Result<Desk, Fail> {
-    match outcome {
-        Outcome::Closed(desk) => Ok(desk),
-        Outcome::Fault(fault) => Err(Fail::from(fault.code)),
-        Outcome::Memory => Err(Fail::from("memory")),
-        Outcome::TooManyLanes => Err(Fail::from("more lists than lanes")),
-    }
-}
-
-// What lanes are told that say a trace to a new desk over a manifest.
-pub(crate) fn told_text<R: Threads + Wait + Sync, G: Gate>(
+// The desk that comes back where lanes say a trace to a new one over a manifest.
+pub(crate) fn closed<R: Threads + Wait + Sync>(
     rt: &R,
     alloc: Global,
     content: &str,
     text: &str,
-    gate: &G,
-) -> Result<String, Fail> {
-    let desk = closed_desk(run(rt, alloc, content, text, gate)?)?;
-    journal_text(alloc, &desk)
+    gate: &Gates,
+) -> Result<Desk, AllocError> {
+    match run(rt, alloc, content, text, gate)? {
+        Outcome::Closed(desk) => Ok(desk),
+        Outcome::Fault(_fault) => Err(AllocError),
+        Outcome::Memory | Outcome::TooManyLanes => Err(AllocError),
+    }
+}
+
+// Whether lanes that say a trace to a new desk over a manifest are told this.
+pub(crate) fn is_told<R: Threads + Wait + Sync>(
+    rt: &R,
+    alloc: Global,
+    content: &str,
+    text: &str,
+    gate: &Gates,
+    wanted: &str,
+) -> Result<bool, AllocError> {
+    let desk = closed(rt, alloc, content, text, gate)?;
+    Ok(journal_text(alloc, &desk)?.as_str() == wanted)
 }

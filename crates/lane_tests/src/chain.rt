@@ -1,14 +1,13 @@
 //! A chain of edges that two lanes make in turn. Neither may be refused, since each keeps the chain's order.
-use crate::builds::{closed_desk, code_of, run};
-use crate::gates::Holding;
-use std::alloc::Global;
+use crate::builds::{closed, code_of};
+use crate::gates::{BEHIND_1, Gates, NONE};
+use std::alloc::{AllocError, Global};
 use std::sync::Wait;
-use std::test::Fail;
 use std::thread::Threads;
 
 // A chain of edges, and a trace of two lanes that builds it: lane 0 plans it and makes the even ones, lane 1 the odd
 // ones.
-fn chain_of(alloc: Global, edges: u32) -> Result<(String, String), Fail> {
+fn chain_of(alloc: Global, edges: u32) -> Result<(String, String), AllocError> {
     let mut manifest = String::new(alloc);
     manifest.push_str("rule r\n  command = r $in $out\nbuild o0: r s\n")?;
     let mut even = String::new(alloc);
@@ -38,11 +37,11 @@ fn refused_in_chain<R: Threads + Wait + Sync>(
     rt: &R,
     alloc: Global,
     edges: u32,
-) -> Result<(usize, usize), Fail> {
+) -> Result<(usize, usize), AllocError> {
     let (content, text) = chain_of(alloc, edges)?;
     // Lane 1 is let in once the build is planned.
-    let gate = Holding::new((1, 1), (0, 1), 1_000_000);
-    let desk = closed_desk(run(rt, alloc, &content, &text, &gate)?)?;
+    let gate = Gates::new(BEHIND_1, NONE, 0);
+    let desk = closed(rt, alloc, &content, &text, &gate)?;
     let journal = desk.journal();
     let refused = journal
         .iter()
@@ -52,7 +51,7 @@ fn refused_in_chain<R: Threads + Wait + Sync>(
 }
 
 #[test]
-fn a_woken_lane_counts_as_going(rt: HostRuntime) -> Result<(), Fail> {
+fn a_woken_lane_counts_as_going(rt: HostRuntime) -> Result<(), AllocError> {
     let alloc = rt.alloc();
     for _ in 0..10 {
         let told = refused_in_chain(&rt, alloc, 40)?;

@@ -3,30 +3,33 @@ use rev_workers::Gate;
 use std::sync::atomic::{AtomicU64, Ordering};
 use std::thread;
 
-// Holds one call until another is answered, for at most so many turns.
+// A lane's call that is held, until which is answered, and for how many turns at most.
+pub(crate) type Hold = ((u32, u32), (u32, u32), u64);
+
+// No lane has this call.
+pub(crate) const NONE: Hold = ((64, 0), (64, 0), 0);
+
+// The first call of lane 1 comes behind that of lane 0.
+pub(crate) const BEHIND_1: Hold = ((1, 1), (0, 1), 1_000_000);
+
 #[derive(Drop)]
-pub(crate) struct Holding {
-    held: (u32, u32),
-    until: (u32, u32),
-    turns: u64,
+struct Holding {
+    hold: Hold,
     answered: AtomicU64,
 }
 
 impl Holding {
-    pub(crate) fn new(held: (u32, u32), until: (u32, u32), turns: u64) -> Holding {
+    fn new(hold: Hold) -> Holding {
         Holding {
-            held,
-            until,
-            turns,
+            hold,
             answered: AtomicU64::new(0),
         }
     }
-}
 
-impl Gate for Holding {
     fn before(&self, lane: u32, place: u32) {
-        if (lane, place) == self.held {
-            for _ in 0..self.turns {
+        let (held, _, turns) = self.hold;
+        if (lane, place) == held {
+            for _ in 0..turns {
                 if self.answered.load(Ordering::SeqCst) == 1 {
                     break;
                 }
@@ -35,50 +38,48 @@ impl Gate for Holding {
         }
     }
 
-    fn after(&self, lane: u32, place: u32) {
-        if (lane, place) == self.until {
-            self.answered.store(1, Ordering::SeqCst);
+    // Whether the answer is one that ends the hold.
+    fn after(&self, lane: u32, place: u32) -> bool {
+        let (_, until, _) = self.hold;
+        if (lane, place) != until {
+            return false;
+        }
+        self.answered.store(1, Ordering::SeqCst);
+        true
+    }
+}
+
+// Holds two calls. The lane whose answer ends the first hold goes on only so many turns after that.
+#[derive(Drop)]
+pub(crate) struct Gates {
+    first: Holding,
+    second: Holding,
+    lingers: u64,
+}
+
+impl Gates {
+    pub(crate) fn new(first: Hold, second: Hold, lingers: u64) -> Gates {
+        Gates {
+            first: Holding::new(first),
+            second: Holding::new(second),
+            lingers,
         }
     }
 }
 
-// Holds one call until another is answered, whose lane goes on only so many turns after that.
-#[derive(Drop)]
-pub(crate) struct Lingering {
-    pub(crate) holding: Holding,
-    pub(crate) turns: u64,
-}
-
-impl Gate for Lingering {
-    fn before(&self, lane: u32, place: u32) {
-        self.holding.before(lane, place);
-    }
-
-    fn after(&self, lane: u32, place: u32) {
-        self.holding.after(lane, place);
-        if (lane, place) == self.holding.until {
-            for _ in 0..self.turns {
-                thread::yield_now();
-            }
-        }
-    }
-}
-
-// Two of them.
-#[derive(Drop)]
-pub(crate) struct Both {
-    pub(crate) first: Holding,
-    pub(crate) second: Holding,
-}
-
-impl Gate for Both {
+impl Gate for Gates {
     fn before(&self, lane: u32, place: u32) {
         self.first.before(lane, place);
         self.second.before(lane, place);
     }
 
     fn after(&self, lane: u32, place: u32) {
-        self.first.after(lane, place);
+        let ends = self.first.after(lane, place);
         self.second.after(lane, place);
+        if ends {
+            for _ in 0..self.lingers {
+                thread::yield_now();
+            }
+        }
     }
 }

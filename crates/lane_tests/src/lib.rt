@@ -19,5 +19,3 @@ mod meetings;
 mod threads;
 #[cfg(test)]
 mod turns;
-#[cfg(test)]
-mod waits;

@@ -219,7 +219,7 @@ fn backed_after(alloc: Global, outcome: Outcome) -> Result<(u16, String), Lost> 
 }
 
 // A desk to which nothing was said.
-fn new_desk(alloc: Global, text: &str) -> Result<Desk, Fail> {
+fn new_desk(alloc: Global, text: &str) -> Result<Desk, AllocError> {
     let trace = trace_of(alloc, text)?;
     desk_of(alloc, MANIFEST, &trace)
 }
