@@ -5,8 +5,8 @@
 //! is read on as many threads as there are processors.
 #![tactic(auto)]
 
-use rev_graph::{Graph, GraphFault};
-use rev_manifest::{Manifest, ReadFault, read, read_by_threads};
+use rev_graph::Graph;
+use rev_manifest::{Manifest, read, read_by_threads};
 use std::fs;
 use std::io::Read;
 use std::process::ExitCode;
@@ -14,7 +14,7 @@ use std::rt::{Env, Files};
 use std::thread::Threads;
 
 // Why no count is printed.
-#[derive(Clone, Copy, Debug, PartialEq, Eq)]
+#[derive(Clone, Copy)]
 enum CountFault {
     // The words, a file, or the standard output.
     Io,
@@ -42,20 +42,8 @@ impl<T: Drop> From<std::alloc::AllocFailed<T>> for CountFault {
     }
 }
 
-impl From<ReadFault> for CountFault {
-    fn from(_fault: ReadFault) -> CountFault {
-        CountFault::Manifest
-    }
-}
-
-impl From<GraphFault> for CountFault {
-    fn from(_fault: GraphFault) -> CountFault {
-        CountFault::Graph
-    }
-}
-
 // How manifests are read.
-#[derive(Clone, Copy, PartialEq, Eq)]
+#[derive(Clone, Copy)]
 enum How {
     // Reading alone.
     Alone,
@@ -76,6 +64,9 @@ fn outputs(manifest: &Manifest) -> usize {
     count
 }
 
+// Files with their names.
+type NamedFiles = Vec<(Vec<u8>, Vec<u8>)>;
+
 fn content_of<R: Files + AllocGlobal>(rt: &R, name: &str) -> Result<Vec<u8>, CountFault> {
     let mut content = Vec::new(rt.alloc());
     fs::open(rt, name)?.read_to_end(&mut content)?;
@@ -83,25 +74,44 @@ fn content_of<R: Files + AllocGlobal>(rt: &R, name: &str) -> Result<Vec<u8>, Cou
     Ok(content)
 }
 
+fn push_file<R: Files + AllocGlobal>(
+    rt: &R,
+    files: &mut NamedFiles,
+    name: &str,
+) -> Result<(), CountFault> {
+    let content = content_of(rt, name)?;
+    files.push((Vec::from_slice(rt.alloc(), name.as_bytes())?, content))?;
+    Ok(())
+}
+
+fn files_of<R: Files + AllocGlobal>(rt: &R, names: &[String]) -> Result<NamedFiles, CountFault> {
+    let mut files = Vec::new(rt.alloc());
+    for name in names {
+        push_file(rt, &mut files, name)?;
+    }
+    Ok(files)
+}
+
 fn manifest_of<R: Files + Threads + AllocGlobal + Sync>(
     rt: &R,
     names: &[String],
     how: How,
 ) -> Result<Manifest, CountFault> {
-    let alloc = rt.alloc();
-    let mut files = Vec::new(alloc);
-    for name in names {
-        let content = content_of(rt, name)?;
-        files.push((Vec::from_slice(alloc, name.as_bytes())?, content))?;
-    }
-    match how {
-        How::ByThreads => Ok(read_by_threads(rt, alloc, &files)?),
-        How::Alone | How::WithGraph => Ok(read(alloc, &files)?),
+    let files = files_of(rt, names)?;
+    let manifest = match how {
+        How::ByThreads => read_by_threads(rt, rt.alloc(), &files),
+        How::Alone | How::WithGraph => read(rt.alloc(), &files),
+    };
+    match manifest {
+        Ok(manifest) => Ok(manifest),
+        Err(_) => Err(CountFault::Manifest),
     }
 }
 
 fn print_graph<R: Print + AllocGlobal>(rt: &R, manifest: &Manifest) -> Result<(), CountFault> {
-    let graph = Graph::build(rt.alloc(), manifest)?;
+    let Ok(graph) = Graph::build(rt.alloc(), manifest) else {
+        return Err(CountFault::Graph);
+    };
     println!(rt; "graph of {} edges", graph.edges())?;
     Ok(())
 }
@@ -124,29 +134,42 @@ fn count<R: Files + Print + Threads + AllocGlobal + Sync>(
     how: How,
 ) -> Result<(), CountFault> {
     let manifest = manifest_of(rt, names, how)?;
-    if how == How::WithGraph {
+    if matches!(how, How::WithGraph) {
         print_graph(rt, &manifest)?;
     }
     print_counts(rt, &manifest)
 }
 
-// Counts the manifests one after another.
-fn count_all<R: Files + Env + Print + Threads + AllocGlobal + Sync>(
+// The files that words name, and how these are read.
+fn asked(words: &[String]) -> (&[String], How) {
+    match words.split_first() {
+        Some((first, files)) if first.as_str() == "--graph" => (files, How::WithGraph),
+        Some((first, files)) if first.as_str() == "--threads" => (files, How::ByThreads),
+        _ => (words, How::Alone),
+    }
+}
+
+// Counts the manifests that words name, one after another.
+fn count_each<R: Files + Print + Threads + AllocGlobal + Sync>(
     rt: &R,
+    words: &[String],
 ) -> Result<(), CountFault> {
-    let words: Vec<String> = std::env::args(rt)?.collect(rt.alloc())?;
-    let Some((_program, files)) = words.split_first() else {
-        return Ok(());
-    };
-    let (files, how) = match files.split_first() {
-        Some((first, others)) if first.as_str() == "--graph" => (others, How::WithGraph),
-        Some((first, others)) if first.as_str() == "--threads" => (others, How::ByThreads),
-        _ => (files, How::Alone),
-    };
+    let (files, how) = asked(words);
     for names in files.split(|word| word.as_str() == "--") {
         count(rt, names, how)?;
     }
     Ok(())
+}
+
+// Counts those that the program's words name.
+fn count_all<R: Files + Env + Print + Threads + AllocGlobal + Sync>(
+    rt: &R,
+) -> Result<(), CountFault> {
+    let words: Vec<String> = std::env::args(rt)?.collect(rt.alloc())?;
+    match words.split_first() {
+        Some((_program, files)) => count_each(rt, files),
+        None => Ok(()),
+    }
 }
 
 fn main(rt: HostRuntime) -> ExitCode {
