@@ -41,8 +41,8 @@ ASKED: list[tuple[list[str], tuple[int, ...]]] = [
     (["races", "--provoke", "1"], (0, 1, 2)), (["replay"], (0, 1, 4)),
     (["ask"], (0, 1)), (["ask", "--json"], (0, 1)), (["picture"], (0, 1)), (["picture", "--html"], (0, 1)),
     (["picture", "--event", "3"], (0, 1, 2)), (["timeline"], (0, 1, 2)), (["compare", "."], (0, 1)),
-    (["compare", "--all", f"{TOP}/examples/flaky/failed"], (1, 4)),
-    (["compare", "--json", f"{TOP}/examples/flaky/failed"], (1, 4))]
+    (["compare", "--all", f"{TOP}/examples/flaky/failed"], (0, 1, 4)),
+    (["compare", "--json", f"{TOP}/examples/flaky/failed"], (0, 1, 4))]
 # What is asked at the prompt, with the name of an output or of another path.
 QUESTIONS = [b"run", b"next", b"next 3", b"kept", b"marks", b"stamps", b"logs", b"help", b"", b"nonsense", b"who %b",
              b"why %b", b"with %b", b"what finish %b", b"needs %b all", b"dependents %b", b"would cone %b",
