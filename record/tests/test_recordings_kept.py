@@ -23,7 +23,9 @@ TOUCH = "rule touch\n  command = touch $out\n"
 ONE = TOUCH + "build o: touch s\n"
 # The recorder reads what the edge left as its depfile, and waits for a writer.
 WAITING = "rule wait\n  command = test -p o.d || mkfifo o.d; touch $out\n  depfile = o.d\nbuild o: wait s\n"
-SLOW = "rule slow\n  command = echo $$$$ > pid; touch begun; sleep 900; touch $out\nbuild o: slow s\n"
+# It sleeps shortly: dash loses an interrupt that comes while it starts a program, until that program has ended.
+SLOW = ("rule slow\n  command = echo $$$$ > pid; touch begun; while test -e begun; do sleep 0.1; done; touch $out\n"
+        "build o: slow s\n")
 
 
 class Kept(unittest.TestCase):
@@ -97,6 +99,11 @@ class Refused(Kept):
             self.assertEqual(status, 1, said)
             self.assertIn("the recording in", said)
             self.assert_kept()
+
+    def test_a_first_recording_without_a_command_says_so(self):
+        status, said = self.run_recorder("nothing")
+        self.assertEqual((status, "Ninja built nothing" in said, "Next: " in said), (1, True, False), said)
+        self.assertIn(b"target nothing", (self.out / "trace").read_bytes())
 
     def test_a_manifest_that_only_ninja_refuses(self):
         self.record_first()
@@ -416,6 +423,7 @@ class Ended(Kept):
     def test_signals_reach_ninja(self):
         for number in (signal.SIGINT, signal.SIGTERM, signal.SIGHUP):
             with self.subTest(number=number):
+                (self.build / "begun").unlink(missing_ok=True)
                 self.write(SLOW)
                 process = self.started()
                 builds.wait_for(self.build / "begun")  # the recorder looks at Ninja's children before it hands one on
@@ -423,7 +431,6 @@ class Ended(Kept):
                 said = process.stdout.read()
                 self.assertEqual(process.wait(LONGEST_SECONDS), NINJA.status_of_interrupt, said)
                 self.assertIn(b"interrupt\nabort o 0\n", (self.out / "trace").read_bytes())
-                (self.build / "begun").unlink()
 
     def test_descriptors_that_are_closed(self):
         command = f"'{sys.executable}' '{builds.RECORDER}' '{self.build}' '{self.out}' <&- >&- 2>&-"
