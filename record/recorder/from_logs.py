@@ -350,18 +350,19 @@ def _notes(manifest: Manifest, ninja: Ninja, targets: list[bytes], logged: Logge
     notes = []
     earlier = {_edge(manifest, it).name for it in logged.earlier}
     if earlier:
-        notes.append(f"the log has {_counted(len(earlier))} of earlier builds that did not run in the last one: built "
-                     f"in the opening")
+        notes.append(f"the log has {_counted(len(earlier))} of earlier builds that did not run in the last one: the "
+                     f"recording begins with what they made")
     hash_of = ninja.hash_in(BuildLog(ninja.log_version, []))
     ran = {edge.name: (edge, it.hash) for edge, it in ((_edge(manifest, it), it) for it in logged.ran)}
     others = [edge for edge, value in ran.values() if hash_of and hash_of(edge.ninja_command) != value]
     if others:
-        notes.append(f"the manifest was written anew since that build: {_counted(len(others))} of the log and not of "
-                     f"the manifest: {_named(others)}")
+        notes.append(f"the manifest was written anew since that build: {_counted(len(others))} ran with other words "
+                     f"than it has: {_named(others)}")
     needed = _reached(manifest, targets or manifest.defaults())
     lacking = [edge for _, edge in sorted(needed.items())
                if not edge.phony and edge.name not in earlier and edge.name not in ran]
     if lacking:
-        notes.append(f"{_counted(len(lacking))} that the targets need and no log has: failed, not reached, or not "
-                     f"asked for (name the targets behind --): {_named(lacking)}")
+        were = "was" if len(lacking) == 1 else "were"
+        notes.append(f"no log has {_counted(len(lacking))} that the targets need, which failed, {were} not reached, or "
+                     f"{were} not asked for (name the targets after --): {_named(lacking)}")
     return notes

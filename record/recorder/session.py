@@ -148,15 +148,18 @@ class Session(OneBuild):
         if self.options.output == NONE:
             for run in found.runs:
                 run.written = None
-        if status and not ran.interrupted and not _has_started(found, ran) and not self.options.force:
-            if out.has_recording():
-                self.say(f"Ninja built nothing, so the recording in {self.options.out} stays (--force replaces it)")
-                return status
+        built_nothing = bool(status) and not ran.interrupted and not _has_started(found, ran)
+        if built_nothing and not self.options.force and out.has_recording():
+            self.say(f"Ninja built nothing, so the recording in {self.options.out} stays (--force replaces it)")
+            return status
         write_recording(found, out.staging, self.options.lanes, self.launcher, at=out.folder)
         observation.write(found, after, out.staging)
         self.signals.is_switching = True
         out.switch()
-        self.tell(found, ran)
+        if built_nothing and not ran.died:
+            self.say(f"Ninja built nothing, so the recording in {self.options.out} has no command: see what Ninja said")
+        else:
+            self.tell(found, ran)
         return 128 + self.signals.held[0] if self.signals.held else status
 
     def tell(self, found, ran):

@@ -188,7 +188,8 @@ class FromLogs(unittest.TestCase):
         subprocess.run(["ninja", "-k0", "app", "broken"], cwd=self.build, capture_output=True)
         said, trace = self.record("--", "app", "broken")
         self.assertEqual(self.words(trace, "start", "fail").count("start broken"), 0)
-        self.assertIn("1 command that the targets need and no log has: failed, not reached, or not asked for", said)
+        self.assertIn("no log has 1 command that the targets need, which failed, was not reached, or was not asked for",
+                      said)
         self.assertIn("broken", said)
         self.assertEqual(self.words(trace, "target"), ["target app", "target broken"])
 
