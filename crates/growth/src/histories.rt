@@ -1,7 +1,7 @@
 //! The calls of a history.
 
 use crate::said::{
-    LINES, OPENING, Said, Stop, command, graph, print_about, print_kept, print_line, shown, trace,
+    LINES, Said, Stop, command, history, print_about, print_line, print_numbers, shown,
 };
 use rev_commands::{Command, Which};
 use rev_events::Fault;
@@ -22,6 +22,29 @@ fn act(history: &mut History, number: u32, command: &Command) -> Result<(), Faul
     }
 }
 
+// Does a command again, where memory was refused and the history showed this before.
+fn say_again<R: Print>(
+    rt: &R,
+    alloc: Global,
+    history: &mut History,
+    before: &str,
+    number: u32,
+    command: &Command,
+    line: &'static str,
+) -> Said {
+    let after = shown(alloc, history)?;
+    if after.as_str() != before {
+        print_about(rt, line, "memory was refused, and something has changed")?;
+    }
+    if matches!(command, Command::Undo(_)) {
+        print_about(rt, line, "an undo asked for memory")?;
+    }
+    match act(history, number, command) {
+        Ok(()) => Ok(()),
+        Err(_) => Err(Stop::NotAccepted(line)),
+    }
+}
+
 // Does a line, and again where memory was refused.
 fn say<R: Print>(
     rt: &R,
@@ -33,32 +56,26 @@ fn say<R: Print>(
     let command = command(alloc, line)?;
     let before = shown(alloc, history)?;
     match act(history, number, &command) {
-        Ok(()) => return Ok(()),
-        Err(Fault::Memory) => {}
-        Err(Fault::Refused(_)) => return Err(Stop::NotAccepted(line)),
-    }
-    if shown(alloc, history)? != before {
-        print_about(rt, line, "memory was refused, and something has changed")?;
-    }
-    if matches!(&command, Command::Undo(_)) {
-        print_about(rt, line, "an undo asked for memory")?;
-    }
-    match act(history, number, &command) {
         Ok(()) => Ok(()),
-        Err(_) => Err(Stop::NotAccepted(line)),
+        Err(Fault::Memory) => say_again(rt, alloc, history, &before, number, &command, line),
+        Err(Fault::Refused(_)) => Err(Stop::NotAccepted(line)),
     }
+}
+
+// Does all lines.
+fn say_all<R: Print>(rt: &R, alloc: Global, history: &mut History) -> Said {
+    let mut number = 0u32;
+    for line in LINES {
+        number = number.saturating_add(1);
+        say(rt, alloc, history, number, line)?;
+    }
+    print_numbers(rt, "kept", history.kept())
 }
 
 /// Accepts five events, and takes the fourth back, puts it again, and takes out what stands on the third; gives a pool
 /// another depth, and takes that back.
 pub(crate) fn run<R: Print>(rt: &R, alloc: Global) -> Said {
-    let trace = trace(alloc, OPENING)?;
-    let mut history = History::new(alloc, graph(alloc)?, &trace.opening)?;
+    let mut history = history(alloc)?;
     print_line(rt, "made")?;
-    let mut number = 0u32;
-    for line in LINES {
-        number = number.saturating_add(1);
-        say(rt, alloc, &mut history, number, line)?;
-    }
-    print_kept(rt, &history)
+    say_all(rt, alloc, &mut history)
 }

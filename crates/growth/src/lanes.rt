@@ -1,28 +1,51 @@
 //! The sends of one lane.
 ghost use Rattle.std.specs.Prelude.{◌≡◌};
 
-use crate::desks::is_accepted;
 use crate::said::{
-    LINES, OPENING, Said, Stop, command, desk, look_at_command, print_about, print_kept,
-    print_line, trace,
+    LINES, Said, Stop, accepted, command, desk, look_at_command, print_about, print_line,
+    print_numbers,
 };
-use rev_desk::Desk;
+use rev_desk::{Desk, Unsaid};
 use rev_workers::{Lane, Shared, close};
-use std::alloc::Global;
+use std::alloc::{AllocError, Global};
 use std::marker::Brand;
 use std::sync::Wait;
 use std::sync::ledger::{Blank, Ledger};
 
 // What a lane shows: how many calls it made, what it has seen, and its list.
-fn lane_text<L: Ledger>(alloc: Global, lane: &Lane<L>) -> Result<String, Stop> {
-    Ok(format!(in alloc; "{} {} {:?}", lane.calls(), lane.seen(), lane.list())?)
+fn lane_text<L: Ledger>(alloc: Global, lane: &Lane<L>) -> Result<String, AllocError> {
+    format!(in alloc; "{} {} {:?}", lane.calls(), lane.seen(), lane.list())
 }
 
 // The same, worked out again where memory was refused.
-fn shown<L: Ledger>(alloc: Global, lane: &Lane<L>) -> Result<String, Stop> {
+fn shown<L: Ledger>(alloc: Global, lane: &Lane<L>) -> Result<String, AllocError> {
     match lane_text(alloc, lane) {
         Ok(text) => Ok(text),
         Err(_) => lane_text(alloc, lane),
+    }
+}
+
+// Sends once more what came back, where the lane showed this before.
+fn say_again<L: Ledger, R: Print + Wait>(
+    rt: &R,
+    alloc: Global,
+    shared: &Shared<L>,
+    lane: &mut Lane<L>,
+    before: &str,
+    unsaid: Unsaid,
+    line: &'static str,
+) -> Said {
+    look_at_command(rt, alloc, &unsaid, line)?;
+    let after = shown(alloc, lane)?;
+    if after.as_str() != before {
+        print_about(rt, line, "memory was refused, and the lane has changed")?;
+    }
+    if lane.number() >= shared.lanes() {
+        return Err(Stop::Build);
+    }
+    match lane.send(shared, rt, unsaid.into_command()) {
+        Ok(reply) => accepted(reply, line),
+        Err(_) => Err(Stop::NotAccepted(line)),
     }
 }
 
@@ -34,27 +57,14 @@ fn say<L: Ledger, R: Print + Wait>(
     lane: &mut Lane<L>,
     line: &'static str,
 ) -> Said {
-    let sent = command(alloc, line)?;
-    let same = command(alloc, line)?;
     let before = shown(alloc, lane)?;
+    let command = command(alloc, line)?;
     if lane.number() >= shared.lanes() {
         return Err(Stop::Build);
     }
-    let unsaid = match lane.send(shared, rt, sent) {
-        Ok(reply) if is_accepted(reply) => return Ok(()),
-        Ok(_) => return Err(Stop::NotAccepted(line)),
-        Err(unsaid) => unsaid,
-    };
-    look_at_command(rt, unsaid.why, &unsaid.command, &same, line)?;
-    if shown(alloc, lane)? != before {
-        print_about(rt, line, "memory was refused, and the lane has changed")?;
-    }
-    if lane.number() >= shared.lanes() {
-        return Err(Stop::Build);
-    }
-    match lane.send(shared, rt, unsaid.into_command()) {
-        Ok(reply) if is_accepted(reply) => Ok(()),
-        _ => Err(Stop::NotAccepted(line)),
+    match lane.send(shared, rt, command) {
+        Ok(reply) => accepted(reply, line),
+        Err(unsaid) => say_again(rt, alloc, shared, lane, &before, unsaid, line),
     }
 }
 
@@ -86,7 +96,7 @@ fn run_at<L: Ledger, R: Print + Wait>(rt: &R, alloc: Global, blank: Blank, desk:
     print_line(rt, "made")?;
     say_all(rt, alloc, &shared, &mut lanes)?;
     match close(shared, lanes) {
-        Ok(desk) => print_kept(rt, desk.history()),
+        Ok(desk) => print_numbers(rt, "kept", desk.history().kept()),
         Err(_) => Err(Stop::NotAccepted("close")),
     }
 }
@@ -98,7 +108,6 @@ fn run_desk<R: Print + Wait>(rt: &R, alloc: Global, desk: Desk) -> Said {
 
 /// Sends all lines from one lane, and closes.
 pub(crate) fn run<R: Print + Wait>(rt: &R, alloc: Global) -> Said {
-    let trace = trace(alloc, OPENING)?;
-    let desk = desk(alloc, &trace, 1)?;
+    let desk = desk(alloc)?;
     run_desk(rt, alloc, desk)
 }

@@ -16,6 +16,7 @@ mod reports;
 mod said;
 mod workers;
 
+use answers::{Call, ask};
 use said::{Said, Stop};
 use std::alloc::Global;
 use std::process::ExitCode;
@@ -23,43 +24,62 @@ use std::rt::Env;
 use std::sync::Wait;
 use std::thread::Threads;
 
-// The word behind the program's name.
-fn part<R: Env + Alloc<A = Global>>(rt: &R) -> Result<Option<String>, Stop> {
-    let words: Vec<String> = std::env::args(rt)?.collect(rt.alloc())?;
-    let mut words = words.into_iter();
-    let _program = words.next();
-    Ok(words.next())
-}
-
-fn run<R: Env + Print + AllocGlobal + Threads + Wait + Sync>(rt: &R) -> Said {
-    let Some(part) = part(rt)? else {
-        return Err(Stop::Usage);
-    };
-    match part.as_str() {
-        "history" => histories::run(rt, rt.alloc()),
-        "desk" => desks::run(rt, rt.alloc()),
-        "lane" => lanes::run(rt, rt.alloc()),
-        "workers" => workers::run(rt, rt.alloc()),
-        "report" => reports::run(rt, rt.alloc()),
-        "manifest" => answers::manifest(rt, rt.alloc()),
-        "graph" => answers::graph_of(rt, rt.alloc()),
-        "trace" => answers::trace_of(rt, rt.alloc()),
-        "migrate" => answers::migration(rt, rt.alloc()),
-        "script" => answers::script(rt, rt.alloc()),
-        "depfile" => answers::depfile(rt, rt.alloc()),
-        "plan" => answers::plan(rt, rt.alloc()),
-        "why" => answers::why(rt, rt.alloc()),
-        "same_order" => orders::same_order(rt, rt.alloc()),
-        "order" => orders::order(rt, rt.alloc()),
+// Runs the part of a name.
+fn run<R: Print + AllocGlobal + Threads + Wait + Sync>(rt: &R, part: &str) -> Said {
+    let alloc = rt.alloc();
+    match part {
+        "history" => histories::run(rt, alloc),
+        "desk" => desks::run(rt, alloc),
+        "lane" => lanes::run(rt, alloc),
+        "workers" => workers::run(rt, alloc),
+        "report" => reports::run(rt, alloc),
+        "manifest" => answers::manifest(rt, alloc),
+        "graph" => answers::graph_of(rt, alloc),
+        "trace" => ask(rt, alloc, Call::Trace),
+        "migrate" => ask(rt, alloc, Call::Migration),
+        "script" => ask(rt, alloc, Call::Script),
+        "depfile" => answers::depfile(rt, alloc),
+        "plan" => answers::plan(rt, alloc),
+        "why" => answers::why(rt, alloc),
+        "same_order" => orders::same_order(rt, alloc),
+        "order" => orders::order(rt, alloc),
         _ => Err(Stop::Usage),
     }
 }
 
+// The words of the command line.
+fn words<R: Env + Alloc<A = Global>>(rt: &R) -> Result<Vec<String>, Stop> {
+    match std::env::args(rt) {
+        Ok(words) => Ok(words.collect(rt.alloc())?),
+        Err(_) => Err(Stop::Io),
+    }
+}
+
+// Runs the part that the word behind the program's name is.
+fn run_named<R: Env + Print + AllocGlobal + Threads + Wait + Sync>(rt: &R) -> Said {
+    match words(rt)?.get(1) {
+        Some(part) => run(rt, part),
+        None => Err(Stop::Usage),
+    }
+}
+
+// Why a part ended early, and at which call.
+fn reason(stop: Stop) -> (&'static str, &'static str) {
+    match stop {
+        Stop::Memory => ("memory was refused twice", ""),
+        Stop::Io => ("nothing can be printed or read", ""),
+        Stop::Usage => ("no such part", ""),
+        Stop::Build => ("this is no build", ""),
+        Stop::NotAccepted(call) => ("not accepted: ", call),
+    }
+}
+
 fn main(rt: HostRuntime) -> ExitCode {
-    match run(&rt) {
+    match run_named(&rt) {
         Ok(()) => ExitCode::SUCCESS,
         Err(stop) => {
-            let _ = println!(rt; "stopped: {stop:?}");
+            let (why, call) = reason(stop);
+            let _ = println!(rt; "stopped: {why}{call}");
             ExitCode::FAILURE
         }
     }

@@ -1,11 +1,11 @@
 //! Lanes on threads.
 ghost use Rattle.std.specs.Prelude.{◌≡◌, ◌≤◌, length};
 
-use crate::said::{Said, Stop, desk, print_line, trace};
-use rev_desk::{Desk, Entry};
+use crate::said::{Said, Stop, desk_of, print_line, trace};
+use rev_desk::{Command, Desk, Entry};
 use rev_trace::Trace;
-use rev_workers::{Gate, Shared, run_workers};
-use std::alloc::Global;
+use rev_workers::{CloseCode, Gate, Shared, run_workers};
+use std::alloc::{AllocError, Global};
 use std::marker::Brand;
 use std::sync::Wait;
 use std::sync::ledger::{Blank, Ledger};
@@ -23,38 +23,49 @@ impl Gate for Open {
     fn after(&self, _lane: u32, _place: u32) {}
 }
 
-// Applies an entry's command, and once more where memory was refused.
-fn apply_again(desk: &mut Desk, entry: &Entry) -> Result<bool, Stop> {
+// A copy of a command, made again where memory was refused.
+fn copy_of(command: &Command) -> Result<Command, AllocError> {
+    match command.copy() {
+        Ok(copy) => Ok(copy),
+        Err(_) => command.copy(),
+    }
+}
+
+// Applies an entry's command, and once more where memory was refused: whether the reply is the entry's.
+fn is_same(desk: &mut Desk, entry: &Entry) -> Result<bool, Stop> {
+    let command = copy_of(&entry.command)?;
     if entry.lane >= desk.lanes() {
         return Ok(false);
     }
-    let command = match entry.command.copy() {
-        Ok(command) => command,
-        Err(_) => entry.command.copy()?,
+    let unsaid = match desk.apply(entry.lane, command) {
+        Ok(reply) => return Ok(reply.same(entry.reply)),
+        Err(unsaid) => unsaid,
     };
-    let reply = match desk.apply(entry.lane, command) {
-        Ok(reply) => reply,
-        Err(unsaid) => {
-            if entry.lane >= desk.lanes() {
-                return Ok(false);
-            }
-            match desk.apply(entry.lane, unsaid.into_command()) {
-                Ok(reply) => reply,
-                Err(_) => return Err(Stop::Memory),
-            }
-        }
-    };
-    Ok(reply.same(entry.reply))
+    if entry.lane >= desk.lanes() {
+        return Ok(false);
+    }
+    match desk.apply(entry.lane, unsaid.into_command()) {
+        Ok(reply) => Ok(reply.same(entry.reply)),
+        Err(_) => Err(Stop::Memory),
+    }
 }
 
 // Says whether the journal gives the same replies on a new desk.
 fn look_at<R: Print>(rt: &R, journal: &[Entry], other: &mut Desk) -> Said {
     for entry in journal {
-        if !apply_again(other, entry)? {
+        if !is_same(other, entry)? {
             print_line(rt, "the journal gives another reply on a new desk")?;
         }
     }
     Ok(())
+}
+
+// What is said of a fault.
+fn fault_text(code: CloseCode) -> &'static str {
+    match code {
+        CloseCode::LaneStopped => "fault 112",
+        _ => "another fault",
+    }
 }
 
 fn run_at<L: Ledger + Send + Sync, R: Print + Threads + Wait + Sync>(
@@ -71,8 +82,7 @@ fn run_at<L: Ledger + Send + Sync, R: Print + Threads + Wait + Sync>(
     requires few { length trace.lanes.items ≤ desk.lanes }
 {
     let Ok((shared, lanes)) = Shared::<L>::new(alloc, desk, blank) else {
-        print_line(rt, "memory")?;
-        return Ok(());
+        return print_line(rt, "memory");
     };
     match run_workers(rt, alloc, shared, lanes, trace, &Open) {
         Ok(desk) => {
@@ -80,7 +90,7 @@ fn run_at<L: Ledger + Send + Sync, R: Print + Threads + Wait + Sync>(
             look_at(rt, desk.journal(), other)
         }
         Err(fault) => {
-            println!(rt; "fault {}", fault.code.number())?;
+            print_line(rt, fault_text(fault.code))?;
             look_at(rt, fault.desk.journal(), other)
         }
     }
@@ -103,8 +113,8 @@ fn run_desk<R: Print + Threads + Wait + Sync>(
 /// Runs two lanes on threads, and what they said once more on a new desk.
 pub(crate) fn run<R: Print + Threads + Wait + Sync>(rt: &R, alloc: Global) -> Said {
     let trace = trace(alloc, TRACE)?;
-    let mut other = desk(alloc, &trace, 2)?;
-    let desk = desk(alloc, &trace, 2)?;
+    let mut other = desk_of(alloc, &trace, 2)?;
+    let desk = desk_of(alloc, &trace, 2)?;
     print_line(rt, "made")?;
     run_desk(rt, alloc, desk, trace, &mut other)
 }

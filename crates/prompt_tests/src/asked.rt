@@ -4,7 +4,9 @@ use rev_desk::{Desk, Reply};
 use rev_fields::push_number;
 use rev_manifest::Manifest;
 use rev_observed::Observation;
-use rev_prompt::{Answer, Link, Session, Span, Step, answer_to, question_of, texts_of};
+use rev_prompt::{
+    Answer, Link, Order, Ordered, Session, Span, Step, answer_to, question_of, texts_of,
+};
 use rev_script::turns_of;
 use rev_trace::Trace;
 use std::alloc::{AllocError, Global};
@@ -55,7 +57,7 @@ const NAMES: [(&str, &str); 24] = [
 ];
 
 // Which question a line asks, and what it is answered.
-const QUESTIONS: [(&str, &str); 25] = [
+const QUESTIONS: [(&str, &str); 19] = [
     ("run; needs 5", "4 2 1"),
     ("run; needs pass all", "9 8 1"),
     ("run; needs pass all all", "9 8 7 6 5 4 3 2 1"),
@@ -72,15 +74,38 @@ const QUESTIONS: [(&str, &str); 25] = [
     ("run; with t.o", "3-6 2-4 5-7"),
     ("next 5; with t.o", "3- 2-4 5-"),
     ("run; with pass", "-"),
-    ("run; order 1 3 2 4 5 6 7 8 9 10 11", "order same\n"),
-    ("run; order 1 2 3", "order differ\n"),
-    ("run; order 5 1", "order refused 5 66\n"),
-    ("run; stamps app", "stamp app 13\n"),
-    ("run; stamps none", ""),
-    ("run; logs app", "built app 13 c\\sapp\n"),
     ("run; run 1", "no question"),
     ("run; quit app", "no question"),
     ("run; whoo app", "no question"),
+];
+
+// What another order of events makes, and what the state has of one path or edge.
+const ORDERS: [(&str, &str); 7] = [
+    ("run; order 1 3 2 4 5 6 7 8 9 10 11", "same"),
+    ("run; order 1 2 3", "differ"),
+    (
+        "run; touch v.in 30; order 1 2 3 4 5 6 7 8 9 10 12 11",
+        "pair 11 12",
+    ),
+    ("run; order 5 1", "refused 5 66"),
+    ("run; order plan start v.h", "no output"),
+    // The first name that means no event is told.
+    ("run; order app 99 none", "no event"),
+    ("run; order app none 99", "no output"),
+];
+
+const LISTINGS: [(&str, &str); 11] = [
+    ("marks app", ""),
+    ("next 3; marks t.o", "mark 2 t.o running 1 - 1\n"),
+    ("run; marks app", "mark 3 app done 0\n"),
+    ("run; marks m.d", "mark 1 m.o done 0,1\n"),
+    ("run; marks v.in", "no output"),
+    ("run; stamps app", "stamp app 13\n"),
+    ("run; stamps none", ""),
+    ("run; undo 11; stamps v.in", "stamp v.in 1\n"),
+    ("run; logs app", "built app 13 c\\sapp\n"),
+    ("run; logs m.d", "built m.d 12 c\\sm.o\\sm.d\n"),
+    ("run; logs v.in", ""),
 ];
 
 // What changes the history, or goes on in the recording.
@@ -167,6 +192,34 @@ fn push_reply(text: &mut Vec<u8>, reply: Option<Reply>) -> Result<(), AllocError
     push_next(text, u64::from(refusal.code()))
 }
 
+// How the history that was made stands to the kept one.
+fn push_same(text: &mut Vec<u8>, order: Order) -> Result<(), AllocError> {
+    match order {
+        Order::Same => text.extend_from_slice(b"same"),
+        Order::EventsDiffer => text.extend_from_slice(b"differ"),
+        Order::Pair(first, second) => {
+            text.extend_from_slice(b"pair")?;
+            push_next(text, u64::from(first))?;
+            push_next(text, u64::from(second))
+        }
+    }
+}
+
+// What another order of events makes.
+fn push_ordered(text: &mut Vec<u8>, ordered: Ordered) -> Result<(), AllocError> {
+    match ordered {
+        Ordered::Ran(order) => push_same(text, order),
+        Ordered::Refused(number, refusal) => {
+            text.extend_from_slice(b"refused")?;
+            push_next(text, u64::from(number))?;
+            match refusal {
+                Some(refusal) => push_next(text, u64::from(refusal.code())),
+                None => text.extend_from_slice(b" full"),
+            }
+        }
+    }
+}
+
 // The places of commands, or why there are none.
 fn push_steps(text: &mut Vec<u8>, steps: &[Step], ended: bool) -> Result<(), AllocError> {
     for step in steps {
@@ -203,7 +256,7 @@ fn push_answer(text: &mut Vec<u8>, answer: &Answer) -> Result<(), AllocError> {
         Answer::Dependents(_, links) => push_others(text, links),
         Answer::With(_, run, others) => push_spans(text, *run, others),
         Answer::Lines(lines) => text.extend_from_slice(lines),
-        Answer::Order(line) => text.extend_from_slice(line),
+        Answer::Order(ordered) => push_ordered(text, *ordered),
         Answer::Said(reply, _) => push_reply(text, *reply),
         Answer::Run(tally, _) => push_tally(text, tally.said, tally.refused),
         Answer::Steps(steps, ended, _) => push_steps(text, steps, *ended),
@@ -308,6 +361,20 @@ fn names_mean_the_last_event_there(rt: HostRuntime) -> Result<(), Fail> {
 #[test]
 fn lines_ask_what_the_page_says(rt: HostRuntime) -> Result<(), Fail> {
     let other = first_other(rt.alloc(), &QUESTIONS)?;
+    assert!(rt; other == "", "{other}");
+    Ok(())
+}
+
+#[test]
+fn orders_are_compared_with_what_is_kept(rt: HostRuntime) -> Result<(), Fail> {
+    let other = first_other(rt.alloc(), &ORDERS)?;
+    assert!(rt; other == "", "{other}");
+    Ok(())
+}
+
+#[test]
+fn listings_of_one_have_what_those_of_all_have(rt: HostRuntime) -> Result<(), Fail> {
+    let other = first_other(rt.alloc(), &LISTINGS)?;
     assert!(rt; other == "", "{other}");
     Ok(())
 }

@@ -115,7 +115,29 @@ fn wants_all(question: &Question) -> bool {
     match question {
         Question::Query(_, all) | Question::Kept(all) | Question::Races(all) => *all,
         Question::Help | Question::Next(_) => true,
-        _ => false,
+        Question::Run
+        | Question::Until(_)
+        | Question::Needs(_, _)
+        | Question::Dependents(_)
+        | Question::WouldCone(_)
+        | Question::Who(_)
+        | Question::Readers(_)
+        | Question::Writers(_)
+        | Question::What(_)
+        | Question::Why(_)
+        | Question::With(_)
+        | Question::Order(_)
+        | Question::Without(_)
+        | Question::Undo(_)
+        | Question::Redo(_)
+        | Question::Cone(_)
+        | Question::Marks(_)
+        | Question::Stamps(_)
+        | Question::Logs(_)
+        | Question::Command(_)
+        | Question::HelpOf(_)
+        | Question::Quit
+        | Question::Nothing => false,
     }
 }
 
@@ -302,10 +324,10 @@ fn written_for_words(
 
 // Whether all is asked, where a question asks for the races; none where it does not.
 fn races_in_question(question: &Question) -> Option<bool> {
-    match question {
-        Question::Races(all) => Some(*all),
-        _ => None,
+    if let Question::Races(all) = question {
+        return Some(*all);
     }
+    None
 }
 
 // Whether all is asked, where texts ask for the races; none where they do not.

@@ -4,7 +4,7 @@ ghost use Rattle.std.specs.List.{AllByRecursion};
 ghost use Rattle.rev_observed.specs.Joins.{edge_of};
 ghost use Rattle.rev_observed.specs.Observations.{outputs_of};
 
-use crate::answering::{Answer, answer_with};
+use crate::answering::{Written, written_with};
 use crate::forms::{Form, certified_items, items_text};
 use crate::found::told_clashes;
 use crate::leaving::{Choice, Leaving};
@@ -146,6 +146,28 @@ fn ways_of(
     Ok(ways)
 }
 
+// Some edges without those that ways are about.
+fn without_ways(
+    alloc: Global,
+    edges: &[u32],
+    ways: &[(u32, Way)],
+    count: u32,
+) -> Result<Vec<u32>, AllocError> {
+    let mut marks = vec![in alloc; false; count as usize]?;
+    for (edge, _way) in ways {
+        if let Some(mark) = marks.get_mut(*edge as usize) {
+            *mark = true;
+        }
+    }
+    let mut left = Vec::new(alloc);
+    for edge in edges {
+        if !mark_of(&marks, *edge) {
+            left.push(*edge)?;
+        }
+    }
+    Ok(left)
+}
+
 // The certificate of commands that were observed.
 fn certificate_of(
     alloc: Global,
@@ -219,7 +241,9 @@ fn told_of<'a>(
     let clashes = told_clashes(alloc, sources.builds)?;
     let clashes = leaving.clashes(alloc, sources, &clashes)?;
     let unsure = leaving.ways(alloc, sources, found.ways)?;
-    let missing = leaving.missing(alloc, sources, &certificate.missing)?;
+    let edges = history.graph().edges();
+    let missing = without_ways(alloc, &certificate.missing, found.ways, edges)?;
+    let missing = leaving.missing(alloc, sources, &missing)?;
     let told = Certified {
         is_certain: certificate.is_certain,
         replayed: grounds.replayed,
@@ -241,33 +265,31 @@ fn written<'a>(
     grounds: Grounds<'a>,
     told: &Certified<'a>,
     clashes: &[Clash],
-) -> Result<Answer, AllocError> {
+) -> Result<Written, AllocError> {
     let sources = &grounds.sources;
     let items = if grounds.form.is_of_items() || grounds.choice.writes {
         certified_items(alloc, sources, told, clashes)?
     } else {
         Vec::new(alloc)
     };
-    let text = if grounds.form == Form::Json {
-        told.json(alloc, sources)?
-    } else if grounds.form.is_of_items() {
-        items_text(alloc, grounds.form, &items, &told.summary(alloc)?)?
-    } else {
-        told.words(alloc, sources)?
+    let text = match grounds.form {
+        Form::Json => told.json(alloc, sources)?,
+        Form::Items(form) => items_text(alloc, form, &items, &told.summary(alloc)?)?,
+        Form::Words | Form::AllWords => told.words(alloc, sources)?,
     };
-    answer_with(alloc, grounds.choice, &items, text, told.status())
+    written_with(alloc, grounds.choice, &items, text, told.status())
 }
 
 /// Whether no schedule of the commands of a history gives any of them other inputs, by the bytes of the file `observed`.
 ///
 /// # Errors
 /// As [`observed_in`], [`hidden_by`] and [`Leaving::new`].
-pub fn certified_answer(
+pub fn certified(
     alloc: Global,
     desk: &Desk,
     grounds: Grounds<'_>,
     bytes: &[u8],
-) -> Result<Answer, RecordingFault> {
+) -> Result<Written, RecordingFault> {
     let history = desk.history();
     let graph = history.graph();
     let files = grounds.files;

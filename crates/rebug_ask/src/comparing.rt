@@ -5,6 +5,7 @@ use rev_answers::screen_of;
 use rev_asking::Asked;
 use rev_compared_text::{Form, Side, comparison};
 use rev_desk::Desk;
+use rev_graph::GraphFault;
 use rev_manifest::Manifest;
 use rev_program::ProgramFault;
 use rev_races_text::SOMETHING;
@@ -61,11 +62,28 @@ fn written(alloc: Global, text: Vec<u8>, form: Form) -> Result<Vec<u8>, AllocErr
     Ok(text)
 }
 
+// Says a sentence about a recording that is not replayed, and why it is not, and gives the status of that.
+fn refuse_one<'a, R: Eprint + AllocGlobal>(
+    rt: &R,
+    sentence: &str,
+    read: &Recording,
+    fault: &RecordingFault,
+) -> Result<u8, ProgramFault<'a>> {
+    match fault {
+        RecordingFault::Memory => Err(ProgramFault::Memory),
+        RecordingFault::Graph(GraphFault::Memory) => Err(ProgramFault::Memory),
+        _ => {
+            say(rt, sentence);
+            refuse(rt, read, fault)
+        }
+    }
+}
+
 /// Writes what differs between two recordings, and gives the program's status: 0 where nothing does, and
 /// [`SOMETHING`] where something does. Of a recording with a fault it says the fault, and gives its status.
 ///
 /// # Errors
-/// As [`read_recording`] where a recording is not read.
+/// As [`read_recording`] where a recording is not read; [`ProgramFault::Memory`] where memory was refused.
 pub fn compare<'a, R: Files + Print + Eprint + AllocGlobal>(
     rt: &R,
     asked: &Asked<'a>,
@@ -77,15 +95,13 @@ pub fn compare<'a, R: Files + Print + Eprint + AllocGlobal>(
     let (manifest, desk) = match replayed_in(alloc, &read) {
         Ok(replayed) => replayed,
         Err(fault) => {
-            say(rt, "the first recording has a fault");
-            return refuse(rt, &read, &fault);
+            return refuse_one(rt, "the first recording has a fault", &read, &fault);
         }
     };
     let (other_manifest, other_desk) = match replayed_in(alloc, &other_read) {
         Ok(replayed) => replayed,
         Err(fault) => {
-            say(rt, "the second recording has a fault");
-            return refuse(rt, &other_read, &fault);
+            return refuse_one(rt, "the second recording has a fault", &other_read, &fault);
         }
     };
     let one = side_of(asked.recording, &read, &manifest, &desk);

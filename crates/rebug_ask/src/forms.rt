@@ -4,6 +4,17 @@ use rev_formats::{Item, baseline, github, junit, sarif};
 use rev_races_text::{Clash, Edge, Report, SideFile, Sources, Told, race_words};
 use std::alloc::{AllocError, Global};
 
+/// A form that has an item for each finding.
+#[derive(Clone, Copy, Debug, PartialEq, Eq)]
+pub enum ItemForm {
+    /// GitHub's workflow commands.
+    Github,
+    /// SARIF 2.1.0.
+    Sarif,
+    /// JUnit's XML.
+    Junit,
+}
+
 /// The form of an answer.
 #[derive(Clone, Copy, Debug, PartialEq, Eq)]
 pub enum Form {
@@ -13,12 +24,8 @@ pub enum Form {
     AllWords,
     /// A JSON object a line.
     Json,
-    /// GitHub's workflow commands.
-    Github,
-    /// SARIF 2.1.0.
-    Sarif,
-    /// JUnit's XML.
-    Junit,
+    /// Items.
+    Items(ItemForm),
 }
 
 impl Form {
@@ -27,33 +34,33 @@ impl Form {
         match name {
             "words" => Some(Form::Words),
             "json" => Some(Form::Json),
-            "github" => Some(Form::Github),
-            "sarif" => Some(Form::Sarif),
-            "junit" => Some(Form::Junit),
+            "github" => Some(Form::Items(ItemForm::Github)),
+            "sarif" => Some(Form::Items(ItemForm::Sarif)),
+            "junit" => Some(Form::Items(ItemForm::Junit)),
             _ => None,
         }
     }
 
     /// Whether this form has items.
     pub fn is_of_items(self) -> bool {
-        matches!(self, Form::Github | Form::Sarif | Form::Junit)
+        matches!(self, Form::Items(_))
     }
 }
 
-/// Items in a form that has them, with a summary.
+/// Items in a form, with a summary.
 ///
 /// # Errors
 /// [`AllocError`] only where an allocation was refused.
 pub fn items_text(
     alloc: Global,
-    form: Form,
+    form: ItemForm,
     items: &[Item<'_>],
     summary: &str,
 ) -> Result<Vec<u8>, AllocError> {
     match form {
-        Form::Sarif => sarif(alloc, items, summary),
-        Form::Junit => junit(alloc, items, summary),
-        _ => github(alloc, items, summary),
+        ItemForm::Github => github(alloc, items, summary),
+        ItemForm::Sarif => sarif(alloc, items, summary),
+        ItemForm::Junit => junit(alloc, items, summary),
     }
 }
 

@@ -33,7 +33,7 @@ use std::io::IsTerminal;
 use std::process::ExitCode;
 use std::rt::Files;
 use timelining::timelined;
-use told::{How, Question, say, tell};
+use told::{How, OfRaces, Question, say, tell};
 
 // The form of the answer of `races` or `certify`, or a sentence that says why that is not asked well.
 fn form_of(asked: &Asked<'_>) -> Result<Form, &'static str> {
@@ -56,8 +56,8 @@ fn form_of(asked: &Asked<'_>) -> Result<Form, &'static str> {
     }
 }
 
-// How races are told, or a sentence that says why that is not asked well.
-fn races_how(asked: &Asked<'_>) -> Result<How, &'static str> {
+// What is asked of races, or a sentence that says why that is not asked well.
+fn asked_of_races(asked: &Asked<'_>) -> Result<OfRaces, &'static str> {
     let form = form_of(asked)?;
     let is_other = asked.mend || asked.witness.is_some() || asked.provoke.is_some();
     if is_other && !matches!(form, Form::Words | Form::AllWords) {
@@ -70,36 +70,45 @@ fn races_how(asked: &Asked<'_>) -> Result<How, &'static str> {
     }
     if let Some(number) = asked.witness {
         return match wide_number(number.as_bytes()) {
-            Ok(number) => Ok(How::Witness(number)),
+            Ok(number) => Ok(OfRaces::Witness(number)),
             Err(_) => Err("--witness takes the number of a race, from 1"),
         };
     }
     if let Some(number) = asked.provoke {
         return match wide_number(number.as_bytes()) {
-            Ok(number) => Ok(How::Provoke(number)),
+            Ok(number) => Ok(OfRaces::Provoke(number)),
             Err(_) => Err("--provoke takes the number of a race, from 1"),
         };
     }
     if asked.mend {
-        return Ok(How::Mend);
+        return Ok(OfRaces::Mend);
     }
-    Ok(How::Races(form))
+    Ok(OfRaces::All(form))
 }
 
-// What is asked of a recording in one go, or a sentence that says why that is not asked well.
-fn question_of<'a>(asked: &Asked<'a>) -> Result<Question<'a>, &'static str> {
-    let how = match asked.word {
-        Word::Races => races_how(asked)?,
-        Word::Certify => How::Certify(form_of(asked)?),
-        _ => How::Replay,
-    };
-    Ok(Question {
-        recording: asked.recording,
-        how,
-        filters: asked.filters,
-        baseline: asked.baseline,
-        write_baseline: asked.write_baseline,
-    })
+// Writes what is asked of a recording in one go, or a sentence that says why that is not asked well, and gives the
+// status.
+fn tell_how<'a, R: Files + Print + Eprint + AllocGlobal>(
+    rt: &R,
+    asked: &Asked<'a>,
+    how: Result<How, &'static str>,
+) -> Result<u8, ProgramFault<'a>> {
+    match how {
+        Ok(how) => tell(
+            rt,
+            Question {
+                recording: asked.recording,
+                how,
+                filters: asked.filters,
+                baseline: asked.baseline,
+                write_baseline: asked.write_baseline,
+            },
+        ),
+        Err(sentence) => {
+            say(rt, sentence);
+            Ok(USAGE)
+        }
+    }
 }
 
 // Answers what is asked, and gives the status.
@@ -108,28 +117,20 @@ fn answer<'a, R: Files + Input + Print + Eprint + AllocGlobal>(
     asked: Asked<'a>,
     is_terminal: bool,
 ) -> Result<u8, ProgramFault<'a>> {
-    if asked.word == Word::Ask {
-        let manner = Manner {
-            prompts: is_terminal && !asked.json,
-            json: asked.json,
-        };
-        return ask(rt, asked.recording, manner);
-    }
-    if asked.word == Word::Picture {
-        return picture(rt, &asked);
-    }
-    if asked.word == Word::Timeline {
-        return timelined(rt, &asked);
-    }
-    if asked.word == Word::Compare {
-        return compare(rt, &asked);
-    }
-    match question_of(&asked) {
-        Ok(question) => tell(rt, question),
-        Err(sentence) => {
-            say(rt, sentence);
-            Ok(USAGE)
+    match asked.word {
+        Word::Races => tell_how(rt, &asked, asked_of_races(&asked).map(|of| How::Races(of))),
+        Word::Certify => tell_how(rt, &asked, form_of(&asked).map(|form| How::Certify(form))),
+        Word::Replay => tell_how(rt, &asked, Ok(How::Replay)),
+        Word::Ask => {
+            let manner = Manner {
+                prompts: is_terminal && !asked.json,
+                json: asked.json,
+            };
+            ask(rt, asked.recording, manner)
         }
+        Word::Picture => picture(rt, &asked),
+        Word::Timeline => timelined(rt, &asked),
+        Word::Compare => compare(rt, &asked),
     }
 }
 

@@ -310,7 +310,9 @@ fn push_hint(
         Author::Meson => text.extend_from_slice(
             b": dependencies: declare_dependency(sources: M) at the target of the first, where M makes the second\n",
         ),
-        _ => text.extend_from_slice(b": an order-only input in what the generator writes\n"),
+        Author::Hand | Author::Generator => {
+            text.extend_from_slice(b": an order-only input in what the generator writes\n")
+        }
     }
 }
 
@@ -325,7 +327,7 @@ fn push_hints(
     text.extend_from_slice(match author {
         Author::CMake => b"CMake; in CMakeLists.txt:\n",
         Author::Meson => b"Meson; in meson.build:\n",
-        _ => b"what its first comment names; there:\n",
+        Author::Hand | Author::Generator => b"what its first comment names; there:\n",
     })?;
     for mend in mends {
         push_hint(text, sources, *mend, author)?;

@@ -29,11 +29,10 @@ const ticks = [...svg.querySelectorAll('.tick')]
   .map(g => ({g, x: number(g.firstChild, 'x1'), words: g.lastChild.textContent}));
 const LEFT = ticks.length ? ticks[0].x : 64, full = number(svg, 'width') - LEFT;
 const bars = [...svg.querySelectorAll('.bar:not(.key)')].map(g => {
-  const rect = g.querySelector('rect'), title = g.querySelector('title').textContent;
-  const found = title.match(/^(.*), events? (\\d+)(?: to (\\d+))?(?:, not ended)?(?:, [\\d.]+ m?s from [\\d.]+ m?s)?$/);
-  const name = found[1], path = name.replace(/^(failed|stopped): /, ''), cut = path.lastIndexOf('/');
+  const rect = g.querySelector('rect'), {began, ended, words, path} = g.dataset, cut = path.lastIndexOf('/');
+  const name = words + path;
   return {g, rect, text: g.querySelector('text'), row: Math.round((number(rect, 'y') - TOP - 3) / ROW),
-    x: number(rect, 'x') - LEFT, width: number(rect, 'width'), began: +found[2], ended: +(found[3] || found[2]),
+    x: number(rect, 'x') - LEFT, width: number(rect, 'width'), began: +began, ended: +(ended || began),
     name, folder: cut < 0 ? '' : path.slice(0, cut), short: cut < 0 ? name : path.slice(cut + 1)};
 });
 // The bars are scaled by their group; a label undoes that for itself.

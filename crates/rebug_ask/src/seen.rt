@@ -14,7 +14,7 @@ use rev_history::History;
 use rev_manifest::Build;
 use rev_observed::Observation;
 use rev_paths::Name;
-use rev_races::{Kind, Race, finished_edges, stories};
+use rev_races::{Kind, Race, finished_edges, started_edges, stories};
 use rev_races_text::{Report, Story, Told};
 use rev_recording::RecordingFault;
 use rev_undeclared::{Undeclared, undeclared_files};
@@ -342,7 +342,16 @@ pub fn seen_findings<'a>(
     Ok(findings)
 }
 
-/// Conflicts of commands of a history, as findings.
+// What happened with two edges, by the runs that ended well. It is not told where the user ran and did not end well, since
+// no such run is there.
+fn story_told(story: Option<Story>, user_began: bool) -> Option<Story> {
+    match story {
+        Some(story) if story.user.is_none() && user_began => None,
+        story => story,
+    }
+}
+
+/// Conflicts of commands of a history, as findings. What happened is left out where the user failed.
 ///
 /// # Errors
 /// [`AllocError`] only where an allocation was refused.
@@ -353,7 +362,14 @@ pub fn conflict_findings_in<'a>(
     conflicts: &[Conflict],
 ) -> Result<Vec<Finding<'a>>, AllocError> {
     let stories = stories_of(alloc, history, conflicts)?;
-    conflict_findings(alloc, history.graph(), observation, conflicts, &stories)
+    let graph = history.graph();
+    let mut findings = conflict_findings(alloc, graph, observation, conflicts, &stories)?;
+    let began = started_edges(alloc, history)?;
+    for finding in findings.iter_mut() {
+        let user_began = began.get(finding.user as usize).copied().unwrap_or(false);
+        finding.story = story_told(finding.story, user_began);
+    }
+    Ok(findings)
 }
 
 /// Counts the findings by an observation in a report, where there is an observation.

@@ -1,8 +1,8 @@
 //! Answers about a recording.
 ghost use Rattle.std.specs.Prelude.{◌≡◌, ◌+◌, ◌≤◌, length, IfOk};
 
-use crate::answering::{Answer, USAGE, answer_with, not_understood};
-use crate::certifying::{Grounds, certified_answer};
+use crate::answering::{Answer, Written, written_with};
+use crate::certifying::{Grounds, certified};
 use crate::files::{Place, Recording, place_of, read_beside, read_names, read_recording};
 use crate::forms::{Form, items_text, report_items};
 use crate::found::{last_runs, witness_of};
@@ -18,7 +18,7 @@ use rev_desk::Desk;
 use rev_history::History;
 use rev_manifest::Manifest;
 use rev_paths::{Name, PathFault};
-use rev_program::{ProgramFault, ReadFault, read_named};
+use rev_program::{ProgramFault, ReadFault, USAGE, read_named};
 use rev_races_text::{Report, Sources};
 use rev_recording::{RecordingFault, fault_line, open, replay, replay_text};
 use rev_script::send;
@@ -36,20 +36,27 @@ const CHOICE_BYTES: usize = 67_108_864;
 // The most bytes of the file of what failed commands printed.
 const PRINTED_BYTES: usize = 268_435_456;
 
-/// What is asked, and the form of the answer.
+/// What is asked of the races of a recording.
 #[derive(Clone, Copy, PartialEq, Eq)]
-pub enum How {
-    /// The races.
-    Races(Form),
+pub enum OfRaces {
+    /// The races, in a form.
+    All(Form),
     /// A patch that mends the races.
     Mend,
     /// A witness of the race of this number, from 1.
     Witness(u64),
     /// A patch that has the race of this number, from 1, happen in each build.
     Provoke(u64),
+}
+
+/// What is asked.
+#[derive(Clone, Copy, PartialEq, Eq)]
+pub enum How {
+    /// The races.
+    Races(OfRaces),
     /// How many commands there were, and the first that was refused.
     Replay,
-    /// Whether no schedule gives the commands other inputs.
+    /// Whether no schedule gives the commands other inputs, in a form.
     Certify(Form),
 }
 
@@ -93,19 +100,16 @@ pub fn names_of(alloc: Global, files: &[(Vec<u8>, Vec<u8>)]) -> Result<Vec<Name>
     Ok(names)
 }
 
-// The answer about the desk of a recording that was replayed, whose trace has so many commands.
+// The answer about the races of a recording that was replayed, whose trace has so many commands.
 fn answer_of(
     alloc: Global,
     inquiry: Inquiry<'_>,
+    asked: OfRaces,
     manifest: &Manifest,
     desk: &Desk,
     sight: Option<&Sight>,
     commands: u64,
 ) -> Result<Answer, RecordingFault> {
-    if inquiry.how == How::Replay {
-        let text = replay_text(alloc, desk)?;
-        return Ok(Answer::new(text, 0));
-    }
     let files = names_of(alloc, &inquiry.read.files)?;
     let runs = last_runs(alloc, desk.history())?;
     let entries = rev_printed::read(alloc, desk.history().graph(), inquiry.printed)?;
@@ -122,7 +126,7 @@ fn answer_of(
         sight,
         commands,
     };
-    found_answer(alloc, inquiry, manifest, desk, &basis)
+    found_answer(alloc, inquiry.choice, asked, manifest, desk, &basis)
 }
 
 // The answer that has a race of a user and a maker happen, or the sentence that says why there is none.
@@ -134,8 +138,8 @@ fn provoke_answer(
     race: Option<(u32, u32)>,
 ) -> Result<Answer, AllocError> {
     match provoke_text(alloc, manifest, desk.history().graph(), sources, race)? {
-        Ok(text) => Ok(Answer::new(text, 0)),
-        Err(why) => not_understood(alloc, why.sentence()),
+        Ok(text) => Ok(Answer::text(text, 0)),
+        Err(why) => Ok(Answer::NotUnderstood(why.sentence())),
     }
 }
 
@@ -159,7 +163,8 @@ fn leave_out<'a>(
 // The answer that tells what was found.
 fn found_answer<'a>(
     alloc: Global,
-    inquiry: Inquiry<'_>,
+    choice: Choice<'_>,
+    asked: OfRaces,
     manifest: &Manifest,
     desk: &'a Desk,
     basis: &Basis<'a>,
@@ -168,59 +173,63 @@ fn found_answer<'a>(
     let mut report = report_of(alloc, desk, basis)?;
     let findings = seen_findings(alloc, desk.history(), basis.sight, &report.races)?;
     report.left_out.hidden = hidden_places(basis.sight);
-    let findings = leave_out(alloc, inquiry.choice, sources, findings, &mut report)?;
+    let findings = leave_out(alloc, choice, sources, findings, &mut report)?;
     count_findings(basis.sight, &findings, &mut report);
-    match inquiry.how {
-        How::Witness(number) | How::Provoke(number) if is_of_no_order(&findings, &report, number) =>
-            { Ok(not_understood(alloc, OF_NO_ORDER)?) }
-        How::Witness(number) => Ok(witness_answer(
+    match asked {
+        OfRaces::Witness(number) | OfRaces::Provoke(number)
+            if is_of_no_order(&findings, &report, number) => {
+            Ok(Answer::NotUnderstood(OF_NO_ORDER))
+        }
+        OfRaces::Witness(number) => Ok(witness_answer(
             alloc,
             desk,
             pair_with(&findings, &report, number),
         )?),
-        How::Provoke(number) => {
+        OfRaces::Provoke(number) => {
             let pair = pair_with(&findings, &report, number);
             Ok(provoke_answer(alloc, manifest, desk, sources, pair)?)
         }
-        How::Mend => {
+        OfRaces::Mend => {
             let graph = desk.history().graph();
             let (races, clashes) = (&report.races, &report.clashes);
             let text = mend_text(alloc, manifest, graph, sources, races, clashes, &findings)?;
-            Ok(Answer::new(text, report.status()))
+            Ok(Answer::text(text, report.status()))
         }
-        How::Races(form) => {
+        OfRaces::All(form) => {
             add_hints(alloc, desk, basis, &mut report)?;
-            Ok(races_answer(alloc, inquiry.choice, form, sources, &findings, &report)?)
+            let written = races_written(alloc, choice, form, sources, &findings, &report)?;
+            Ok(Answer::Written(written))
         }
-        _ => Ok(Answer::new(Vec::new(alloc), 0)),
     }
 }
 
-// The answer that tells races in a form.
-fn races_answer<'a>(
+// What is written of races in a form.
+fn races_written<'a>(
     alloc: Global,
     choice: Choice<'_>,
     form: Form,
     sources: &Sources<'a>,
     findings: &[Finding<'a>],
     report: &Report<'a>,
-) -> Result<Answer, AllocError> {
+) -> Result<Written, AllocError> {
     let items = if form.is_of_items() || choice.writes {
         report_items(alloc, sources, findings, report)?
     } else {
         Vec::new(alloc)
     };
-    let text = if form == Form::Json {
-        let observed = findings_json(alloc, sources, findings)?;
-        report.json(alloc, sources, &observed)?
-    } else if form.is_of_items() {
-        items_text(alloc, form, &items, &report.summary(alloc, sources)?)?
-    } else {
-        let all = form == Form::AllWords;
-        let observed = findings_words(alloc, sources, findings, all)?;
-        report.words(alloc, sources, &observed, all)?
+    let text = match form {
+        Form::Json => {
+            let observed = findings_json(alloc, sources, findings)?;
+            report.json(alloc, sources, &observed)?
+        }
+        Form::Items(form) => items_text(alloc, form, &items, &report.summary(alloc, sources)?)?,
+        Form::Words | Form::AllWords => {
+            let all = form == Form::AllWords;
+            let observed = findings_words(alloc, sources, findings, all)?;
+            report.words(alloc, sources, &observed, all)?
+        }
     };
-    answer_with(alloc, choice, &items, text, report.status())
+    written_with(alloc, choice, &items, text, report.status())
 }
 
 // What is said where a schedule or a patch is asked for of a finding that no order of commands changes.
@@ -251,11 +260,10 @@ fn witness_answer(
         None => None,
     };
     match witness {
-        Some(text) => Ok(Answer::new(text, 0)),
-        None => not_understood(
-            alloc,
+        Some(text) => Ok(Answer::text(text, 0)),
+        None => Ok(Answer::NotUnderstood(
             "no race has that number; `races` tells the number of each, and own outputs have no witness",
-        ),
+        )),
     }
 }
 
@@ -276,7 +284,7 @@ fn sight_of(
     history: &History,
 ) -> Result<Option<Sight>, RecordingFault> {
     match inquiry.observed {
-        Some(bytes) if inquiry.how != How::Replay => {
+        Some(bytes) => {
             let files = names_of(alloc, &inquiry.read.files)?;
             Ok(Some(sight_in(
                 alloc,
@@ -286,19 +294,19 @@ fn sight_of(
                 inquiry.choice.filters,
             )?))
         }
-        _ => Ok(None),
+        None => Ok(None),
     }
 }
 
-// The answer whether it is certain that no schedule gives the commands of a desk other inputs, in a form.
-fn certificate_answer(
+// What is written of whether it is certain that no schedule gives the commands of a desk other inputs, in a form.
+fn certificate_written(
     alloc: Global,
     inquiry: Inquiry<'_>,
     manifest: &Manifest,
     desk: &Desk,
     commands: u64,
     form: Form,
-) -> Result<Answer, RecordingFault> {
+) -> Result<Written, RecordingFault> {
     let files = names_of(alloc, &inquiry.read.files)?;
     let runs = last_runs(alloc, desk.history())?;
     let grounds = Grounds {
@@ -312,7 +320,7 @@ fn certificate_answer(
         form,
         choice: inquiry.choice,
     };
-    certified_answer(alloc, desk, grounds, inquiry.observed.unwrap_or(b""))
+    certified(alloc, desk, grounds, inquiry.observed.unwrap_or(b""))
 }
 
 // The answer about a trace, by the desk of its recording.
@@ -328,11 +336,25 @@ fn answer_from(
 {
     replay(alloc, desk, trace)?;
     let commands = command_count(trace);
-    if let How::Certify(form) = inquiry.how {
-        return certificate_answer(alloc, inquiry, manifest, desk, commands, form);
+    match inquiry.how {
+        How::Replay => Ok(Answer::text(replay_text(alloc, desk)?, 0)),
+        How::Certify(form) => {
+            let written = certificate_written(alloc, inquiry, manifest, desk, commands, form)?;
+            Ok(Answer::Written(written))
+        }
+        How::Races(asked) => {
+            let sight = sight_of(alloc, inquiry, manifest, desk.history())?;
+            answer_of(
+                alloc,
+                inquiry,
+                asked,
+                manifest,
+                desk,
+                sight.as_ref(),
+                commands,
+            )
+        }
     }
-    let sight = sight_of(alloc, inquiry, manifest, desk.history())?;
-    answer_of(alloc, inquiry, manifest, desk, sight.as_ref(), commands)
 }
 
 // The answer about a trace that was read.
@@ -427,23 +449,19 @@ pub fn write<'a, R: Print>(rt: &R, bytes: &[u8]) -> Result<(), ProgramFault<'a>>
     Ok(send(&mut io::writer(rt), bytes)?)
 }
 
-// Writes an answer, and the baseline of it, and gives the program's status.
-fn put<'a, R: Files + Print + Eprint + AllocGlobal>(
+// Writes a text and the baseline beside it, and gives the program's status.
+fn put<'a, R: Files + Print>(
     rt: &R,
     question: Question<'a>,
-    answer: &Answer,
+    written: &Written,
 ) -> Result<u8, ProgramFault<'a>> {
-    if answer.status == USAGE {
-        rev_program::say(rt, &answer.text);
-        return Ok(USAGE);
-    }
-    write(rt, &answer.text)?;
-    if let (Some(name), Some(text)) = (question.write_baseline, &answer.baseline) {
+    write(rt, &written.text)?;
+    if let (Some(name), Some(text)) = (question.write_baseline, &written.baseline) {
         if fs::write(rt, name, text).is_err() {
             return Err(ProgramFault::Out(name));
         }
     }
-    Ok(answer.status)
+    Ok(written.status)
 }
 
 // The bytes of a file that the command line names, if it does.
@@ -513,7 +531,7 @@ fn races_inquiry<'a>(read: &'a Recording, beside: &'a Sidecars, form: Form) -> I
         printed: &beside.printed,
         observed: beside.observed.as_deref(),
         choice,
-        how: How::Races(form),
+        how: How::Races(OfRaces::All(form)),
     }
 }
 
@@ -534,8 +552,13 @@ pub fn races_in<R: Files + AllocGlobal>(
         Err(ProgramFault::Memory) => return Err(RecordingFault::Memory),
         Err(_) => return Ok(None),
     };
-    let answer = answer_about(rt.alloc(), races_inquiry(read, &beside, form))?;
-    Ok(Some(Vec::from_slice(rt.alloc(), &answer.text)?))
+    match answer_about(rt.alloc(), races_inquiry(read, &beside, form))? {
+        Answer::Written(written) => Ok(Some(Vec::from_slice(rt.alloc(), &written.text)?)),
+        Answer::NotUnderstood(sentence) => Ok(Some(Vec::from_slice(
+            rt.alloc(),
+            sentence.as_bytes(),
+        )?)),
+    }
 }
 
 /// Writes what is asked of a recording to the standard output, and gives the program's status.
@@ -571,7 +594,11 @@ pub fn tell<'a, R: Files + Print + Eprint + AllocGlobal>(
         how: question.how,
     };
     match answer_about(rt.alloc(), inquiry) {
-        Ok(answer) => put(rt, question, &answer),
+        Ok(Answer::Written(written)) => put(rt, question, &written),
+        Ok(Answer::NotUnderstood(sentence)) => {
+            say(rt, sentence);
+            Ok(USAGE)
+        }
         Err(fault) => refuse(rt, &read, &fault),
     }
 }

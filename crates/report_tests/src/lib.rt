@@ -1,18 +1,11 @@
-//! Tests of `rev_report`: whole runs, from bytes to bytes. They stand in a crate of their own, over the proved library, so
-//! that nothing but the tests is proved here.
+//! Tests of `rev_input`, `rev_report` and `rev_parallel` by what no run of the program shows: readers and writers that
+//! fail, and what a run leaves. Whole runs, from bytes to bytes, are in `tests/reports`. These tests stand in a crate
+//! of their own, over the proved libraries, so that nothing but the tests is proved here.
 #![tactic(auto)]
 
 #[cfg(test)]
-mod cuts;
-#[cfg(test)]
 mod devices;
 #[cfg(test)]
-mod limits;
+mod left;
 #[cfg(test)]
-mod memory;
-#[cfg(test)]
-mod reports;
-#[cfg(test)]
-mod runs;
-#[cfg(test)]
-mod versions;
+mod readers;

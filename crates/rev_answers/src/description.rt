@@ -39,20 +39,37 @@ fn value_of<'a>(line: &'a [u8], name: &[u8]) -> Option<&'a [u8]> {
     Some(value.trim_ascii_start())
 }
 
-// What the indented lines behind the first line of some bytes give a variable.
+// What follows a line that is a comment, which ends no block; none where the first line is not a comment.
+fn after_comment(bytes: &[u8]) -> Option<&[u8]> {
+    let blanks = bytes.iter().take_while(|byte| **byte == b' ').count();
+    if bytes.get(blanks) != Some(&b'#') {
+        return None;
+    }
+    match bytes.iter().position(|byte| *byte == b'\n') {
+        Some(end) => bytes.get(end.saturating_add(1)..),
+        None => Some(&[]),
+    }
+}
+
+// What the indented lines after the first line of some bytes give a variable: the last of them that names it.
 fn bound<'a>(statement: &'a [u8], name: &[u8]) -> Option<&'a [u8]> {
     let (_head, mut rest) = first_line(statement);
+    let mut bound = None;
     for _ in 0..statement.len() {
-        let (line, behind) = first_line(rest);
-        if !line.starts_with(b" ") {
-            return None;
+        if let Some(behind) = after_comment(rest) {
+            rest = behind;
+        } else {
+            let (line, behind) = first_line(rest);
+            if !line.starts_with(b" ") {
+                return bound;
+            }
+            if let Some(value) = value_of(line, name) {
+                bound = Some(value);
+            }
+            rest = behind;
         }
-        if let Some(value) = value_of(line, name) {
-            return Some(value);
-        }
-        rest = behind;
     }
-    None
+    bound
 }
 
 // The bytes of a file from the rule of a name on.
@@ -67,13 +84,21 @@ fn rule_in<'a>(file: &'a [u8], name: &[u8]) -> Option<&'a [u8]> {
         {
             return Some(rest);
         }
-        rest = first_line(rest).1;
+        rest = match after_comment(rest) {
+            Some(behind) => behind,
+            None => first_line(rest).1,
+        };
     }
     None
 }
 
-// The bytes of the files of a manifest from the rule of a name on.
-fn rule_among<'a>(files: &'a [(Vec<u8>, Vec<u8>)], name: &[u8]) -> Option<&'a [u8]> {
+// The bytes of the files of a manifest from the rule of a name on: that of the file of a build, or else the first.
+fn rule_among<'a>(files: &'a [(Vec<u8>, Vec<u8>)], build: &Build, name: &[u8]) -> Option<&'a [u8]> {
+    if let Some((_name, bytes)) = files.get(build.file() as usize)
+        && let Some(rule) = rule_in(bytes, name)
+    {
+        return Some(rule);
+    }
     for (_name, bytes) in files {
         if let Some(rule) = rule_in(bytes, name) {
             return Some(rule);
@@ -223,7 +248,7 @@ pub(crate) fn description_of(
     let statement = from_line(bytes, build.line());
     let scope = Scope { build, statement };
     let of_rule = match rule_of(told, build) {
-        Some(name) => rule_among(told.session.files, name),
+        Some(name) => rule_among(told.session.files, build, name),
         None => None,
     };
     let value = match (bound(statement, DESCRIPTION), of_rule) {

@@ -98,7 +98,7 @@ fn push_unnamed(text: &mut Vec<u8>, told: Told<'_>, deed: &Deed) -> Result<(), A
     push_placed(text, told, deed.edge)?;
     text.extend_from_slice(b": its command")?;
     text.extend_from_slice(deed_words(deed.kind))?;
-    text.extend_from_slice(b", which neither its line nor its list declares\n")
+    text.extend_from_slice(b", which neither its line nor its list names\n")
 }
 
 // Adds that nothing reads a path.
@@ -339,7 +339,7 @@ fn push_rebuilds(
     push_unknown_paths(text, alloc, told)
 }
 
-// Adds a run with its times, as `316 to 374 ms, 58 ms: main.o (build.ninja:19)`.
+// Adds a run with its times, as `58 ms, from 316 to 374: main.o (build.ninja:19)`.
 fn push_timed(text: &mut Vec<u8>, told: Told<'_>, timed: &Timed) -> Result<(), AllocError> {
     text.extend_from_slice(b"  ")?;
     push_milliseconds(text, timed.took())?;

@@ -5,7 +5,7 @@ use std::alloc::{AllocError, Global};
 
 /// What `help` writes.
 pub(crate) const HELP: &[u8] = b"run                the recording to its end, told in one line
-next [N], n        its next commands, one or N, each told; behind it an empty line asks for one more
+next [N], n        its next commands, one or N, each told; after it an empty line asks for one more
 until OUT          up to the next event of the edge of this output
 races [all]        what `rebug races` tells of the recording, whatever stands here
 who OUT            its events
@@ -110,6 +110,22 @@ const LAST_WORDS: [(&'static str, &'static str, &'static str); 12] = [
     ("quit", "nothing", "quit"),
 ];
 
+// The commands of scripts that `help` lists in one line, and the short forms of words.
+const SHORT_WORDS: [(&'static str, &'static str, &'static str); 12] = [
+    ("finish", "an output and its stamps", "finish main.o 500"),
+    ("fail", "an output and its stamps", "fail main.o 500"),
+    ("abort", "an output and its stamps", "abort main.o 500"),
+    ("clean", "an output", "clean main.o"),
+    ("pass", "an output", "pass main.o"),
+    ("interrupt", "nothing", "interrupt"),
+    ("resize", "the number of a pool and a depth", "resize 1 2"),
+    ("unbreak", "the number of a break", "unbreak 5"),
+    ("n", "nothing or a number", "n 5"),
+    ("q", "nothing", "q"),
+    ("exit", "nothing", "exit"),
+    ("?", "nothing or a word", "? who"),
+];
+
 // The row of a word in a table.
 fn row_in(table: &[(&'static str, &'static str, &'static str)], word: &[u8]) -> Option<usize> {
     table
@@ -132,7 +148,10 @@ fn entry_of(word: &[u8]) -> Option<(&'static str, &'static str)> {
         Some(entry) => Some(entry),
         None => match found_in(&MORE_WORDS, word) {
             Some(entry) => Some(entry),
-            None => found_in(&LAST_WORDS, word),
+            None => match found_in(&LAST_WORDS, word) {
+                Some(entry) => Some(entry),
+                None => found_in(&SHORT_WORDS, word),
+            },
         },
     }
 }
@@ -180,7 +199,10 @@ fn near_word(word: &[u8]) -> Option<&'static str> {
         Some(near) => Some(near),
         None => match near_in(&MORE_WORDS, word) {
             Some(near) => Some(near),
-            None => near_in(&LAST_WORDS, word),
+            None => match near_in(&LAST_WORDS, word) {
+                Some(near) => Some(near),
+                None => near_in(&SHORT_WORDS, word),
+            },
         },
     }
 }

@@ -5,6 +5,7 @@ use crate::found_json::found_object;
 use crate::help::push_help;
 use crate::meant::{is_pattern, meant};
 use crate::object::Object;
+use crate::order::order_object;
 use crate::refusals::{
     FULL, Obstacle, Subject, cell_between, obstacle_of, push_full, push_refusal, subject_of,
 };
@@ -14,7 +15,7 @@ use crate::values::{
     View, because_value, lines_value, links_value, names_value, put_edge, put_event, put_events,
     put_name, put_through, run_value, runs_value, text_value,
 };
-use crate::words::{order_numbers, subject_asked};
+use crate::words::subject_asked;
 use rev_desk::Reply;
 use rev_events::Refusal;
 use rev_graph::Graph;
@@ -241,36 +242,6 @@ fn why(
     Ok(object)
 }
 
-// The second field of the line of the word `order`.
-fn order_word(line: &[u8]) -> &'static str {
-    if line.starts_with(b"order same") {
-        "same"
-    } else if line.starts_with(b"order pair") {
-        "pair"
-    } else if line.starts_with(b"order refused") {
-        "refused"
-    } else {
-        "differ"
-    }
-}
-
-// What the word `order` tells.
-fn order(alloc: Global, view: View<'_>, line: &[u8]) -> Result<Object, AllocError> {
-    let word = order_word(line);
-    let (first, second) = order_numbers(line);
-    let (other, code) = if word == "refused" {
-        (None, second)
-    } else {
-        (second, None)
-    };
-    let mut object = Object::of_kind(alloc, "order")?;
-    object.put_text(alloc, "answer", word)?;
-    put_event(&mut object, alloc, "first", view, first)?;
-    put_event(&mut object, alloc, "second", view, other)?;
-    object.put(alloc, "code", Value::from(code))?;
-    Ok(object)
-}
-
 // Adds what stands in the way: an edge, a path, a later event, and the cell through which that one does.
 fn put_obstacle(
     object: &mut Object,
@@ -443,10 +414,16 @@ fn steps_object(
     Ok(object)
 }
 
-// An answer that names events.
-fn events_answer(alloc: Global, told: Told<'_>, answer: &Answer) -> Result<Object, AllocError> {
+// An answer as an object.
+fn answer_object(alloc: Global, told: Told<'_>, answer: &Answer) -> Result<Object, AllocError> {
     let view = View::of(told);
     match answer {
+        Answer::Nothing => Object::of_kind(alloc, "nothing"),
+        Answer::Help => help(alloc, told),
+        Answer::Lines(text) => lines(alloc, text),
+        Answer::NoOutput(path) => no_output(alloc, told, path),
+        Answer::NoneKept(path) => no_event(alloc, Some(path)),
+        Answer::NoEvent => no_event(alloc, None),
         Answer::Event(number) => one_event(alloc, view, *number),
         Answer::Kept(numbers) => events(alloc, view, None, numbers),
         Answer::Who(path, numbers) => events(alloc, view, Some(path), numbers),
@@ -459,19 +436,7 @@ fn events_answer(alloc: Global, told: Told<'_>, answer: &Answer) -> Result<Objec
         Answer::Without(path, members, left) => without(alloc, view, path, members, *left),
         Answer::With(path, run, others) => with(alloc, view, path, *run, others),
         Answer::Why(path, run, plan, way) => why(alloc, view, path, *run, *plan, way),
-        Answer::Order(line) => order(alloc, view, line),
-        _ => Object::of_kind(alloc, "nothing"),
-    }
-}
-
-// An answer as an object.
-fn answer_object(alloc: Global, told: Told<'_>, answer: &Answer) -> Result<Object, AllocError> {
-    match answer {
-        Answer::Help => help(alloc, told),
-        Answer::Lines(text) => lines(alloc, text),
-        Answer::NoOutput(path) => no_output(alloc, told, path),
-        Answer::NoneKept(path) => no_event(alloc, Some(path)),
-        Answer::NoEvent => no_event(alloc, None),
+        Answer::Order(ordered) => order_object(alloc, view, *ordered),
         Answer::Said(reply, number) => {
             replied(alloc, told, *reply, *number, subject_asked(told, *number))
         }
@@ -479,20 +444,6 @@ fn answer_object(alloc: Global, told: Told<'_>, answer: &Answer) -> Result<Objec
         Answer::Run(tally, paused) => tally_object(alloc, told, *tally, *paused),
         Answer::Steps(steps, ended, paused) => steps_object(alloc, told, steps, *ended, *paused),
         Answer::Found(found) => found_object(alloc, told, found),
-        Answer::Nothing => Object::of_kind(alloc, "nothing"),
-        Answer::Kept(_)
-        | Answer::Event(_)
-        | Answer::Who(_, _)
-        | Answer::Needs(_)
-        | Answer::Readers(_, _)
-        | Answer::Writers(_, _)
-        | Answer::Dependents(_, _)
-        | Answer::WouldCone(_, _)
-        | Answer::Cone(_, _)
-        | Answer::Without(_, _, _)
-        | Answer::With(_, _, _)
-        | Answer::Why(_, _, _, _)
-        | Answer::Order(_) => events_answer(alloc, told, answer),
     }
 }
 

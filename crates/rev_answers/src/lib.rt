@@ -16,6 +16,7 @@ mod meant;
 mod moments;
 mod object;
 mod observed;
+mod order;
 mod reasons;
 mod refusals;
 mod replay;

@@ -137,14 +137,6 @@ pub(crate) fn push_no_output(
     push_meant(text, alloc, told, path)
 }
 
-// Whether the last part of a path is this one.
-fn has_last_part(path: &[u8], last: &[u8]) -> bool {
-    match path.strip_suffix(last) {
-        Some(folder) => folder.is_empty() || folder.ends_with(b"/"),
-        None => false,
-    }
-}
-
 // Whether a path is nearer to one that was typed than another one is, or as near and shorter. Nearest is the path itself.
 fn is_nearer(path: &[u8], other: &[u8], typed: &[u8]) -> bool {
     if path == typed || other == typed {
@@ -174,66 +166,86 @@ fn take_in<'a>(near: &mut Vec<&'a Name>, name: &'a Name, typed: &[u8]) -> Result
     Ok(())
 }
 
-// How the last parts of paths are like that of one that was typed.
-#[derive(Clone, Copy)]
-enum Like {
-    // They are the same.
-    Same,
-    // They begin with it.
-    Begins,
+// The paths that are near to one that was typed, whose last part is `last`. `has_same` says whether theirs are that one:
+// else theirs begin with it.
+#[derive(Drop)]
+struct Near<'a, 'b> {
+    paths: Vec<&'a Name>,
+    has_same: bool,
+    typed: &'b [u8],
+    last: &'b [u8],
 }
 
-// Whether the last part of a path is like this one.
-fn is_like(path: &[u8], last: &[u8], like: Like) -> bool {
-    match like {
-        Like::Same => has_last_part(path, last),
-        Like::Begins => begins(last_part(path), last),
+impl<'a, 'b> Near<'a, 'b> {
+    // None so far.
+    fn new(alloc: Global, typed: &'b [u8]) -> Near<'a, 'b> {
+        Near {
+            paths: Vec::new(alloc),
+            has_same: false,
+            typed,
+            last: last_part(typed),
+        }
+    }
+
+    // The paths, the nearest first.
+    fn into_paths(self) -> Vec<&'a Name> {
+        let Near {
+            paths,
+            has_same: _has_same,
+            typed: _typed,
+            last: _last,
+        } = self;
+        paths
     }
 }
 
-// Takes those of some paths in whose last part is like that of one that was typed.
-fn take_all<'a>(
-    near: &mut Vec<&'a Name>,
-    names: &'a [Name],
-    typed: &[u8],
-    like: Like,
-) -> Result<(), AllocError> {
-    let last = last_part(typed);
-    for name in names {
-        if is_like(name.as_bytes(), last, like) {
-            take_in(near, name, typed)?;
+// Takes a path in where its last part is that of the one that was typed, or begins with it and no path has that one.
+fn take_name<'a>(near: &mut Near<'a, '_>, name: &'a Name) -> Result<(), AllocError> {
+    let part = last_part(name.as_bytes());
+    if !part.starts_with(near.last) {
+        return Ok(());
+    }
+    if part.len() == near.last.len() {
+        if !near.has_same {
+            near.paths.clear();
+            near.has_same = true;
         }
+        return take_in(&mut near.paths, name, near.typed);
+    }
+    if !near.has_same && !near.last.is_empty() {
+        return take_in(&mut near.paths, name, near.typed);
+    }
+    Ok(())
+}
+
+// The same of some paths.
+fn take_all<'a>(near: &mut Near<'a, '_>, names: &'a [Name]) -> Result<(), AllocError> {
+    for name in names {
+        take_name(near, name)?;
     }
     Ok(())
 }
 
 // The same of the paths of an edge: those of its build line.
-fn take_line<'a>(
-    near: &mut Vec<&'a Name>,
-    build: &'a Build,
-    typed: &[u8],
-    like: Like,
-) -> Result<(), AllocError> {
-    take_all(near, build.explicit(), typed, like)?;
-    take_all(near, build.implicit(), typed, like)?;
-    take_all(near, build.order_only(), typed, like)?;
-    take_all(near, build.validations(), typed, like)?;
-    take_all(near, build.explicit_outs(), typed, like)?;
-    take_all(near, build.implicit_outs(), typed, like)
+fn take_line<'a>(near: &mut Near<'a, '_>, build: &'a Build) -> Result<(), AllocError> {
+    take_all(near, build.explicit())?;
+    take_all(near, build.implicit())?;
+    take_all(near, build.order_only())?;
+    take_all(near, build.validations())?;
+    take_all(near, build.explicit_outs())?;
+    take_all(near, build.implicit_outs())
 }
 
 // The same of the paths of all edges: those of their build lines and those that they list.
 fn take_edges<'a>(
-    near: &mut Vec<&'a Name>,
+    near: &mut Near<'a, '_>,
     told: Told<'a>,
     builds: &'a [Build],
-    typed: &[u8],
-    like: Like,
 ) -> Result<(), AllocError> {
     for (edge, build) in builds.iter().enumerate() {
-        take_line(near, build, typed, like)?;
+        take_line(near, build)?;
         if let Ok(edge) = u32::try_from(edge) {
-            take_all(near, listed(told, edge), typed, like)?;
+            take_all(near, listed(told, edge))?;
         }
     }
     Ok(())
@@ -241,33 +253,23 @@ fn take_edges<'a>(
 
 // The same of the paths that commands were seen to look at or to change.
 fn take_observed<'a>(
-    near: &mut Vec<&'a Name>,
+    near: &mut Near<'a, '_>,
     told: Told<'a>,
     observation: &Observation,
-    typed: &[u8],
-    like: Like,
 ) -> Result<(), AllocError> {
-    let last = last_part(typed);
     for path in 0..observation.paths().len() {
-        if let Some(name) = path_of(told, path)
-            && is_like(name.as_bytes(), last, like)
-        {
-            take_in(near, name, typed)?;
+        if let Some(name) = path_of(told, path) {
+            take_name(near, name)?;
         }
     }
     Ok(())
 }
 
-// Takes those of all paths in whose last part is like that of one that was typed.
-fn take_paths<'a>(
-    near: &mut Vec<&'a Name>,
-    told: Told<'a>,
-    typed: &[u8],
-    like: Like,
-) -> Result<(), AllocError> {
-    take_edges(near, told, told.session.builds, typed, like)?;
+// The same of all paths.
+fn take_paths<'a>(near: &mut Near<'a, '_>, told: Told<'a>) -> Result<(), AllocError> {
+    take_edges(near, told, told.session.builds)?;
     if let Some(observation) = told.session.observation {
-        take_observed(near, told, observation, typed, like)?;
+        take_observed(near, told, observation)?;
     }
     Ok(())
 }
@@ -275,7 +277,7 @@ fn take_paths<'a>(
 /// The paths that may have been meant by one, up to three: of those that edges name, list or make, or that commands were
 /// seen to look at, those with the same last part; where there is none, those whose last part begins with it. The path
 /// itself comes first, then those that are it behind some folders, or without some, then the others; of paths that are as
-/// near the shortest. Each path is looked at twice at most.
+/// near the shortest. Each place of a path is looked at once.
 ///
 /// # Errors
 /// [`AllocError`] only where an allocation was refused.
@@ -284,13 +286,9 @@ pub(crate) fn near_paths<'a>(
     told: Told<'a>,
     path: &Name,
 ) -> Result<Vec<&'a Name>, AllocError> {
-    let typed = path.as_bytes();
-    let mut near = Vec::new(alloc);
-    take_paths(&mut near, told, typed, Like::Same)?;
-    if near.is_empty() {
-        take_paths(&mut near, told, typed, Like::Begins)?;
-    }
-    Ok(near)
+    let mut near = Near::new(alloc, path.as_bytes());
+    take_paths(&mut near, told)?;
+    Ok(near.into_paths())
 }
 
 /// Whether a path itself is the first of those that are near to it.

@@ -53,7 +53,7 @@ pub(crate) fn push_looks(
         if let Some(path) = path_of(told, need.path) {
             push_shown(text, path.as_bytes())?;
         }
-        text.extend_from_slice(b", which no line declares\n")?;
+        text.extend_from_slice(b", which its build line does not name\n")?;
     }
     Ok(())
 }
@@ -187,7 +187,7 @@ fn looked_words(look: Kind) -> &'static [u8] {
     }
 }
 
-// Adds who looks at what an event left, as `undo 11: main.o (12) read version.h of it, undeclared`.
+// Adds who looks at what an event left, as `undo 11: main.o (12) read version.h of it, which its line does not name`.
 fn push_user(
     text: &mut Vec<u8>,
     told: Told<'_>,
@@ -210,7 +210,7 @@ fn push_user(
     if let Some(path) = path_of(told, user.path) {
         push_shown(text, path.as_bytes())?;
     }
-    text.extend_from_slice(b" of it, undeclared\n")
+    text.extend_from_slice(b" of it, which its line does not name\n")
 }
 
 /// Adds who was seen to look at what an event left, the first ones a line each, and how many more there are.
@@ -230,9 +230,9 @@ pub(crate) fn push_users(
         text.extend_from_slice(b": ")?;
         push_number(text, more as u64)?;
         text.extend_from_slice(if more == 1 {
-            b" more look at what it left, undeclared\n"
+            b" more look at what it left, not named by its line\n"
         } else {
-            b" more looks at what it left, undeclared\n"
+            b" more looks at what it left, not named by their lines\n"
         })?;
     }
     Ok(())

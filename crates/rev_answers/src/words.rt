@@ -9,6 +9,7 @@ use crate::found::push_found;
 use crate::help::push_help;
 use crate::meant::push_no_output;
 use crate::observed::{push_readers, push_users, push_writers};
+use crate::order::push_order;
 use crate::reasons::push_why;
 use crate::refusals::{NEXT_LINE, Subject, push_full, push_refusal, subject_of};
 use crate::replay::{push_steps, push_tally};
@@ -16,7 +17,7 @@ use crate::runs::push_with;
 use crate::times::push_at;
 use crate::told::{Told, history_of};
 use rev_desk::Reply;
-use rev_fields::{number, push_number};
+use rev_fields::push_number;
 use rev_history::History;
 use rev_paths::Name;
 use rev_prompt::{Answer, Question, User};
@@ -57,12 +58,27 @@ pub fn opening_words(
     Ok(text)
 }
 
+// The answer where no event was accepted under a number.
+const NO_EVENT: &[u8] =
+    b"no event was accepted under this number; `kept` lists those that are kept\n";
+
 // Adds lines, or that there are none.
 fn push_lines(text: &mut Vec<u8>, lines: &[u8]) -> Result<(), AllocError> {
     if lines.is_empty() {
         return text.extend_from_slice(b"nothing\n");
     }
     push_visible(text, lines)
+}
+
+// Adds that a path is no output.
+fn push_no_output_line(
+    text: &mut Vec<u8>,
+    alloc: Global,
+    told: Told<'_>,
+    path: &Name,
+) -> Result<(), AllocError> {
+    push_no_output(text, alloc, told, path)?;
+    text.extend_from_slice(b"\n")
 }
 
 // Adds that no such event at a path is kept.
@@ -194,50 +210,6 @@ fn push_without(
     })
 }
 
-// The number that a field is.
-fn number_of(field: Option<&[u8]>) -> Option<u32> {
-    match number(field?) {
-        Ok(number) => Some(number),
-        Err(_) => None,
-    }
-}
-
-/// The numbers that stand in the line of the word `order` behind its second field.
-pub(crate) fn order_numbers(line: &[u8]) -> (Option<u32>, Option<u32>) {
-    let line = line.trim_ascii();
-    let mut fields = line.split(|byte| *byte == b' ');
-    let _order = fields.next();
-    let _answer = fields.next();
-    let first = number_of(fields.next());
-    let second = number_of(fields.next());
-    (first, second)
-}
-
-// Adds what the word `order` tells, as a report has it and in words.
-fn push_order(text: &mut Vec<u8>, history: &History, line: &[u8]) -> Result<(), AllocError> {
-    text.extend_from_slice(line.trim_ascii())?;
-    let (first, second) = order_numbers(line);
-    let is_pair = line.starts_with(b"order pair");
-    match (first, second) {
-        (Some(first), Some(second)) if is_pair => {
-            text.extend_from_slice(b": ")?;
-            push_numbered(text, history, first)?;
-            text.extend_from_slice(b" and ")?;
-            push_numbered(text, history, second)?;
-            text.extend_from_slice(b" stand the other way round, and one rests on the other\n")
-        }
-        (Some(first), _) => {
-            text.extend_from_slice(b": ")?;
-            push_numbered(text, history, first)?;
-            text.extend_from_slice(b" would be refused there\n")
-        }
-        _ if line.starts_with(b"order same") => {
-            text.extend_from_slice(b": what rests on what stands as it was kept\n")
-        }
-        _ => text.extend_from_slice(b": these are not the events that are kept\n"),
-    }
-}
-
 /// What was refused, of a question and the event that it names.
 pub(crate) fn subject_asked<'a>(told: Told<'a>, number: Option<u32>) -> Subject<'a> {
     match (number, told.question) {
@@ -306,8 +278,13 @@ fn push_undone(
     push_users(text, told, number, users)
 }
 
-// Adds an answer that names events.
-fn push_events_answer(
+// Whether all of an answer is to be told, and not a screen of it.
+fn is_all(question: &Question) -> bool {
+    matches!(question, Question::Query(_, true))
+}
+
+// Adds an answer.
+fn push_answer(
     text: &mut Vec<u8>,
     alloc: Global,
     told: Told<'_>,
@@ -315,7 +292,14 @@ fn push_events_answer(
 ) -> Result<(), AllocError> {
     let history = history_of(told);
     match answer {
+        Answer::Nothing => Ok(()),
+        Answer::Help => push_help(text, told.question),
+        Answer::Lines(lines) => push_lines(text, lines),
+        Answer::NoOutput(path) => push_no_output_line(text, alloc, told, path),
+        Answer::NoneKept(path) => push_none_kept(text, path),
+        Answer::NoEvent => text.extend_from_slice(NO_EVENT),
         Answer::Event(number) => push_one(text, told, *number),
+        Answer::Kept(numbers) => push_kept(text, alloc, told, numbers),
         Answer::Who(path, numbers) => push_who(text, told, path, numbers),
         Answer::Needs(needs) => push_needs(text, told, needs),
         Answer::Readers(path, readers) => push_readers(text, alloc, told, path, readers),
@@ -326,16 +310,16 @@ fn push_events_answer(
         Answer::Without(path, members, left) => push_without(text, history, path, members, *left),
         Answer::With(path, run, others) => push_with(text, told, path, *run, others),
         Answer::Why(path, run, plan, way) => push_why(text, told, path, *run, *plan, way),
-        Answer::Order(line) => push_order(text, history, line),
-        _ => Ok(()),
-    }
-}
-
-// Whether all of an answer is to be told, and not a screen of it.
-fn is_all(question: &Question) -> bool {
-    match question {
-        Question::Query(_, all) => *all,
-        _ => false,
+        Answer::Order(ordered) => push_order(text, history, *ordered),
+        Answer::Said(reply, number) => push_said(text, alloc, told, *reply, *number),
+        Answer::Undone(reply, number, users) => {
+            push_undone(text, alloc, told, *reply, *number, users)
+        }
+        Answer::Run(tally, paused) => push_tally(text, alloc, told, *tally, *paused),
+        Answer::Steps(steps, ended, paused) => {
+            push_steps(text, alloc, told, steps, *ended, *paused)
+        }
+        Answer::Found(found) => push_found(text, alloc, told, found, is_all(told.question)),
     }
 }
 
@@ -345,40 +329,6 @@ fn is_all(question: &Question) -> bool {
 /// [`AllocError`] only where an allocation was refused.
 pub fn answer_words(alloc: Global, told: Told<'_>, answer: &Answer) -> Result<Vec<u8>, AllocError> {
     let mut text = Vec::new(alloc);
-    match answer {
-        Answer::Nothing => {}
-        Answer::Help => push_help(&mut text, told.question)?,
-        Answer::Lines(lines) => push_lines(&mut text, lines)?,
-        Answer::NoOutput(path) => {
-            push_no_output(&mut text, alloc, told, path)?;
-            text.push(b'\n')?;
-        }
-        Answer::NoneKept(path) => push_none_kept(&mut text, path)?,
-        Answer::NoEvent => text.extend_from_slice(
-            b"no event was accepted under this number; `kept` lists those that are kept\n",
-        )?,
-        Answer::Said(reply, number) => push_said(&mut text, alloc, told, *reply, *number)?,
-        Answer::Undone(reply, number, users) => {
-            push_undone(&mut text, alloc, told, *reply, *number, users)?;
-        }
-        Answer::Run(tally, paused) => push_tally(&mut text, alloc, told, *tally, *paused)?,
-        Answer::Steps(steps, ended, paused) => {
-            push_steps(&mut text, alloc, told, steps, *ended, *paused)?;
-        }
-        Answer::Kept(numbers) => push_kept(&mut text, alloc, told, numbers)?,
-        Answer::Found(found) => push_found(&mut text, alloc, told, found, is_all(told.question))?,
-        Answer::Event(_)
-        | Answer::Who(_, _)
-        | Answer::Needs(_)
-        | Answer::Readers(_, _)
-        | Answer::Writers(_, _)
-        | Answer::Dependents(_, _)
-        | Answer::WouldCone(_, _)
-        | Answer::Cone(_, _)
-        | Answer::Without(_, _, _)
-        | Answer::With(_, _, _)
-        | Answer::Why(_, _, _, _)
-        | Answer::Order(_) => push_events_answer(&mut text, alloc, told, answer)?,
-    }
+    push_answer(&mut text, alloc, told, answer)?;
     Ok(text)
 }

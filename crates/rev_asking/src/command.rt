@@ -1,5 +1,5 @@
 //! The command line as `clap` is told of it.
-ghost use Rattle.std.specs.Prelude.{◌≡◌, false, IfOk, IsOkAnd};
+ghost use Rattle.std.specs.Prelude.{◌≡◌, codes, false, IfOk, IsOkAnd};
 ghost use Rattle.clap.specs.Words.{AddsSubcommand, app_of, rule_of, shape_of};
 ghost use Rattle.clap.specs.declared.builder.command.Command.TheViews.{out-Command};
 ghost use Rattle.rev_asking.specs.Asking.{ask_shape, bare_certify, bare_program, bare_races, certify_shape, compare_shape, flag_rule, other_rule, out_rule, picture_shape, program, races_shape, recording_rule, replay_shape, timeline_shape, value_rule, with_findings};
@@ -37,6 +37,18 @@ fn flag<'a>(alloc: Global, name: &'a str, help: &'a str) -> Arg<'a>
         .long(name)
         .help(help)
         .action(ArgAction::SetTrue)
+}
+
+// `--json`
+fn json<'a>(alloc: Global) -> Arg<'a>
+    ensures rule { rule_of result ≡ flag_rule (codes "json") }
+    ensures alone { result.global ≡ false }
+{
+    flag(
+        alloc,
+        "json",
+        "Writes a JSON object a line in place of words",
+    )
 }
 
 // An option that takes a value.
@@ -98,11 +110,7 @@ fn bare_races<'a>(alloc: Global) -> Result<Command<'a>, AllocError>
             "all",
             "Tells every user of a maker, and every command that was not judged",
         ))?
-        .arg(flag(
-            alloc,
-            "json",
-            "Writes a JSON object a line in place of words",
-        ))?
+        .arg(json(alloc))?
         .arg(flag(
             alloc,
             "mend",
@@ -141,11 +149,7 @@ fn bare_certify<'a>(alloc: Global) -> Result<Command<'a>, AllocError>
         .about(
             "Whether no schedule of the build gives a command other inputs, by what its commands were seen to do",
         )
-        .arg(flag(
-            alloc,
-            "json",
-            "Writes a JSON object a line in place of words",
-        ))?
+        .arg(json(alloc))?
         .arg(recording(alloc))
 }
 
@@ -175,11 +179,7 @@ fn ask<'a>(alloc: Global) -> Result<Command<'a>, AllocError>
 {
     Command::new(alloc, "ask")
         .about("Answers questions about the recording, a line of standard input each")
-        .arg(flag(
-            alloc,
-            "json",
-            "Writes a JSON object a line in place of words",
-        ))?
+        .arg(json(alloc))?
         .arg(recording(alloc))
 }
 
@@ -255,11 +255,7 @@ fn compare<'a>(alloc: Global) -> Result<Command<'a>, AllocError>
             "What differs between two recordings: statements, runs, and the order of dependent events",
         )
         .arg(flag(alloc, "all", "Tells all that differs"))?
-        .arg(flag(
-            alloc,
-            "json",
-            "Writes a JSON object a line in place of words",
-        ))?
+        .arg(json(alloc))?
         .arg(recording(alloc))?
         .arg(other(alloc))
 }

@@ -9,9 +9,9 @@ ghost use Rattle.rev_conflicts.specs.Tables.{scene};
 ghost use Rattle.rev_certified.specs.Certain.{AreNone, AreSeenWhole, IsCertain};
 ghost use Rattle.rev_certified.specs.Standing.{missing_in, unsure_in};
 
-use crate::standing::{Marks, missing_edges, unsure_edges};
+use crate::standing::{Marks, Standing, standing_edges};
 use crate::whole::seen_whole;
-use rev_conflicts::{Conflict, conflicts, early_edges};
+use rev_conflicts::{Conflict, conflicts};
 use rev_graph::Graph;
 use rev_observed::Observation;
 use rev_paths::Name;
@@ -148,11 +148,9 @@ pub fn certify(
     ensures whole { IfOk result (λ c. AreSeenWhole (scene graph.now.manifest.builds files.now
         observation.now.paths observation.now.commands edges.now hidden.now) c.whole.items) }
 {
-    let early = early_edges(alloc, graph, files)?;
-    let whole = whole_edges(alloc, graph, files, observation, edges, hidden)?;
-    let missing = missing_edges(alloc, graph, files, &early, marks)?;
-    let unsure = unsure_edges(alloc, graph, files, &early, &whole, marks)?;
     let conflicts = conflicts(alloc, graph, files, observation, edges, hidden)?;
+    let whole = whole_edges(alloc, graph, files, observation, edges, hidden)?;
+    let Standing { missing, unsure } = standing_edges(alloc, graph, files, &whole, marks)?;
     Ok(with_verdict(
         graph,
         files,

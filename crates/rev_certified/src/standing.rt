@@ -7,6 +7,7 @@ ghost use Rattle.rev_conflicts.specs.Conflicts.{runs_first};
 ghost use Rattle.rev_conflicts.specs.Tables.{AreEarly};
 ghost use Rattle.rev_certified.specs.Standing.{is_missing_by, is_unsure_by, missing_in, unsure_in};
 
+use rev_conflicts::early_edges;
 use rev_graph::Graph;
 use rev_paths::Name;
 use std::alloc::{AllocError, Global};
@@ -20,6 +21,14 @@ pub struct Marks<'a> {
     pub began: &'a [bool],
     /// Its command ended well here.
     pub ended: &'a [bool],
+}
+
+/// The edges that stand in the way of certainty, in rising order, as a certificate has them.
+pub(crate) struct Standing {
+    /// The missing edges.
+    pub(crate) missing: Vec<u32>,
+    /// The unsure edges.
+    pub(crate) unsure: Vec<u32>,
 }
 
 // The mark of an edge.
@@ -81,12 +90,9 @@ fn is_unsure_at(
     is_unsure(began, ended, early, whole)
 }
 
-/// The edges that the targets need and whose commands did not end well here, except those that make what the manifest
-/// is read from, in rising order.
-///
-/// # Errors
-/// [`AllocError`] only where an allocation was refused.
-pub(crate) fn missing_edges(
+// The edges that the targets need and whose commands did not end well here, except those that make what the manifest is
+// read from, in rising order.
+fn missing_edges(
     alloc: Global,
     graph: &Graph,
     files: &[Name],
@@ -107,12 +113,9 @@ pub(crate) fn missing_edges(
     Ok(edges)
 }
 
-/// The edges whose commands began here, and did not end well, make what the manifest is read from, or were not observed
-/// whole, in rising order.
-///
-/// # Errors
-/// [`AllocError`] only where an allocation was refused.
-pub(crate) fn unsure_edges(
+// The edges whose commands began here, and did not end well, make what the manifest is read from, or were not observed
+// whole, in rising order.
+fn unsure_edges(
     alloc: Global,
     graph: &Graph,
     files: &[Name],
@@ -132,4 +135,28 @@ pub(crate) fn unsure_edges(
         }
     }
     Ok(edges)
+}
+
+/// What stands in the way of certainty. `whole` has a mark for each edge whose command was observed whole.
+///
+/// # Errors
+/// [`AllocError`] only where an allocation was refused.
+pub(crate) fn standing_edges(
+    alloc: Global,
+    graph: &Graph,
+    files: &[Name],
+    whole: &[bool],
+    marks: Marks<'_>,
+) -> Result<Standing, AllocError>
+    ensures missing { IfOk result (λ standing. standing.missing.items ≡ filter
+        (missing_in graph.now.manifest.builds files.now marks.entry.needed.now marks.entry.ended.now)
+        (edges_of graph.now.manifest.builds)) }
+    ensures unsure { IfOk result (λ standing. standing.unsure.items ≡ filter
+        (unsure_in graph.now.manifest.builds files.now marks.entry.began.now marks.entry.ended.now whole.now)
+        (edges_of graph.now.manifest.builds)) }
+{
+    let early = early_edges(alloc, graph, files)?;
+    let missing = missing_edges(alloc, graph, files, &early, marks)?;
+    let unsure = unsure_edges(alloc, graph, files, &early, whole, marks)?;
+    Ok(Standing { missing, unsure })
 }

@@ -1,3 +1,4 @@
 pub mod LastLemmas
 pub mod Lists
 pub mod Prints
+pub mod SoughtLemmas

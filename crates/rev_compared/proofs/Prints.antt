@@ -31,13 +31,23 @@ mapped_at n (p ∷ ps) =
 pub print_at : (t : Timeline) (n : ℕ) → causal.event_at n (prints_of t) ≡ option_map print_of (kept_footprint t n)
 print_at t n = mapped_at n (footprints_along t.manifest t.opening (kept_events t))
 
+-- a number that has a footprint there is kept, with that footprint
+pub print-there : (t : Timeline) (n : ℕ) → IsSome (causal.event_at n (prints_of t))
+    → (f : FootprintValue) × ((kept_footprint t n ≡ Some f) × (causal.event_at n (prints_of t) ≡ Some (print_of f)))
+print-there t n some = by (kept_footprint t n) refl
+  where
+    by : (o : Option FootprintValue) → kept_footprint t n ≡ o
+        → (f : FootprintValue) × ((kept_footprint t n ≡ Some f) × (causal.event_at n (prints_of t) ≡ Some (print_of f)))
+    by None e = absurd (true≢false (sym some ∙ ap is_some (print_at t n ∙ ap (option_map print_of) e)))
+    by (Some f) e = (f, (e, print_at t n ∙ ap (option_map print_of) e))
+
 -- RISING NUMBERS UP TO A PLACE
 All-take : (P : ℕ → Type 0) (i : ℕ) (ks : List ℕ) → AllByRecursion P ks → AllByRecursion P (take i ks)
 All-take P zero ks all = tt
 All-take P (suc i) [] all = tt
 All-take P (suc i) (k ∷ ks) all = (all.0, All-take P i ks all.1)
 
-All-get : (P : ℕ → Type 0) (i d : ℕ) (ks : List ℕ) → AllByRecursion P ks → i < length ks → P (get_or ks i d)
+pub All-get : (P : ℕ → Type 0) (i d : ℕ) (ks : List ℕ) → AllByRecursion P ks → i < length ks → P (get_or ks i d)
 All-get P i d [] all within = absurd (omega (arith, within))
 All-get P zero d (k ∷ ks) all within = all.0
 All-get P (suc i) d (k ∷ ks) all within = All-get P i d ks all.1 (omega (arith, within))

@@ -31,12 +31,12 @@ abbrev pub done_before : Option Last → ℕ → Bool
 done_before None number = false
 done_before (Some last) number = well_before last.ending last.ended number
 
-abbrev pub is_awaited : Option Last → ℕ → Option Last → ℕ → Bool
-is_awaited last began other other_began = done_before last began && not (done_before other other_began)
+abbrev pub is_finished_alone : Option Last → ℕ → Option Last → ℕ → Bool
+is_finished_alone last began other other_began = done_before last began && not (done_before other other_began)
 
 -- THE MAKERS THAT HAD FINISHED HERE ALONE before a command began: the last run of each ended well before it began here,
 -- and that of its twin did not before it began there
-abbrev pub awaited_of : ℕ → List (Option Last) → ℕ → List (Option ℕ) → List (Option Last) → ℕ → List ℕ
-awaited_of edges lasts began twins others other_began =
-    filter (λ edge. is_awaited (last_at lasts edge) began (twin_last twins others edge) other_began)
+abbrev pub finished_alone_of : ℕ → List (Option Last) → ℕ → List (Option ℕ) → List (Option Last) → ℕ → List ℕ
+finished_alone_of edges lasts began twins others other_began =
+    filter (λ edge. is_finished_alone (last_at lasts edge) began (twin_last twins others edge) other_began)
     (range_with_len 0 edges)

@@ -1,5 +1,5 @@
 -- The first pair of dependent events that stand the other way round in another history.
-use Rattle.std.specs.Prelude.{ℕ, Bool, ◌&&◌, List, filter, map, Option, Some, None, is_some, slice_index_or, unwrap_or}
+use Rattle.std.specs.Prelude.{◌≡◌, ℕ, ◌+◌, ◌≤◌, Bool, false, ◌&&◌, List, drop, filter, length, map, Option, Some, None, is_some, slice_index_or, unwrap_or}
 use Rattle.rev_accesses.specs.Value.{Prints}
 use Rattle.rev_causal.specs.Chosen.{chosen}
 use Rattle.rev_causal.specs.History.{put}
@@ -8,6 +8,7 @@ use Rattle.rev_cells.specs.declared.cell.Cell.{Cell}
 use Rattle.rev_cells.specs.Keys.{cell_cmp}
 use Rattle.rev_footprint.specs.Value.{FootprintValue, print_of}
 use Rattle.rev_history.specs.Timeline.{Timeline, footprints_along, kept_events}
+use Rattle.rev_order.specs.Lowest.{lowest_place}
 use Rattle.rev_order.specs.Pairs.{inverted_pair}
 use Rattle.rev_runs.specs.Runs.{is_kept}
 
@@ -38,3 +39,13 @@ first_inverted_of t matched =
 abbrev pub put_if : ℕ → Option (Footprint Cell) → Prints → Prints
 put_if number None prints = prints
 put_if number (Some f) prints = put number f prints
+
+-- whether an event depends on another one, where that one has a footprint
+abbrev pub is_dependent : Footprint Cell → Option (Footprint Cell) → Bool
+is_dependent f None = false
+is_dependent f (Some g) = conflict cell_cmp f g
+
+-- from each place of some numbers on the lowest place of theirs there; behind the last there is none
+pub record AreLowest (places numbers : List ℕ) (lowest : List (Option ℕ)) : Type 0 where
+  pub size : length lowest ≡ length numbers + 1
+  pub at : (i : ℕ) → i ≤ length numbers → slice_index_or lowest i None ≡ lowest_place places (drop i numbers)

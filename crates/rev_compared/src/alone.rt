@@ -1,12 +1,12 @@
 //! Which commands ran in one build alone, and which had ended in one alone before another began.
 ghost use Rattle.std.specs.Prelude.{◌≡◌, ◌++◌, ◌∷◌, [], None, Some, slice_index_or, if◌then◌else◌, IfOk, OnOk};
-ghost use Rattle.rev_compared.specs.Alone.{awaited_of, done_before as done_before_of, is_awaited as is_awaited_of, is_alone as is_alone_of, ran_alone_of, twin_last as twin_last_of};
+ghost use Rattle.rev_compared.specs.Alone.{finished_alone_of, done_before as done_before_of, is_finished_alone as is_finished_alone_of, is_alone as is_alone_of, ran_alone_of, twin_last as twin_last_of};
 
 use crate::lasts::{Ending, Last};
 use std::alloc::{AllocError, Global};
 
-/// The last run of an edge, if it has one.
-pub(crate) fn last_at(lasts: &[Option<Last>], edge: u32) -> Option<Last>
+/// The last run of an edge, by the last runs of all: `None` where it has none.
+pub fn last_at(lasts: &[Option<Last>], edge: u32) -> Option<Last>
     ensures { result ≡ slice_index_or lasts.now edge None }
 {
     if edge as usize >= lasts.len() {
@@ -15,8 +15,8 @@ pub(crate) fn last_at(lasts: &[Option<Last>], edge: u32) -> Option<Last>
     lasts[edge as usize]
 }
 
-/// The twin of an edge, if it has one.
-pub(crate) fn twin_at(twins: &[Option<u32>], edge: u32) -> Option<u32>
+/// The twin of an edge, by the twins of all: `None` where it has none.
+pub fn twin_at(twins: &[Option<u32>], edge: u32) -> Option<u32>
     ensures { result ≡ slice_index_or twins.now edge None }
 {
     if edge as usize >= twins.len() {
@@ -94,8 +94,8 @@ fn done_before(last: Option<Last>, number: u32) -> bool
 }
 
 // Whether one run ended well before an event, and not the other before another event.
-fn is_awaited(last: Option<Last>, began: u32, other: Option<Last>, other_began: u32) -> bool
-    ensures { result ≡ is_awaited_of last began other other_began }
+fn is_finished_alone(last: Option<Last>, began: u32, other: Option<Last>, other_began: u32) -> bool
+    ensures { result ≡ is_finished_alone_of last began other other_began }
 {
     done_before(last, began) && !done_before(other, other_began)
 }
@@ -106,7 +106,7 @@ fn is_awaited(last: Option<Last>, began: u32, other: Option<Last>, other_began: 
 ///
 /// # Errors
 /// [`AllocError`] only where an allocation was refused.
-pub fn awaited(
+pub fn finished_alone(
     alloc: Global,
     edges: u32,
     lasts: &[Option<Last>],
@@ -116,13 +116,13 @@ pub fn awaited(
     other_began: u32,
 ) -> Result<Vec<u32>, AllocError>
     ensures { IfOk result (λ found. found.items
-        ≡ awaited_of edges lasts.now began twins.now others.now other_began) }
+        ≡ finished_alone_of edges lasts.now began twins.now others.now other_began) }
 {
     let mut found = Vec::new(alloc);
     for edge in 0..edges {
         let last = last_at(lasts, edge);
         let other = twin_last(twins, others, edge);
-        let passes = is_awaited(last, began, other, other_began);
+        let passes = is_finished_alone(last, began, other, other_began);
         add_where(&mut found, edge, passes)?;
     }
     Ok(found)

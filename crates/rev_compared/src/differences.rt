@@ -31,8 +31,9 @@ fn same_ending(one: Ending, other: Ending) -> bool
     }
 }
 
-// The stamps that an event gave the outputs.
-fn stamps_of(event: Option<&Event>) -> &[u64]
+/// The stamps that the event which ended a command gave its outputs, in the order of the statement; none of any other
+/// event.
+pub fn stamps_of(event: Option<&Event>) -> &[u64]
     ensures { result.now ≡ stamps_of_event (option_copied event.entry) }
 {
     match event {
@@ -43,8 +44,8 @@ fn stamps_of(event: Option<&Event>) -> &[u64]
     }
 }
 
-// The event that ended a run, if it ended.
-fn end_of(history: &History, ended: Option<u32>) -> Option<&Event>
+/// The event that ended a run, by its number; `None` where the run has not ended.
+pub fn end_of(history: &History, ended: Option<u32>) -> Option<&Event>
     ensures { option_copied result ≡ end_of_run history.now.timeline ended }
 {
     match ended {

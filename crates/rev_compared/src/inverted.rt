@@ -14,6 +14,7 @@ ghost use Rattle.rev_order.specs.Pairs.{inverted_pair, partner_of};
 ghost use Rattle.rev_compared.specs.Inverted.{first_inverted_of, is_compared as is_compared_of, places_of as places_by, prints_of, put_if};
 
 use crate::alone::{add_where, twin_at};
+use crate::sought::{lowest_places, pair_near};
 use rev_accesses::{Accesses, Places};
 use rev_footprint::Footprint;
 use rev_history::History;
@@ -137,8 +138,8 @@ fn partner(
     Ok(accesses.partner(places, first, &print))
 }
 
-// The first inverted pair of some numbers.
-fn pair_in(
+// The first inverted pair of some numbers, by the lists of their footprints.
+fn pair_by_lists(
     alloc: Global,
     history: &History,
     places: &[u32],
@@ -159,6 +160,29 @@ fn pair_in(
     match partner(alloc, history, places, numbers, first, &footprint)? {
         Some(second) => Ok(Some((first, second))),
         None => Ok(None),
+    }
+}
+
+// The first inverted pair of some numbers: sought among near ones first, since two recordings of a build mostly have
+// one there, and then by lists.
+fn pair_in(
+    alloc: Global,
+    history: &History,
+    places: &[u32],
+    numbers: &[u32],
+) -> Result<Option<(u32, u32)>, AllocError>
+    requires rising { IsRisingNumbers numbers.now }
+    requires kept { AllByRecursion (λ n. IsSome (event_at n (prints_of history.now.timeline))) numbers.now }
+    ensures { IfOk result (λ pair. pair ≡ inverted_pair (conflict cell_cmp) places.now
+        (chosen (prints_of history.now.timeline) numbers.now)) }
+{
+    let lowest = lowest_places(alloc, places, numbers)?;
+    match pair_near(history, places, numbers, &lowest) {
+        Ok(pair) => Ok(pair),
+        Err(at) => {
+            let found = pair_by_lists(alloc, history, places, &numbers[at..])?;
+            Ok(found)
+        }
     }
 }
 

@@ -59,8 +59,9 @@ fn same_pool(pools: &[(Vec<u8>, u32)], others: &[(Vec<u8>, u32)], number: u32, o
     }
 }
 
-// Whether both have no pool, or both have one, with the same name and depth.
-fn same_pools(
+/// Whether two edges have no pool, or both have one, with the same name and depth. `number` is that of the one's pool
+/// among `pools`, and `other` that of the other's among `others`.
+pub fn same_pools(
     pools: &[(Vec<u8>, u32)],
     others: &[(Vec<u8>, u32)],
     number: Option<u32>,

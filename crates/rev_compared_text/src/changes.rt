@@ -1,6 +1,7 @@
 //! What differs between two build statements, by name.
 use crate::side::Side;
 use indexmap::IndexMap;
+use rev_compared::same_pools;
 use rev_manifest::Build;
 use rev_paths::Name;
 use rev_races_text::Shown;
@@ -33,23 +34,59 @@ fn add_others<'a>(
     Ok(())
 }
 
+// The paths of some lists, to look one up.
+fn set_of_all(alloc: Global, lists: &[&[Name]]) -> Result<IndexMap<Name, ()>, AllocError> {
+    let mut set = IndexMap::new(alloc);
+    for list in lists {
+        add_to_set(&mut set, list)?;
+    }
+    Ok(set)
+}
+
+// The paths of some lists that are not among others.
+fn others_than<'a>(
+    alloc: Global,
+    lists: &[&'a [Name]],
+    set: &IndexMap<Name, ()>,
+) -> Result<Vec<Shown<'a>>, AllocError> {
+    let mut alone = Vec::new(alloc);
+    for list in lists {
+        add_others(&mut alone, list, set)?;
+    }
+    Ok(alone)
+}
+
+// The paths of some lists that are in none of others.
+fn in_none<'a>(
+    alloc: Global,
+    lists: &[&'a [Name]],
+    others: &[&[Name]],
+) -> Result<Vec<Shown<'a>>, AllocError> {
+    let set = set_of_all(alloc, others)?;
+    others_than(alloc, lists, &set)
+}
+
 /// The inputs of a statement, of whichever kind, that are not inputs of another one.
 pub(crate) fn inputs_alone<'a>(
     alloc: Global,
     build: &'a Build,
     other: &Build,
 ) -> Result<Vec<Shown<'a>>, AllocError> {
-    let mut set = IndexMap::new(alloc);
-    add_to_set(&mut set, other.explicit())?;
-    add_to_set(&mut set, other.implicit())?;
-    add_to_set(&mut set, other.order_only())?;
-    add_to_set(&mut set, other.validations())?;
-    let mut alone = Vec::new(alloc);
-    add_others(&mut alone, build.explicit(), &set)?;
-    add_others(&mut alone, build.implicit(), &set)?;
-    add_others(&mut alone, build.order_only(), &set)?;
-    add_others(&mut alone, build.validations(), &set)?;
-    Ok(alone)
+    in_none(
+        alloc,
+        &[
+            build.explicit(),
+            build.implicit(),
+            build.order_only(),
+            build.validations(),
+        ],
+        &[
+            other.explicit(),
+            other.implicit(),
+            other.order_only(),
+            other.validations(),
+        ],
+    )
 }
 
 /// The outputs of a statement that are not outputs of another one.
@@ -58,13 +95,11 @@ pub(crate) fn outputs_alone<'a>(
     build: &'a Build,
     other: &Build,
 ) -> Result<Vec<Shown<'a>>, AllocError> {
-    let mut set = IndexMap::new(alloc);
-    add_to_set(&mut set, other.explicit_outs())?;
-    add_to_set(&mut set, other.implicit_outs())?;
-    let mut alone = Vec::new(alloc);
-    add_others(&mut alone, build.explicit_outs(), &set)?;
-    add_others(&mut alone, build.implicit_outs(), &set)?;
-    Ok(alone)
+    in_none(
+        alloc,
+        &[build.explicit_outs(), build.implicit_outs()],
+        &[other.explicit_outs(), other.implicit_outs()],
+    )
 }
 
 // Adds the name of a flag that differs.
@@ -79,21 +114,6 @@ fn add_flag<'a>(
     Ok(())
 }
 
-// Whether two statements have the same pool: of the same name and depth, or none.
-fn have_same_pool<'a>(one: Side<'a>, build: &Build, other: Side<'a>, other_build: &Build) -> bool {
-    let (Some(number), Some(other_number)) = (build.pool(), other_build.pool()) else {
-        return build.pool().is_none() && other_build.pool().is_none();
-    };
-    let pool = one.manifest.pools().get(number as usize);
-    let other_pool = other.manifest.pools().get(other_number as usize);
-    match (pool, other_pool) {
-        (Some((name, depth)), Some((other_name, other_depth))) => {
-            name == other_name && depth == other_depth
-        }
-        _ => false,
-    }
-}
-
 /// The names of the flags in which two statements differ.
 pub(crate) fn flags_that_differ<'a>(
     alloc: Global,
@@ -103,7 +123,8 @@ pub(crate) fn flags_that_differ<'a>(
     other_build: &Build,
 ) -> Result<Vec<Shown<'a>>, AllocError> {
     let other_deps = build.keeps_deps() != other_build.keeps_deps();
-    let other_pool = !have_same_pool(one, build, other, other_build);
+    let (pools, other_pools) = (one.manifest.pools(), other.manifest.pools());
+    let other_pool = !same_pools(pools, other_pools, build.pool(), other_build.pool());
     let mut flags = Vec::new(alloc);
     add_flag(&mut flags, build.phony() != other_build.phony(), b"phony")?;
     add_flag(
@@ -188,6 +209,20 @@ fn part_between(text: &[u8], before: usize, end: usize) -> Part<'_> {
     }
 }
 
+// Where the part of a command in which it differs from another one begins and ends, in whole words.
+fn ends_of_part(command: &[u8], other: &[u8]) -> (usize, usize) {
+    let most = command.len().min(other.len());
+    let before = alike_before(command, other, most);
+    let behind = alike_behind(command, other, most.saturating_sub(before));
+    (before, command.len().saturating_sub(behind))
+}
+
+/// The part of a command in which it differs from another one, in whole words.
+pub(crate) fn other_part<'a>(command: &'a [u8], other: &[u8]) -> &'a [u8] {
+    let (before, end) = ends_of_part(command, other);
+    command.get(before..end).unwrap_or(command)
+}
+
 /// The part of a command in which it differs from another one, in whole words; the whole command where it is short, or
 /// all is told.
 pub(crate) fn part_of<'a>(command: &'a [u8], other: &[u8], all: bool) -> Part<'a> {
@@ -198,8 +233,6 @@ pub(crate) fn part_of<'a>(command: &'a [u8], other: &[u8], all: bool) -> Part<'a
             has_behind: false,
         };
     }
-    let most = command.len().min(other.len());
-    let before = alike_before(command, other, most);
-    let behind = alike_behind(command, other, most.saturating_sub(before));
-    part_between(command, before, command.len().saturating_sub(behind))
+    let (before, end) = ends_of_part(command, other);
+    part_between(command, before, end)
 }

@@ -1,8 +1,8 @@
 //! What differs between two recordings.
-use crate::side::{Day, Side, last_in, twin_in};
+use crate::side::{Day, Side};
 use rev_compared::{
-    Changes, Differences, Ending, Last, awaited, compare_runs, compare_statements, first_inverted,
-    last_runs, matched, ran_alone, twins,
+    Changes, Differences, Ending, Last, compare_runs, compare_statements, first_inverted, last_at,
+    last_runs, matched, ran_alone, twin_at, twins,
 };
 use std::alloc::{AllocError, Global};
 
@@ -33,15 +33,31 @@ pub(crate) struct Inverted {
     pub(crate) other_second: u32,
 }
 
+/// Which edges of two recordings are one, and how they ran.
+pub(crate) struct Known {
+    // For each edge of the one its twin in the other, and the other way round.
+    twins: Vec<Option<u32>>,
+    back: Vec<Option<u32>>,
+    // The last runs of the edges of each.
+    lasts: Vec<Option<Last>>,
+    others: Vec<Option<Last>>,
+}
+
+impl Drop for Known {
+    fn drop(self) {
+        let Known {
+            twins: _twins,
+            back: _back,
+            lasts: _lasts,
+            others: _others,
+        } = self;
+    }
+}
+
 /// What differs between two recordings, by the numbers of edges.
-#[derive(Drop)]
 pub(crate) struct Facts {
-    /// For each edge of the one its twin in the other, and the other way round.
-    pub(crate) twins: Vec<Option<u32>>,
-    pub(crate) back: Vec<Option<u32>>,
-    /// The last runs of the edges of each.
-    pub(crate) lasts: Vec<Option<Last>>,
-    pub(crate) others: Vec<Option<Last>>,
+    /// Whether each edge of both has a twin.
+    pub(crate) are_paired: bool,
     /// The edges whose statements differ.
     pub(crate) changed: Vec<Changed>,
     /// The edges that ran in the one alone, and in the other.
@@ -53,6 +69,20 @@ pub(crate) struct Facts {
     /// other.
     pub(crate) inverted: Option<Inverted>,
     pub(crate) other_inverted: Option<Inverted>,
+}
+
+impl Drop for Facts {
+    fn drop(self) {
+        let Facts {
+            are_paired: _are_paired,
+            changed: _changed,
+            ran: _ran,
+            other_ran: _other_ran,
+            differing: _differing,
+            inverted: _inverted,
+            other_inverted: _other_inverted,
+        } = self;
+    }
 }
 
 // Whether anything differs between two statements.
@@ -81,16 +111,11 @@ fn change_of<'a>(one: Side<'a>, other: Side<'a>, edge: u32, twin: u32) -> Option
 }
 
 // The edges whose statements differ.
-fn changed_in<'a>(
-    alloc: Global,
-    one: Side<'a>,
-    other: Side<'a>,
-    twins: &[Option<u32>],
-) -> Result<Vec<Changed>, AllocError> {
+fn changed_in<'a>(alloc: Global, a: Day<'a>, b: Day<'a>) -> Result<Vec<Changed>, AllocError> {
     let mut changed = Vec::new(alloc);
-    for edge in 0..one.edges() {
-        if let Some(twin) = twin_in(twins, edge) {
-            if let Some(change) = change_of(one, other, edge, twin) {
+    for edge in 0..a.side.edges() {
+        if let Some(twin) = twin_at(a.twins, edge) {
+            if let Some(change) = change_of(a.side, b.side, edge, twin) {
                 changed.push(change)?;
             }
         }
@@ -99,23 +124,16 @@ fn changed_in<'a>(
 }
 
 // What differs between the runs of an edge and of its twin, where both ran and anything does.
-fn difference_of<'a>(
-    one: Side<'a>,
-    other: Side<'a>,
-    edge: u32,
-    twin: u32,
-    last: Option<Last>,
-    other_last: Option<Last>,
-) -> Option<Differing> {
-    let last = last?;
-    let other_last = other_last?;
-    let differences = compare_runs(one.history, &last, other.history, &other_last);
+fn difference_of<'a>(a: Day<'a>, b: Day<'a>, edge: u32, twin: u32) -> Option<Differing> {
+    let last = last_at(a.lasts, edge)?;
+    let other = last_at(b.lasts, twin)?;
+    let differences = compare_runs(a.side.history, &last, b.side.history, &other);
     if is_difference(differences) {
         return Some(Differing {
             edge,
             twin,
             last,
-            other: other_last,
+            other,
             differences,
         });
     }
@@ -123,20 +141,11 @@ fn difference_of<'a>(
 }
 
 // The edges that ran in both, and whose runs differ.
-fn differing_in<'a>(
-    alloc: Global,
-    one: Side<'a>,
-    other: Side<'a>,
-    twins: &[Option<u32>],
-    lasts: &[Option<Last>],
-    others: &[Option<Last>],
-) -> Result<Vec<Differing>, AllocError> {
+fn differing_in<'a>(alloc: Global, a: Day<'a>, b: Day<'a>) -> Result<Vec<Differing>, AllocError> {
     let mut differing = Vec::new(alloc);
-    for edge in 0..one.edges() {
-        if let Some(twin) = twin_in(twins, edge) {
-            let last = last_in(lasts, edge);
-            let other_last = last_in(others, twin);
-            if let Some(difference) = difference_of(one, other, edge, twin, last, other_last) {
+    for edge in 0..a.side.edges() {
+        if let Some(twin) = twin_at(a.twins, edge) {
+            if let Some(difference) = difference_of(a, b, edge, twin) {
                 differing.push(difference)?;
             }
         }
@@ -147,56 +156,64 @@ fn differing_in<'a>(
 // The first pair of dependent events that stand the other way round. Both have a number there.
 fn inverted_in<'a>(
     alloc: Global,
-    one: Side<'a>,
-    twins: &[Option<u32>],
-    lasts: &[Option<Last>],
-    others: &[Option<Last>],
+    here: Day<'a>,
+    there: Day<'a>,
 ) -> Result<Option<Inverted>, AllocError> {
-    let same = matched(alloc, one.history, lasts, twins, others)?;
-    match first_inverted(alloc, one.history, &same)? {
+    let history = here.side.history;
+    let same = matched(alloc, history, here.lasts, here.twins, there.lasts)?;
+    match first_inverted(alloc, history, &same)? {
         Some((first, second)) => Ok(Some(Inverted {
             first,
             second,
-            other_first: twin_in(&same, first).unwrap_or(0),
-            other_second: twin_in(&same, second).unwrap_or(0),
+            other_first: twin_at(&same, first).unwrap_or(0),
+            other_second: twin_at(&same, second).unwrap_or(0),
         })),
         None => Ok(None),
     }
 }
 
-/// What differs between two recordings.
-pub(crate) fn facts_of<'a>(
+// The edges that ran in one recording alone.
+fn ran_in<'a>(alloc: Global, here: Day<'a>, there: Day<'a>) -> Result<Vec<u32>, AllocError> {
+    ran_alone(
+        alloc,
+        here.side.edges(),
+        here.lasts,
+        here.twins,
+        there.lasts,
+    )
+}
+
+/// Which edges of two recordings are one, and how they ran.
+pub(crate) fn known_of<'a>(
     alloc: Global,
     one: Side<'a>,
     other: Side<'a>,
-) -> Result<Facts, AllocError> {
-    let graph = one.history.graph();
-    let other_graph = other.history.graph();
-    let there = twins(alloc, graph, other_graph)?;
-    let back = twins(alloc, other_graph, graph)?;
-    let lasts = last_runs(alloc, one.history)?;
-    let others = last_runs(alloc, other.history)?;
-    let changed = changed_in(alloc, one, other, &there)?;
-    let ran = ran_alone(alloc, graph.edges(), &lasts, &there, &others)?;
-    let other_ran = ran_alone(alloc, other_graph.edges(), &others, &back, &lasts)?;
-    let differing = differing_in(alloc, one, other, &there, &lasts, &others)?;
-    let inverted = inverted_in(alloc, one, &there, &lasts, &others)?;
-    let other_inverted = inverted_in(alloc, other, &back, &others, &lasts)?;
+) -> Result<Known, AllocError> {
+    let (graph, other_graph) = (one.history.graph(), other.history.graph());
+    Ok(Known {
+        twins: twins(alloc, graph, other_graph)?,
+        back: twins(alloc, other_graph, graph)?,
+        lasts: last_runs(alloc, one.history)?,
+        others: last_runs(alloc, other.history)?,
+    })
+}
+
+/// What differs between two recordings.
+pub(crate) fn facts_of<'a>(alloc: Global, a: Day<'a>, b: Day<'a>) -> Result<Facts, AllocError> {
+    let inverted = inverted_in(alloc, a, b)?;
+    let other_inverted = inverted_in(alloc, b, a)?;
     Ok(Facts {
-        twins: there,
-        back,
-        lasts,
-        others,
-        changed,
-        ran,
-        other_ran,
-        differing,
+        are_paired: all_paired(a.twins) && all_paired(b.twins),
+        changed: changed_in(alloc, a, b)?,
+        ran: ran_in(alloc, a, b)?,
+        other_ran: ran_in(alloc, b, a)?,
+        differing: differing_in(alloc, a, b)?,
         inverted,
         other_inverted,
     })
 }
 
-impl Facts {
+impl Known {
     /// The one recording beside the other.
     pub(crate) fn one<'a>(&'a self, side: Side<'a>) -> Day<'a> {
         Day {
@@ -218,12 +235,13 @@ impl Facts {
             twins: self.back.as_slice(),
         }
     }
+}
 
+impl Facts {
     /// Whether nothing differs.
     pub(crate) fn are_none(&self) -> bool {
-        self.changed.is_empty()
-            && all_paired(&self.twins)
-            && all_paired(&self.back)
+        self.are_paired
+            && self.changed.is_empty()
             && self.ran.is_empty()
             && self.other_ran.is_empty()
             && self.differing.is_empty()

@@ -1,8 +1,8 @@
 //! Commands that failed on one day and passed on the other, and what had finished before them on the good day alone.
 use crate::facts::Differing;
 use crate::reads::{listed, makes_one, set_of};
-use crate::side::{Day, last_in, twin_in};
-use rev_compared::{Ending, Last, awaited};
+use crate::side::Day;
+use rev_compared::{Ending, Last, finished_alone, last_at, twin_at};
 use std::alloc::{AllocError, Global};
 
 /// The bad day beside the good day.
@@ -80,7 +80,7 @@ pub(crate) fn makers_of<'a>(
     flake: &Flake,
 ) -> Result<Vec<Maker>, AllocError> {
     let good = days.good;
-    let edges = awaited(
+    let edges = finished_alone(
         alloc,
         good.side.edges(),
         good.lasts,
@@ -94,7 +94,7 @@ pub(crate) fn makers_of<'a>(
     for edge in &edges {
         makers.push(Maker {
             edge: *edge,
-            twin: twin_in(good.twins, *edge),
+            twin: twin_at(good.twins, *edge),
             is_listed: makes_one(good.side, *edge, &reads),
         })?;
     }
@@ -106,7 +106,7 @@ pub(crate) fn story_of<'a>(bad: Day<'a>, maker: &Maker) -> &'static str {
     let Some(twin) = maker.twin else {
         return "not an edge";
     };
-    match last_in(bad.lasts, twin) {
+    match last_at(bad.lasts, twin) {
         Some(last) => match last.ending {
             Ending::Well => "finished later",
             Ending::Failed => "failed",

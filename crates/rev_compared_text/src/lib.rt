@@ -1,6 +1,7 @@
 //! What differs between two recordings, in words and as JSON.
 #![tactic(auto)]
 
+mod alike;
 mod changes;
 mod facts;
 mod flakes;

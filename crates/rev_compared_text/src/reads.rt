@@ -1,36 +1,21 @@
 //! Which paths and outputs stand on one side alone.
 use crate::side::Side;
 use indexmap::IndexMap;
-use rev_compared::Last;
+use rev_compared::{Last, end_of, stamps_of};
 use rev_events::{Event, Listing};
 use rev_paths::Name;
 use rev_races_text::Shown;
 use std::alloc::{AllocError, Global};
 
-// The event that ended a run.
-fn end_of<'a>(side: Side<'a>, last: &Last) -> Option<&'a Event> {
-    side.history.event(last.ended?)
-}
-
 /// The paths that a command is said to have read, where they were listed.
 pub(crate) fn listed<'a>(side: Side<'a>, last: &Last) -> &'a [Name] {
-    match end_of(side, last) {
+    match end_of(side.history, last.ended) {
         Some(
             Event::Finish {
                 listing: Listing::Paths(paths),
                 ..
             },
         ) => paths.as_slice(),
-        _ => &[],
-    }
-}
-
-// The stamps that the end of a run gave the outputs.
-fn stamps<'a>(side: Side<'a>, last: &Last) -> &'a [u64] {
-    match end_of(side, last) {
-        Some(Event::Finish { stamps, .. }) => stamps.as_slice(),
-        Some(Event::Fail { stamps, .. }) => stamps.as_slice(),
-        Some(Event::Abort { stamps, .. }) => stamps.as_slice(),
         _ => &[],
     }
 }
@@ -93,8 +78,8 @@ pub(crate) fn there_alone<'a>(
     let Some(build) = side.build(edge) else {
         return Ok(there);
     };
-    let here = stamps(side, last);
-    let others = stamps(other, other_last);
+    let here = stamps_of(end_of(side.history, last.ended));
+    let others = stamps_of(end_of(other.history, other_last.ended));
     let explicit = build.explicit_outs();
     add_there(explicit, here, others, 0, &mut there)?;
     add_there(

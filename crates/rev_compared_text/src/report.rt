@@ -1,5 +1,5 @@
 //! The comparison of two recordings.
-use crate::facts::facts_of;
+use crate::facts::{facts_of, known_of};
 use crate::json::comparison_json;
 use crate::side::Side;
 use crate::words::comparison_words;
@@ -36,9 +36,10 @@ pub fn comparison<'a>(
     other: Side<'a>,
     form: Form,
 ) -> Result<Compared, AllocError> {
-    let facts = facts_of(alloc, one, other)?;
+    let known = known_of(alloc, one, other)?;
+    let (a, b) = (known.one(one), known.other(other));
+    let facts = facts_of(alloc, a, b)?;
     let is_alike = facts.are_none();
-    let (a, b) = (facts.one(one), facts.other(other));
     let text = match form {
         Form::Words => comparison_words(alloc, a, b, &facts, false)?.into_bytes(),
         Form::AllWords => comparison_words(alloc, a, b, &facts, true)?.into_bytes(),

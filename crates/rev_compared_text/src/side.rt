@@ -1,5 +1,5 @@
 //! One of two recordings.
-use rev_compared::{Ending, Last};
+use rev_compared::{Ending, Last, last_at};
 use rev_events::Event;
 use rev_history::History;
 use rev_manifest::{Build, Manifest};
@@ -57,7 +57,7 @@ impl<'a> Day<'a> {
     /// One of its edges, with the events of its last run.
     pub(crate) fn edge(&self, number: u32) -> Edge<'a> {
         let edge = self.side.edge(number);
-        let (began, ended) = match last_in(self.lasts, number) {
+        let (began, ended) = match last_at(self.lasts, number) {
             Some(last) => (Some(last.began), last.ended),
             None => (None, None),
         };
@@ -70,9 +70,17 @@ impl<'a> Day<'a> {
         }
     }
 
+    /// Whether the last run of one of its edges ended well.
+    pub(crate) fn ended_well(&self, number: u32) -> bool {
+        match last_at(self.lasts, number) {
+            Some(last) => last.ending == Ending::Well,
+            None => false,
+        }
+    }
+
     /// How the last run of one of its edges ended, in a word.
     pub(crate) fn status(&self, number: u32) -> Option<&'static str> {
-        match last_in(self.lasts, number) {
+        match last_at(self.lasts, number) {
             Some(last) => Some(ending_word(last.ending)),
             None => None,
         }
@@ -86,22 +94,6 @@ pub(crate) fn ending_word(ending: Ending) -> &'static str {
         Ending::Failed => "failed",
         Ending::Stopped => "stopped",
         Ending::Running => "running",
-    }
-}
-
-/// The last run of an edge, if it has one.
-pub(crate) fn last_in(lasts: &[Option<Last>], edge: u32) -> Option<Last> {
-    match lasts.get(edge as usize) {
-        Some(last) => *last,
-        None => None,
-    }
-}
-
-/// The twin of an edge, if it has one.
-pub(crate) fn twin_in(twins: &[Option<u32>], edge: u32) -> Option<u32> {
-    match twins.get(edge as usize) {
-        Some(twin) => *twin,
-        None => None,
     }
 }
 

@@ -1,4 +1,5 @@
 //! The comparison in words.
+use crate::alike::{FEW, Group, alike_changes, alike_runs};
 use crate::changes::{Part, flags_that_differ, inputs_alone, outputs_alone, part_of};
 use crate::facts::{Changed, Differing, Facts, Inverted, alone_in, counts};
 use crate::flakes::{Days, Flake, Maker, failed_in_one, failed_in_other, makers_of, story_of};
@@ -8,14 +9,14 @@ use rev_manifest::Build;
 use rev_races_text::{Shown, Text};
 use std::alloc::{AllocError, Global};
 
-// How many entries a section has, and how many paths a line, unless the words tell all.
-const FEW: usize = 5;
+// How many groups of alike entries a section has at most. Behind the first few the words have no details.
+const GROUPS: usize = 10;
 // Of how many commands that failed on one day alone the makers are told, and of how many where the words tell all.
 const FLAKES: usize = 3;
 
 const ALL_FLAKES: usize = 20;
 
-// How many entries a section has.
+// How many entries a section has, and how many paths a line.
 fn entries(all: bool) -> usize {
     if all { usize::MAX } else { FEW }
 }
@@ -29,22 +30,40 @@ fn push_rest(text: &mut String, indent: &str, count: usize, most: usize) -> Resu
     write!(text, "{indent}and {more} more (--all tells them)\n")
 }
 
+// Adds how many entries more are like the one that was told.
+fn push_alike(text: &mut String, group: Group) -> Result<(), AllocError> {
+    let more = group.count.saturating_sub(1);
+    if more == 0 {
+        return Ok(());
+    }
+    write!(text, "    and {more} more like it (--all tells them)\n")
+}
+
+// How many entries are in the groups that are told.
+fn told_in(groups: &[Group]) -> usize {
+    let mut told: usize = 0;
+    for group in groups.iter().take(GROUPS) {
+        told = told.saturating_add(group.count);
+    }
+    told
+}
+
 // Adds what one recording has.
 fn push_day<'a>(text: &mut String, day: Day<'a>) -> Result<(), AllocError> {
     let letter = day.letter;
     let name = Text(day.side.name);
     let edges = day.side.edges();
+    let noun = if edges == 1 { "edge" } else { "edges" };
     let (ran, failed) = counts(day.lasts);
     write!(
         text,
-        "{letter}: {name}, {edges} edges, {ran} ran, {failed} failed\n"
+        "{letter}: {name}, {edges} {noun}, {ran} ran, {failed} failed\n"
     )
 }
 
 // Adds edges of one recording, each with its place.
 fn push_edges<'a>(
     text: &mut String,
-    heading: &str,
     day: Day<'a>,
     edges: &[u32],
     all: bool,
@@ -54,12 +73,66 @@ fn push_edges<'a>(
         return Ok(());
     }
     let letter = day.letter;
-    write!(text, "{heading} {letter} alone: {count}\n")?;
+    write!(text, "edges of {letter} alone: {count}\n")?;
     let most = entries(all);
     for edge in edges.iter().take(most) {
         let placed = day.side.edge(*edge);
         write!(text, "  {placed}\n")?;
     }
+    push_rest(text, "  ", count, most)
+}
+
+// Adds those edges that ran in one recording alone and ended well, or the others, at most so many, and gives how many it
+// adds.
+fn push_ran_edges<'a>(
+    text: &mut String,
+    day: Day<'a>,
+    edges: &[u32],
+    ended_well: bool,
+    most: usize,
+) -> Result<usize, AllocError> {
+    let mut told: usize = 0;
+    for edge in edges {
+        if told < most && day.ended_well(*edge) == ended_well {
+            told = told.saturating_add(1);
+            push_ran_edge(text, day, *edge, ended_well)?;
+        }
+    }
+    Ok(told)
+}
+
+// Adds an edge that ran in one recording alone, and how it ended, unless it ended well.
+fn push_ran_edge<'a>(
+    text: &mut String,
+    day: Day<'a>,
+    edge: u32,
+    ended_well: bool,
+) -> Result<(), AllocError> {
+    let placed = day.side.edge(edge);
+    let (between, status) = if ended_well {
+        ("", "")
+    } else {
+        (": ", day.status(edge).unwrap_or(""))
+    };
+    write!(text, "  {placed}{between}{status}\n")
+}
+
+// Adds the edges that ran in one recording alone: first those that did not end well.
+fn push_ran<'a>(
+    text: &mut String,
+    day: Day<'a>,
+    edges: &[u32],
+    all: bool,
+) -> Result<(), AllocError> {
+    let count = edges.len();
+    if count == 0 {
+        return Ok(());
+    }
+    let letter = day.letter;
+    write!(text, "ran in {letter} alone: {count}\n")?;
+    let most = entries(all);
+    let told = push_ran_edges(text, day, edges, false, most)?;
+    push_ran_edges(text, day, edges, true, most.saturating_sub(told))?;
     push_rest(text, "  ", count, most)
 }
 
@@ -144,6 +217,12 @@ fn push_flags(text: &mut String, flags: &[Shown<'_>]) -> Result<(), AllocError> 
     text.push_str("\n")
 }
 
+// Adds an edge with its place.
+fn push_placed<'a>(text: &mut String, side: Side<'a>, edge: u32) -> Result<(), AllocError> {
+    let placed = side.edge(edge);
+    write!(text, "  {placed}\n")
+}
+
 // Adds an edge whose statements differ.
 fn push_change<'a>(
     alloc: Global,
@@ -153,8 +232,7 @@ fn push_change<'a>(
     changed: &Changed,
     all: bool,
 ) -> Result<(), AllocError> {
-    let placed = one.edge(changed.edge);
-    write!(text, "  {placed}\n")?;
+    push_placed(text, one, changed.edge)?;
     let (Some(build), Some(twin)) = (one.build(changed.edge), other.build(changed.twin)) else {
         return Ok(());
     };
@@ -173,6 +251,28 @@ fn push_change<'a>(
     push_flags(text, &flags)
 }
 
+// Adds an edge of each group whose statements differ alike, and how many are like it.
+fn push_alike_changes<'a>(
+    alloc: Global,
+    text: &mut String,
+    one: Side<'a>,
+    other: Side<'a>,
+    changed: &[Changed],
+) -> Result<(), AllocError> {
+    let groups = alike_changes(alloc, one, other, changed)?;
+    for (place, group) in groups.iter().take(GROUPS).enumerate() {
+        if let Some(change) = changed.get(group.first) {
+            if place < FEW {
+                push_change(alloc, text, one, other, change, false)?;
+            } else {
+                push_placed(text, one, change.edge)?;
+            }
+            push_alike(text, *group)?;
+        }
+    }
+    push_rest(text, "  ", changed.len(), told_in(&groups))
+}
+
 // Adds the edges whose statements differ.
 fn push_changed<'a>(
     alloc: Global,
@@ -187,11 +287,13 @@ fn push_changed<'a>(
         return Ok(());
     }
     write!(text, "statements that differ: {count}\n")?;
-    let most = entries(all);
-    for change in changed.iter().take(most) {
+    if !all && count > FEW {
+        return push_alike_changes(alloc, text, one, other, changed);
+    }
+    for change in changed {
         push_change(alloc, text, one, other, change, all)?;
     }
-    push_rest(text, "  ", count, most)
+    Ok(())
 }
 
 // Adds which outputs are there on one side alone.
@@ -232,6 +334,14 @@ fn push_reads<'a>(
     Ok(())
 }
 
+// Adds an edge, and how it ended on both sides.
+fn push_endings<'a>(text: &mut String, one: Side<'a>, d: &Differing) -> Result<(), AllocError> {
+    let placed = one.edge(d.edge);
+    let ending = ending_word(d.last.ending);
+    let other_ending = ending_word(d.other.ending);
+    write!(text, "  {placed}: {ending} in A, {other_ending} in B\n")
+}
+
 // Adds an edge whose runs differ.
 fn push_difference<'a>(
     alloc: Global,
@@ -241,10 +351,7 @@ fn push_difference<'a>(
     d: &Differing,
     all: bool,
 ) -> Result<(), AllocError> {
-    let placed = one.edge(d.edge);
-    let ending = ending_word(d.last.ending);
-    let other_ending = ending_word(d.other.ending);
-    write!(text, "  {placed}: {ending} in A, {other_ending} in B\n")?;
+    push_endings(text, one, d)?;
     if d.differences.presence {
         push_presence(alloc, text, one, other, d, all)?;
     }
@@ -252,6 +359,28 @@ fn push_difference<'a>(
         push_reads(alloc, text, one, other, d, all)?;
     }
     Ok(())
+}
+
+// Adds an edge of each group whose runs differ alike, and how many are like it.
+fn push_alike_runs<'a>(
+    alloc: Global,
+    text: &mut String,
+    one: Side<'a>,
+    other: Side<'a>,
+    differing: &[Differing],
+) -> Result<(), AllocError> {
+    let groups = alike_runs(alloc, one, other, differing)?;
+    for (place, group) in groups.iter().take(GROUPS).enumerate() {
+        if let Some(difference) = differing.get(group.first) {
+            if place < FEW {
+                push_difference(alloc, text, one, other, difference, false)?;
+            } else {
+                push_endings(text, one, difference)?;
+            }
+            push_alike(text, *group)?;
+        }
+    }
+    push_rest(text, "  ", differing.len(), told_in(&groups))
 }
 
 // Adds the edges whose runs differ.
@@ -268,11 +397,13 @@ fn push_differing<'a>(
         return Ok(());
     }
     write!(text, "runs that differ: {count}\n")?;
-    let most = entries(all);
-    for difference in differing.iter().take(most) {
+    if !all && count > FEW {
+        return push_alike_runs(alloc, text, one, other, differing);
+    }
+    for difference in differing {
         push_difference(alloc, text, one, other, difference, all)?;
     }
-    push_rest(text, "  ", count, most)
+    Ok(())
 }
 
 // Adds a maker that had finished on the good day alone, and what became of it on the bad day.
@@ -399,11 +530,11 @@ fn push_alone<'a>(
     all: bool,
 ) -> Result<(), AllocError> {
     let only = alone_in(alloc, a.twins)?;
-    push_edges(text, "edges of", a, &only, all)?;
+    push_edges(text, a, &only, all)?;
     let other_only = alone_in(alloc, b.twins)?;
-    push_edges(text, "edges of", b, &other_only, all)?;
-    push_edges(text, "ran in", a, &facts.ran, all)?;
-    push_edges(text, "ran in", b, &facts.other_ran, all)
+    push_edges(text, b, &other_only, all)?;
+    push_ran(text, a, &facts.ran, all)?;
+    push_ran(text, b, &facts.other_ran, all)
 }
 
 /// The comparison of two recordings in words: a few entries of each section, or all.

@@ -21,6 +21,13 @@ top_of row = 60 + 20 * row
 unfoldable pub attribute : List ℕ → ℕ → List ℕ
 attribute name value = codes " " ++ name ++ codes "=\"" ++ decimal value ++ codes "\""
 
+-- an attribute whose value is words, and one whose value is a name
+unfoldable pub words_attribute : List ℕ → List ℕ → List ℕ
+words_attribute name words = codes " " ++ name ++ codes "=\"" ++ escaped_words words ++ codes "\""
+
+unfoldable pub name_attribute : List ℕ → List ℕ → List ℕ
+name_attribute name value = codes " " ++ name ++ codes "=\"" ++ escaped value ++ codes "\""
+
 -- words where something holds
 abbrev pub words_if : Bool → List ℕ → List ℕ
 words_if false words = []
@@ -57,10 +64,26 @@ abbrev pub time_text : Option Time → List ℕ
 time_text None = []
 time_text (Some t) = codes ", " ++ duration t.took ++ codes " from " ++ duration t.from
 
+-- the number of the event that ended a bar, where one did
+abbrev pub ended_data : Option ℕ → List ℕ
+ended_data None = []
+ended_data (Some ended) = attribute (codes "data-ended") ended
+
+-- what a program reads of a bar, behind its class: the numbers of its events
+unfoldable pub bar_events : Bar → List ℕ
+bar_events b = codes "\"" ++ attribute (codes "data-began") b.began ++ ended_data b.ended
+
+-- and what stands before its name, and the name
+abbrev pub bar_names : Bar → List ℕ
+bar_names b = words_attribute (codes "data-words") b.words.now ++ name_attribute (codes "data-path") b.name.now
+
+abbrev pub bar_data : Bar → List ℕ
+bar_data b = bar_events b ++ bar_names b
+
 -- what is told of a shape to who points at it, behind the end of its tag
 unfoldable pub bar_title : Bar → List ℕ
 bar_title b =
-    codes "\"><title>" ++ escaped_words b.words.now ++ escaped b.name.now ++ span b.began b.ended ++ time_text b.time
+    codes "><title>" ++ escaped_words b.words.now ++ escaped b.name.now ++ span b.began b.ended ++ time_text b.time
     ++ codes "</title>"
 
 -- the height of a bar, and the end of its tag
@@ -91,7 +114,7 @@ bar_label b = label (label_left b) (top_of b.row + 14) b.words.now (option_copie
 -- a command or an event: a bar in its row, its name, events and times, and its label
 unfoldable pub bar_text : Bar → List ℕ
 bar_text b =
-    codes "<g class=\"" ++ look b ++ bar_title b ++ rect b.left (top_of b.row + 3) b.width
+    codes "<g class=\"" ++ look b ++ bar_data b ++ bar_title b ++ rect b.left (top_of b.row + 3) b.width
     ++ bar_label b ++ codes "</g>\n"
 
 -- how a line begins: a dependence of the second event on the first, a race of the two by lists, or one that was observed

@@ -1,7 +1,7 @@
 //! Bars of edges, and lines between events.
 ghost use Rattle.std.specs.Prelude.{◌≡◌, ◌++◌, codes, decimal, OnOk};
 ghost use Rattle.std.specs.Option.{option_copied};
-ghost use Rattle.rev_picture.specs.Picture.{attribute, bar_text, bar_title, duration, ended_look, kind, label, label_left, line_text, line_words, look, rect, span, stroke, tall, text_at, time_text, top_of, words_if};
+ghost use Rattle.rev_picture.specs.Picture.{attribute, bar_data, bar_events, bar_names, bar_text, bar_title, duration, ended_data, ended_look, kind, label, label_left, line_text, line_words, look, name_attribute, rect, span, stroke, tall, text_at, time_text, top_of, words_attribute, words_if};
 
 use crate::escape::{push_escaped, push_escaped_words};
 use rev_fields::push_number;
@@ -112,6 +112,30 @@ pub(crate) fn push_attribute(text: &mut Vec<u8>, name: &[u8], value: u64) -> Res
     text.extend_from_slice(b"\"")
 }
 
+// Adds an attribute whose value is words.
+#[tactic(auto, unfolding(crate::specs::Picture::words_attribute))]
+fn push_words_attribute(text: &mut Vec<u8>, name: &[u8], words: &[u8]) -> Result<(), AllocError>
+    ensures { OnOk result (text.new.items ≡ text.old.items ++ words_attribute name.now words.now) }
+{
+    text.extend_from_slice(b" ")?;
+    text.extend_from_slice(name)?;
+    text.extend_from_slice(b"=\"")?;
+    push_escaped_words(text, words)?;
+    text.extend_from_slice(b"\"")
+}
+
+// Adds an attribute whose value is a name.
+#[tactic(auto, unfolding(crate::specs::Picture::name_attribute))]
+fn push_name_attribute(text: &mut Vec<u8>, name: &[u8], value: &[u8]) -> Result<(), AllocError>
+    ensures { OnOk result (text.new.items ≡ text.old.items ++ name_attribute name.now value.now) }
+{
+    text.extend_from_slice(b" ")?;
+    text.extend_from_slice(name)?;
+    text.extend_from_slice(b"=\"")?;
+    push_escaped(text, value)?;
+    text.extend_from_slice(b"\"")
+}
+
 // Adds words where something holds.
 fn push_if(text: &mut Vec<u8>, holds: bool, words: &[u8]) -> Result<(), AllocError>
     ensures { OnOk result (text.new.items ≡ text.old.items ++ words_if holds words.now) }
@@ -199,12 +223,48 @@ fn push_time(text: &mut Vec<u8>, time: Option<Time>) -> Result<(), AllocError>
     }
 }
 
+// Adds the number of the event that ended a bar, where one did.
+fn push_ended(text: &mut Vec<u8>, ended: Option<u32>) -> Result<(), AllocError>
+    ensures { OnOk result (text.new.items ≡ text.old.items ++ ended_data ended) }
+{
+    match ended {
+        None => Ok(()),
+        Some(ended) => push_attribute(text, b"data-ended", u64::from(ended)),
+    }
+}
+
+// Adds the numbers of a bar's events.
+#[tactic(auto, unfolding(crate::specs::Picture::bar_events))]
+fn push_bar_events(text: &mut Vec<u8>, bar: &Bar<'_>) -> Result<(), AllocError>
+    ensures { OnOk result (text.new.items ≡ text.old.items ++ bar_events bar.now) }
+{
+    text.extend_from_slice(b"\"")?;
+    push_attribute(text, b"data-began", u64::from(bar.began))?;
+    push_ended(text, bar.ended)
+}
+
+// Adds what stands before a bar's name, and the name.
+fn push_bar_names(text: &mut Vec<u8>, bar: &Bar<'_>) -> Result<(), AllocError>
+    ensures { OnOk result (text.new.items ≡ text.old.items ++ bar_names bar.now) }
+{
+    push_words_attribute(text, b"data-words", bar.words)?;
+    push_name_attribute(text, b"data-path", bar.name)
+}
+
+// Adds what a program reads of a bar.
+fn push_bar_data(text: &mut Vec<u8>, bar: &Bar<'_>) -> Result<(), AllocError>
+    ensures { OnOk result (text.new.items ≡ text.old.items ++ bar_data bar.now) }
+{
+    push_bar_events(text, bar)?;
+    push_bar_names(text, bar)
+}
+
 // Adds what is told of a bar to who points at it.
 #[tactic(auto, unfolding(crate::specs::Picture::bar_title))]
 fn push_bar_title(text: &mut Vec<u8>, bar: &Bar<'_>) -> Result<(), AllocError>
     ensures { OnOk result (text.new.items ≡ text.old.items ++ bar_title bar.now) }
 {
-    text.extend_from_slice(b"\"><title>")?;
+    text.extend_from_slice(b"><title>")?;
     push_escaped_words(text, bar.words)?;
     push_escaped(text, bar.name)?;
     push_span(text, bar.began, bar.ended)?;
@@ -275,7 +335,8 @@ fn label_left(bar: &Bar<'_>) -> u64
     left
 }
 
-/// Appends a bar as an SVG element: a rectangle in its row, a tip with its name and events, and its label.
+/// Appends a bar as an SVG element: a rectangle in its row, a tip with its name and events, and its label. The numbers
+/// of its events, what stands before its name, and the name also stand in attributes, for programs.
 ///
 /// # Errors
 /// [`AllocError`] only where an allocation was refused.
@@ -287,6 +348,7 @@ pub fn push_bar(text: &mut Vec<u8>, bar: &Bar<'_>) -> Result<(), AllocError>
     let left = u64::from(bar.left);
     text.extend_from_slice(b"<g class=\"")?;
     push_look(text, bar)?;
+    push_bar_data(text, bar)?;
     push_bar_title(text, bar)?;
     push_rect(text, left, top + 3, u64::from(bar.width))?;
     push_label(text, label_left(bar), top + 14, bar.words, bar.label)?;

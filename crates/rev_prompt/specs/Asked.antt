@@ -1,19 +1,21 @@
 -- What a question that only asks is answered.
-use Rattle.std.specs.Prelude.{◌≡◌, ℕ, ⊤, List, Option, Some, None}
-use Rattle.rev_cells.specs.State.{State}
+use Rattle.std.specs.Prelude.{◌≡◌, ℕ, ⊤, List, [], ◌∷◌, Option, Some, None}
+use Rattle.rev_cells.specs.declared.cell.Cell.TheVariants.{Built, Deps, Mark, Stamp}
 use Rattle.rev_desk.specs.Machine.{DeskValue}
-use Rattle.rev_history.specs.Timeline.{Timeline}
+use Rattle.rev_history.specs.Timeline.{Timeline, state_at}
 use Rattle.rev_listing.specs.Logs.{logs_text}
+use Rattle.rev_listing.specs.Marks.{marks_text}
 use Rattle.rev_listing.specs.Stamps.{stamps_text}
 use Rattle.rev_observed.specs.Observations.{ObservationValue}
 use Rattle.rev_prompt.specs.declared.answers.Answer.{Answer}
 use Rattle.rev_prompt.specs.declared.answers.Answer.TheVariants as answer
 use Rattle.rev_prompt.specs.declared.question.Question.{Question}
 use Rattle.rev_prompt.specs.declared.question.Question.TheVariants as question
-use Rattle.rev_prompt.specs.Answers.{IsDependents, IsNeeds, IsWho, IsWhy, IsWith}
+use Rattle.rev_prompt.specs.Answers.{IsDependents, IsNeeds, IsNoOutput, IsWho, IsWhy, IsWith, OfOutput}
 use Rattle.rev_prompt.specs.Cones.{IsWouldCone}
-use Rattle.rev_prompt.specs.Lines.{log_lines, stamp_line}
-use Rattle.rev_prompt.specs.Named.{OfEvent}
+use Rattle.rev_prompt.specs.Lines.{only}
+use Rattle.rev_prompt.specs.Named.{OfEvent, OfEvents}
+use Rattle.rev_prompt.specs.Ordered.{IsOrderOf}
 use Rattle.rev_prompt.specs.Users.{IsReaders, IsWriters}
 
 -- the kept events
@@ -21,20 +23,38 @@ abbrev pub IsKept : Timeline → Answer → Type 0
 IsKept t (answer.Kept numbers) = numbers.items ≡ t.kept
 IsKept t _ = ⊥
 
--- the files that are not missing, or one of them
-abbrev pub stamps_at : State → Option (List ℕ) → List ℕ
-stamps_at state None = stamps_text state
-stamps_at state (Some path) = stamp_line state path
-
--- what the logs have, or what they have of an output
-abbrev pub logs_at : State → Option (List ℕ) → List ℕ
-logs_at state None = logs_text state
-logs_at state (Some path) = log_lines state path
-
 -- exactly these lines
 abbrev pub AreLines : List ℕ → Answer → Type 0
 AreLines lines (answer.Lines text) = text.items ≡ lines
 AreLines lines _ = ⊥
+
+-- the line of a file that is not missing
+abbrev pub stamp_at : Timeline → List ℕ → List ℕ
+stamp_at t path = stamps_text (only (state_at t) (Stamp path ∷ []))
+
+-- the files that are not missing, or this one
+abbrev pub AreStamps : Timeline → Option (List ℕ) → Answer → Type 0
+AreStamps t None told = AreLines (stamps_text (state_at t)) told
+AreStamps t (Some path) told = AreLines (stamp_at t path) told
+
+-- the lines of the records of an output
+abbrev pub records_at : Timeline → List ℕ → List ℕ
+records_at t path = logs_text (only (state_at t) (Built path ∷ Deps path ∷ []))
+
+-- what the logs have, or what they have of an output
+abbrev pub AreLogs : Timeline → Option (List ℕ) → Answer → Type 0
+AreLogs t None told = AreLines (logs_text (state_at t)) told
+AreLogs t (Some path) told = AreLines (records_at t path) told
+
+-- the line of an edge that is not Idle
+abbrev pub mark_at : Timeline → ℕ → List ℕ
+mark_at t edge = marks_text t.manifest.builds (only (state_at t) (Mark edge ∷ []))
+
+-- how far edges have come and what is held, or how far the edge of an output has come
+abbrev pub IsMarks : Timeline → Option (List ℕ) → Answer → Type 0
+IsMarks t None told = AreLines (marks_text t.manifest.builds (state_at t)) told
+IsMarks t (Some out) (answer.NoOutput path) = IsNoOutput t out path
+IsMarks t (Some out) told = OfOutput t out (λ edge. AreLines (mark_at t edge) told)
 
 -- By the desk, what was observed of the recording, and the edges of its observed commands. What is not said of a
 -- question here is said where it is answered, or is tested.
@@ -49,4 +69,8 @@ IsAnswer d o edges (question.Writers path) told = IsWriters d.history o edges pa
 IsAnswer d o edges (question.Why out) told = IsWhy d.history out told
 IsAnswer d o edges (question.With out) told = IsWith d.history out told
 IsAnswer d o edges (question.Kept all) told = IsKept d.history told
+IsAnswer d o edges (question.Order names) told = OfEvents d names.items (λ ns. IsOrderOf d.history ns told) told
+IsAnswer d o edges (question.Marks out) told = IsMarks d.history out told
+IsAnswer d o edges (question.Stamps path) told = AreStamps d.history path told
+IsAnswer d o edges (question.Logs path) told = AreLogs d.history path told
 IsAnswer d o edges _ told = ⊤

@@ -1,15 +1,10 @@
--- The lines of one path, as the listings of all have them.
-use Rattle.std.specs.Prelude.{ℕ, ◌==◌, List, [], ◌++◌, if◌then◌else◌}
-use Rattle.rev_cells.specs.declared.cell.Cell.TheVariants.{Stamp}
-use Rattle.rev_cells.specs.State.{State, built_of, deps_of, stamp_of, value_at}
-use Rattle.rev_listing.specs.Logs.{built_text, deps_text}
-use Rattle.rev_listing.specs.Stamps.{stamp_text}
+-- What is told of one path or edge: what the listings of all tell where nothing else is there.
+use Rattle.std.specs.Prelude.{List, [], ◌∷◌, map}
+use Rattle.std.specs.FinMap as state
+use Rattle.rev_cells.specs.declared.cell.Cell.{Cell}
+use Rattle.rev_cells.specs.Effects.{set_all}
+use Rattle.rev_cells.specs.State.{State, value_at}
 
--- of a file, unless it is missing
-abbrev pub stamp_line : State → List ℕ → List ℕ
-stamp_line state path =
-    if stamp_of state path == 0 then [] else stamp_text (Stamp path) (value_at state (Stamp path))
-
--- the records of the build log and of the deps log, those that there are
-abbrev pub log_lines : State → List ℕ → List ℕ
-log_lines state path = built_text path (built_of state path) ++ deps_text path (deps_of state path)
+-- a state in which these cells hold what they hold in another, and each other cell is at its default
+abbrev pub only : State → List Cell → State
+only s cells = set_all state.empty (map (λ c. (c, value_at s c)) cells)

@@ -1,5 +1,6 @@
 -- Which event a name means.
-use Rattle.std.specs.Prelude.{◌≡◌, ℕ, ◌||◌, ◌&&◌, Bool, true, false, bytes_eq, codes, find, reverse, IsSome, List, Option, Some, None, option_and_then, Result, Ok, Err}
+use Rattle.std.specs.Prelude.{◌≡◌, ℕ, ◌||◌, ◌&&◌, Bool, true, false, bytes_eq, codes, find, reverse, IsSome, List, [], ◌∷◌, ◌++◌, Option, Some, None, option_and_then, Result, Ok, Err}
+use Rattle.std.specs.Global.{Vec}
 use Rattle.rev_desk.specs.Machine.{DeskValue}
 use Rattle.rev_desk.specs.Names.{named}
 use Rattle.rev_events.specs.declared.event.Event.{Event}
@@ -100,3 +101,31 @@ OfNumber (Some n) P none = P n
 
 abbrev pub OfEvent : DeskValue → EventName → (ℕ → Type 0) → Answer → Type 0
 OfEvent d name P told = OfNumber (event_named d name) P (IsNoEvent d.history name told)
+
+-- numbers before those of further names
+abbrev pub with_rest : List ℕ → Result (List ℕ) EventName → Result (List ℕ) EventName
+with_rest numbers (Ok rest) = Ok (numbers ++ rest)
+with_rest numbers (Err name) = Err name
+
+abbrev pub then_rest : EventName → Option ℕ → Result (List ℕ) EventName → Result (List ℕ) EventName
+then_rest name None rest = Err name
+then_rest name (Some n) rest = with_rest (n ∷ []) rest
+
+-- the events of names, in their order, or the first name that means none
+abbrev pub events_named : DeskValue → List EventName → Result (List ℕ) EventName
+events_named d [] = Ok []
+events_named d (name ∷ names) = then_rest name (event_named d name) (events_named d names)
+
+-- the events of names, or what is answered where the first such means none
+abbrev pub AreNamed : DeskValue → List EventName → Result (Vec ℕ) Answer → Type 0
+AreNamed d names (Ok numbers) = events_named d names ≡ Ok numbers.items
+AreNamed d names (Err told) =
+    (name : EventName) × ((events_named d names ≡ Err name) × IsNoEvent d.history name told)
+
+-- this is so of the events of names; or one means none, and the answer says so of the first such
+abbrev pub OfNumbers : Timeline → Result (List ℕ) EventName → (List ℕ → Type 0) → Answer → Type 0
+OfNumbers t (Ok numbers) P told = P numbers
+OfNumbers t (Err name) P told = IsNoEvent t name told
+
+abbrev pub OfEvents : DeskValue → List EventName → (List ℕ → Type 0) → Answer → Type 0
+OfEvents d names P told = OfNumbers d.history (events_named d names) P told

@@ -1,5 +1,6 @@
 //! What questions are answered.
 use crate::found::Found;
+use crate::ordered::Ordered;
 use crate::question::Reach;
 use rev_dirty::Reason;
 use rev_held::Link;
@@ -213,8 +214,8 @@ pub enum Answer {
     /// Why an output's edge runs: its last run, where the reasons are those of a plan before it, the number of that
     /// plan, and else the reasons of the present state.
     Why(Name, Option<Span>, Option<u32>, Way),
-    /// The line that the word `order` of a script writes.
-    Order(Vec<u8>),
+    /// What another order of events makes.
+    Order(Ordered),
     /// What the desk replied to a typed command, and the event that it names; no reply where the journal was full.
     Said(Option<rev_desk::Reply>, Option<u32>),
     /// What the desk replied to an undo that was carried out, the event, and who was seen to look at what it left.
@@ -249,7 +250,7 @@ impl Drop for Answer {
             Answer::Without(_path, _members, _left) => {}
             Answer::With(_path, _run, _others) => {}
             Answer::Why(_path, _run, _plan, _way) => {}
-            Answer::Order(_line) => {}
+            Answer::Order(_ordered) => {}
             Answer::Said(_reply, _number) => {}
             Answer::Undone(_reply, _number, _users) => {}
             Answer::Run(_tally, _paused) => {}
@@ -262,10 +263,28 @@ impl Drop for Answer {
 /// Whether an answer is one: what the question names is there.
 pub fn has_answer(answer: &Answer) -> bool {
     match answer {
-        Answer::NoOutput(_) => false,
-        Answer::NoneKept(_) => false,
-        Answer::NoEvent => false,
-        _ => true,
+        Answer::NoOutput(_) | Answer::NoneKept(_) | Answer::NoEvent => false,
+        Answer::Nothing
+        | Answer::Help
+        | Answer::Lines(_)
+        | Answer::Event(_)
+        | Answer::Kept(_)
+        | Answer::Who(_, _)
+        | Answer::Needs(_)
+        | Answer::Readers(_, _)
+        | Answer::Writers(_, _)
+        | Answer::Dependents(_, _)
+        | Answer::WouldCone(_, _)
+        | Answer::Cone(_, _)
+        | Answer::Without(_, _, _)
+        | Answer::With(_, _, _)
+        | Answer::Why(_, _, _, _)
+        | Answer::Order(_)
+        | Answer::Said(_, _)
+        | Answer::Undone(_, _, _)
+        | Answer::Run(_, _)
+        | Answer::Steps(_, _, _)
+        | Answer::Found(_) => true,
     }
 }
 

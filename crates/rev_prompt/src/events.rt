@@ -2,7 +2,7 @@
 ghost use Rattle.std.specs.Prelude.{◌≡◌, if◌then◌else◌, option_and_then, IfOk};
 ghost use Rattle.std.specs.Option.{option_copied};
 ghost use Rattle.rev_prompt.specs.Answers.{IsWho};
-ghost use Rattle.rev_prompt.specs.Named.{IsLastOrNone, IsNamed, IsNoneAt, accepted_number, is_at as is_at_path, is_meant, is_meant_at, is_of_kind as is_of_kind_named, is_of_producer as is_of_edge_if, is_touch_of as is_touch_at, kind_word as word_of, last_at as last_at_path};
+ghost use Rattle.rev_prompt.specs.Named.{AreNamed, IsLastOrNone, IsNamed, IsNoneAt, accepted_number, is_at as is_at_path, is_meant, is_meant_at, is_of_kind as is_of_kind_named, is_of_producer as is_of_edge_if, is_touch_of as is_touch_at, kind_word as word_of, last_at as last_at_path};
 
 use crate::answers::Answer;
 use crate::question::EventName;
@@ -160,6 +160,27 @@ pub(crate) fn named_event(desk: &Desk, name: &EventName) -> Result<Result<u32, A
         EventName::Kind(_, path) => last_or_none(history, name, path),
         EventName::Last(path) => last_or_none(history, name, path),
     }
+}
+
+/// The events that names mean, in their order, or what is answered where the first such means none.
+///
+/// # Errors
+/// [`AllocError`] only where an allocation was refused.
+pub(crate) fn named_events(
+    alloc: Global,
+    desk: &Desk,
+    names: &[EventName],
+) -> Result<Result<Vec<u32>, Answer>, AllocError>
+    ensures { IfOk result (λ found. AreNamed desk.now names.now found) }
+{
+    let mut numbers = Vec::new(alloc);
+    for name in names {
+        match named_event(desk, name)? {
+            Ok(number) => numbers.push(number)?,
+            Err(answer) => return Ok(Err(answer)),
+        }
+    }
+    Ok(Ok(numbers))
 }
 
 /// `who OUT`: the events of an edge, also those that were undone.

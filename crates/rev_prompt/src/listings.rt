@@ -1,126 +1,127 @@
 //! What is answered by lists of lines, and by the kept events.
-ghost use Rattle.std.specs.Prelude.{◌≡◌, ◌++◌, map, IfOk, OnOk};
-ghost use Rattle.std.specs.List.{flat_map};
+ghost use Rattle.std.specs.Prelude.{◌≡◌, ◌∷◌, [], IfOk};
+ghost use Rattle.std.specs.FinMap as state;
+ghost use Rattle.std.specs.List.{AllByRecursion};
 ghost use Rattle.std.specs.Option.{option_copied};
-ghost use Rattle.rev_fields.specs.Fields.{field_text, spaced};
-ghost use Rattle.rev_listing.specs.Logs.{built_text, deps_text};
-ghost use Rattle.rev_prompt.specs.Asked.{AreLines, IsKept, logs_at, stamps_at};
-ghost use Rattle.rev_prompt.specs.Lines.{log_lines, stamp_line};
+ghost use Rattle.rev_cells.specs.Effects.{set_all};
+ghost use Rattle.rev_cells.specs.State.{value_at};
+ghost use Rattle.rev_cells.specs.Values.{Fits};
+ghost use Rattle.rev_cells.specs.declared.cell.Cell.{Cell};
+ghost use Rattle.rev_cells.specs.declared.cell.Cell.TheVariants as cell;
+ghost use Rattle.rev_cells.specs.declared.value.Value.{Value};
+ghost use Rattle.rev_prompt.specs.Asked.{AreLogs, AreStamps, IsKept, IsMarks, mark_at, records_at, stamp_at};
+ghost use Rattle.rev_prompt.specs.Lines.{only as only_these};
+ghost use Rattle.rev_prompt.specs.Named.{OfEvents};
+ghost use Rattle.rev_prompt.specs.Ordered.{IsOrderOf};
 
 use crate::answers::Answer;
-use crate::events::named_event;
+use crate::events::named_events;
+use crate::ordered::run_in_order;
 use crate::question::EventName;
-use rev_cells::records::{built, deps, stamp};
-use rev_cells::{BuiltRecord, Cells, DepsRecord};
+use rev_cells::{Cell, Cells, Opening, Value};
 use rev_desk::Desk;
-use rev_fields::{next_field, next_number, next_paths};
 use rev_history::History;
 use rev_listing::{logs_text, marks_text, stamps_text};
-use rev_order_text::order_text;
 use rev_paths::Name;
 use std::alloc::{AllocError, Global};
 
-// The line of a file, as `stamps` has it; none where the file is missing.
-fn stamp_of(alloc: Global, cells: &Cells, path: &Name) -> Result<Vec<u8>, AllocError>
-    ensures { IfOk result (λ text. text.items ≡ stamp_line cells.now.state path.now) }
+// A cell with what it holds.
+fn held(cells: &Cells, cell: Cell) -> Result<(Cell, Value), AllocError>
+    ensures is { IfOk result (λ pair. pair ≡ (cell, value_at cells.now.state cell)) }
+    ensures fits { IfOk result (λ pair. Fits pair.0 pair.1) }
 {
-    let mut text = Vec::new(alloc);
-    let stamp = stamp(cells, path);
-    if stamp == 0 {
-        return Ok(text);
-    }
-    text.extend_from_slice(b"stamp")?;
-    next_field(&mut text, path.as_bytes())?;
-    next_number(&mut text, stamp)?;
-    text.extend_from_slice(b"\n")?;
-    Ok(text)
-}
-
-// Adds the line of a record of the build log, if there is one.
-fn push_built(
-    text: &mut Vec<u8>,
-    path: &Name,
-    built: Option<&BuiltRecord>,
-) -> Result<(), AllocError>
-    ensures { OnOk result (text.new.items ≡ text.old.items ++ built_text path.now (option_copied built.entry)) }
-{
-    let Some(built) = built else {
-        return Ok(());
+    let value = match cells.get(&cell) {
+        Some(value) => value.copy()?,
+        None => cell.default_value(),
     };
-    text.extend_from_slice(b"built")?;
-    next_field(text, path.as_bytes())?;
-    next_number(text, built.stamp)?;
-    next_field(text, built.command.as_slice())?;
-    text.extend_from_slice(b"\n")
+    Ok((cell, value))
 }
 
-// Adds the fields of paths, each with a space before it.
-fn push_paths(text: &mut Vec<u8>, paths: &[Name]) -> Result<(), AllocError>
-    ensures { OnOk result (text.new.items ≡ text.old.items ++ flat_map spaced (map field_text paths.now)) }
+// Cells of which these alone are not at their default.
+fn only(alloc: Global, held: Vec<(Cell, Value)>) -> Result<Cells, AllocError>
+    requires { AllByRecursion (λ (w : Cell × Value). Fits w.0 w.1) held.items }
+    ensures { IfOk result (λ cells. cells.state ≡ set_all state.empty held.items) }
 {
-    next_paths(text, paths)
-}
-
-// Adds the line of a record of the deps log, if there is one.
-fn push_deps(text: &mut Vec<u8>, path: &Name, deps: Option<&DepsRecord>) -> Result<(), AllocError>
-    ensures { OnOk result (text.new.items ≡ text.old.items ++ deps_text path.now (option_copied deps.entry)) }
-{
-    let Some(deps) = deps else {
-        return Ok(());
+    let Ok(opening) = Opening::new(alloc, 1) else {
+        unreachable!()
     };
-    text.extend_from_slice(b"deps")?;
-    next_field(text, path.as_bytes())?;
-    next_number(text, deps.stamp)?;
-    push_paths(text, deps.paths.as_slice())?;
-    text.extend_from_slice(b"\n")
+    let mut cells = Cells::new(alloc, &opening)?;
+    let _former = cells.write_all(held)?;
+    Ok(cells)
 }
 
-// The lines of the records of an output, as `logs` has them.
-fn logs_of(alloc: Global, cells: &Cells, path: &Name) -> Result<Vec<u8>, AllocError>
-    ensures { IfOk result (λ text. text.items ≡ log_lines cells.now.state path.now) }
+// Cells of which one alone is not at its default, as in others.
+fn only_one(alloc: Global, cells: &Cells, cell: Cell) -> Result<Cells, AllocError>
+    ensures { IfOk result (λ one. one.state ≡ only_these cells.now.state (cell ∷ [])) }
 {
-    let mut text = Vec::new(alloc);
-    push_built(&mut text, path, built(cells, path))?;
-    push_deps(&mut text, path, deps(cells, path))?;
-    Ok(text)
+    let mut those = Vec::new(alloc);
+    those.push(held(cells, cell)?)?;
+    only(alloc, those)
+}
+
+// The records of an output in the build log and in the deps log alone.
+fn only_records(alloc: Global, cells: &Cells, path: &Name) -> Result<Cells, AllocError>
+    ensures { IfOk result (λ two. two.state
+        ≡ only_these cells.now.state (cell.Built path.now ∷ cell.Deps path.now ∷ [])) }
+{
+    let mut those = Vec::new(alloc);
+    those.push(held(cells, Cell::Built(path.copy()?))?)?;
+    those.push(held(cells, Cell::Deps(path.copy()?))?)?;
+    only(alloc, those)
+}
+
+// The line of a file that is not missing, as `stamps` has it.
+fn stamp_of(alloc: Global, history: &History, path: &Name) -> Result<Vec<u8>, AllocError>
+    ensures { IfOk result (λ text. text.items ≡ stamp_at history.now.timeline path.now) }
+{
+    let one = only_one(alloc, history.cells(), Cell::Stamp(path.copy()?))?;
+    stamps_text(alloc, &one)
 }
 
 /// `stamps` and `stamps PATH`: the files that are not missing, or one of them.
 pub(crate) fn stamps(
     alloc: Global,
-    cells: &Cells,
+    history: &History,
     path: Option<&Name>,
 ) -> Result<Answer, AllocError>
-    ensures { IfOk result (λ answer. AreLines (stamps_at cells.now.state (option_copied path.entry)) answer) }
+    ensures { IfOk result (λ answer. AreStamps history.now.timeline (option_copied path.entry) answer) }
 {
-    let text = match path {
-        Some(path) => stamp_of(alloc, cells, path)?,
-        None => stamps_text(alloc, cells)?,
+    let Some(path) = path else {
+        let text = stamps_text(alloc, history.cells())?;
+        return Ok(Answer::Lines(text));
     };
-    Ok(Answer::Lines(text))
+    Ok(Answer::Lines(stamp_of(alloc, history, path)?))
+}
+
+// The lines of the records of an output, as `logs` has them.
+fn records_of(alloc: Global, history: &History, path: &Name) -> Result<Vec<u8>, AllocError>
+    ensures { IfOk result (λ text. text.items ≡ records_at history.now.timeline path.now) }
+{
+    let two = only_records(alloc, history.cells(), path)?;
+    logs_text(alloc, &two)
 }
 
 /// `logs` and `logs PATH`: what the logs have, or what they have of an output.
-pub(crate) fn logs(alloc: Global, cells: &Cells, path: Option<&Name>) -> Result<Answer, AllocError>
-    ensures { IfOk result (λ answer. AreLines (logs_at cells.now.state (option_copied path.entry)) answer) }
+pub(crate) fn logs(
+    alloc: Global,
+    history: &History,
+    path: Option<&Name>,
+) -> Result<Answer, AllocError>
+    ensures { IfOk result (λ answer. AreLogs history.now.timeline (option_copied path.entry) answer) }
 {
-    let text = match path {
-        Some(path) => logs_of(alloc, cells, path)?,
-        None => logs_text(alloc, cells)?,
+    let Some(path) = path else {
+        let text = logs_text(alloc, history.cells())?;
+        return Ok(Answer::Lines(text));
     };
-    Ok(Answer::Lines(text))
+    Ok(Answer::Lines(records_of(alloc, history, path)?))
 }
 
-// The lines of a text that begin with these bytes.
-fn lines_with(alloc: Global, text: &[u8], head: &[u8]) -> Result<Vec<u8>, AllocError> {
-    let mut kept = Vec::new(alloc);
-    for line in text.split(|byte| *byte == b'\n') {
-        if line.starts_with(head) {
-            kept.extend_from_slice(line)?;
-            kept.push(b'\n')?;
-        }
-    }
-    Ok(kept)
+// The line of an edge that is not Idle, as `marks` has it.
+fn mark_of(alloc: Global, history: &History, edge: u32) -> Result<Vec<u8>, AllocError>
+    ensures { IfOk result (λ text. text.items ≡ mark_at history.now.timeline edge) }
+{
+    let one = only_one(alloc, history.cells(), Cell::Mark(edge))?;
+    marks_text(alloc, history.graph(), &one)
 }
 
 /// `marks` and `marks OUT`: how far edges have come, and what is held, or how far one edge has come.
@@ -128,18 +129,17 @@ pub(crate) fn marks(
     alloc: Global,
     history: &History,
     out: Option<&Name>,
-) -> Result<Answer, AllocError> {
-    let text = marks_text(alloc, history.graph(), history.cells())?;
+) -> Result<Answer, AllocError>
+    ensures { IfOk result (λ answer. IsMarks history.now.timeline (option_copied out.entry) answer) }
+{
     let Some(out) = out else {
+        let text = marks_text(alloc, history.graph(), history.cells())?;
         return Ok(Answer::Lines(text));
     };
     let Some(edge) = history.graph().producer(out) else {
         return Ok(Answer::NoOutput(out.copy()?));
     };
-    let mut head = Vec::from_slice(alloc, b"mark")?;
-    next_number(&mut head, u64::from(edge))?;
-    head.push(b' ')?;
-    Ok(Answer::Lines(lines_with(alloc, &text, &head)?))
+    Ok(Answer::Lines(mark_of(alloc, history, edge)?))
 }
 
 /// `kept`: the kept events.
@@ -150,13 +150,12 @@ pub(crate) fn kept(alloc: Global, history: &History) -> Result<Answer, AllocErro
 }
 
 /// `order EVENT..`: whether these events, run in this order from the opening, make the same build.
-pub(crate) fn order(alloc: Global, desk: &Desk, names: &[EventName]) -> Result<Answer, AllocError> {
-    let mut numbers = Vec::new(alloc);
-    for name in names {
-        match named_event(desk, name)? {
-            Ok(number) => numbers.push(number)?,
-            Err(answer) => return Ok(answer),
-        }
+pub(crate) fn order(alloc: Global, desk: &Desk, names: &[EventName]) -> Result<Answer, AllocError>
+    ensures { IfOk result (λ answer. OfEvents desk.now names.now
+        (λ numbers. IsOrderOf desk.now.history numbers answer) answer) }
+{
+    match named_events(alloc, desk, names)? {
+        Ok(numbers) => Ok(Answer::Order(run_in_order(desk.history(), &numbers)?)),
+        Err(answer) => Ok(answer),
     }
-    Ok(Answer::Order(order_text(alloc, desk.history(), &numbers)?))
 }

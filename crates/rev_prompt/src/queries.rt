@@ -267,6 +267,16 @@ fn slowest_of(runs: Vec<Timed>, count: u32) -> Result<Found, AllocError>
     Ok(Found::Slowest(runs))
 }
 
+// `slowest N` of a session.
+fn slowest_in(
+    alloc: Global,
+    session: &Session<'_>,
+    history: &History,
+    count: u32,
+) -> Result<Found, AllocError> {
+    slowest_of(timed_runs(alloc, history, session.times)?, count)
+}
+
 // The number from which runs count as those of the last build.
 fn begun_at(plan: Option<u32>) -> u32
     ensures { result ≡ begun_by plan }
@@ -290,33 +300,13 @@ fn critical_of(alloc: Global, history: &History, runs: &[Timed]) -> Result<Found
     Ok(Found::Critical(chain))
 }
 
-// What a question about times is answered.
-fn found_in_times(
+// `critical` of a session.
+fn critical_in(
     alloc: Global,
     session: &Session<'_>,
     history: &History,
-    query: &Query,
 ) -> Result<Found, AllocError> {
-    let runs = timed_runs(alloc, history, session.times)?;
-    match query {
-        Query::Slowest(count) => slowest_of(runs, *count),
-        _ => critical_of(alloc, history, &runs),
-    }
-}
-
-// What a question about files and times is answered.
-fn found(
-    alloc: Global,
-    session: &Session<'_>,
-    history: &History,
-    query: &Query,
-) -> Result<Found, AllocError> {
-    match query {
-        Query::Reads(path) => reads(alloc, history, session.observation, session.edges, path),
-        Query::Makes(path) => makes(alloc, history, session.observation, session.edges, path),
-        Query::Edges(pattern) => edges(alloc, history.graph(), pattern),
-        _ => found_in_times(alloc, session, history, query),
-    }
+    critical_of(alloc, history, &timed_runs(alloc, history, session.times)?)
 }
 
 /// What a question about edges, files and times is answered. The desk is only read.
@@ -326,9 +316,15 @@ pub(crate) fn queried(
     desk: &Desk,
     query: &Query,
 ) -> Result<Answer, AllocError> {
-    match query {
-        Query::Edge(name) => edge(alloc, desk, name),
-        Query::Rebuilds(paths) => rebuilds_of(alloc, desk.history(), paths),
-        _ => Ok(Answer::Found(found(alloc, session, desk.history(), query)?)),
-    }
+    let history = desk.history();
+    let found = match query {
+        Query::Edge(name) => return edge(alloc, desk, name),
+        Query::Rebuilds(paths) => return rebuilds_of(alloc, history, paths),
+        Query::Edges(pattern) => edges(alloc, history.graph(), pattern)?,
+        Query::Reads(path) => reads(alloc, history, session.observation, session.edges, path)?,
+        Query::Makes(path) => makes(alloc, history, session.observation, session.edges, path)?,
+        Query::Slowest(count) => slowest_in(alloc, session, history, *count)?,
+        Query::Critical => critical_in(alloc, session, history)?,
+    };
+    Ok(Answer::Found(found))
 }

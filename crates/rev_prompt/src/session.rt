@@ -161,8 +161,8 @@ pub fn asked(
         Question::Order(names) => order(alloc, desk, names),
         Question::Kept(_) => kept(alloc, history),
         Question::Marks(out) => marks(alloc, history, out.as_ref()),
-        Question::Stamps(path) => stamps(alloc, history.cells(), path.as_ref()),
-        Question::Logs(path) => logs(alloc, history.cells(), path.as_ref()),
+        Question::Stamps(path) => stamps(alloc, history, path.as_ref()),
+        Question::Logs(path) => logs(alloc, history, path.as_ref()),
         Question::Query(query, _) => queried(alloc, session, desk, query),
         Question::Help | Question::HelpOf(_) => Ok(Answer::Help),
         Question::Races(_) | Question::Quit | Question::Nothing => Ok(Answer::Nothing),
@@ -177,23 +177,35 @@ pub fn asked(
     }
 }
 
-// What a command about an event is answered.
-fn done_to_event(
+// `undo EVENT`: what the undo of the event of a name is answered.
+fn undo_of(
     alloc: Global,
     session: &Session<'_>,
     desk: &mut Desk,
     name: &EventName,
-    question: &Question,
 ) -> Result<Answer, AllocError> {
-    let number = match named_event(desk, name)? {
-        Ok(number) => number,
-        Err(answer) => return Ok(answer),
-    };
-    let which = Which::Number(number);
-    match question {
-        Question::Undo(_) => undo(alloc, session, desk, number),
-        Question::Redo(_) => apply(session, desk, Command::Redo(which), Some(number)),
-        _ => cone(session, desk, number),
+    match named_event(desk, name)? {
+        Ok(number) => undo(alloc, session, desk, number),
+        Err(answer) => Ok(answer),
+    }
+}
+
+// `redo EVENT`
+fn redo_of(session: &Session<'_>, desk: &mut Desk, name: &EventName) -> Result<Answer, AllocError> {
+    match named_event(desk, name)? {
+        Ok(number) => {
+            let redo = Command::Redo(Which::Number(number));
+            apply(session, desk, redo, Some(number))
+        }
+        Err(answer) => Ok(answer),
+    }
+}
+
+// `cone EVENT`
+fn cone_of(session: &Session<'_>, desk: &mut Desk, name: &EventName) -> Result<Answer, AllocError> {
+    match named_event(desk, name)? {
+        Ok(number) => cone(session, desk, number),
+        Err(answer) => Ok(answer),
     }
 }
 
@@ -211,7 +223,26 @@ pub fn only_asks(question: &Question) -> bool
         Question::Cone(_) => false,
         Question::Without(_) => false,
         Question::Command(_) => false,
-        _ => true,
+        Question::Needs(_, _)
+        | Question::Dependents(_)
+        | Question::WouldCone(_)
+        | Question::Who(_)
+        | Question::Readers(_)
+        | Question::Writers(_)
+        | Question::What(_)
+        | Question::Why(_)
+        | Question::With(_)
+        | Question::Order(_)
+        | Question::Kept(_)
+        | Question::Races(_)
+        | Question::Marks(_)
+        | Question::Stamps(_)
+        | Question::Logs(_)
+        | Question::Query(_, _)
+        | Question::Help
+        | Question::HelpOf(_)
+        | Question::Quit
+        | Question::Nothing => true,
     }
 }
 
@@ -219,10 +250,7 @@ pub fn only_asks(question: &Question) -> bool
 fn is_quit(question: &Question) -> bool
     ensures { result ≡ is_quit_of question.now }
 {
-    match question {
-        Question::Quit => true,
-        _ => false,
-    }
+    matches!(question, Question::Quit)
 }
 
 // What a question that does more than ask is answered, and how many of the recording's commands were said by then.
@@ -236,15 +264,34 @@ fn done(
         Question::Run => return run(alloc, session, desk),
         Question::Next(count) => return advance(alloc, session, desk, *count),
         Question::Until(out) => return until(alloc, session, desk, out),
-        Question::Undo(name) | Question::Redo(name) | Question::Cone(name) => {
-            done_to_event(alloc, session, desk, name, question)?
-        }
+        Question::Undo(name) => undo_of(alloc, session, desk, name)?,
+        Question::Redo(name) => redo_of(session, desk, name)?,
+        Question::Cone(name) => cone_of(session, desk, name)?,
         Question::Without(out) => without(alloc, session, desk, out)?,
         Question::Command(command) => {
             let number = event_of(desk, command);
             apply(session, desk, command.copy()?, number)?
         }
-        _ => Answer::Nothing,
+        Question::Needs(_, _)
+        | Question::Dependents(_)
+        | Question::WouldCone(_)
+        | Question::Who(_)
+        | Question::Readers(_)
+        | Question::Writers(_)
+        | Question::What(_)
+        | Question::Why(_)
+        | Question::With(_)
+        | Question::Order(_)
+        | Question::Kept(_)
+        | Question::Races(_)
+        | Question::Marks(_)
+        | Question::Stamps(_)
+        | Question::Logs(_)
+        | Question::Query(_, _)
+        | Question::Help
+        | Question::HelpOf(_)
+        | Question::Quit
+        | Question::Nothing => Answer::Nothing,
     };
     Ok((answer, session.taken))
 }

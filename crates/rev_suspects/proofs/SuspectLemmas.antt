@@ -1,7 +1,7 @@
 -- The lists of suspects, one kept number after the other.
-use Rattle.std.proofs.Common.{◌≡◌, ◌≢◌, ℕ, zero, suc, ◌+◌, ◌<◌, ◌==◌, Bool, true, false, cond, ◌&&◌, ◌||◌, List, [], ◌∷◌, ◌++◌, length, get_or, set, take, map, Option, Some, None, nat_eq, refl, sym, ap, subst, ◌∙◌, arith, append_assoc, nat_lt, inl, inr, true≢false, if◌then◌else◌}
+use Rattle.std.proofs.Common.{◌≡◌, ◌≢◌, ℕ, zero, suc, ◌+◌, ◌<◌, ◌==◌, Bool, true, false, cond, ◌&&◌, ◌||◌, List, [], ◌∷◌, ◌++◌, length, get_or, set, take, map, Option, Some, None, Result, Ok, Err, nat_eq, refl, sym, ap, subst, ◌∙◌, arith, append_assoc, nat_lt, inl, inr, true≢false, if◌then◌else◌}
 use Rattle.std.specs.Global.{Vec}
-use Rattle.std.specs.Prelude.{filter, option_and_then}
+use Rattle.std.specs.Prelude.{filter, option_and_then, IfOk}
 use Rattle.std.specs.List.{cons_option, filter_map, flat_map, list_any, range_with_len}
 use Rattle.std.specs.Option.{option_map, option_or}
 use Rattle.std.proofs.lemmas.Bool.{cases_eq, cases_lt, eq-eqb, eqb-true, le-ltb, lt-ltb, ne_eqb}
@@ -177,19 +177,26 @@ taken (suc n) [] j within = absurd (omega (arith, within))
 taken (suc n) (f ∷ fs) zero within = (refl, omega arith)
 taken (suc n) (f ∷ fs) (suc j) within = let rest = taken n fs j (omega (arith, within)) in (rest.0, (let less = rest.1 in omega (arith, less)))
 
-pub all-found : (t : Timeline) (files : List (List ℕ)) (most : ℕ) (failures : List Failure) (ks : List ℕ) (lists : List (Vec Suspect)) (all : List Suspect)
-    → failures ≡ take most (failures_of t) → ks ≡ t.kept
-    → all ≡ flat_map (λ (l : List Suspect). l) (lists_of lists) → AreFound t files failures ks lists → all ≡ first_suspects t files most
-all-found t files most failures ks lists all are whole joined found =
+-- kept numbers began the first of the runs that failed
+pub first-kept : (t : Timeline) (most : ℕ) (failures : List Failure) → failures ≡ take most (failures_of t)
+    → (place : ℕ) → place < length failures → is_among t.kept (failure_in failures place).began ≡ true
+first-kept t most failures are place within =
+    let at = taken most (failures_of t) place (subst (λ (fs : List Failure). place < length fs) are within) in
+    ap (λ (fs : List Failure). is_among t.kept (failure_in fs place).began) are
+    ∙ ap (λ (f : Failure). is_among t.kept f.began) at.0
+    ∙ each-began t t.kept place at.1
+
+pub all-found : (t : Timeline) (files : List (List ℕ)) (failures : List Failure) (lists : List (Vec Suspect)) (all : List Suspect)
+    → ((place : ℕ) → place < length failures → is_among t.kept (failure_in failures place).began ≡ true)
+    → AreFound t files failures t.kept lists → all ≡ flat_map (λ (l : List Suspect). l) (lists_of lists) → all ≡ flat_map (suspects_of t files) failures
+all-found t files failures lists all kept found joined =
     joined
     ∙ flat-same (suspects_of t files) failures (lists_of lists) (length-map lists (λ (v : Vec Suspect). v.items) ∙ found.each)
-    (λ j within. found.exact j within
-    ∙ ap (λ b. if b then suspects_of t files (failure_in failures j) else [])
-    (ap (λ (ns : List ℕ). is_among ns (failure_in failures j).began) whole
-    ∙ ap (λ (fs : List Failure). is_among t.kept (failure_in fs j).began) are
-    ∙ (let at = taken most (failures_of t) j (subst (λ (fs : List Failure). j < length fs) are within) in
-    ap (λ (f : Failure). is_among t.kept f.began) at.0 ∙ each-began t t.kept j at.1)))
-    ∙ ap (flat_map (suspects_of t files)) are
+    (λ j within. found.exact j within ∙ ap (λ b. if b then suspects_of t files (failure_in failures j) else []) (kept j within))
+
+pub ok-more : {A E : Type 0} (P Q : A → Type 0) → ((x : A) → P x → Q x) → (r : Result A E) → IfOk r P → IfOk r Q
+ok-more P Q f (Ok x) h = f x h
+ok-more P Q f (Err e) h = h
 
 -- A LIST PUT AT A PLACE
 lists-set : (lists : List (Vec Suspect)) (place : ℕ) (v : Vec Suspect) → lists_of (set lists place v) ≡ set (lists_of lists) place v.items

@@ -1,15 +1,16 @@
 //! The suspects of failed runs.
-ghost use Rattle.std.specs.Prelude.{◌≡◌, ◌==◌, ◌<◌, ◌++◌, [], ℕ, length, nat_eq, slice_set, All, IfOk, OnOk, if◌then◌else◌};
+ghost use Rattle.std.specs.Prelude.{◌≡◌, ◌==◌, ◌<◌, ◌++◌, [], ℕ, length, nat_eq, slice_set, true, All, IfOk, OnOk, if◌then◌else◌};
 ghost use Rattle.indexmap.specs.IndexSet.{contains};
 ghost use Rattle.std.specs.List.{flat_map, list_any};
 ghost use Rattle.rev_cells.specs.State.{mark_of};
 ghost use Rattle.rev_graph.specs.Graph.{successor_lists};
-ghost use Rattle.rev_history.specs.Timeline.{state_at};
+ghost use Rattle.rev_history.specs.Timeline.{is_among, state_at};
 ghost use Rattle.rev_ranks.specs.Graph.{graph_of};
 ghost use Rattle.rev_ranks.specs.Sets.{IsReversed};
 ghost use Rattle.rev_waits.specs.Waits.{waits};
 ghost use Rattle.rev_races.specs.Races.{names};
-ghost use Rattle.rev_suspects.specs.Suspects.{AreMarkedBy, failure_in, first_suspects, list_in, lists_of, is_at as is_mark_at, is_suspect as is_suspect_of, suspects_at, suspects_in};
+ghost use Rattle.rev_suspects.specs.Past.{IsPast};
+ghost use Rattle.rev_suspects.specs.Suspects.{AreFound, AreMarkedBy, failure_in, first_suspects, list_in, lists_of, is_at as is_mark_at, is_suspect as is_suspect_of, suspects_at, suspects_in, suspects_of};
 
 use crate::failed::{Failure, first_failures};
 use crate::marks::{Ways, both_ways, waited_marks, waiting_marks};
@@ -271,28 +272,77 @@ fn joined(alloc: Global, lists: &[Vec<Suspect>]) -> Result<Vec<Suspect>, AllocEr
     Ok(all)
 }
 
-// The suspects of the first runs that failed, found by another history that goes over the kept events.
+// Goes over the kept events by another history, and puts the suspects of each run at its place when it comes to the
+// number that began the run. `begins` has the numbers that began runs that failed.
+fn go_over(
+    alloc: Global,
+    history: &History,
+    files: &[Name],
+    ways: &Ways,
+    failures: &[Failure],
+    begins: &IndexSet<u32>,
+    past: &mut History,
+    lists: &mut Vec<Vec<Suspect>>,
+) -> Result<(), AllocError>
+    requires begins { (n : ℕ) → contains nat_eq begins.now n ≡ list_any (λ f. nat_eq n f.began) failures.now }
+    requires within { All (λ f. f.edge < length history.now.timeline.manifest.builds) failures.now }
+    requires steps { graph_of ways.now.steps.items ≡ successor_lists history.now.timeline.manifest.builds }
+    requires back { IsReversed (successor_lists history.now.timeline.manifest.builds) (graph_of ways.now.back.items) }
+    requires inside { All (λ v. All (λ s. s < length history.now.timeline.manifest.builds) v.items)
+        ways.now.back.items }
+    requires counted { length ways.now.back.items ≡ length history.now.timeline.manifest.builds }
+    requires past { IsPast history.now.timeline [] past.old.timeline }
+    requires lists { AreFound history.now.timeline files.now failures.now [] lists.old.items }
+    ensures { OnOk result (AreFound history.now.timeline files.now failures.now history.now.timeline.kept
+        lists.new.items) }
+{
+    for number in history.kept() {
+        put_begun(
+            alloc, history, files, ways, past, *number, failures, begins, lists,
+        )?;
+        follow(history, *number, past)?;
+    }
+    Ok(())
+}
+
+// Puts the suspects of each run at its place, where all lists are empty yet.
+fn put_each(
+    alloc: Global,
+    history: &History,
+    files: &[Name],
+    failures: &[Failure],
+    lists: &mut Vec<Vec<Suspect>>,
+) -> Result<(), AllocError>
+    requires within { All (λ f. f.edge < length history.now.timeline.manifest.builds) failures.now }
+    requires each { length lists.old.items ≡ length failures.now }
+    requires empty { (place : ℕ) → list_in lists.old.items place ≡ [] }
+    ensures { OnOk result (AreFound history.now.timeline files.now failures.now history.now.timeline.kept
+        lists.new.items) }
+{
+    let ways = both_ways(alloc, history.graph())?;
+    let begins = begin_numbers(alloc, failures)?;
+    let mut past = history.reopened()?;
+    go_over(
+        alloc, history, files, &ways, failures, &begins, &mut past, lists,
+    )
+}
+
+// The suspects of some runs that failed, which kept numbers began.
 fn found_suspects(
     alloc: Global,
     history: &History,
     files: &[Name],
-    most: usize,
+    failures: &[Failure],
 ) -> Result<Vec<Suspect>, AllocError>
-    ensures { IfOk result (λ suspects. suspects.items ≡ first_suspects history.now.timeline files.now most) }
+    requires within { All (λ f. f.edge < length history.now.timeline.manifest.builds) failures.now }
+    requires kept { (place : ℕ) → place < length failures.now
+        → is_among history.now.timeline.kept (failure_in failures.now place).began ≡ true }
+    ensures { IfOk result (λ suspects. suspects.items
+        ≡ flat_map (suspects_of history.now.timeline files.now) failures.now) }
 {
-    let failures = first_failures(alloc, history, most)?;
-    let begins = begin_numbers(alloc, &failures)?;
-    let ways = both_ways(alloc, history.graph())?;
     let mut lists = empty_lists(alloc, failures.len())?;
-    let mut past = history.reopened()?;
-    for number in history.kept() {
-        put_begun(
-            alloc, history, files, &ways, &past, *number, &failures, &begins, &mut lists,
-        )?;
-        follow(history, *number, &mut past)?;
-    }
-    let all = joined(alloc, &lists)?;
-    Ok(all)
+    put_each(alloc, history, files, failures, &mut lists)?;
+    joined(alloc, &lists)
 }
 
 /// The suspects of the first failed runs, at most `most` runs, by kept events. The runs stand in the order in which
@@ -320,6 +370,5 @@ pub fn suspects(
         let none = Vec::new(alloc);
         return Ok(none);
     }
-    let all = found_suspects(alloc, history, files, most)?;
-    Ok(all)
+    found_suspects(alloc, history, files, &failures)
 }

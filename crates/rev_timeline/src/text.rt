@@ -71,6 +71,17 @@ impl Placed {
         Some((*ran, (*lane as u64).saturating_add(1)))
     }
 
+    // The lane of the run at a place, counted from 1.
+    fn lane_at(&self, place: usize) -> u64 {
+        let lane = self.rows.lanes.of.get(place).copied().unwrap_or(0);
+        (lane as u64).saturating_add(1)
+    }
+
+    // Whether the end of the build waited for a run.
+    fn is_critical(&self, ran: &Ran) -> bool {
+        self.critical.get(ran.run.began as usize) == Some(&true)
+    }
+
     // The last run of an edge.
     fn last_of(&self, edge: u32) -> Option<(Ran, u64)> {
         self.at(self.lasts.get(edge as usize))
@@ -204,6 +215,35 @@ fn add_bar(
     push_object(alloc, text, false, &bar)
 }
 
+// Adds the bars of the runs, those that began after the plan with their reasons. `words` is room for these.
+fn add_each_bar(
+    alloc: Global,
+    text: &mut Vec<u8>,
+    sources: &Sources<'_>,
+    lines: &Lines,
+    placed: &Placed,
+    plan: u32,
+    reasons: &mut PlanReasons<'_>,
+    words: &mut Vec<&'static str>,
+) -> Result<(), AllocError> {
+    for (place, ran) in placed.rows.ran.iter().enumerate() {
+        let lane = placed.lane_at(place);
+        let is_critical = placed.is_critical(ran);
+        words.clear();
+        let is_planned = plan < ran.run.began;
+        if is_planned {
+            reasons.push_words(ran.run.edge, words)?;
+        }
+        let whys: Option<&[&'static str]> = if is_planned {
+            Some(words.as_slice())
+        } else {
+            None
+        };
+        add_bar(alloc, text, sources, lines, ran, lane, is_critical, whys)?;
+    }
+    Ok(())
+}
+
 // Adds the bars of the runs, with reasons those of the last plan.
 fn add_bars(
     alloc: Global,
@@ -218,29 +258,18 @@ fn add_bars(
         Some(planned) => (planned.number, planned.cells),
         None => (u32::MAX, timeline.history.cells()),
     };
-    let mut planned_reasons = PlanReasons::new(alloc, graph, cells);
+    let mut reasons = PlanReasons::new(alloc, graph, cells);
     let mut words = Vec::new(alloc);
-    for (place, ran) in placed.rows.ran.iter().enumerate() {
-        let lane = placed.rows.lanes.of.get(place).copied().unwrap_or(0) as u64;
-        let is_critical = placed.critical.get(ran.run.began as usize) == Some(&true);
-        words.clear();
-        let is_planned = plan < ran.run.began;
-        if is_planned {
-            planned_reasons.push_words(ran.run.edge, &mut words)?;
-        }
-        let reasons: Option<&[&'static str]> = if is_planned { Some(&words) } else { None };
-        add_bar(
-            alloc,
-            text,
-            sources,
-            &lines,
-            ran,
-            lane.saturating_add(1),
-            is_critical,
-            reasons,
-        )?;
-    }
-    Ok(())
+    add_each_bar(
+        alloc,
+        text,
+        sources,
+        &lines,
+        placed,
+        plan,
+        &mut reasons,
+        &mut words,
+    )
 }
 
 // The words and the name of an event that begins and ends no command. A `pass` and a `clean` take no time and are many,

@@ -15,8 +15,8 @@ use Rattle.rev_conflicts.specs.Places.{does}
 use Rattle.rev_conflicts.specs.Conflicts.{Scene}
 use Rattle.rev_undeclared.specs.Undeclared.{IsOpen, path_at}
 use Rattle.rev_unlisted.specs.Answer.{unlisted_key}
-use Rattle.rev_unlisted.specs.Follows.{counted_of}
-use Rattle.rev_unlisted.specs.Unlisted.{IsCover, IsUnlisted}
+use Rattle.rev_unlisted.specs.Follows.{counted_of, follow_lists}
+use Rattle.rev_unlisted.specs.Unlisted.{IsCover, IsMaker, IsUnlisted}
 use Rattle.rev_unlisted.specs.declared.input.Unlisted.{Unlisted}
 use Rattle.rev_ranks.specs.Graph.{Reaches, Steps, successors_of}
 use Rattle.rev_unlisted.specs.declared.input.Cover.{Cover}
@@ -200,3 +200,15 @@ pub record IsKeyBelow
   pub number : ℕ
   pub below : number < n
   pub key : IsKeyIn count steps sure makers (slice_index_or edges number 0) number (slice_index_or files number []) k
+
+-- what is told of all commands, which read these files, by what makes Ninja run an edge again and who makes each path
+pub record AreKeys
+    (builds : List BuildValue) (lists : List (List (List ℕ))) (paths : List (List ℕ)) (commands : List CommandValue)
+    (edges : List ℕ) (files keys : List (List ℕ))
+    : Type 0 where
+  pub makers : List (List ℕ)
+  pub makers_are : (path maker : ℕ) → path < length paths → Steps makers path maker
+      ↔ IsMaker builds paths commands edges path maker
+  pub exact : (k : List ℕ) → Contains keys k
+      ↔ IsKeyBelow (length builds) (follow_lists builds lists paths false) (follow_lists builds lists paths true)
+      makers edges files (length files) k

@@ -10,7 +10,8 @@ ghost use Rattle.rev_races.specs.Races.{lists};
 ghost use Rattle.rev_conflicts.specs.Tables.{scene};
 ghost use Rattle.rev_undeclared.specs.Stronger.{is_told};
 ghost use Rattle.rev_unlisted.specs.Answer.{AreUnlisted, IsToldOf, lists_in};
-ghost use Rattle.rev_unlisted.specs.Found.{AreFound, AreLedTo, AreNeither, IsFollow, IsKeyAmong, IsKeyBelow, IsKeyIn, names_of};
+ghost use Rattle.rev_unlisted.specs.Follows.{follow_lists};
+ghost use Rattle.rev_unlisted.specs.Found.{AreFound, AreKeys, AreLedTo, AreNeither, IsFollow, IsKeyAmong, IsKeyBelow, IsKeyIn, names_of};
 
 use crate::covering::{cover, is_neither, led_to, reached};
 use crate::follows::follow_steps;
@@ -27,6 +28,45 @@ use rev_paths::{Name, Paths};
 use rev_races::listed;
 use rev_undeclared::{Stronger, Undeclared, told_by};
 use std::alloc::{AllocError, Global};
+
+// Ways on which Ninja comes to run an edge again.
+struct Ways {
+    // The steps from each node.
+    steps: Vec<Vec<u32>>,
+    // A mark for each node, set wherever some edge leads.
+    led: Vec<bool>,
+}
+
+impl Drop for Ways {
+    fn drop(self) {
+        let Ways {
+            steps: _steps,
+            led: _led,
+        } = self;
+    }
+}
+
+// The ways on which Ninja comes to run an edge again: those that are sure, or all.
+fn find_ways(
+    alloc: Global,
+    graph: &Graph,
+    lists: &[&[Name]],
+    paths: &Paths,
+    sure: bool,
+) -> Result<Ways, AllocError>
+    requires few { length graph.now.manifest.builds + length paths.now < 2 ^ 32 }
+    requires each { length lists.now ≡ length graph.now.manifest.builds }
+    ensures steps { IfOk result (λ ways. graph_of ways.steps.items
+        ≡ follow_lists graph.now.manifest.builds (names_of lists.now) paths.now sure) }
+    ensures nodes { IfOk result (λ ways. IsFollow (length graph.now.manifest.builds + length paths.now)
+        ways.steps.items) }
+    ensures led { IfOk result (λ ways. AreLedTo (graph_of ways.steps.items) (length graph.now.manifest.builds)
+        ways.led.items) }
+{
+    let steps = follow_steps(alloc, graph, lists, paths, sure)?;
+    let led = led_to(alloc, &steps, graph.edges())?;
+    Ok(Ways { steps, led })
+}
 
 // Adds the findings about these files, which a user's command reads, with their covers.
 fn add_each(
@@ -166,6 +206,41 @@ fn found_of(
     Ok(found)
 }
 
+// What is found of all commands, which read these files, by all ways and by those that are sure.
+fn found_by_ways(
+    alloc: Global,
+    graph: &Graph,
+    lists: &[&[Name]],
+    paths: &Paths,
+    commands: &[Command],
+    edges: &[u32],
+    reads: &[Vec<u64>],
+) -> Result<Found, AllocError>
+    requires few { length graph.now.manifest.builds + length paths.now < 2 ^ 32 }
+    requires lists { length lists.now ≡ length graph.now.manifest.builds }
+    requires edges { All (λ e. e < length graph.now.manifest.builds) edges.now }
+    requires commands { length edges.now ≡ length commands.now }
+    requires reads { length edges.now ≡ length reads.now }
+    requires files { All (λ v. All (λ p. p < length paths.now) v.items) reads.now }
+    ensures { IfOk result (AreKeys graph.now.manifest.builds (names_of lists.now) paths.now commands.now edges.now
+        (graph_of reads.now)) }
+{
+    let all = find_ways(alloc, graph, lists, paths, false)?;
+    let sure = find_ways(alloc, graph, lists, paths, true)?;
+    let makers = maker_lists(alloc, graph, paths, commands, edges)?;
+    found_of(
+        alloc,
+        graph,
+        &all.steps,
+        &sure.steps,
+        &makers,
+        &all.led,
+        &sure.led,
+        edges,
+        reads,
+    )
+}
+
 // Whether no command reads such a file.
 fn are_empty(files: &[Vec<u64>]) -> bool
     ensures { result ≡ list_all (λ each. vec_len each == 0) files.now }
@@ -203,22 +278,7 @@ fn found_in(
     if are_empty(&reads) {
         return Ok(Vec::new(alloc));
     }
-    let steps = follow_steps(alloc, graph, lists, paths, false)?;
-    let sure_steps = follow_steps(alloc, graph, lists, paths, true)?;
-    let met_led = led_to(alloc, &steps, graph.edges())?;
-    let sure_led = led_to(alloc, &sure_steps, graph.edges())?;
-    let makers = maker_lists(alloc, graph, paths, commands, edges)?;
-    let found = found_of(
-        alloc,
-        graph,
-        &steps,
-        &sure_steps,
-        &makers,
-        &met_led,
-        &sure_led,
-        edges,
-        &reads,
-    )?;
+    let found = found_by_ways(alloc, graph, lists, paths, commands, edges, &reads)?;
     found.into_told(alloc)
 }
 

@@ -13,10 +13,10 @@ returns-clause-shape c =
     let bare = ap app_of_fields c.about.ensures ∙ c.new.ensures.app in
     let five = c.in_ok-arg-5.ensures.shape c.valued-2.ensures.alone
     ∙ ap₂ with_rule (c.in_ok-arg-4.ensures.shape c.valued.ensures.alone
-    ∙ ap₂ with_rule (c.in_ok-arg-3.ensures.shape c.flag-3.ensures.alone
-    ∙ ap₂ with_rule (c.in_ok-arg-2.ensures.shape c.flag-2.ensures.alone
+    ∙ ap₂ with_rule (c.in_ok-arg-3.ensures.shape c.flag-2.ensures.alone
+    ∙ ap₂ with_rule (c.in_ok-arg-2.ensures.shape c.json.ensures.alone
     ∙ ap₂ with_rule (c.in_ok-arg.ensures.shape c.flag.ensures.alone
-    ∙ ap₂ with_rule bare c.flag.ensures.rule) c.flag-2.ensures.rule) c.flag-3.ensures.rule) c.valued.ensures.rule) c.valued-2.ensures.rule in
+    ∙ ap₂ with_rule bare c.flag.ensures.rule) c.json.ensures.rule) c.flag-2.ensures.rule) c.valued.ensures.rule) c.valued-2.ensures.rule in
     IfOk-weaker c.arg-6.result (AddsArg c.in_ok-arg-5.field-0 c.recording.result) (λ (k : Command). app_of k ≡ bare_races)
     (λ k added. added.shape c.recording.ensures.alone ∙ ap₂ with_rule five c.recording.ensures.rule) c.arg-6.ensures
 
@@ -33,8 +33,8 @@ returns-clause-local c =
       c.recording.ensures.alone,
       c.valued-2.ensures.alone,
       c.valued.ensures.alone,
-      c.flag-3.ensures.alone,
       c.flag-2.ensures.alone,
+      c.json.ensures.alone,
       c.flag.ensures.alone,
       c.about.ensures,
       c.new.ensures.local,

@@ -12,9 +12,9 @@ pub returns-clause-shape : goal.returns-clause-shape
 returns-clause-shape c =
     let bare = ap app_of_fields c.about.ensures ∙ c.new.ensures.app in
     let three = c.in_ok-arg-3.ensures.shape c.recording.ensures.alone
-    ∙ ap₂ with_rule (c.in_ok-arg-2.ensures.shape c.flag-2.ensures.alone
+    ∙ ap₂ with_rule (c.in_ok-arg-2.ensures.shape c.json.ensures.alone
     ∙ ap₂ with_rule (c.in_ok-arg.ensures.shape c.flag.ensures.alone
-    ∙ ap₂ with_rule bare c.flag.ensures.rule) c.flag-2.ensures.rule) c.recording.ensures.rule in
+    ∙ ap₂ with_rule bare c.flag.ensures.rule) c.json.ensures.rule) c.recording.ensures.rule in
     IfOk-weaker c.arg-4.result (AddsArg c.in_ok-arg-3.field-0 c.other.result) (λ (k : Command). shape_of k ≡ compare_shape)
     (λ k added. ap (λ (a : App). a.top) (added.shape c.other.ensures.alone ∙ ap₂ with_rule three c.other.ensures.rule)) c.arg-4.ensures
 
@@ -28,7 +28,7 @@ returns-clause-local c =
       c.in_ok-arg.ensures.globals,
       c.other.ensures.alone,
       c.recording.ensures.alone,
-      c.flag-2.ensures.alone,
+      c.json.ensures.alone,
       c.flag.ensures.alone,
       c.about.ensures,
       c.new.ensures.local,

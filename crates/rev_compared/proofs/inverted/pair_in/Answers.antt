@@ -1,59 +1,32 @@
-use Rattle.std.proofs.Common.{◌≡◌, ℕ, List, None, Some, IsSome, is_some, ap, sym, ◌∙◌, true≢false}
-use Rattle.std.specs.Option.{option_map}
+use Rattle.std.proofs.Common.{ℕ, List, IsSome, ap, sym, subst, ◌∙◌}
+use Rattle.std.proofs.lemmas.List.{take_rest}
+use Rattle.std.specs.List.{AllByRecursion}
 use Rattle.rev_accesses.specs.Value.{Prints}
-use Rattle.rev_causal.specs.Chosen.{chosen}
+use Rattle.rev_causal.specs.Chosen.{IsRising, chosen}
 use Rattle.rev_causal.specs.History as causal
-use Rattle.rev_causal.proofs.Chosen.{chosen-rises}
-use Rattle.rev_footprint.specs.Value.{print_of}
-use Rattle.rev_history.specs.Timeline.{kept_footprint}
-use Rattle.rev_history.proofs.Listed.{numbers_chosen}
+use Rattle.rev_causal.specs.Store.{conflict}
+use Rattle.rev_cells.specs.Keys.{cell_cmp}
+use Rattle.rev_order.specs.Pairs.{inverted_pair}
 use Rattle.rev_compared.specs.Inverted.{prints_of}
-use Rattle.rev_compared.proofs.Prints.{among-all, first-among, pair-none, pair-some, print_at}
+use Rattle.rev_compared.proofs.SoughtLemmas.{All-drop, rising-drop}
 use Rattle.rev_compared.proofs.inverted.pair_in.Goals as goal
 
-pub returns-in_default : goal.returns-in_default
-returns-in_default c =
+pub pair_by_lists-requires-clause-rising : goal.pair_by_lists-requires-clause-rising
+pair_by_lists-requires-clause-rising c =
+    let ks : List ℕ = c.args.numbers.now in
+    subst IsRising (sym (take_rest ks c.in-Err.at)) (rising-drop c.in-Err.at ks c.requires.rising)
+
+pub pair_by_lists-requires-clause-kept : goal.pair_by_lists-requires-clause-kept
+pair_by_lists-requires-clause-kept c =
     let es : Prints = prints_of c.args.history.now.timeline in
     let ks : List ℕ = c.args.numbers.now in
-    pair-none c.args.places.now (chosen es ks)
-    (c.in_default.ensures (chosen es ks) (chosen-rises es ks c.requires.rising) (numbers_chosen es ks c.requires.kept) c.in_ok-accesses.ensures)
-
-pub unreachable-requires : goal.unreachable-requires
-unreachable-requires c =
-    let t = c.args.history.now.timeline in
-    let es : Prints = prints_of t in
-    let ks : List ℕ = c.args.numbers.now in
-    let n : ℕ = c.in-Some.first in
-    let among = first-among c.args.places.now es ks n
-    (c.in-Some.ensures (chosen es ks) (chosen-rises es ks c.requires.rising) (numbers_chosen es ks c.requires.kept) c.in_ok-accesses.ensures) in
-    let none : kept_footprint t n ≡ None = sym (c.in_ok-footprint.ensures) ∙ c.in_default-2.is in
-    true≢false (sym (among-all (λ k. IsSome (causal.event_at k es)) ks n c.requires.kept among) ∙ ap is_some (print_at t n ∙ ap (option_map print_of) none))
-
-pub partner-requires-clause-among : goal.partner-requires-clause-among
-partner-requires-clause-among c =
-    let es : Prints = prints_of c.args.history.now.timeline in
-    let ks : List ℕ = c.args.numbers.now in
-    first-among c.args.places.now es ks c.in-Some.first
-    (c.in-Some.ensures (chosen es ks) (chosen-rises es ks c.requires.rising) (numbers_chosen es ks c.requires.kept) c.in_ok-accesses.ensures)
-
-pub returns-in-Some-3 : goal.returns-in-Some-3
-returns-in-Some-3 c =
-    let t = c.args.history.now.timeline in
-    let es : Prints = prints_of t in
-    let ks : List ℕ = c.args.numbers.now in
-    let n : ℕ = c.in-Some.first in
-    pair-some c.args.places.now es ks n (print_of c.in-Some-2.footprint) (Some c.in-Some-3.second)
-    (c.in-Some.ensures (chosen es ks) (chosen-rises es ks c.requires.rising) (numbers_chosen es ks c.requires.kept) c.in_ok-accesses.ensures)
-    (print_at t n ∙ ap (option_map print_of) (sym (c.in_ok-footprint.ensures) ∙ c.in-Some-2.is))
-    (sym c.in-Some-3.is ∙ c.in_ok-second.ensures)
+    subst (λ (ns : List ℕ). AllByRecursion (λ n. IsSome (causal.event_at n es)) ns) (sym (take_rest ks c.in-Err.at))
+    (All-drop (λ n. IsSome (causal.event_at n es)) c.in-Err.at ks c.requires.kept)
 
 pub returns : goal.returns
 returns c =
-    let t = c.args.history.now.timeline in
-    let es : Prints = prints_of t in
+    let es : Prints = prints_of c.args.history.now.timeline in
     let ks : List ℕ = c.args.numbers.now in
-    let n : ℕ = c.in-Some.first in
-    pair-some c.args.places.now es ks n (print_of c.in-Some-2.footprint) None
-    (c.in-Some.ensures (chosen es ks) (chosen-rises es ks c.requires.rising) (numbers_chosen es ks c.requires.kept) c.in_ok-accesses.ensures)
-    (print_at t n ∙ ap (option_map print_of) (sym (c.in_ok-footprint.ensures) ∙ c.in-Some-2.is))
-    (sym c.in-None.is ∙ c.in_ok-second.ensures)
+    c.in_ok-found-in-Err.ensures
+    ∙ ap (λ (ns : List ℕ). inverted_pair (conflict cell_cmp) c.args.places.now (chosen es ns)) (take_rest ks c.in-Err.at)
+    ∙ c.in-Err.ensures.rest
