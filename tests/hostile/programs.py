@@ -49,7 +49,9 @@ QUESTIONS = [b"run", b"next", b"next 3", b"kept", b"marks", b"stamps", b"logs", 
              b"without %b", b"until %b", b"undo start %b", b"marks %b", b"stamps %b", b"needs %b observed",
              b"who reads %b", b"who writes %b", b"undo finish %b", b"edge %b", b"edge * --all", b"edges", b"edges %b",
              b"reads %b", b"makes %b", b"rebuilds %b", b"slowest", b"critical", b"races", b"history all", b"why *",
-             b"help why", b"back"]
+             b"help why", b"back", b"what %b", b"what * --all", b"needs *", b"dependents * --all", b"would cone *",
+             b"order %b 1", b"order 1 2 3", b"redo 2", b"redo %b", b"cone %b", b"break finish %b", b"continue",
+             b"plan %b", b"start %b 0", b"touch %b 7", b"who *", b"marks *", b"with *", b"until *"]
 # How standard error names a fault of a recording.
 _FAULT = re.compile(rb"\(\d+, docs/CODES\.md\)")
 # How it names a file that the manifest includes and that is not read: a folder, say, or a file outside.
