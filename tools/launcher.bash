@@ -128,7 +128,8 @@ why_not() {
 # Answers from an unproved build, which is kept nowhere. The kit's own lines are taken out of the standard error.
 # Returns the program's status, or 3 where there is no answer.
 try_words() {
-  local word file why data=() said ended
+  local word file why data=() said ended input=/dev/null
+  if [ "${1-}" = ask ]; then input=/dev/stdin; fi
   command -v rt >/dev/null 2>&1 || { say "$no_kit"; return 3; }
   for word in "$@"; do
     while IFS= read -r file; do
@@ -139,7 +140,7 @@ try_words() {
     done < <(files_of_word "$word")
   done
   said=$(mktemp) || return 3
-  (cd "$crate" && rt try --seconds 600 ${data[@]+"${data[@]}"} -- "$@" </dev/null 2>"$said")
+  (cd "$crate" && rt try --seconds 600 ${data[@]+"${data[@]}"} -- "$@" <"$input" 2>"$said")
   ended=$(tail -n 1 "$said" | sed -n 's/^run=ended status=\([0-9]*\) .*proved=no$/\1/p')
   if [ -n "$ended" ]; then
     grep -v -E '^(interpreter|checked|races): |^run=ended ' "$said" >&2
@@ -240,7 +241,7 @@ answer_in_checkout() {
   if [ $# = 0 ]; then run_example; fi
   if [ -n "$is_there" ]; then run_program "$@"; fi
   if [ -n "$is_try" ]; then
-    if [ -n "$is_picture" ]; then draw try_words "$@"; else try_words "$@"; fi
+    if [ -n "$is_picture" ]; then draw try_words "$@"; else show try_words "$@"; fi
     exit
   fi
   if [ "$state" = missing ]; then answer_without_program "$@"; fi
