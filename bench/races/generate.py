@@ -10,8 +10,11 @@ headers that it lists. RACES of the compiles wait for no group: each of these ha
 With OBSERVED the recording has the file `observed` too: each command read what it lists, or what its line names, and left
 its outputs. OBSERVED is `runs` where the numbers of the paths that a command read stand in few ranges, as a recorder
 gives them that numbers paths as it meets them, or `apart` where no two of these numbers meet, so that each is a word.
+Where OBSERVED is `deps`, there is no such file, but Ninja's deps log of the same lists (`.ninja_deps`, version 4), which
+`ninja -t missingdeps` reads.
 """
 import os
+import struct
 import sys
 
 edges, headers, sets, races = map(int, sys.argv[1:5])
@@ -88,6 +91,28 @@ def write_observed(file):
         file.write(f"writes {ranges({paths[name] for name in writes})}\n")
 
 
-if observed:
+def write_deps(file):
+    """Ninja's deps log: a record of each path, whose number counts from 0, and of each compile with what it lists."""
+    paths = {}
+
+    def number(name):
+        if name not in paths:
+            paths[name] = len(paths)
+            padded = name.encode() + b"\0" * (-len(name) % 4)
+            file.write(struct.pack("<I", len(padded) + 4) + padded + struct.pack("<I", ~paths[name] & 0xFFFFFFFF))
+        return paths[name]
+
+    file.write(b"# ninjadeps\n" + struct.pack("<I", 4))
+    for edge in range(edges - makers):
+        listed = [f"include/deep/header{place}.h" for place in range(headers - GROUP)] + group(edge % sets)
+        numbers = [number(name) for name in (f"o{edge}", *listed)]
+        words = [numbers[0], 10000 + edge, 0, *numbers[1:]]
+        file.write(struct.pack(f"<I{len(words)}I", len(words) * 4 | 0x80000000, *words))
+
+
+if observed == "deps":
+    with open(f"{folder}/.ninja_deps", "wb") as file:
+        write_deps(file)
+elif observed:
     with open(f"{folder}/observed", "w") as file:
         write_observed(file)

@@ -1,70 +1,70 @@
-// A few events over three files.
-use crate::small::named;
+// A few events over three places.
 use rev_accesses::{Accesses, Places};
-use rev_cells::Cell;
 use rev_numbers::{SortedNumbers, place_of};
 use std::alloc::{AllocError, Global};
 
-// The stamps of these paths.
-fn cells(alloc: Global, paths: &[&str]) -> Result<Vec<Cell>, AllocError> {
-    let mut cells = Vec::new(alloc);
-    for path in paths {
-        cells.push(Cell::Stamp(named(alloc, path)?))?;
+// The numbers of all events.
+const ALL: [u32; 4] = [1, 2, 3, 4];
+
+// An event that reads these places and writes the first of them.
+fn print(alloc: Global, places: &[u32], written: usize) -> Result<Places, AllocError> {
+    let mut read = Vec::new(alloc);
+    for place in places {
+        read.push(*place)?;
     }
-    Ok(cells)
+    Ok(Places::of(read, written, false))
 }
 
-// 1 writes a, 2 reads a and b, 3 is whole, 4 writes b. The places of the cells of 2 come back too.
+// 1 writes 0, 2 reads 0 and 1, 3 is whole, 4 writes 1. The places of 2 come back too.
 fn listed(alloc: Global) -> Result<(Accesses, Places), AllocError> {
     let mut accesses = Accesses::new(alloc);
-    let a = cells(alloc, &["a"])?;
-    let b = cells(alloc, &["b"])?;
-    let both = cells(alloc, &["a", "b"])?;
-    let _of_4 = accesses.put(4, &b, 1)?;
-    let of_2 = accesses.put(2, &both, 0)?;
-    let _of_1 = accesses.put(1, &a, 1)?;
-    let _of_3 = accesses.put_whole(3, &[], 0)?;
+    accesses.put(4, &print(alloc, &[1], 1)?)?;
+    let of_2 = print(alloc, &[0, 1], 0)?;
+    accesses.put(2, &of_2)?;
+    accesses.put(1, &print(alloc, &[0], 1)?)?;
+    accesses.put(3, &Places::of(Vec::new(alloc), 0, true))?;
     Ok((accesses, of_2))
 }
 
+// The nearest to an event that reads these places and writes the first of them.
 fn nearest(
     alloc: Global,
     accesses: &Accesses,
     number: u32,
-    reads: &[&str],
-    writes: &[&str],
+    places: &[u32],
+    written: usize,
 ) -> Result<Option<u32>, AllocError> {
-    let reads = cells(alloc, reads)?;
-    let writes = cells(alloc, writes)?;
-    Ok(accesses.nearest(number, &reads, &writes))
+    Ok(accesses.nearest_by(number, &print(alloc, places, written)?, &ALL))
 }
 
-// The nearest to what reads and writes a, to what reads it, and to what reads b.
+// The nearest to what reads and writes 0, to what reads it, and to what reads 1.
 fn nearest_of_three(alloc: Global, accesses: &Accesses) -> Result<[Option<u32>; 3], AllocError> {
-    let of_both = nearest(alloc, accesses, 1, &["a"], &["a"])?;
-    let of_a_reader = nearest(alloc, accesses, 1, &["a"], &[])?;
-    let of_another = nearest(alloc, accesses, 3, &["b"], &[])?;
+    let of_both = nearest(alloc, accesses, 1, &[0], 1)?;
+    let of_a_reader = nearest(alloc, accesses, 1, &[0], 0)?;
+    let of_another = nearest(alloc, accesses, 3, &[1], 0)?;
     Ok([of_both, of_a_reader, of_another])
 }
 
 #[test]
 fn the_nearest_reads_or_writes(rt: HostRuntime) -> Result<(), AllocError> {
     let (accesses, of_2) = listed(rt.alloc())?;
-    assert!(rt; accesses.nearest_by(2, &of_2) == Some(3));
+    assert!(rt; accesses.nearest_by(2, &of_2, &ALL) == Some(3));
     assert!(rt; nearest_of_three(rt.alloc(), &accesses)? == [Some(2), Some(3), Some(4)]);
+    assert!(rt; accesses.first_user(0, 1) == Some(2) && accesses.first_writer(0, 1) == None);
+    assert!(rt; accesses.first_user(7, 0) == None && accesses.first_whole(1) == Some(3));
     Ok(())
 }
 
-// Takes out 2, which reads a and b, and 3, which is whole; then the nearest to what writes a, and to what writes b.
+// Takes out 2, which reads 0 and 1, and 3, which is whole; then the nearest to what writes 0, and to what writes 1.
 fn nearest_without_two(
     alloc: Global,
     accesses: &mut Accesses,
     of_2: &Places,
 ) -> Result<[Option<u32>; 2], AllocError> {
-    accesses.take(2, of_2);
-    accesses.take_whole(3);
-    let of_a = nearest(alloc, accesses, 1, &["a"], &["a"])?;
-    let of_b = nearest(alloc, accesses, 0, &["c"], &["b"])?;
+    accesses.remove_members(2, &[2, 3], of_2);
+    accesses.remove_members(3, &[2, 3], &Places::of(Vec::new(alloc), 0, true));
+    let of_a = nearest(alloc, accesses, 1, &[0], 1)?;
+    let of_b = nearest(alloc, accesses, 0, &[1, 2], 1)?;
     Ok([of_a, of_b])
 }
 

@@ -1,79 +1,45 @@
 -- Lists out of which members of a set of numbers are taken.
-use Rattle.std.proofs.Common.{◌≡◌, ℕ, ◌+◌, ◌<◌, Bool, true, false, not, ◌&&◌, ◌||◌, cond, List, [], ◌∷◌, filter, Option, None, Some, length, get_or, take, refl, sym, ap, ap₂, subst, subst₂, ◌∙◌, inl, inr, true≢false, eq-eqb, eqb-true, ne_eqb, slice_get, arith}
-use Rattle.std.specs.Prelude.{nat_eq}
-use Rattle.std.specs.List.{AllByRecursion}
-use Rattle.std.specs.List.Retain.{RetainsInTurn}
-use Rattle.std.specs.Map.{lookup}
-use Rattle.std.specs.Ordering.{eq_by_cmp}
-use Rattle.std.specs.Cmp.{Equal-is, eq_by_cmp_equiv}
+use Rattle.std.proofs.Common.{◌≡◌, ℕ, ◌+◌, ◌<◌, Bool, true, false, not, ◌||◌, List, [], ◌∷◌, Option, None, Some, length, get_or, take, refl, sym, ap, subst, ◌∙◌, inl, inr, true≢false}
+use Rattle.std.specs.Ordering.{nat_cmp}
 use Rattle.rev_causal.specs.AccessLists.{numbers_by, lists_read, lists_write}
-use Rattle.rev_causal.specs.Chosen.{IsRising, is_among, without}
+use Rattle.rev_causal.specs.Chosen.{is_among, without}
 use Rattle.rev_causal.specs.History as causal
 use Rattle.rev_causal.specs.Store.{Footprint, Footprint.Whole, Footprint.Cells, among, is_whole}
 use Rattle.rev_causal.proofs.AccessLists.{numbers_by-without}
 use Rattle.rev_causal.proofs.ByNumber.{without_rises}
 use Rattle.rev_causal.proofs.Chosen.{without-not_among}
 use Rattle.rev_causal.proofs.Runs.{either}
-use Rattle.rev_cells.specs.declared.cell.Cell.{Cell}
-use Rattle.rev_cells.specs.Keys.{cell_cmp}
-use Rattle.rev_cells.proofs.EntryLemmas.{cells_total, cells_exact, cell_eq}
-use Rattle.rev_accesses.specs.Places.{cells_at}
 use Rattle.rev_numbers.specs.Taken.{without_all, IsThinned}
 use Rattle.rev_accesses.specs.Thinned.{prints_without, AreThinned, AreThinnedUnder, IsGone, IsGoneUnder}
-use Rattle.rev_accesses.specs.Value.{AccessesValue, Index, Prints, Names, Shows, numbers_at}
+use Rattle.rev_accesses.specs.Value.{AccessesValue, Index, Prints, Shows, numbers_at}
 use Rattle.rev_numbers.proofs.TakenLemmas.{filter_agree, filter_stays, gone_still, thinned_not, thinned_then, without_more, without_none}
-use Rattle.rev_accesses.proofs.CellsLemmas.{among_more}
-use Rattle.rev_accesses.proofs.IndexLemmas.{at_some, at_write}
+use Rattle.rev_accesses.proofs.PlaceLemmas.{among_more}
 use Rattle.rev_accesses.proofs.ShowsLemmas.{number_absent, number_fails}
 
--- lists under cells
+-- lists at places
 
--- one cell's numbers were thinned
-pub thinned_write : (members : List ℕ) (es fs : Index) (c : Cell) (v w : List ℕ) → Some v ≡ lookup (cell_eq c) es → IsThinned members v w
-    → ((q : Cell) → lookup (cell_eq q) fs ≡ cond (cell_eq c q) (Some w) (lookup (cell_eq q) es)) → AreThinnedUnder members es fs
-thinned_write members es fs c v w was thinned at q = by (eq_by_cmp cell_cmp q c) refl
-  where
-    is : numbers_at fs q ≡ cond (eq_by_cmp cell_cmp q c) w (numbers_at es q)
-    is = at_write es fs c (λ ks. w) v w was refl at q
-
-    by : (b : Bool) → eq_by_cmp cell_cmp q c ≡ b → IsThinned members (numbers_at es q) (numbers_at fs q)
-    by true e =
-        let here : q ≡ c = cells_exact q c ((Equal-is (cell_cmp q c)).0 e) in
-        let old : numbers_at es q ≡ v = ap (numbers_at es) here ∙ at_some es c v was in
-        let new : numbers_at fs q ≡ w = is ∙ ap (λ b. cond b w (numbers_at es q)) e in
-        subst₂ (IsThinned members) (sym old) (sym new) thinned
-    by false e =
-        let new : numbers_at fs q ≡ numbers_at es q = is ∙ ap (λ b. cond b w (numbers_at es q)) e in
-        subst (IsThinned members (numbers_at es q)) (sym new) (thinned_not members (numbers_at es q))
-
--- and a number is gone from them
-pub gone_here : (es fs : Index) (c : Cell) (v w : List ℕ) (n : ℕ) → Some v ≡ lookup (cell_eq c) es → is_among w n ≡ false
-    → ((q : Cell) → lookup (cell_eq q) fs ≡ cond (cell_eq c q) (Some w) (lookup (cell_eq q) es)) → is_among (numbers_at fs c) n ≡ false
-gone_here es fs c v w n was gone at =
-    ap (λ ks. is_among ks n) (at_write es fs c (λ ks. w) v w was refl at c ∙ ap (λ b. cond b w (numbers_at es c)) ((eq_by_cmp_equiv cells_total).refl c)) ∙ gone
-
-pub thinned_same : (members : List ℕ) (es fs : Index) → ((q : Cell) → numbers_at fs q ≡ numbers_at es q) → AreThinnedUnder members es fs
+pub thinned_same : (members : List ℕ) (es fs : Index) → ((q : ℕ) → numbers_at fs q ≡ numbers_at es q) → AreThinnedUnder members es fs
 thinned_same members es fs same q = subst (IsThinned members (numbers_at es q)) (sym (same q)) (thinned_not members (numbers_at es q))
 
 -- lists that stayed the same before or behind
-pub thinned_behind : (members : List ℕ) (a b d : Index) → ((q : Cell) → numbers_at b q ≡ numbers_at a q) → AreThinnedUnder members b d → AreThinnedUnder members a d
+pub thinned_behind : (members : List ℕ) (a b d : Index) → ((q : ℕ) → numbers_at b q ≡ numbers_at a q) → AreThinnedUnder members b d → AreThinnedUnder members a d
 thinned_behind members a b d same f q = subst (λ ks. IsThinned members ks (numbers_at d q)) (same q) (f q)
 
-pub thinned_before : (members : List ℕ) (a b d : Index) → AreThinnedUnder members a b → ((q : Cell) → numbers_at d q ≡ numbers_at b q) → AreThinnedUnder members a d
+pub thinned_before : (members : List ℕ) (a b d : Index) → AreThinnedUnder members a b → ((q : ℕ) → numbers_at d q ≡ numbers_at b q) → AreThinnedUnder members a d
 thinned_before members a b d f same q = subst (IsThinned members (numbers_at a q)) (sym (same q)) (f q)
 
-pub gone_before : (n : ℕ) (cs : List Cell) (b d : Index) → IsGoneUnder n cs b → ((q : Cell) → numbers_at d q ≡ numbers_at b q) → IsGoneUnder n cs d
+pub gone_before : (n : ℕ) (cs : List ℕ) (b d : Index) → IsGoneUnder n cs b → ((q : ℕ) → numbers_at d q ≡ numbers_at b q) → IsGoneUnder n cs d
 gone_before n cs b d gone same q h = ap (λ ks. is_among ks n) (same q) ∙ gone q h
 
 -- one place more
-pub gone_more : (members : List ℕ) (n : ℕ) (cells : List Cell) (ps : List ℕ) (i d : ℕ) → i < length ps → (old new : Index) → AreThinnedUnder members old new
-    → IsGoneUnder n (cells_at cells (take i ps)) old → IsGoneUnder n (cells_at cells (get_or ps i d ∷ [])) new → IsGoneUnder n (cells_at cells (take (i + 1) ps)) new
-gone_more members n cells ps i d lt old new thinned so_far here q among_all = by (among cell_cmp (cells_at cells (take i ps)) q) refl
+pub gone_more : (members : List ℕ) (n : ℕ) (ps : List ℕ) (i d : ℕ) → i < length ps → (old new : Index) → AreThinnedUnder members old new
+    → IsGoneUnder n (take i ps) old → IsGoneUnder n (get_or ps i d ∷ []) new → IsGoneUnder n (take (i + 1) ps) new
+gone_more members n ps i d lt old new thinned so_far here q among_all = by (among nat_cmp (take i ps) q) refl
   where
-    by : (b : Bool) → among cell_cmp (cells_at cells (take i ps)) q ≡ b → is_among (numbers_at new q) n ≡ false
+    by : (b : Bool) → among nat_cmp (take i ps) q ≡ b → is_among (numbers_at new q) n ≡ false
     by true e = gone_still members (numbers_at old q) (numbers_at new q) n (thinned q) (so_far q e)
     by false e =
-        here q (sym (ap (λ b. b || among cell_cmp (cells_at cells (get_or ps i d ∷ [])) q) e) ∙ sym (among_more cells ps i d lt q) ∙ among_all)
+        here q (sym (ap (λ b. b || among nat_cmp (get_or ps i d ∷ []) q) e) ∙ sym (among_more ps i d lt q) ∙ among_all)
 
 -- all lists
 
@@ -91,19 +57,19 @@ are_thinned_then members a b d f g = record {
   whole = thinned_then members a.whole b.whole d.whole f.whole g.whole;
 }
 
-pub is_gone_still : (members : List ℕ) (n : ℕ) (f : Footprint Cell) (a b : AccessesValue) → AreThinned members a b → IsGone n f a → IsGone n f b
+pub is_gone_still : (members : List ℕ) (n : ℕ) (f : Footprint ℕ) (a b : AccessesValue) → AreThinned members a b → IsGone n f a → IsGone n f b
 is_gone_still members n f a b thinned gone = record {
   written = λ c h. gone_still members (numbers_at a.writers c) (numbers_at b.writers c) n (thinned.writers c) (gone.written c h);
   read = λ c h. gone_still members (numbers_at a.readers c) (numbers_at b.readers c) n (thinned.readers c) (gone.read c h);
   whole = λ h. gone_still members a.whole b.whole n thinned.whole (gone.whole h);
 }
 
--- the number of an event that reads and writes these cells is gone from under each
-pub gone_from : (n : ℕ) (reads writes : List Cell) (f : Footprint Cell) (a : AccessesValue) → Names f reads writes → IsGoneUnder n writes a.writers → IsGoneUnder n reads a.readers → IsGone n f a
-gone_from n reads writes f a names written read = record {
-  written = λ c h. written c (sym (ap (lists_write cell_cmp c) names.is) ∙ h);
-  read = λ c h. read c (sym (ap (lists_read cell_cmp c) names.is ∙ names.same c) ∙ h);
-  whole = λ h. absurd (true≢false (sym h ∙ ap is_whole names.is));
+-- the number of an event that reads and writes these places is gone from each
+pub gone_from : (n : ℕ) (reads writes : List ℕ) (a : AccessesValue) → IsGoneUnder n writes a.writers → IsGoneUnder n reads a.readers → IsGone n (Cells reads writes) a
+gone_from n reads writes a written read = record {
+  written = written;
+  read = read;
+  whole = λ h. absurd (true≢false (sym h));
 }
 
 pub gone_whole : (n : ℕ) (a : AccessesValue) → is_among a.whole n ≡ false → IsGone n Whole a
@@ -127,7 +93,7 @@ pub prints_without_rise : (members : List ℕ) (ps : Prints) → causal.IsRising
 prints_without_rise [] ps rising = rising
 prints_without_rise (m ∷ ms) ps rising = without_rises m (prints_without ms ps) (prints_without_rise ms ps rising)
 
-numbers_without : (test : Footprint Cell → Bool) (members : List ℕ) (ps : Prints) → causal.IsRising ps
+numbers_without : (test : Footprint ℕ → Bool) (members : List ℕ) (ps : Prints) → causal.IsRising ps
     → numbers_by test (prints_without members ps) ≡ without_all members (numbers_by test ps)
 numbers_without test [] ps rising = sym (without_none (numbers_by test ps))
 numbers_without test (m ∷ ms) ps rising =
@@ -135,11 +101,11 @@ numbers_without test (m ∷ ms) ps rising =
     ∙ ap (without m) (numbers_without test ms ps rising) ∙ without_more m ms (numbers_by test ps)
 
 -- a number in a list has a footprint that passes
-passes_in : (test : Footprint Cell → Bool) (n : ℕ) (ps : Prints) → causal.IsRising ps → is_among (numbers_by test ps) n ≡ true
-    → (f : Footprint Cell) × (causal.event_at n ps ≡ Some f) × (test f ≡ true)
+passes_in : (test : Footprint ℕ → Bool) (n : ℕ) (ps : Prints) → causal.IsRising ps → is_among (numbers_by test ps) n ≡ true
+    → (f : Footprint ℕ) × (causal.event_at n ps ≡ Some f) × (test f ≡ true)
 passes_in test n ps rising among = by (causal.event_at n ps) refl
   where
-    by : (o : Option (Footprint Cell)) → causal.event_at n ps ≡ o → (f : Footprint Cell) × (causal.event_at n ps ≡ Some f) × (test f ≡ true)
+    by : (o : Option (Footprint ℕ)) → causal.event_at n ps ≡ o → (f : Footprint ℕ) × (causal.event_at n ps ≡ Some f) × (test f ≡ true)
     by None e = absurd (true≢false (sym among ∙ number_absent test n ps e))
     by (Some f) e = elim (either (test f)) [
       | inl t ↦ (f, e, t)
@@ -147,8 +113,8 @@ passes_in test n ps rising among = by (causal.event_at n ps) refl
           absurd (true≢false (sym among ∙ sym (ap (λ ks. is_among ks n) (number_fails test n f ps rising e fails)) ∙ without-not_among n (numbers_by test ps)))
     ]
 
-list_thinned : (test : Footprint Cell → Bool) (members old new : List ℕ) (ps : Prints) → causal.IsRising ps → old ≡ numbers_by test ps → IsThinned members old new
-    → ((n : ℕ) (f : Footprint Cell) → is_among members n ≡ true → causal.event_at n ps ≡ Some f → test f ≡ true → is_among new n ≡ false)
+list_thinned : (test : Footprint ℕ → Bool) (members old new : List ℕ) (ps : Prints) → causal.IsRising ps → old ≡ numbers_by test ps → IsThinned members old new
+    → ((n : ℕ) (f : Footprint ℕ) → is_among members n ≡ true → causal.event_at n ps ≡ Some f → test f ≡ true → is_among new n ≡ false)
     → new ≡ numbers_by test (prints_without members ps)
 list_thinned test members old new ps rising was thinned gone =
     thinned.is ∙ filter_agree thinned.keeps (λ k. not (is_among members k)) old (λ k h. agree k h (is_among members k) refl)
@@ -164,9 +130,9 @@ list_thinned test members old new ps rising was thinned gone =
     agree k h false e = thinned.others k e ∙ sym (ap not e)
 
 pub shows_thinned : (members : List ℕ) (a b : AccessesValue) (ps : Prints) → causal.IsRising ps → Shows a ps → AreThinned members a b
-    → ((n : ℕ) (f : Footprint Cell) → is_among members n ≡ true → causal.event_at n ps ≡ Some f → IsGone n f b) → Shows b (prints_without members ps)
+    → ((n : ℕ) (f : Footprint ℕ) → is_among members n ≡ true → causal.event_at n ps ≡ Some f → IsGone n f b) → Shows b (prints_without members ps)
 shows_thinned members a b ps rising shown thinned gone = record {
-  writers = λ c. list_thinned (lists_write cell_cmp c) members (numbers_at a.writers c) (numbers_at b.writers c) ps rising (shown.writers c) (thinned.writers c) (λ n f among at passes. (gone n f among at).written c passes);
-  readers = λ c. list_thinned (lists_read cell_cmp c) members (numbers_at a.readers c) (numbers_at b.readers c) ps rising (shown.readers c) (thinned.readers c) (λ n f among at passes. (gone n f among at).read c passes);
+  writers = λ c. list_thinned (lists_write nat_cmp c) members (numbers_at a.writers c) (numbers_at b.writers c) ps rising (shown.writers c) (thinned.writers c) (λ n f among at passes. (gone n f among at).written c passes);
+  readers = λ c. list_thinned (lists_read nat_cmp c) members (numbers_at a.readers c) (numbers_at b.readers c) ps rising (shown.readers c) (thinned.readers c) (λ n f among at passes. (gone n f among at).read c passes);
   whole = list_thinned is_whole members a.whole b.whole ps rising shown.whole thinned.whole (λ n f among at passes. (gone n f among at).whole passes);
 }

@@ -1,63 +1,82 @@
-//! Numbers under cells.
-ghost use Rattle.std.specs.Prelude.{◌≡◌, ℕ, ◌||◌, ◌∷◌, [], true, map, OnOk};
-ghost use Rattle.std.specs.List.{IsDistinct};
-ghost use Rattle.std.specs.Ordering.{eq_by_cmp};
-ghost use Rattle.std.specs.Map.{keys_of};
+//! Numbers at places.
+ghost use Rattle.std.specs.Prelude.{◌≡◌, ◌<◌, ◌≤◌, ℕ, ◌||◌, ◌∷◌, [], true, length, OnOk};
 ghost use Rattle.rev_causal.specs.AccessLists.{first_above as first_above_in};
 ghost use Rattle.rev_causal.specs.Chosen.{IsRising, is_among};
-ghost use Rattle.rev_cells.specs.Keys.{cell_cmp};
+ghost use Rattle.rev_order.specs.Overtaken.{first_overtaking as first_overtaking_in};
 ghost use Rattle.rev_accesses.specs.Following.{is_first_under, is_user_under};
-ghost use Rattle.rev_accesses.specs.Places.{cells_at};
 ghost use Rattle.rev_accesses.specs.Thinned.{AreThinnedUnder, IsGoneUnder};
 ghost use Rattle.rev_accesses.specs.Inverted.{first_inverted_among, partner_at};
 ghost use Rattle.rev_accesses.specs.Users.{IsSame, listed, other};
+ghost use Rattle.rev_accesses.specs.declared.users.Access.{Access};
 ghost use Rattle.rev_accesses.specs.declared.users.Access.TheVariants.{Read, Write};
 ghost use Rattle.rev_accesses.specs.Value.{PartlyPut, PutUnder, TakenFrom, nearest_at, numbers_at};
 
 use crate::between::add_between;
 use crate::pending::Pending;
 use crate::users::{Access, Users};
-use indexmap::IndexMap;
-use rev_cells::Cell;
 use rev_numbers::lesser;
 use rev_order::first_overtaking;
-use std::alloc::AllocError;
+use std::alloc::{AllocError, Global};
 
-// Puts a number into one of the lists of the cell at a place, unless it is there.
-fn put_at(
-    index: &mut IndexMap<Cell, Users>,
-    access: Access,
-    place: u32,
-    number: u32,
-) -> Result<(), AllocError>
-    ensures ok { OnOk result (PutUnder number (cells_at (keys_of index.old.entries) (place ∷ []))
-        (listed access index.old.entries) (listed access index.new.entries)) }
-    ensures partly { PartlyPut number (cells_at (keys_of index.old.entries) (place ∷ []))
-        (listed access index.old.entries) (listed access index.new.entries) }
-    ensures rest { IsSame (listed (other access) index.old.entries) (listed (other access) index.new.entries) }
-    ensures cells { keys_of index.new.entries ≡ keys_of index.old.entries }
+// Adds lists that are empty until one stands at a place.
+fn reach(alloc: Global, index: &mut Vec<Users>, place: usize) -> Result<(), AllocError>
+    ensures within { OnOk result (place < length index.new.items) }
+    ensures same { (access : Access) → IsSame (listed access index.old.items) (listed access index.new.items) }
 {
-    if let Some(users) = index.get_index_mut(place as usize) {
-        users.put(access, number)?;
+    while index.len() <= place {
+        index.push(Users::none(alloc))?;
     }
     Ok(())
 }
 
-// Takes a number out of one of the lists of the cell at a place, if it is there.
-fn take_at(index: &mut IndexMap<Cell, Users>, access: Access, place: u32, number: u32)
-    ensures taken { TakenFrom number (cells_at (keys_of index.old.entries) (place ∷ []))
-        (listed access index.old.entries) (listed access index.new.entries) }
-    ensures rest { IsSame (listed (other access) index.old.entries) (listed (other access) index.new.entries) }
-    ensures cells { keys_of index.new.entries ≡ keys_of index.old.entries }
+// Puts a number into one of the lists at a place that has lists, unless it is there.
+fn put_there(
+    index: &mut Vec<Users>,
+    access: Access,
+    place: usize,
+    number: u32,
+) -> Result<(), AllocError>
+    requires { place < length index.old.items }
+    ensures ok { OnOk result (PutUnder number (place ∷ [])
+        (listed access index.old.items) (listed access index.new.items)) }
+    ensures partly { PartlyPut number (place ∷ []) (listed access index.old.items) (listed access index.new.items) }
+    ensures rest { IsSame (listed (other access) index.old.items) (listed (other access) index.new.items) }
 {
-    if let Some(users) = index.get_index_mut(place as usize) {
-        users.take(access, number);
+    index[place].put(access, number)?;
+    Ok(())
+}
+
+// Puts a number into one of the lists at a place, unless it is there.
+fn put_at(
+    alloc: Global,
+    index: &mut Vec<Users>,
+    access: Access,
+    place: u32,
+    number: u32,
+) -> Result<(), AllocError>
+    ensures ok { OnOk result (PutUnder number (place ∷ [])
+        (listed access index.old.items) (listed access index.new.items)) }
+    ensures partly { PartlyPut number (place ∷ []) (listed access index.old.items) (listed access index.new.items) }
+    ensures rest { IsSame (listed (other access) index.old.items) (listed (other access) index.new.items) }
+{
+    reach(alloc, index, place as usize)?;
+    put_there(index, access, place as usize, number)?;
+    Ok(())
+}
+
+// Takes a number out of one of the lists at a place, if it is there.
+fn take_at(index: &mut Vec<Users>, access: Access, place: u32, number: u32)
+    ensures taken { TakenFrom number (place ∷ []) (listed access index.old.items) (listed access index.new.items) }
+    ensures rest { IsSame (listed (other access) index.old.items) (listed (other access) index.new.items) }
+{
+    if (place as usize) < index.len() {
+        index[place as usize].take(access, number);
     }
 }
 
-// Removes `number`, one of `members`, from one of the lists of the cell at a place; may remove other members too.
+// Removes `number`, one of `members`, from one of the lists at a place; may remove other members too.
 fn remove_member_at(
-    index: &mut IndexMap<Cell, Users>,
+    index: &mut Vec<Users>,
     access: Access,
     place: u32,
     number: u32,
@@ -65,85 +84,58 @@ fn remove_member_at(
 )
     requires rising { IsRising members.now }
     requires member { is_among members.now number ≡ true }
-    ensures thinned { AreThinnedUnder members.now
-        (listed access index.old.entries) (listed access index.new.entries) }
-    ensures gone { IsGoneUnder number (cells_at (keys_of index.old.entries) (place ∷ []))
-        (listed access index.new.entries) }
-    ensures rest { IsSame (listed (other access) index.old.entries) (listed (other access) index.new.entries) }
-    ensures cells { keys_of index.new.entries ≡ keys_of index.old.entries }
+    ensures thinned { AreThinnedUnder members.now (listed access index.old.items) (listed access index.new.items) }
+    ensures gone { IsGoneUnder number (place ∷ []) (listed access index.new.items) }
+    ensures rest { IsSame (listed (other access) index.old.items) (listed (other access) index.new.items) }
 {
-    if let Some(users) = index.get_index_mut(place as usize) {
-        users.remove_members(access, number, members);
+    if (place as usize) < index.len() {
+        index[place as usize].remove_members(access, number, members);
     }
 }
 
-// The first number above another in one of the lists of a cell.
-fn first_at(index: &IndexMap<Cell, Users>, access: Access, cell: &Cell, number: u32) -> Option<u32>
-    ensures { result ≡ first_above_in number (numbers_at (listed access index.now.entries) cell.now) }
+/// The first number above another in one of the lists at a place.
+pub(crate) fn first_at(index: &[Users], access: Access, place: usize, number: u32) -> Option<u32>
+    ensures { result ≡ first_above_in number (numbers_at (listed access index.now) place) }
 {
-    match index.get(cell) {
+    match index.get(place) {
         Some(users) => users.numbers(access).first_above(number),
         None => None,
     }
 }
 
-// The first number above another in one of the lists of the cell at a place.
-fn first_at_place(
-    index: &IndexMap<Cell, Users>,
-    access: Access,
-    place: u32,
-    number: u32,
-) -> Option<u32>
-    ensures { result ≡ nearest_at number (listed access index.now.entries)
-        (cells_at (keys_of index.now.entries) (place ∷ [])) }
-{
-    match index.get_index(place as usize) {
-        Some((_cell, users)) => users.numbers(access).first_above(number),
-        None => None,
-    }
-}
-
-/// Puts a number into one of the lists of each of the cells at some places. At an error it may stand in some of them.
+/// Puts a number into one of the lists at each of some places. At an error it may stand in some of them.
 pub(crate) fn put_all(
-    index: &mut IndexMap<Cell, Users>,
+    alloc: Global,
+    index: &mut Vec<Users>,
     access: Access,
     places: &[u32],
     number: u32,
 ) -> Result<(), AllocError>
-    ensures ok { OnOk result (PutUnder number (cells_at (keys_of index.old.entries) places.now)
-        (listed access index.old.entries) (listed access index.new.entries)) }
-    ensures partly { PartlyPut number (cells_at (keys_of index.old.entries) places.now)
-        (listed access index.old.entries) (listed access index.new.entries) }
-    ensures rest { IsSame (listed (other access) index.old.entries) (listed (other access) index.new.entries) }
-    ensures cells { keys_of index.new.entries ≡ keys_of index.old.entries }
+    ensures ok { OnOk result (PutUnder number places.now
+        (listed access index.old.items) (listed access index.new.items)) }
+    ensures partly { PartlyPut number places.now (listed access index.old.items) (listed access index.new.items) }
+    ensures rest { IsSame (listed (other access) index.old.items) (listed (other access) index.new.items) }
 {
     for place in places {
-        put_at(index, access, *place, number)?;
+        put_at(alloc, index, access, *place, number)?;
     }
     Ok(())
 }
 
-/// Takes a number out of one of the lists of each of the cells at some places. It takes no memory.
-pub(crate) fn take_all(
-    index: &mut IndexMap<Cell, Users>,
-    access: Access,
-    places: &[u32],
-    number: u32,
-)
-    ensures taken { TakenFrom number (cells_at (keys_of index.old.entries) places.now)
-        (listed access index.old.entries) (listed access index.new.entries) }
-    ensures rest { IsSame (listed (other access) index.old.entries) (listed (other access) index.new.entries) }
-    ensures cells { keys_of index.new.entries ≡ keys_of index.old.entries }
+/// Takes a number out of one of the lists at each of some places. It takes no memory.
+pub(crate) fn take_all(index: &mut Vec<Users>, access: Access, places: &[u32], number: u32)
+    ensures taken { TakenFrom number places.now (listed access index.old.items) (listed access index.new.items) }
+    ensures rest { IsSame (listed (other access) index.old.items) (listed (other access) index.new.items) }
 {
     for place in places {
         take_at(index, access, *place, number);
     }
 }
 
-/// Removes `number`, one of `members`, from one of the lists of each of the cells at some places; may remove other
-/// members too. It takes no memory.
+/// Removes `number`, one of `members`, from one of the lists at each of some places; may remove other members too. It
+/// takes no memory.
 pub(crate) fn remove_members_at(
-    index: &mut IndexMap<Cell, Users>,
+    index: &mut Vec<Users>,
     access: Access,
     places: &[u32],
     number: u32,
@@ -151,64 +143,38 @@ pub(crate) fn remove_members_at(
 )
     requires rising { IsRising members.now }
     requires member { is_among members.now number ≡ true }
-    ensures thinned { AreThinnedUnder members.now
-        (listed access index.old.entries) (listed access index.new.entries) }
-    ensures gone { IsGoneUnder number (cells_at (keys_of index.old.entries) places.now)
-        (listed access index.new.entries) }
-    ensures rest { IsSame (listed (other access) index.old.entries) (listed (other access) index.new.entries) }
-    ensures cells { keys_of index.new.entries ≡ keys_of index.old.entries }
+    ensures thinned { AreThinnedUnder members.now (listed access index.old.items) (listed access index.new.items) }
+    ensures gone { IsGoneUnder number places.now (listed access index.new.items) }
+    ensures rest { IsSame (listed (other access) index.old.items) (listed (other access) index.new.items) }
 {
     for place in places {
         remove_member_at(index, access, *place, number, members);
     }
 }
 
-/// The least number above another of those that access one of the cells in one way. It takes no memory.
-pub(crate) fn nearest(
-    index: &IndexMap<Cell, Users>,
-    access: Access,
-    cells: &[Cell],
-    number: u32,
-) -> Option<u32>
-    ensures { result ≡ nearest_at number (listed access index.now.entries) cells.now }
-{
-    let mut least = None;
-    for cell in cells {
-        least = lesser(least, first_at(index, access, cell, number));
-    }
-    least
-}
-
-/// The least number above another of those that access one of the cells at some places in one way. It takes no memory.
-pub(crate) fn nearest_at_places(
-    index: &IndexMap<Cell, Users>,
-    access: Access,
-    places: &[u32],
-    number: u32,
-) -> Option<u32>
-    ensures { result ≡ nearest_at number (listed access index.now.entries)
-        (cells_at (keys_of index.now.entries) places.now) }
+/// The least number above another of those that access a cell at one of some places in one way. It takes no memory.
+pub(crate) fn nearest(index: &[Users], access: Access, places: &[u32], number: u32) -> Option<u32>
+    ensures { result ≡ nearest_at number (listed access index.now) places.now }
 {
     let mut least = None;
     for place in places {
-        least = lesser(least, first_at_place(index, access, *place, number));
+        least = lesser(least, first_at(index, access, *place as usize, number));
     }
     least
 }
 
-// Adds to the pending numbers the first writer above one under the cell at a place.
+// Adds to the pending numbers the first writer above one at a place.
 fn add_first_at(
     pending: &mut Pending,
-    index: &IndexMap<Cell, Users>,
+    index: &[Users],
     place: u32,
     number: u32,
 ) -> Result<(), AllocError>
     ensures { OnOk result ((k : ℕ) → is_among pending.new k
-        ≡ (is_first_under number (listed Write index.now.entries)
-        (cells_at (keys_of index.now.entries) (place ∷ [])) k || is_among pending.old k)) }
+        ≡ (is_first_under number (listed Write index.now) (place ∷ []) k || is_among pending.old k)) }
 {
-    match index.get_index(place as usize) {
-        Some((_cell, users)) => {
+    match index.get(place as usize) {
+        Some(users) => {
             pending.add_some(users.writers.first_above(number))?;
             Ok(())
         }
@@ -216,19 +182,19 @@ fn add_first_at(
     }
 }
 
-// Adds to the pending numbers the first writer above one under the cell at a place, and the readers before that writer.
+// Adds to the pending numbers the first writer above one at a place, and the readers before that writer.
 fn add_users_at(
     pending: &mut Pending,
-    index: &IndexMap<Cell, Users>,
+    index: &[Users],
     place: u32,
     number: u32,
 ) -> Result<(), AllocError>
     ensures { OnOk result ((k : ℕ) → is_among pending.new k
-        ≡ (is_user_under number (listed Write index.now.entries) (listed Read index.now.entries)
-        (cells_at (keys_of index.now.entries) (place ∷ [])) k || is_among pending.old k)) }
+        ≡ (is_user_under number (listed Write index.now) (listed Read index.now) (place ∷ []) k
+        || is_among pending.old k)) }
 {
-    match index.get_index(place as usize) {
-        Some((_cell, users)) => {
+    match index.get(place as usize) {
+        Some(users) => {
             let next = users.writers.first_above(number);
             pending.add_some(next)?;
             add_between(pending, users.readers.as_slice(), number, next)?;
@@ -238,16 +204,15 @@ fn add_users_at(
     }
 }
 
-/// Adds to the pending numbers the first writer above one under each of the cells at some places.
+/// Adds to the pending numbers the first writer above one at each of some places.
 pub(crate) fn add_firsts(
     pending: &mut Pending,
-    index: &IndexMap<Cell, Users>,
+    index: &[Users],
     places: &[u32],
     number: u32,
 ) -> Result<(), AllocError>
     ensures { OnOk result ((k : ℕ) → is_among pending.new k
-        ≡ (is_first_under number (listed Write index.now.entries)
-        (cells_at (keys_of index.now.entries) places.now) k || is_among pending.old k)) }
+        ≡ (is_first_under number (listed Write index.now) places.now k || is_among pending.old k)) }
 {
     for place in places {
         add_first_at(pending, index, *place, number)?;
@@ -255,17 +220,16 @@ pub(crate) fn add_firsts(
     Ok(())
 }
 
-/// Adds to the pending numbers, under each of the cells at some places, the first writer above one and the readers
-/// before that writer.
+/// Adds to the pending numbers, at each of some places, the first writer above one and the readers before that writer.
 pub(crate) fn add_users(
     pending: &mut Pending,
-    index: &IndexMap<Cell, Users>,
+    index: &[Users],
     places: &[u32],
     number: u32,
 ) -> Result<(), AllocError>
     ensures { OnOk result ((k : ℕ) → is_among pending.new k
-        ≡ (is_user_under number (listed Write index.now.entries) (listed Read index.now.entries)
-        (cells_at (keys_of index.now.entries) places.now) k || is_among pending.old k)) }
+        ≡ (is_user_under number (listed Write index.now) (listed Read index.now) places.now k
+        || is_among pending.old k)) }
 {
     for place in places {
         add_users_at(pending, index, *place, number)?;
@@ -274,14 +238,12 @@ pub(crate) fn add_users(
 }
 
 /// The least number that another overtakes which accesses the same cell, where one of the two writes it. Time is
-/// linear in the lists of all cells.
-pub(crate) fn first_inverted(index: &IndexMap<Cell, Users>, places: &[u32]) -> Option<u32>
-    ensures least { result ≡ first_inverted_among places.now (map (λ e. e.1) index.now.entries) }
-    ensures distinct { IsDistinct (eq_by_cmp cell_cmp) (map (λ e. e.0) index.now.entries) }
+/// linear in the lists of all places.
+pub(crate) fn first_inverted(index: &[Users], places: &[u32]) -> Option<u32>
+    ensures { result ≡ first_inverted_among places.now index.now }
 {
-    let _cells = index.len();
     let mut least = None;
-    for users in index.values() {
+    for users in index {
         least = lesser(least, users.first_inverted(places));
     }
     least
@@ -289,32 +251,30 @@ pub(crate) fn first_inverted(index: &IndexMap<Cell, Users>, places: &[u32]) -> O
 
 // The first of those that access the cell at a place in one way which overtakes a number.
 fn partner_in(
-    index: &IndexMap<Cell, Users>,
+    index: &[Users],
     access: Access,
     places: &[u32],
     place: u32,
     number: u32,
 ) -> Option<u32>
-    ensures { result ≡ partner_at places.now number (listed access index.now.entries)
-        (cells_at (keys_of index.now.entries) (place ∷ [])) }
+    ensures { result ≡ first_overtaking_in places.now number (numbers_at (listed access index.now) place) }
 {
-    match index.get_index(place as usize) {
-        Some((_cell, users)) => first_overtaking(places, number, users.numbers(access).as_slice()),
+    match index.get(place as usize) {
+        Some(users) => first_overtaking(places, number, users.numbers(access).as_slice()),
         None => None,
     }
 }
 
-/// The least of those that access one of the cells at some places in one way which overtakes a number, by the places of
+/// The least of those that access a cell at one of some places in one way which overtakes a number, by the places of
 /// the numbers in another list.
 pub(crate) fn partner(
-    index: &IndexMap<Cell, Users>,
+    index: &[Users],
     access: Access,
     places: &[u32],
     cells: &[u32],
     number: u32,
 ) -> Option<u32>
-    ensures { result ≡ partner_at places.now number (listed access index.now.entries)
-        (cells_at (keys_of index.now.entries) cells.now) }
+    ensures { result ≡ partner_at places.now number (listed access index.now) cells.now }
 {
     let mut least = None;
     for cell in cells {

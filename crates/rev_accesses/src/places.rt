@@ -3,11 +3,12 @@ ghost use Rattle.std.specs.Prelude.{◌≡◌, take};
 
 use std::marker::Model;
 
-/// The places of the cells that an event reads, those that it writes first: where the lists of a cell stand in
-/// [`crate::Accesses`], four bytes each.
+/// What an event reads and writes, by the places of the cells in a table that its owner keeps: four bytes each, those
+/// that it writes first. Of a whole event, which reads and writes every cell, these are the cells that it names.
 pub struct Places {
     read: Vec<u32>,
     written: usize,
+    whole: bool,
 }
 
 impl Drop for Places {
@@ -15,6 +16,7 @@ impl Drop for Places {
         let Places {
             read: _read,
             written: _written,
+            whole: _whole,
         } = self;
     }
 }
@@ -30,18 +32,24 @@ impl Model for Places {
     ghost view = { λ a. record {
       read = a.read.items;
       written = take a.written a.read.items;
+      whole = a.whole;
     } };
 }
 
 impl Places {
-    // Places that are read, of which the first `written` ones are written.
-    pub(crate) fn of(read: Vec<u32>, written: usize) -> Places
+    /// Places that are read, of which the first `written` ones are written, of an event that is whole or not.
+    pub fn of(read: Vec<u32>, written: usize, whole: bool) -> Places
         ensures { result ≡ record {
           read = read.items;
           written = take written read.items;
+          whole = whole;
         } }
     {
-        Places { read, written }
+        Places {
+            read,
+            written,
+            whole,
+        }
     }
 
     /// The places of the cells that the event reads.
@@ -57,5 +65,12 @@ impl Places {
     {
         let many = self.written.min(self.read.len());
         &self.read[..many]
+    }
+
+    /// Whether the event reads and writes every cell.
+    pub fn whole(&self) -> bool
+        ensures { result ≡ self.now.whole }
+    {
+        self.whole
     }
 }

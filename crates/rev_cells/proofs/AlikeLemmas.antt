@@ -1,11 +1,10 @@
 -- Cells that hold the same.
-use Rattle.std.proofs.Common.{◌≡◌, ◌↔◌, ◌==◌, is_some, cond, ℕ, Bool, true, false, ◌&&◌, List, [], ◌∷◌, Option, None, Some, IsSome, IfSome, Contains, refl, sym, ap, ap₂, subst, ◌∙◌, bytes_eq, eq-eqb, eqb-true, true≢false, nat_eq, inl, inr, if◌then◌else◌}
+use Rattle.std.proofs.Common.{◌≡◌, ◌↔◌, ◌==◌, is_some, cond, ℕ, Bool, true, false, ◌&&◌, List, [], ◌∷◌, Option, None, Some, IsSome, IfSome, refl, sym, ap, ap₂, subst, ◌∙◌, bytes_eq, eq-eqb, eqb-true, true≢false, if◌then◌else◌}
 use Rattle.std.specs.Option.{option_eq}
 use Rattle.std.specs.Cmp.{booleans_Decides}
 use Rattle.std.specs.Cmp.Lexicographic.{pointwise}
 use Rattle.std.specs.FinMap.{get, same_map}
 use Rattle.std.specs.Map.{lookup, keys_of}
-use Rattle.std.proofs.lemmas.Map.Views.{Contains-keys_from_lookup}
 use Rattle.std.proofs.lemmas.Slice.Eq.{bytes_eq-Decides, slice_eq-Decides}
 use Rattle.rev_cells.specs.declared.cell.Cell.{Cell}
 use Rattle.rev_cells.specs.declared.mark.Mark.{Mark}
@@ -21,7 +20,7 @@ use Rattle.rev_cells.specs.Alike.{IsSameOpening, value_eq, same_held, same_at, s
 use Rattle.rev_cells.specs.Sound.{state_of, AllFit}
 use Rattle.rev_cells.specs.State.{State}
 use Rattle.rev_cells.specs.Table.{Records}
-use Rattle.rev_cells.specs.Values.{Fits, is_default, unless_default, default_of}
+use Rattle.rev_cells.specs.Values.{Fits, is_default, unless_default}
 use Rattle.rev_cells.proofs.EntryLemmas.{cells_total, cells_exact, cell_eq, cell_eq-exact, fits_at, get-state_of, stored, only_default}
 
 abbrev mark_eq : Mark → Mark → Bool

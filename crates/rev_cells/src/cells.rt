@@ -1,5 +1,5 @@
 //! The cells and what they hold.
-ghost use Rattle.std.specs.Prelude.{◌≡◌, ◌↔◌, ◌++◌, ◌∷◌, [], IsTrue, IsSome, IfOk, IfSome, OnOk, OnErr, slice_get, length, Contains, ◌<◌, ◌^◌, ◌⊎◌};
+ghost use Rattle.std.specs.Prelude.{◌≡◌, ◌↔◌, ◌++◌, ◌∷◌, [], Some, IsTrue, IsSome, IfOk, IfSome, IfNone, OnOk, OnErr, slice_get, length, Contains, ◌<◌, ◌^◌, ◌⊎◌};
 ghost use Rattle.std.specs.Option.{option_copied};
 ghost use Rattle.std.specs.List.{AllByRecursion, IsDistinct};
 ghost use Rattle.std.specs.Ordering.{eq_by_cmp};
@@ -8,6 +8,7 @@ ghost use Rattle.rev_cells.specs.declared.cell.Cell.{Cell};
 ghost use Rattle.rev_cells.specs.Asked.{asked_cell};
 ghost use Rattle.rev_cells.specs.Keys.{cell_cmp};
 ghost use Rattle.rev_cells.specs.Effects.{cells_of, former_values, set_all, stored_in, stored_values};
+ghost use Rattle.rev_cells.specs.Places.{AreWithin, IsGrown, cells_at, with_values};
 ghost use Rattle.rev_cells.specs.State.{default_or, set, value_at};
 ghost use Rattle.rev_cells.specs.Table.{Table, no_records, opened, raised, raised_by, written, written_all};
 ghost use Rattle.rev_cells.specs.Values.{Fits, unless_default};
@@ -53,6 +54,16 @@ impl Model for Cells {
     ghost view = { table_of };
 
     ghost invariant = { IsSound };
+}
+
+// A place as it is kept, in four bytes. One past `u32` is reported as out of memory.
+fn as_place(place: usize) -> Result<u32, AllocError>
+    ensures { IfOk result (λ kept. kept ≡ place) }
+{
+    match u32::try_from(place) {
+        Ok(kept) => Ok(kept),
+        Err(_) => Err(AllocError),
+    }
 }
 
 // The count of writes after one more.
@@ -175,10 +186,70 @@ impl Cells {
         if self.has(cell) {
             return Ok(());
         }
+        self.add_place(cell)?;
+        Ok(())
+    }
+
+    // Makes a place for a cell that has none, after all others.
+    fn add_place(&mut self, cell: &Cell) -> Result<(), AllocError>
+        requires { Contains self.old.places cell.now → ⊥ }
+        ensures state { self.new.state ≡ self.old.state }
+        ensures jobs { self.new.jobs ≡ self.old.jobs }
+        ensures writes { self.new.writes ≡ self.old.writes }
+        ensures added { OnOk result (self.new.places ≡ self.old.places ++ cell.now ∷ []) }
+        ensures err { OnErr result (self.new ≡ self.old) }
+    {
         let cell = cell.copy()?;
         let value = cell.default_value();
         self.entries.insert(cell, value)?;
         Ok(())
+    }
+
+    /// The place of a cell, which counts from 0; none where it has none. It takes no memory.
+    pub fn place_of(&self, cell: &Cell) -> Option<usize>
+        ensures some { IfSome result (λ place. slice_get self.now.places place ≡ Some cell.now) }
+        ensures none { IfNone result (Contains self.now.places cell.now → ⊥) }
+        ensures distinct { IsDistinct (eq_by_cmp cell_cmp) self.now.places }
+    {
+        self.entries.get_index_of(cell)
+    }
+
+    // The place of a cell, which gets one where it has none. The cell is looked up once, and a second time where it is
+    // new.
+    fn place_or_new(&mut self, cell: &Cell) -> Result<u32, AllocError>
+        ensures place { IfOk result (λ place. slice_get self.new.places place ≡ Some cell.now) }
+        ensures grown { IsGrown self.old.places self.new.places }
+        ensures state { self.new.state ≡ self.old.state }
+        ensures jobs { self.new.jobs ≡ self.old.jobs }
+        ensures writes { self.new.writes ≡ self.old.writes }
+    {
+        if let Some(place) = self.place_of(cell) {
+            return as_place(place);
+        }
+        let place = as_place(self.entries.len())?;
+        self.add_place(cell)?;
+        Ok(place)
+    }
+
+    /// The places of cells, in a list with room for no more. A cell that has none gets one, after all others.
+    ///
+    /// # Errors
+    /// [`AllocError`] where an allocation was refused, or a place does not fit `u32`. Some of the cells may then have
+    /// got places.
+    pub fn places_of(&mut self, alloc: Global, cells: &[Cell]) -> Result<Vec<u32>, AllocError>
+        ensures places { IfOk result (λ places. cells_at self.new.places places.items ≡ cells.now) }
+        ensures within { IfOk result (λ places. AreWithin self.new.places places.items) }
+        ensures grown { IsGrown self.old.places self.new.places }
+        ensures state { self.new.state ≡ self.old.state }
+        ensures jobs { self.new.jobs ≡ self.old.jobs }
+        ensures writes { self.new.writes ≡ self.old.writes }
+    {
+        let mut places = Vec::with_capacity(alloc, cells.len())?;
+        for cell in cells {
+            let place = self.place_or_new(cell)?;
+            places.push(place)?;
+        }
+        Ok(places)
     }
 
     /// Writes a value of its kind to a cell that has a place, and gives what the cell held. It is counted as a write.
@@ -241,6 +312,62 @@ impl Cells {
     {
         for place in 0..writes.len() {
             self.exchange_one(&mut writes[place]);
+        }
+    }
+
+    // Writes a value of its kind to the cell at a place, and gives what the cell held.
+    fn swap_at(&mut self, place: u32, value: Value) -> Value
+        requires within { place < length self.old.places }
+        requires fits { (c : Cell) → slice_get self.old.places place ≡ Some c → Fits c value }
+        ensures former { (c : Cell) → slice_get self.old.places place ≡ Some c → result ≡ value_at self.old.state c }
+        ensures after { (c : Cell) → slice_get self.old.places place ≡ Some c → self.new ≡ written self.old c value }
+        ensures former_fits { (c : Cell) → slice_get self.old.places place ≡ Some c → Fits c result }
+        ensures stored { (c : Cell) → slice_get self.old.places place ≡ Some c
+            → map.get self.old.state c ≡ unless_default result }
+    {
+        let Some(slot) = self.entries.get_index_mut(place as usize) else {
+            unreachable!()
+        };
+        let former = mem::replace(slot, value);
+        self.writes = one_write_more(self.writes);
+        former
+    }
+
+    // Writes a value to the cell at a place, and leaves what the cell held in its place.
+    fn exchange_one_at(&mut self, place: u32, value: &mut Value)
+        requires within { place < length self.old.places }
+        requires fits { (c : Cell) → slice_get self.old.places place ≡ Some c → Fits c value.old }
+        ensures former { (c : Cell) → slice_get self.old.places place ≡ Some c
+            → value.new ≡ value_at self.old.state c }
+        ensures after { (c : Cell) → slice_get self.old.places place ≡ Some c
+            → self.new ≡ written self.old c value.old }
+        ensures former_fits { (c : Cell) → slice_get self.old.places place ≡ Some c → Fits c value.new }
+        ensures stored { (c : Cell) → slice_get self.old.places place ≡ Some c
+            → map.get self.old.state c ≡ unless_default value.new }
+    {
+        let new = mem::replace(value, Value::Halted(false));
+        *value = self.swap_at(place, new);
+    }
+
+    /// As [`Cells::exchange`], for values of the cells at some places. It takes no memory, and hashes no cell.
+    pub fn exchange_at(&mut self, places: &[u32], values: &mut Vec<Value>)
+        requires within { AreWithin self.old.places places.now }
+        requires many { length values.old.items ≡ length places.now }
+        requires fits { AllByRecursion (λ (w : Cell × Value). Fits w.0 w.1)
+            (with_values (cells_at self.old.places places.now) values.old.items) }
+        ensures after { self.new
+            ≡ written_all self.old (with_values (cells_at self.old.places places.now) values.old.items) }
+        ensures former { with_values (cells_at self.old.places places.now) values.new.items
+            ≡ former_values self.old.state (with_values (cells_at self.old.places places.now) values.old.items) }
+        ensures former_fits { AllByRecursion (λ (w : Cell × Value). Fits w.0 w.1)
+            (with_values (cells_at self.old.places places.now) values.new.items) }
+        ensures many { length values.new.items ≡ length values.old.items }
+        ensures stored { let cells = cells_at self.old.places places.now in IsDistinct (eq_by_cmp cell_cmp) cells
+            → stored_values (with_values cells values.new.items)
+            ≡ stored_in self.old.state (with_values cells values.old.items) }
+    {
+        for index in 0..places.len() {
+            self.exchange_one_at(places[index], &mut values[index]);
         }
     }
 

@@ -2,7 +2,7 @@
 use Rattle.std.proofs.Common.{◌≡◌, ℕ, zero, suc, ◌<◌, ◌≤◌, ◌+◌, Bool, true, false, cond, List, [], ◌∷◌, drop, length, get_or, Option, None, Some, refl, sym, ap, subst, ◌∙◌, ◌&&◌, add-one, drop-cons, le-ltb, ltb-true, ltb-false, arith}
 use Rattle.std.specs.Prelude.{nat_lt}
 use Rattle.std.specs.List.{AllByRecursion}
-use Rattle.rev_accesses.specs.Value.{Prints}
+use Rattle.rev_history.specs.Named.{CellPrints}
 use Rattle.rev_causal.specs.AccessLists.{lesser}
 use Rattle.rev_causal.specs.Chosen.{IsRising, chosen, under}
 use Rattle.rev_causal.specs.History as causal
@@ -27,7 +27,7 @@ none-and true c = refl
 none-and false c = refl
 
 -- among numbers of which one comes first
-partner-first : (places : List ℕ) (es : Prints) (k : ℕ) (ks : List ℕ) (n : ℕ) (f : Footprint Cell)
+partner-first : (places : List ℕ) (es : CellPrints) (k : ℕ) (ks : List ℕ) (n : ℕ) (f : Footprint Cell)
     → partner_of (conflict cell_cmp) places (chosen es (k ∷ ks)) n f
     ≡ cond (overtakes places n k && is_dependent f (causal.event_at k es)) (Some k) (partner_of (conflict cell_cmp) places (chosen es ks) n f)
 partner-first places es k ks n f = by (causal.event_at k es)
@@ -37,7 +37,7 @@ partner-first places es k ks n f = by (causal.event_at k es)
     by None = sym (ap (λ b. cond b (Some k) (partner_of (conflict cell_cmp) places (chosen es ks) n f)) (and-none (overtakes places n k)))
     by (Some g) = refl
 
-partner-at : (places : List ℕ) (es : Prints) (ks : List ℕ) (i n : ℕ) (f : Footprint Cell) → i < length ks
+partner-at : (places : List ℕ) (es : CellPrints) (ks : List ℕ) (i n : ℕ) (f : Footprint Cell) → i < length ks
     → partner_of (conflict cell_cmp) places (chosen es (drop i ks)) n f
     ≡ cond (overtakes places n (get_or ks i 0) && is_dependent f (causal.event_at (get_or ks i 0) es)) (Some (get_or ks i 0))
     (partner_of (conflict cell_cmp) places (chosen es (drop (i + 1) ks)) n f)
@@ -46,7 +46,7 @@ partner-at places es ks i n f within =
     ∙ partner-first places es (get_or ks i 0) (drop (i + 1) ks) n f
 
 -- the number at a place is not the partner
-pub partner-passed : (places : List ℕ) (es : Prints) (ks : List ℕ) (i n : ℕ) (f : Footprint Cell) (b : Bool) → i < length ks
+pub partner-passed : (places : List ℕ) (es : CellPrints) (ks : List ℕ) (i n : ℕ) (f : Footprint Cell) (b : Bool) → i < length ks
     → b ≡ (overtakes places n (get_or ks i 0) && is_dependent f (causal.event_at (get_or ks i 0) es)) → b ≡ false
     → partner_of (conflict cell_cmp) places (chosen es (drop i ks)) n f ≡ partner_of (conflict cell_cmp) places (chosen es (drop (i + 1) ks)) n f
 partner-passed places es ks i n f b within is out =
@@ -54,7 +54,7 @@ partner-passed places es ks i n f b within is out =
     ∙ ap (λ c. cond c (Some (get_or ks i 0)) (partner_of (conflict cell_cmp) places (chosen es (drop (i + 1) ks)) n f)) (sym is ∙ out)
 
 -- it is
-pub partner-found : (places : List ℕ) (es : Prints) (ks : List ℕ) (i n : ℕ) (f : Footprint Cell) (b : Bool) → i < length ks
+pub partner-found : (places : List ℕ) (es : CellPrints) (ks : List ℕ) (i n : ℕ) (f : Footprint Cell) (b : Bool) → i < length ks
     → b ≡ (overtakes places n (get_or ks i 0) && is_dependent f (causal.event_at (get_or ks i 0) es)) → b ≡ true
     → partner_of (conflict cell_cmp) places (chosen es (drop i ks)) n f ≡ Some (get_or ks i 0)
 partner-found places es ks i n f b within is in-it =
@@ -78,7 +78,7 @@ not-lower a p (Some b) h = by (nat_lt b a) refl
         (low, le-ltb b p (omega (arith, le, more)))
 
 -- none of some numbers is, where none stands before that one there
-pub partner-none : (places : List ℕ) (es : Prints) (ks : List ℕ) (n : ℕ) (f : Footprint Cell)
+pub partner-none : (places : List ℕ) (es : CellPrints) (ks : List ℕ) (n : ℕ) (f : Footprint Cell)
     → is_lower (lowest_place places ks) (place_at places n) ≡ false → partner_of (conflict cell_cmp) places (chosen es ks) n f ≡ None
 partner-none places es [] n f low = refl
 partner-none places es (k ∷ ks) n f low =
@@ -101,7 +101,7 @@ All-drop P (suc i) [] all = tt
 All-drop P (suc i) (k ∷ ks) all = All-drop P i ks all.1
 
 -- the pair of the number at a place, where it has a partner, else that of the rest
-pub pair-at : (places : List ℕ) (es : Prints) (ks : List ℕ) (i : ℕ) (f : Footprint Cell) (o : Option ℕ) → IsRising ks → i < length ks
+pub pair-at : (places : List ℕ) (es : CellPrints) (ks : List ℕ) (i : ℕ) (f : Footprint Cell) (o : Option ℕ) → IsRising ks → i < length ks
     → causal.event_at (get_or ks i 0) es ≡ Some f → o ≡ partner_of (conflict cell_cmp) places (chosen es (drop (i + 1) ks)) (get_or ks i 0) f
     → inverted_pair (conflict cell_cmp) places (chosen es (drop i ks))
     ≡ paired_by (conflict cell_cmp) places (get_or ks i 0) o (inverted_pair (conflict cell_cmp) places (chosen es (drop (i + 1) ks)))

@@ -1,21 +1,19 @@
 -- The first pair of dependent events that stand the other way round in another history.
 use Rattle.std.specs.Prelude.{◌≡◌, ℕ, ◌+◌, ◌≤◌, Bool, false, ◌&&◌, List, drop, filter, length, map, Option, Some, None, is_some, slice_index_or, unwrap_or}
-use Rattle.rev_accesses.specs.Value.{Prints}
 use Rattle.rev_causal.specs.Chosen.{chosen}
-use Rattle.rev_causal.specs.History.{put}
 use Rattle.rev_causal.specs.Store.{Footprint, conflict}
 use Rattle.rev_cells.specs.declared.cell.Cell.{Cell}
 use Rattle.rev_cells.specs.Keys.{cell_cmp}
-use Rattle.rev_footprint.specs.Value.{FootprintValue, print_of}
-use Rattle.rev_history.specs.Timeline.{Timeline, footprints_along, kept_events}
+use Rattle.rev_history.specs.Along.{prints_along}
+use Rattle.rev_history.specs.Named.{CellPrints}
+use Rattle.rev_history.specs.Timeline.{Timeline}
 use Rattle.rev_order.specs.Lowest.{lowest_place}
 use Rattle.rev_order.specs.Pairs.{inverted_pair}
 use Rattle.rev_runs.specs.Runs.{is_kept}
 
 -- the footprints that the kept events have at their places, under their numbers
-abbrev pub prints_of : Timeline → Prints
-prints_of t =
-    map (λ (p : ℕ × FootprintValue). (p.0, print_of p.1)) (footprints_along t.manifest t.opening (kept_events t))
+abbrev pub prints_of : Timeline → CellPrints
+prints_of t = prints_along t
 
 -- the event is kept, and one there is the same
 abbrev pub is_compared : Timeline → List (Option ℕ) → ℕ → Bool
@@ -34,11 +32,6 @@ places_of matched = map (λ other. unwrap_or other 0) matched
 abbrev pub first_inverted_of : Timeline → List (Option ℕ) → Option (ℕ × ℕ)
 first_inverted_of t matched =
     inverted_pair (conflict cell_cmp) (places_of matched) (chosen (prints_of t) (compared_of t matched))
-
--- a footprint put under a number, where there is one
-abbrev pub put_if : ℕ → Option (Footprint Cell) → Prints → Prints
-put_if number None prints = prints
-put_if number (Some f) prints = put number f prints
 
 -- whether an event depends on another one, where that one has a footprint
 abbrev pub is_dependent : Footprint Cell → Option (Footprint Cell) → Bool

@@ -3,7 +3,7 @@
 use crate::place::Place;
 
 /// Two commands meet at a place, and the user does not wait for the maker.
-#[derive(Clone, Copy, Debug, PartialEq, Eq)]
+#[derive(Clone, Copy, PartialEq, Eq)]
 pub(crate) struct Told {
     /// The edge that touches the place.
     pub(crate) maker: u32,

@@ -3,7 +3,7 @@ ghost use Rattle.std.specs.Prelude.{◌≡◌};
 ghost use Rattle.rev_depfile.specs.Lines.{byte_of, is_blank, is_colon, is_line_end};
 
 // What a byte is once the bytes beside it are known.
-#[derive(Clone, Copy, Debug)]
+#[derive(Clone, Copy)]
 pub(crate) enum Mark {
     // A byte of a word.
     Byte(u8),
@@ -14,14 +14,14 @@ pub(crate) enum Mark {
 }
 
 // What a byte behind backslashes is, and how many of them are bytes of a word.
-#[derive(Clone, Copy, Debug)]
+#[derive(Clone, Copy)]
 pub(crate) struct Reading {
     pub(crate) kept: usize,
     pub(crate) mark: Mark,
 }
 
 // A mark, and the offset in the text of the first byte that it is read from.
-#[derive(Clone, Copy, Debug)]
+#[derive(Clone, Copy)]
 pub(crate) struct Sign {
     pub(crate) at: usize,
     pub(crate) mark: Mark,

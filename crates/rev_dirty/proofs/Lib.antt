@@ -10,3 +10,4 @@ pub mod SeenLemmas
 pub mod SeesLemmas
 pub mod VisibleLemmas
 pub mod WalkLemmas
+pub mod PushLemmas

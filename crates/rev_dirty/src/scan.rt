@@ -22,13 +22,24 @@ use std::marker::Model;
 /// in no answer.
 ///
 /// Calls about one edge take a number below [`Graph::edges`]. After an error the scan answers as before.
-#[derive(Drop)]
 pub struct DependencyScan<'a> {
     alloc: Global,
     graph: &'a Graph,
     cells: &'a Cells,
     known: Known,
     changed: Changed,
+}
+
+impl Drop for DependencyScan<'_> {
+    fn drop(self) {
+        let DependencyScan {
+            alloc: _alloc,
+            graph: _graph,
+            cells: _cells,
+            known: _known,
+            changed: _changed,
+        } = self;
+    }
 }
 
 impl<'a> Model for DependencyScan<'a> {

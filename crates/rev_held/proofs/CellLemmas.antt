@@ -25,7 +25,7 @@ any-either : {A : Type 0} (p q : A → Bool) (xs : List A) → list_any (λ k. p
 any-either p q [] = refl
 any-either p q (x ∷ xs) = ap (λ b. (p x || q x) || b) (any-either p q xs) ∙ or-four (p x) (q x) (list_any p xs) (list_any q xs)
 
-any-none : {A : Type 0} (xs : List A) → list_any (λ x. false) xs ≡ false
+pub any-none : {A : Type 0} (xs : List A) → list_any (λ x. false) xs ≡ false
 any-none [] = refl
 any-none (x ∷ xs) = any-none xs
 

@@ -5,3 +5,6 @@ pub mod FindLemmas
 pub mod SeveralLemmas
 pub mod NotedLemmas
 pub mod WayLemmas
+pub mod FirstLemmas
+pub mod DownLemmas
+pub mod LinkLemmas

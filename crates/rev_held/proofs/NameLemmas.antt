@@ -56,7 +56,7 @@ none-named f g (Some a) q one other h = absurd (true≢false cc)
 none-named f g None (Some a) one other h = absurd (true≢false cc)
 none-named f g None None one other h = λ i. none-any (is_accessed_by g) f.writes one i || none-any (is_accessed_by f) g.writes other i
 
-by-cells : (f g : FootprintValue) → f.whole ≡ false → g.whole ≡ false
+pub by-cells : (f g : FootprintValue) → f.whole ≡ false → g.whole ≡ false
     → conflict cell_cmp (print_of f) (print_of g) ≡ (list_any (is_accessed_by g) f.writes || list_any (is_accessed_by f) g.writes)
 by-cells f g a b = λ i. conflict cell_cmp (print-cells f a i) (print-cells g b i)
 

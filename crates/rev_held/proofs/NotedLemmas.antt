@@ -7,8 +7,7 @@ use Rattle.std.specs.Map.{lookup}
 use Rattle.rev_cells.specs.declared.cell.Cell.{Cell}
 use Rattle.rev_footprint.specs.Value.{FootprintValue}
 use Rattle.rev_history.specs.Timeline.{Timeline, kept_footprint}
-use Rattle.rev_held.specs.Noted.{AreNoted, AreTold, IsNoted, IsRight}
-use Rattle.rev_held.specs.declared.ways.Told.{Told}
+use Rattle.rev_held.specs.Noted.{AreNoted, IsNoted}
 use Rattle.rev_held.specs.Several.{IsNamed}
 
 pub noted-more : {S : Type 0} (t : Timeline) (one other : ℕ) (set : HashSet Cell S) (b : Bool)
@@ -32,18 +31,3 @@ noted-one t n f keys is named g other =
 pub none-noted : {S : Type 0} (t : Timeline) (entries : List (ℕ × HashSet Cell S)) → entries ≡ [] → AreNoted t entries
 none-noted {S = S} t entries none n =
     subst (λ (es : List (ℕ × HashSet Cell S)). IfSome (lookup (nat_eq n) es) (λ set. IsNoted t n set.keys)) (sym none) tt
-
--- one more number under which something is told
-pub told-more : (t : Timeline) (one other : ℕ) (told : Told) (b : Bool) (before after : Option Told)
-    → nat_eq one other ≡ b → after ≡ cond b (Some told) before → IsRight t one told → IfSome before (IsRight t other)
-    → IfSome after (IsRight t other)
-told-more t one other told true before after is more new old =
-    subst (λ (o : Option Told). IfSome o (IsRight t other)) (sym more)
-    (subst (λ (n : ℕ). IsRight t n told) (eqb-true one other is) new)
-told-more t one other told false before after is more new old =
-    subst (λ (o : Option Told). IfSome o (IsRight t other)) (sym more) old
-
--- nothing told at all
-pub none-told : (t : Timeline) (entries : List (ℕ × Told)) → entries ≡ [] → AreTold t entries
-none-told t entries none n =
-    subst (λ (es : List (ℕ × Told)). IfSome (lookup (nat_eq n) es) (IsRight t n)) (sym none) tt

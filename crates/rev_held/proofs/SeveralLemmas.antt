@@ -43,7 +43,7 @@ finds-more keys after before cs i c d within is copy added same p =
     ∙ finds-next keys (before ++ take i cs) c same p
     ∙ ap (find p) (append_assoc before (take i cs) (c ∷ []) ∙ ap (λ ys. before ++ ys) (sym (take_more cs i c within ∙ ap (λ z. take i cs ++ z ∷ []) (sym is))))
 
-any-append : (p : Cell → Bool) (xs ys : List Cell) → list_any p (xs ++ ys) ≡ (list_any p xs || list_any p ys)
+pub any-append : (p : Cell → Bool) (xs ys : List Cell) → list_any p (xs ++ ys) ≡ (list_any p xs || list_any p ys)
 any-append p [] ys = refl
 any-append p (x ∷ xs) ys = by (p x) (any-append p xs ys)
   where
@@ -74,16 +74,23 @@ place-step p q ks place is = by (nat_lt (position_or_len q ks) (length ks)) refl
         let l : position_or_len p ks ≤ position_or_len q ks = omega (arith, not-below (position_or_len q ks) (length ks) more, place-within p ks) in
         is ∙ sym (place-later p q ks l)
 
-or-assoc : (a b c : Bool) → (a || (b || c)) ≡ ((a || b) || c)
+pub or-assoc : (a b c : Bool) → (a || (b || c)) ≡ ((a || b) || c)
 or-assoc true b c = refl
 or-assoc false b c = refl
 
-or-none : (a : Bool) → (a || false) ≡ a
+pub or-none : (a : Bool) → (a || false) ≡ a
 or-none true = refl
 or-none false = refl
 
 turned : (w c : Cell) → eq_by_cmp cell_cmp w c ≡ cell_eq c w
 turned w c = (eq_by_cmp_equiv cells_total).symm w c ∙ ap (λ (e : Cell → Cell → Bool). e c w) (sym cell_eq-is)
+
+-- one more of some cells
+pub among-next : (cs : List Cell) (i : ℕ) (c w : Cell) → i < length cs → c ≡ get_or cs i c → among cell_cmp (take (i + 1) cs) w ≡ (among cell_cmp (take i cs) w || cell_eq c w)
+among-next cs i c w within is =
+    ap (λ xs. among cell_cmp xs w) (take_more cs i c within ∙ ap (λ z. take i cs ++ z ∷ []) (sym is))
+    ∙ any-append (eq_by_cmp cell_cmp w) (take i cs) (c ∷ [])
+    ∙ ap (λ b. among cell_cmp (take i cs) w || b) (or-none (eq_by_cmp cell_cmp w c) ∙ turned w c)
 
 pub place-first : (p : Cell → Bool) (ks cs : List Cell) (place : ℕ) → place ≡ position_or_len p ks → place ≡ position_or_len (λ w. p w || among cell_cmp (take 0 cs) w) ks
 place-first p ks cs place is = is ∙ place-same p (λ w. p w || false) ks (λ w. sym (or-none (p w)))
@@ -94,13 +101,7 @@ place-next p ks cs i place next c within is next-is place-is =
     next-is
     ∙ place-step (λ w. p w || among cell_cmp (take i cs) w) (cell_eq c) ks place place-is
     ∙ place-same (λ w. (p w || among cell_cmp (take i cs) w) || cell_eq c w) (λ w. p w || among cell_cmp (take (i + 1) cs) w) ks
-    (λ w. sym (or-assoc (p w) (among cell_cmp (take i cs) w) (cell_eq c w)) ∙ ap (λ b. p w || b) (sym (more w)))
-  where
-    more : (w : Cell) → among cell_cmp (take (i + 1) cs) w ≡ (among cell_cmp (take i cs) w || cell_eq c w)
-    more w =
-        ap (λ xs. among cell_cmp xs w) (take_more cs i c within ∙ ap (λ z. take i cs ++ z ∷ []) (sym is))
-        ∙ any-append (eq_by_cmp cell_cmp w) (take i cs) (c ∷ [])
-        ∙ ap (λ b. among cell_cmp (take i cs) w || b) (or-none (eq_by_cmp cell_cmp w c) ∙ turned w c)
+    (λ w. sym (or-assoc (p w) (among cell_cmp (take i cs) w) (cell_eq c w)) ∙ ap (λ b. p w || b) (sym (among-next cs i c w within is)))
 
 pub found-at-place : (g : FootprintValue) (keys writes reads : List Cell) (place : ℕ) → writes ≡ g.writes → cells.from_list reads ≡ g.reads
     → place ≡ position_or_len (λ w. (false || among cell_cmp writes w) || among cell_cmp reads w) keys → slice_get keys place ≡ find (is_accessed_by g) keys
@@ -156,7 +157,7 @@ filter-nothing : (p : ℕ → Bool) (ks : List ℕ) → ((k : ℕ) → p k ≡ f
 filter-nothing p [] never = refl
 filter-nothing p (k ∷ ks) never = ap (λ b. cond b (k ∷ filter p ks) (filter p ks)) (never k) ∙ filter-nothing p ks never
 
-never-on : (t : Timeline) (one k : ℕ) → kept_footprint t one ≡ None → depends_on t one k ≡ false
+pub never-on : (t : Timeline) (one k : ℕ) → kept_footprint t one ≡ None → depends_on t one k ≡ false
 never-on t one k none = by (nat_lt one k) (kept_footprint t one) (kept_footprint t k) none
   where
     by : (b : Bool) (o q : Option FootprintValue) → o ≡ None → (b && holds_between (λ f g. conflict cell_cmp (print_of f) (print_of g)) o q) ≡ false

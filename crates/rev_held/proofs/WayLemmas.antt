@@ -31,7 +31,7 @@ find-has {A} p (x ∷ xs) a h q = by (p x) refl h (λ k. find-has p xs a k q)
     by false e (inl s) rest = absurd (true≢false (sym q ∙ sym (ap p s) ∙ e))
     by false e (inr k) rest = rest k
 
-find-is : {A : Type 0} (p : A → Bool) (xs : List A) (b : A) → find p xs ≡ Some b → Has xs b × (p b ≡ true)
+pub find-is : {A : Type 0} (p : A → Bool) (xs : List A) (b : A) → find p xs ≡ Some b → Has xs b × (p b ≡ true)
 find-is p [] b h = absurd (true≢false cc)
 find-is p (x ∷ xs) b h = by (p x) refl h (find-is p xs b)
   where
@@ -39,12 +39,12 @@ find-is p (x ∷ xs) b h = by (p x) refl h (find-is p xs b)
     by true e h rest = let same : x ≡ b = cc in (inl same, sym (ap p same) ∙ e)
     by false e h rest = let k = rest h in (inr k.0, k.1)
 
-all-at : (P : ℕ → Type 0) (xs : List ℕ) (a : ℕ) → AllByRecursion P xs → Has xs a → P a
+pub all-at : (P : ℕ → Type 0) (xs : List ℕ) (a : ℕ) → AllByRecursion P xs → Has xs a → P a
 all-at P [] a all h = absurd h
 all-at P (x ∷ xs) a all (inl e) = subst P e all.0
 all-at P (x ∷ xs) a all (inr k) = all-at P xs a all.1 k
 
-all-of : (P : ℕ → Type 0) (xs : List ℕ) → ((a : ℕ) → Has xs a → P a) → AllByRecursion P xs
+pub all-of : (P : ℕ → Type 0) (xs : List ℕ) → ((a : ℕ) → Has xs a → P a) → AllByRecursion P xs
 all-of P [] f = tt
 all-of P (x ∷ xs) f = (f x (inl refl), all-of P xs (λ a h. f a (inr h)))
 
@@ -68,7 +68,7 @@ has-reverse [] a h = absurd h
 has-reverse (x ∷ xs) a (inl e) = subst (λ (l : List ℕ). Has l a) (sym (reverse-cons x xs)) (has-right (reverse xs) (x ∷ []) a (inl e))
 has-reverse (x ∷ xs) a (inr k) = subst (λ (l : List ℕ). Has l a) (sym (reverse-cons x xs)) (has-left (reverse xs) (x ∷ []) a (has-reverse xs a k))
 
-of-reverse : (xs : List ℕ) (a : ℕ) → Has (reverse xs) a → Has xs a
+pub of-reverse : (xs : List ℕ) (a : ℕ) → Has (reverse xs) a → Has xs a
 of-reverse [] a h = h
 of-reverse (x ∷ xs) a h = elim (has-parts (reverse xs) (x ∷ []) a (subst (λ (l : List ℕ). Has l a) (reverse-cons x xs) h)) [
   | inl k ↦ inr (of-reverse xs a k)
@@ -76,11 +76,11 @@ of-reverse (x ∷ xs) a h = elim (has-parts (reverse xs) (x ∷ []) a (subst (λ
   | inr (inr k) ↦ absurd k
 ]
 
-falling-push : (ks : List ℕ) (n : ℕ) → IsFalling ks → AllByRecursion (λ k. n < k) ks → IsFalling (ks ++ n ∷ [])
+pub falling-push : (ks : List ℕ) (n : ℕ) → IsFalling ks → AllByRecursion (λ k. n < k) ks → IsFalling (ks ++ n ∷ [])
 falling-push [] n f a = (tt, tt)
 falling-push (k ∷ ks) n f a = (All-append (λ y. y < k) ks (n ∷ []) f.0 (a.0, tt), falling-push ks n f.1 a.1)
 
-falling-reverse : (xs : List ℕ) → IsRising xs → IsFalling (reverse xs)
+pub falling-reverse : (xs : List ℕ) → IsRising xs → IsFalling (reverse xs)
 falling-reverse [] r = tt
 falling-reverse (x ∷ xs) r =
     subst IsFalling (sym (reverse-cons x xs))

@@ -1,5 +1,6 @@
 pub mod Beside
 pub mod Dependence
+pub mod Firsts
 pub mod Laws
 pub mod Links
 pub mod Noted

@@ -5,8 +5,7 @@ use Rattle.std.specs.Map.{lookup}
 use Rattle.rev_cells.specs.declared.cell.Cell.{Cell}
 use Rattle.rev_footprint.specs.Value.{FootprintValue}
 use Rattle.rev_history.specs.Timeline.{Timeline, kept_footprint}
-use Rattle.rev_held.specs.Several.{IsNamed, IsToldOf}
-use Rattle.rev_held.specs.declared.ways.Told.{Told}
+use Rattle.rev_held.specs.Several.{IsNamed}
 
 -- the keys are the cells that the event of a kept number reads or writes
 abbrev pub IsNoted : Timeline → ℕ → List Cell → Type 0
@@ -15,11 +14,3 @@ IsNoted t n keys = (f : FootprintValue) → Some f ≡ kept_footprint t n → Is
 -- so it is with each number under which some stand
 abbrev pub AreNoted : {S : Type 0} → Timeline → List (ℕ × HashSet Cell S) → Type 0
 AreNoted t entries = (n : ℕ) → IfSome (lookup (nat_eq n) entries) (λ set. IsNoted t n set.keys)
-
--- what is told of the event of a kept number is right
-abbrev pub IsRight : Timeline → ℕ → Told → Type 0
-IsRight t n told = IsToldOf t n told.whole told.written.keys told.named.keys
-
--- so it is with each number under which something is told
-abbrev pub AreTold : Timeline → List (ℕ × Told) → Type 0
-AreTold t entries = (n : ℕ) → IfSome (lookup (nat_eq n) entries) (IsRight t n)

@@ -2,6 +2,7 @@
 #![tactic(auto)]
 
 mod depending;
+mod firsts;
 pub mod laws;
 mod linked;
 mod several;

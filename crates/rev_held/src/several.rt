@@ -28,11 +28,8 @@ fn add_all(set: &mut IndexSet<Cell>, cells: &KeptCells<'_>) -> Result<(), AllocE
     Ok(())
 }
 
-/// The cells that an event writes, in the order of its effect.
-pub(crate) fn written(
-    alloc: Global,
-    footprint: &KeptFootprint<'_>,
-) -> Result<IndexSet<Cell>, AllocError>
+// The cells that an event writes, in the order of its effect.
+fn written(alloc: Global, footprint: &KeptFootprint<'_>) -> Result<IndexSet<Cell>, AllocError>
     ensures { IfOk result (λ set. IsWritten footprint.now set.keys) }
 {
     let mut set = IndexSet::new(alloc);
@@ -159,6 +156,30 @@ fn no_links(alloc: Global, one: u32, others: &[u32]) -> Result<Vec<Link>, AllocE
     Ok(links)
 }
 
+// The links from an earlier number, whose cells stand in sets, to each of some others.
+fn links_by(
+    alloc: Global,
+    history: &History,
+    written: &IndexSet<Cell>,
+    named: &IndexSet<Cell>,
+    one: u32,
+    others: &[u32],
+) -> Result<Vec<Link>, AllocError>
+    requires { (whole : Bool) × IsToldOf history.now.timeline one whole written.now.keys named.now.keys }
+    ensures { IfOk result (λ links. links.items ≡ map (link_between history.now.timeline one) others.now) }
+{
+    let mut links = Vec::new(alloc);
+    for other in others {
+        let cell = one_on(history, written, named, one, *other)?;
+        links.push(Link {
+            one,
+            other: *other,
+            cell,
+        })?;
+    }
+    Ok(links)
+}
+
 /// For each of some numbers the link from an earlier one to it, with the first cell by which its event depends on that
 /// one's ([`crate::dependence`]).
 ///
@@ -180,20 +201,11 @@ pub fn links_on(
     };
     let written = written(alloc, &first)?;
     let named = named(alloc, &first)?;
-    let mut links = Vec::new(alloc);
-    for other in others {
-        let cell = one_on(history, &written, &named, one, *other)?;
-        links.push(Link {
-            one,
-            other: *other,
-            cell,
-        })?;
-    }
-    Ok(links)
+    links_by(alloc, history, &written, &named, one, others)
 }
 
-// Adds a number that passes.
-fn add_where(numbers: &mut Vec<u32>, number: u32, passes: bool) -> Result<(), AllocError>
+/// Adds a number that passes.
+pub(crate) fn add_where(numbers: &mut Vec<u32>, number: u32, passes: bool) -> Result<(), AllocError>
     ensures { OnOk result (numbers.new.items ≡ numbers.old.items ++ (if passes then number ∷ [] else [])) }
 {
     if passes {
@@ -222,7 +234,7 @@ fn do_conflict(
 }
 
 // Whether the event of a later number depends on that of an earlier one, whose cells stand in sets.
-pub(crate) fn is_on_noted(
+fn is_on_noted(
     history: &History,
     whole: bool,
     written: &IndexSet<Cell>,
@@ -242,8 +254,8 @@ pub(crate) fn is_on_noted(
     }
 }
 
-/// Whether the event of a later number, whose cells stand in sets, depends on that of an earlier one.
-pub(crate) fn is_noted_on(
+// Whether the event of a later number, whose cells stand in sets, depends on that of an earlier one.
+fn is_noted_on(
     history: &History,
     whole: bool,
     written: &IndexSet<Cell>,

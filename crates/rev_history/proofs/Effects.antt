@@ -1,12 +1,12 @@
 -- What writes of cells do to a state, in the words of the theory of undo.
-use Rattle.std.proofs.Common.{◌≡◌, true, false, if◌then◌else◌, List, [], ◌∷◌, Some, None, Contains, length, sym, ap, subst, ◌∙◌, refl, arith}
+use Rattle.std.proofs.Common.{◌≡◌, true, false, if◌then◌else◌, List, [], ◌∷◌, Some, None, length, sym, ap, subst, ◌∙◌, refl, arith}
 use Rattle.std.specs.List.{AllByRecursion, IsDistinct}
 use Rattle.std.specs.FinMap as map
 use Rattle.std.specs.Ordering.{eq_by_cmp}
 use Rattle.rev_causal.specs.Store.{set_cell, set_cells, replaced}
 use Rattle.rev_cells.specs.declared.cell.Cell.{Cell}
 use Rattle.rev_cells.specs.declared.value.Value.{Value}
-use Rattle.rev_cells.specs.Effects.{set_all, former_values, cells_of, stored_values, stored_in}
+use Rattle.rev_cells.specs.Effects.{set_all, cells_of, stored_values, stored_in}
 use Rattle.rev_cells.specs.Keys.{cell_cmp}
 use Rattle.rev_cells.specs.State.{State, set}
 use Rattle.rev_cells.specs.Values.{is_default, unless_default}
@@ -34,17 +34,9 @@ pub length_stored : (ws : List (Cell × Value)) → length (stored_values ws) �
 length_stored [] = refl
 length_stored (w ∷ ws) = let rest : length (stored_values ws) ≡ length ws = length_stored ws in omega arith
 
--- the same cells are written back
-pub has_former : (places : List Cell) (s : State) (ws : List (Cell × Value)) → AllByRecursion (λ (w : Cell × Value). Contains places w.0) ws → AllByRecursion (λ (w : Cell × Value). Contains places w.0) (former_values s ws)
-has_former places s [] h = tt
-has_former places s (w ∷ ws) h = (h.0, has_former places (set s w.0 w.1) ws h.1)
-
 -- what a write of an effect leaves, as a call finds it
 pub values_found : (m : ManifestValue) (s : State) (e : Event) (writes former : List (Cell × Value)) → IsDistinct (eq_by_cmp cell_cmp) (cells_of writes) → (IsDistinct (eq_by_cmp cell_cmp) (cells_of writes) → stored_values former ≡ stored_in s writes) → stored_values writes ≡ effect m s e → stored_values former ≡ replaced s (effect m s e)
 values_found m s e writes former distinct stored is = stored distinct ∙ stored_in-is s writes ∙ ap (replaced s) is
 
 pub state_found : (m : ManifestValue) (s u : State) (e : Event) (writes : List (Cell × Value)) → u ≡ set_all s writes → stored_values writes ≡ effect m s e → u ≡ after m s e
 state_found m s u e writes state is = state ∙ set_all-is s writes ∙ ap (set_cells cell_cmp s) is
-
-pub has_found : (places : List Cell) (s : State) (writes former : List (Cell × Value)) → AllByRecursion (λ (w : Cell × Value). Contains places w.0) writes → former ≡ former_values s writes → AllByRecursion (λ (w : Cell × Value). Contains places w.0) former
-has_found places s writes former has is = subst (AllByRecursion (λ (w : Cell × Value). Contains places w.0)) (sym is) (has_former places s writes has)

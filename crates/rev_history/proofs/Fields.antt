@@ -1,5 +1,5 @@
 -- What the fields of a history show.
-use Rattle.std.proofs.Common.{◌≡◌, ℕ, ◌<◌, true, false, cond, Option, None, Some, IsSome, option_map, Contains, map, slice_get, length, length-set, get_or, set, List, [], ◌∷◌, ◌++◌, refl, sym, ap, ap₂, subst, subst₂, is_some, true≢false, nat_eq, ◌∙◌, inl, inr, arith, zero, suc}
+use Rattle.std.proofs.Common.{◌≡◌, ℕ, ◌<◌, true, false, cond, Option, None, Some, IsSome, option_map, map, slice_get, length, length-set, get_or, set, List, [], ◌∷◌, ◌++◌, refl, sym, ap, ap₂, subst, subst₂, is_some, true≢false, nat_eq, ◌∙◌, inl, inr, arith, zero, suc}
 use Rattle.std.specs.Prelude.{IfSome}
 use Rattle.std.specs.List.{AllByRecursion}
 use Rattle.std.specs.Map.{lookup}
@@ -139,29 +139,20 @@ all_end : {A : Type 0} (P : A → Type 0) (xs : List A) (x : A) → AllByRecursi
 all_end P [] x h p = (p, tt)
 all_end P (y ∷ xs) x h p = (h.0, all_end P xs x h.1 p)
 
-more_places : (old new : List Cell) (ws : List (Cell × Value)) → ((c : Cell) → Contains old c → Contains new c) → AllByRecursion (λ (w : Cell × Value). Contains old w.0) ws → AllByRecursion (λ (w : Cell × Value). Contains new w.0) ws
-more_places old new [] more h = tt
-more_places old new (w ∷ ws) more h = (more w.0 h.0, more_places old new ws more h.1)
-
 -- what stands beside an event, where anything does, can be put back
-abbrev IsReadyBeside : List Cell → Beside → Type 0
-IsReadyBeside places s = IfSome s (CanPutBack places)
-
-still_ready : (old new : List Cell) (steps : List Beside) → ((c : Cell) → Contains old c → Contains new c) → AllByRecursion (IsReadyBeside old) steps → AllByRecursion (IsReadyBeside new) steps
-still_ready old new [] more h = tt
-still_ready old new (None ∷ steps) more h = (tt, still_ready old new steps more h.1)
-still_ready old new (Some s ∷ steps) more h = (record { has = more_places old new s.replaced more h.0.has; fits = h.0.fits }, still_ready old new steps more h.1)
+abbrev IsReadyBeside : Beside → Type 0
+IsReadyBeside s = IfSome s CanPutBack
 
 pub map_end : {A B : Type 0} (f : A → B) (xs : List A) (x : A) → map f (xs ++ x ∷ []) ≡ map f xs ++ f x ∷ []
 map_end f [] x = refl
 map_end f (y ∷ xs) x = ap (λ zs. f y ∷ zs) (map_end f xs x)
 
 -- what can be put back of a place
-pub ready_at : (a : Inside) → IsSound a → (n i : ℕ) (d : StepValue) → IsPlace n a.accepted.entries i → Some d ≡ get_or (beside_of a) i (Some d) → CanPutBack a.cells.places d
+pub ready_at : (a : Inside) → IsSound a → (n i : ℕ) (d : StepValue) → IsPlace n a.accepted.entries i → Some d ≡ get_or (beside_of a) i (Some d) → CanPutBack d
 ready_at a s n i d place is =
     let lt : i < length a.accepted.entries = place_within n a.accepted.entries i place in
     let same : length (beside_of a) ≡ length a.accepted.entries = as_many a s in
-    subst (IsReadyBeside a.cells.places) (sym is) (all_get (IsReadyBeside a.cells.places) (beside_of a) i (Some d) s.ready (omega arith))
+    subst IsReadyBeside (sym is) (all_get IsReadyBeside (beside_of a) i (Some d) s.ready (omega arith))
 
 -- of equal fields
 same_beside : (es' : List (ℕ × Event)) (steps' : List Beside) (ks' : List ℕ) {es : List (ℕ × Event)} {steps : List Beside} {ks : List ℕ} → es' ≡ es → steps' ≡ steps → ks' ≡ ks → StandBesideKept es steps ks → StandBesideKept es' steps' ks'
@@ -187,7 +178,7 @@ reprinted t opening cells es ks fs vs n i f place apart h = record {
 -- what holds of fields that stand by the manifest and the jobs of others
 sound_by : (a b : Inside) → b.graph ≡ a.graph → b.opening ≡ a.opening
     → IsStepped (table a.graph.manifest a.opening.jobs) b.opening.state b.cells.state b.accepted.entries b.kept.items (map print_of (beside_of b)) (map values_of (beside_of b))
-    → HaveFootprints a.graph.manifest b.accepted.entries (beside_of b) → StandBesideKept b.accepted.entries (beside_of b) b.kept.items → AllByRecursion (IsReadyBeside b.cells.places) (beside_of b) → b.cells.jobs ≡ a.opening.jobs → b.last ≡ last_of b.accepted.entries → IsSound b
+    → HaveFootprints a.graph.manifest b.accepted.entries (beside_of b) → StandBesideKept b.accepted.entries (beside_of b) b.kept.items → AllByRecursion IsReadyBeside (beside_of b) → b.cells.jobs ≡ a.opening.jobs → b.last ≡ last_of b.accepted.entries → IsSound b
 sound_by a b graph opening stepped own beside ready jobs last = record {
   stepped = subst₂ (λ (g : GraphValue) (r : Records). IsStepped (table g.manifest r.jobs) b.opening.state b.cells.state b.accepted.entries b.kept.items (map print_of (beside_of b)) (map values_of (beside_of b))) (sym graph) (sym opening) stepped;
   footprints = subst (λ (g : GraphValue). HaveFootprints g.manifest b.accepted.entries (beside_of b)) (sym graph) own;
@@ -200,9 +191,9 @@ sound_by a b graph opening stepped own beside ready jobs last = record {
 -- an accepted event
 pub accepted_sound : (a b : Inside) (n : ℕ) (e : Event) (step : StepValue) → IsSound a → last_of a.accepted.entries < n → refusal a.graph.manifest a.cells.jobs a.cells.state e ≡ None → b.graph ≡ a.graph → b.opening ≡ a.opening
     → b.accepted.entries ≡ a.accepted.entries ++ (n, e) ∷ [] → b.kept.items ≡ a.kept.items ++ n ∷ [] → (beside_of b) ≡ (beside_of a) ++ Some step ∷ []
-    → step.footprint ≡ footprint a.graph.manifest a.cells.state e → values_of (Some step) ≡ replaced a.cells.state (effect a.graph.manifest a.cells.state e) → CanPutBack b.cells.places step → ((c : Cell) → Contains a.cells.places c → Contains b.cells.places c)
+    → step.footprint ≡ footprint a.graph.manifest a.cells.state e → values_of (Some step) ≡ replaced a.cells.state (effect a.graph.manifest a.cells.state e) → CanPutBack step
     → b.cells.state ≡ after a.graph.manifest a.cells.state e → b.cells.jobs ≡ a.cells.jobs → b.last ≡ n → IsSound b
-accepted_sound a b n e step s lt accepts graph opening accepted kept steps print values ready more state jobs last =
+accepted_sound a b n e step s lt accepts graph opening accepted kept steps print values ready state jobs last =
     let m : ManifestValue = a.graph.manifest in
     let f : Footprint Cell = footprints.print_of (footprint m a.cells.state e) in
     let ws : List (Cell × Option Value) = replaced a.cells.state (effect m a.cells.state e) in
@@ -215,7 +206,7 @@ accepted_sound a b n e step s lt accepts graph opening accepted kept steps print
     (stepping.restepped (table m a.opening.jobs) _ _ _ _ _ _ _ _ _ _ _ _ done (ap (λ r. r.state) opening) state accepted kept prints_are values_are)
     (subst₂ (HaveFootprints m) (sym accepted) (sym steps) (footprints_end m a.accepted.entries (beside_of a) n (Some step) e s.footprints (as_many a s) (record { state = a.cells.state; is = print })))
     (same_beside b.accepted.entries (beside_of b) b.kept.items accepted steps kept (stand_accepted a.accepted.entries (beside_of a) a.kept.items s.beside n e step (as_many a s) lt))
-    (subst (AllByRecursion (IsReadyBeside b.cells.places)) (sym steps) (all_end (IsReadyBeside b.cells.places) (beside_of a) (Some step) (still_ready a.cells.places b.cells.places (beside_of a) more s.ready) ready))
+    (subst (AllByRecursion IsReadyBeside) (sym steps) (all_end IsReadyBeside (beside_of a) (Some step) s.ready ready))
     (jobs ∙ s.jobs)
     (last ∙ sym (ap last_of accepted ∙ last_of-push a.accepted.entries n e lt))
 
@@ -247,7 +238,7 @@ taken_out a b n i d s place free is graph opening accepted last cells steps kept
           (stepping.restepped (table m a.opening.jobs) _ _ _ _ _ _ _ _ _ _ _ _ done (ap (λ r. r.state) opening) state accepted kept prints_are values_are)
           (subst₂ (HaveFootprints m) (sym accepted) (sym steps) (footprints_set m a.accepted.entries (beside_of a) n i None f.event s.footprints place f.at tt))
           (same_beside b.accepted.entries (beside_of b) b.kept.items accepted steps kept (stand_undone a.accepted.entries (beside_of a) a.kept.items s.beside n i place lt))
-          (subst₂ (λ (c : Table) xs. AllByRecursion (IsReadyBeside c.places) xs) (sym cells) (sym steps) (all_set (IsReadyBeside a.cells.places) (beside_of a) i None s.ready tt))
+          (subst (AllByRecursion IsReadyBeside) (sym steps) (all_set IsReadyBeside (beside_of a) i None s.ready tt))
           (ap (λ (c : Table). c.jobs) cells ∙ s.jobs)
           (last ∙ s.last ∙ ap last_of (sym accepted));
       timeline = λ j. record { manifest = (graph j).manifest; jobs = (opening j).jobs; opening = (opening j).state; accepted = accepted j; kept = kept j };
@@ -262,9 +253,9 @@ pub record IsPutIn (a b : Inside) (n : ℕ) : Type 0 where
 
 pub put_in : (a b : Inside) (n i : ℕ) (e : Event) (step : StepValue) → IsSound a → IsPlace n a.accepted.entries i → causal.event_at n a.accepted.entries ≡ Some e → redo_refusal (timeline_of a) n ≡ None
     → b.graph ≡ a.graph → b.opening ≡ a.opening → b.accepted.entries ≡ a.accepted.entries → b.last ≡ a.last → (beside_of b) ≡ set (beside_of a) i (Some step)
-    → step.footprint ≡ footprint a.graph.manifest a.cells.state e → values_of (Some step) ≡ replaced a.cells.state (effect a.graph.manifest a.cells.state e) → CanPutBack b.cells.places step → ((c : Cell) → Contains a.cells.places c → Contains b.cells.places c)
+    → step.footprint ≡ footprint a.graph.manifest a.cells.state e → values_of (Some step) ≡ replaced a.cells.state (effect a.graph.manifest a.cells.state e) → CanPutBack step
     → b.cells.state ≡ after a.graph.manifest a.cells.state e → b.cells.jobs ≡ a.cells.jobs → b.kept.items ≡ placed n a.kept.items → IsPutIn a b n
-put_in a b n i e step s place at free graph opening accepted last steps print values ready more state jobs kept =
+put_in a b n i e step s place at free graph opening accepted last steps print values ready state jobs kept =
     let t : Timeline = timeline_of a in
     let m : ManifestValue = a.graph.manifest in
     let g : Footprint Cell = footprints.print_of (footprint m a.cells.state e) in
@@ -285,21 +276,20 @@ put_in a b n i e step s place at free graph opening accepted last steps print va
           (stepping.restepped (table m a.opening.jobs) _ _ _ _ _ _ _ _ _ _ _ _ done (ap (λ r. r.state) opening) state accepted kept prints_are values_are)
           (subst₂ (HaveFootprints m) (sym accepted) (sym steps) (footprints_set m a.accepted.entries (beside_of a) n i (Some step) e s.footprints place at (record { state = a.cells.state; is = print })))
           (same_beside b.accepted.entries (beside_of b) b.kept.items accepted steps kept (stand_redone a.accepted.entries (beside_of a) a.kept.items s.beside n i step place lt))
-          (subst (AllByRecursion (IsReadyBeside b.cells.places)) (sym steps) (all_set (IsReadyBeside b.cells.places) (beside_of a) i (Some step) (still_ready a.cells.places b.cells.places (beside_of a) more s.ready) ready))
+          (subst (AllByRecursion IsReadyBeside) (sym steps) (all_set IsReadyBeside (beside_of a) i (Some step) s.ready ready))
           (jobs ∙ s.jobs)
           (last ∙ s.last ∙ ap last_of (sym accepted));
       timeline = λ j. record { manifest = (graph j).manifest; jobs = (opening j).jobs; opening = (opening j).state; accepted = accepted j; kept = kept j };
     }
 
 -- the same history in fields with more room
-pub same_sound : (a b : Inside) → IsSound a → b.graph ≡ a.graph → b.opening ≡ a.opening → b.accepted.entries ≡ a.accepted.entries → (beside_of b) ≡ (beside_of a) → b.kept.items ≡ a.kept.items → b.cells.state ≡ a.cells.state → b.cells.jobs ≡ a.cells.jobs → b.last ≡ a.last
-    → ((c : Cell) → Contains a.cells.places c → Contains b.cells.places c) → IsSound b
-same_sound a b s graph opening accepted steps kept state jobs last more =
+pub same_sound : (a b : Inside) → IsSound a → b.graph ≡ a.graph → b.opening ≡ a.opening → b.accepted.entries ≡ a.accepted.entries → (beside_of b) ≡ (beside_of a) → b.kept.items ≡ a.kept.items → b.cells.state ≡ a.cells.state → b.cells.jobs ≡ a.cells.jobs → b.last ≡ a.last → IsSound b
+same_sound a b s graph opening accepted steps kept state jobs last =
     sound_by a b graph opening
     (stepping.restepped (table a.graph.manifest a.opening.jobs) _ _ _ _ _ _ _ _ _ _ _ _ s.stepped (ap (λ r. r.state) opening) state accepted kept (ap (map print_of) steps) (ap (map values_of) steps))
     (subst₂ (HaveFootprints a.graph.manifest) (sym accepted) (sym steps) s.footprints)
     (same_beside b.accepted.entries (beside_of b) b.kept.items accepted steps kept s.beside)
-    (subst (AllByRecursion (IsReadyBeside b.cells.places)) (sym steps) (still_ready a.cells.places b.cells.places (beside_of a) more s.ready))
+    (subst (AllByRecursion IsReadyBeside) (sym steps) s.ready)
     (jobs ∙ s.jobs)
     (last ∙ s.last ∙ ap last_of (sym accepted))
 

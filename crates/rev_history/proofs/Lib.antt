@@ -1,3 +1,4 @@
+pub mod AlongLemmas
 pub mod BesideKept
 pub mod Commands
 pub mod Cones
@@ -8,7 +9,10 @@ pub mod KeptLemmas
 pub mod Listed
 pub mod Members
 pub mod NamedLemmas
+pub mod NearestLemmas
+pub mod NotedLemmas
 pub mod OrderLemmas
+pub mod PairedLemmas
 pub mod Promises
 pub mod RemovalLemmas
 pub mod Written

@@ -1,19 +1,18 @@
 -- The answer of the order check is exact.
 use Rattle.std.proofs.Common.{◌≡◌, ◌↔◌, ◌<◌, ◌≤◌, ◌&&◌, ℕ, Bool, true, false, cond, is_some, IsSome, List, [], ◌∷◌, Option, None, Some, option_map, refl, true≢false, arith, sym, ap, ap₂, subst, ◌∙◌, nat_eq, eq-eqb}
 use Rattle.std.specs.List.{AllByRecursion}
-use Rattle.rev_accesses.specs.Value.{Prints}
+use Rattle.std.specs.Ordering.{nat_cmp}
+use Rattle.rev_accesses.specs.Places as access_places
 use Rattle.rev_causal.specs.Chosen.{chosen, is_among, last_of}
 use Rattle.rev_causal.specs.History.{event_at}
 use Rattle.rev_causal.specs.Store.{Footprint, conflict}
 use Rattle.rev_causal.specs.OrderCheck.{IsEquality, IsOrderAnswer, OrderAnswer, EventsDiffer, SameOrder, Inverted, bare, matched_answer, pair_answer, renumbered}
 use Rattle.rev_causal.proofs.Chosen.{AllAccepted, chosen-rises, event_at-below, event_at-chosen, event_at-not_chosen}
 use Rattle.rev_causal.proofs.Inverted.{order_check_is_exact}
-use Rattle.rev_cells.specs.declared.cell.Cell.{Cell}
 use Rattle.rev_cells.specs.Alike as cells
 use Rattle.rev_cells.specs.Keys.{cell_cmp}
 use Rattle.rev_events.specs.declared.event.Event.{Event}
 use Rattle.rev_events.specs.Same.{event_eq}
-use Rattle.rev_footprint.specs.Value.{FootprintValue, print_of}
 use Rattle.rev_footprint.proofs.EqualLemmas.{equal-conflict}
 use Rattle.rev_footprint.proofs.Local.{machine-local}
 use Rattle.rev_graph.specs.Alike.{LendAlike}
@@ -22,10 +21,14 @@ use Rattle.rev_order.specs.Overtaken.{first_where, first_inverted_of}
 use Rattle.rev_order.specs.Pairs.{partner_of, with_partner, pair_of, inverted_pair}
 use Rattle.rev_order.proofs.OrderAnswers.{answer_by_places}
 use Rattle.rev_history.specs.declared.history.History.TheInside.{Inside}
-use Rattle.rev_history.specs.Sound.{IsSound, kept_prints, timeline_of}
-use Rattle.rev_history.specs.Steps.{Beside, footprint_beside, HasFootprints, prints_of}
+use Rattle.rev_history.specs.declared.steps.Step.{Step}
+use Rattle.rev_history.specs.Named.{CellPrints}
+use Rattle.rev_history.specs.Sound.{IsListed, IsSound, beside_of, kept_prints, timeline_of}
+use Rattle.rev_history.specs.Steps.{HaveSteps, Placed, place_prints, prints_of, step_beside}
 use Rattle.rev_history.specs.Timeline.{Timeline, IsHistory, kept_events, machine_at}
-use Rattle.rev_history.proofs.BesideKept.{all_among, print_beside}
+use Rattle.rev_history.proofs.BesideKept.{all_among}
+use Rattle.rev_history.proofs.NamedLemmas.{print_placed, steps_paired}
+use Rattle.rev_history.proofs.PairedLemmas.{pair_same, paired_chosen}
 use Rattle.rev_history.specs.Order.{IsSameOpening, IsOrder, OrderIsExact, kept_in_order, order_of}
 
 exact_here : (same : Event → Event → Bool) (t u : Timeline) → IsEquality same → IsHistory t → IsSameOpening t u → IsOrder same t u (order_of same true t u)
@@ -68,39 +71,39 @@ module _ {A : Type 0} where
           absurd (true≢false (sym (eq-eqb p.0 n is) ∙ u))
       by false false t u more = ap (λ b. is_some (cond b (Some p.1) (event_at n ps))) u ∙ more (sym (ap (λ b. cond b (Some p.0) (first_where x ps)) t) ∙ e)
 
-module _ (places : List ℕ) (es : List (ℕ × Event)) (steps : List Beside) (kept : List ℕ) where
+module _ (places : List ℕ) (es : List (ℕ × Event)) (steps : List Placed) (kept : List ℕ) where
   -- the first that is inverted is kept
-  inverted_among : (n : ℕ) → Some n ≡ first_inverted_of (conflict cell_cmp) places (chosen (prints_of es steps) kept) → is_among kept n ≡ true
+  inverted_among : (n : ℕ) → Some n ≡ first_inverted_of (conflict nat_cmp) places (chosen (place_prints es steps) kept) → is_among kept n ≡ true
   inverted_among n found = by (is_among kept n) refl
     where
-      there : IsSome (event_at n (chosen (prints_of es steps) kept))
-      there = first_there _ (chosen (prints_of es steps) kept) n (sym found)
+      there : IsSome (event_at n (chosen (place_prints es steps) kept))
+      there = first_there _ (chosen (place_prints es steps) kept) n (sym found)
 
       by : (b : Bool) → is_among kept n ≡ b → is_among kept n ≡ true
       by true e = e
-      by false e = absurd (true≢false (sym there ∙ ap is_some (event_at-not_chosen (prints_of es steps) kept n e)))
+      by false e = absurd (true≢false (sym there ∙ ap is_some (event_at-not_chosen (place_prints es steps) kept n e)))
 
   -- so that it has a footprint
-  pub inverted_print : HasFootprints es steps kept → (n : ℕ) → Some n ≡ first_inverted_of (conflict cell_cmp) places (chosen (prints_of es steps) kept)
-      → None ≡ footprint_beside n es steps → ⊥
+  pub inverted_print : HaveSteps es steps kept → (n : ℕ) → Some n ≡ first_inverted_of (conflict nat_cmp) places (chosen (place_prints es steps) kept)
+      → None ≡ step_beside n es steps → ⊥
   inverted_print all n found none =
-      true≢false (sym (all_among (λ k. IsSome (footprint_beside k es steps)) kept n all (inverted_among n found)) ∙ ap is_some (sym none))
+      true≢false (sym (all_among (λ k. IsSome (step_beside k es steps)) kept n all (inverted_among n found)) ∙ ap is_some (sym none))
 
   -- none is inverted
-  pub pair_none : None ≡ first_inverted_of (conflict cell_cmp) places (chosen (prints_of es steps) kept) → SameOrder ≡ pair_answer (inverted_pair (conflict cell_cmp) places (chosen (prints_of es steps) kept))
-  pair_none none = ap (λ o. pair_answer (pair_of (conflict cell_cmp) places (chosen (prints_of es steps) kept) o)) none
+  pub pair_none : None ≡ first_inverted_of (conflict nat_cmp) places (chosen (place_prints es steps) kept) → None ≡ inverted_pair (conflict nat_cmp) places (chosen (place_prints es steps) kept)
+  pair_none none = ap (pair_of (conflict nat_cmp) places (chosen (place_prints es steps) kept)) none
 
   -- the first that is inverted, with the first that overtakes it
-  pub pair_some : (n : ℕ) (f : FootprintValue) (o : Option ℕ) → Some n ≡ first_inverted_of (conflict cell_cmp) places (chosen (prints_of es steps) kept)
-      → Some f ≡ footprint_beside n es steps
-      → o ≡ partner_of (conflict cell_cmp) places (chosen (prints_of es steps) kept) n (print_of f)
-      → pair_answer (option_map (λ j. (n, j)) o) ≡ pair_answer (inverted_pair (conflict cell_cmp) places (chosen (prints_of es steps) kept))
-  pair_some n f o found at is =
-      let print : event_at n (chosen (prints_of es steps) kept) ≡ Some (print_of f) =
-      event_at-chosen (prints_of es steps) kept n (print_of f) (inverted_among n found) (print_beside n es steps f (sym at)) in
-      ap (λ (p : Option ℕ). pair_answer (option_map (λ j. (n, j)) p)) is
-      ∙ sym (ap (λ (q : Option (Footprint Cell)). pair_answer (with_partner (conflict cell_cmp) places (chosen (prints_of es steps) kept) n q)) print)
-      ∙ ap (λ (q : Option ℕ). pair_answer (pair_of (conflict cell_cmp) places (chosen (prints_of es steps) kept) q)) found
+  pub pair_some : (n : ℕ) (s : Step) (o : Option ℕ) → Some n ≡ first_inverted_of (conflict nat_cmp) places (chosen (place_prints es steps) kept)
+      → Some s ≡ step_beside n es steps
+      → o ≡ partner_of (conflict nat_cmp) places (chosen (place_prints es steps) kept) n (access_places.print_of s.places)
+      → option_map (λ j. (n, j)) o ≡ inverted_pair (conflict nat_cmp) places (chosen (place_prints es steps) kept)
+  pair_some n s o found at is =
+      let print : event_at n (chosen (place_prints es steps) kept) ≡ Some (access_places.print_of s.places) =
+      event_at-chosen (place_prints es steps) kept n (access_places.print_of s.places) (inverted_among n found) (print_placed n es steps s at) in
+      ap (option_map (λ j. (n, j))) is
+      ∙ sym (ap (with_partner (conflict nat_cmp) places (chosen (place_prints es steps) kept) n) print)
+      ∙ ap (pair_of (conflict nat_cmp) places (chosen (place_prints es steps) kept)) found
 
 -- THE FIELDS OF TWO HISTORIES
 -- no kept number is above the last
@@ -128,11 +131,16 @@ differ_found a b t u one other none =
     sym (ap (matched_answer (machine_at (timeline_of a)) a.opening.state (kept_events (timeline_of a))) none)
     ∙ ap₂ (λ (v w : Timeline). order_of event_eq true v w) one other
 
-pub pair_found : (a b : Inside) (t u : Timeline) → IsSound a → timeline_of a ≡ t → timeline_of b ≡ u → (places : List ℕ)
+pub pair_found : (a b : Inside) (t u : Timeline) → IsListed a → timeline_of a ≡ t → timeline_of b ≡ u → (places : List ℕ)
     → ArePlacesOf event_eq (chosen a.accepted.entries a.kept.items) (bare (chosen b.accepted.entries b.kept.items)) places
-    → (answer : OrderAnswer) → answer ≡ pair_answer (inverted_pair (conflict cell_cmp) places (kept_prints a)) → answer ≡ order_of event_eq true t u
-pair_found a b t u s one other places w answer is =
-    is ∙ ap (λ (ps : Prints). pair_answer (inverted_pair (conflict cell_cmp) places ps)) s.stepped.history.footprints_are
+    → (answer : OrderAnswer) → answer ≡ pair_answer (inverted_pair (conflict nat_cmp) places (kept_prints a)) → answer ≡ order_of event_eq true t u
+pair_found a b t u l one other places w answer is =
+    let s : IsSound a = l.sound in
+    is
+    ∙ ap pair_answer (pair_same a.cells.places l.distinct places (kept_prints a) (chosen (prints_of a.accepted.entries (beside_of a)) a.kept.items)
+    (paired_chosen a.cells.places (place_prints a.accepted.entries a.steps.items) (prints_of a.accepted.entries (beside_of a)) a.kept.items
+    (steps_paired a.cells.places a.accepted.entries a.steps.items l.placed)))
+    ∙ ap (λ (ps : CellPrints). pair_answer (inverted_pair (conflict cell_cmp) places ps)) s.stepped.history.footprints_are
     ∙ sym (answer_by_places (machine_at (timeline_of a)) event_eq a.opening.state (kept_events (timeline_of a)) w.other (bare (chosen b.accepted.entries b.kept.items)) places
     (chosen-rises a.accepted.entries a.kept.items s.stepped.rising) w.found w.matched w.are)
     ∙ ap₂ (λ (v x : Timeline). order_of event_eq true v x) one other

@@ -15,6 +15,8 @@ use Rattle.rev_events.specs.Edge.{stored, AllFit}
 use Rattle.rev_events.specs.Machine.{effect}
 use Rattle.rev_events.specs.Written.{written}
 use Rattle.rev_events.proofs.WrittenLemmas.{written-same, written-once}
+use Rattle.rev_footprint.specs.Footprint.{footprint}
+use Rattle.rev_footprint.specs.Value.{FootprintValue}
 use Rattle.rev_footprint.proofs.OnceLemmas.{once_by_test, outputs_once}
 
 -- one by one
@@ -35,3 +37,12 @@ pub writes_once : (manifest : ManifestValue) (s : State) (e : Event) (ws : List 
 writes_once manifest s e ws m is =
     let keys : cells_of ws ≡ written manifest s e = cells-keys ws ∙ ap keys_of (sym (stored-is ws) ∙ is) ∙ written-same manifest s e in
     subst (IsDistinct (eq_by_cmp cell_cmp)) (sym keys) (once_by_test (written manifest s e) (written-once manifest s e (outputs_once manifest m)))
+
+footprint_writes : (manifest : ManifestValue) (s : State) (e : Event) → (footprint manifest s e).writes ≡ written manifest s e
+unfolding footprint
+footprint_writes manifest s e = refl
+
+-- the cells that an event writes are those that its footprint names
+pub writes_named : (manifest : ManifestValue) (s : State) (e : Event) (ws : List (Cell × Value)) (f : FootprintValue) → stored_values ws ≡ effect manifest s e → f ≡ footprint manifest s e → cells_of ws ≡ f.writes
+writes_named manifest s e ws f is print =
+    cells-keys ws ∙ ap keys_of is ∙ written-same manifest s e ∙ sym (ap (λ (g : FootprintValue). g.writes) print ∙ footprint_writes manifest s e)

@@ -1,5 +1,8 @@
+pub mod Along
 pub mod Checked
+pub mod Kept
 pub mod Laws
+pub mod Named
 pub mod Order
 pub mod Removal
 pub mod Sound

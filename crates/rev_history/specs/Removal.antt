@@ -21,7 +21,6 @@ pub record HasFields (a : Inside) (es : Numbered) (stored : List Placed) (table 
 
 -- and another one has the same fields besides, but for the lists under cells and the kept numbers
 pub record IsSameBesides (a b : Inside) : Type 0 where
-  pub places : b.accesses.cells ≡ a.accesses.cells
   pub graph : b.graph ≡ a.graph
   pub opening : b.opening ≡ a.opening
   pub last : b.last ≡ a.last
@@ -31,6 +30,7 @@ pub record IsFreeHere (n : ℕ) (es : Numbered) (steps : List Placed) (cells : T
   pub inside : Inside
   pub has : HasFields inside es steps cells
   pub sound : IsSound inside
+  pub placed : ArePlacedIn inside.cells.places inside.steps.items
   pub free : undo_refusal (timeline_of inside) n ≡ None
 
 -- b is a without n, but for the access lists
@@ -39,6 +39,7 @@ pub record IsWithout (a b : Inside) (n : ℕ) : Type 0 where
   pub timeline : timeline_of b ≡ undone n (timeline_of a)
   pub writes : b.cells.writes ≡ raised_by (cells_written n (timeline_of a)) a.cells.writes
   pub prints : kept_prints b ≡ causal.without n (kept_prints a)
+  pub places : b.cells.places ≡ a.cells.places
   pub placed : (cells : List Cell) → ArePlacedIn cells a.steps.items → ArePlacedIn cells b.steps.items
 
 -- a history that has the old fields and can undo n is that history without n when it has the new ones, and n is no
@@ -54,6 +55,7 @@ pub record IsConeHere (members : List ℕ) (es : Numbered) (steps : List Placed)
   pub inside : Inside
   pub has : HasFields inside es steps cells
   pub sound : IsSound inside
+  pub placed : ArePlacedIn inside.cells.places inside.steps.items
   pub number : ℕ
   pub members_are : members ≡ cone_numbers number (timeline_of inside)
 
@@ -62,6 +64,7 @@ pub record IsWithoutCone (a b : Inside) (n : ℕ) (members : List ℕ) : Type 0 
   pub sound : IsSound b
   pub timeline : timeline_of b ≡ coned n (timeline_of a)
   pub prints : kept_prints b ≡ prints_without members (kept_prints a)
+  pub places : b.cells.places ≡ a.cells.places
   pub placed : (cells : List Cell) → ArePlacedIn cells a.steps.items → ArePlacedIn cells b.steps.items
 
 -- a history that has the old fields, in which the members are the cone of n, is that history without the cone when it

@@ -1,16 +1,15 @@
 //! The members of a cone.
-ghost use Rattle.std.specs.Prelude.{◌≡◌, true, [], ◌∷◌, length, IfOk, IsSome, OnOk, Some};
+ghost use Rattle.std.specs.Prelude.{◌≡◌, ℕ, true, [], ◌∷◌, length, IfOk, IsSome, OnOk, Some};
 ghost use Rattle.std.specs.List.{AllByRecursion};
+ghost use Rattle.std.specs.Ordering.{nat_cmp};
 ghost use Rattle.rev_accesses.specs.Closing.{cone_behind};
 ghost use Rattle.rev_accesses.specs.Following.{IsFollowed};
 ghost use Rattle.rev_accesses.specs.Value.{Shows};
 ghost use Rattle.rev_causal.specs.Chosen.{IsRising, chosen, is_among};
 ghost use Rattle.rev_causal.specs.History.{event_at};
 ghost use Rattle.rev_causal.specs.Store.{Footprint as Print};
-ghost use Rattle.rev_cells.specs.declared.cell.Cell.{Cell};
-ghost use Rattle.rev_history.specs.Steps.{HasFootprints, named, prints_of};
+ghost use Rattle.rev_history.specs.Steps.{HaveSteps, place_prints};
 
-use crate::access_updates::follow;
 use crate::steps::{Step, step_of};
 use indexmap::IndexMap;
 use rev_accesses::{Accesses, Pending};
@@ -29,17 +28,17 @@ fn follow_member(
 ) -> Result<(), AllocError>
     requires many { length steps.now ≡ length accepted.now.entries }
     requires rising { IsRising kept.now }
-    requires beside { HasFootprints accepted.now.entries (named accesses.now steps.now) kept.now }
+    requires beside { HaveSteps accepted.now.entries steps.now kept.now }
     requires among { is_among kept.now member ≡ true }
     requires shown { Shows accesses.now
-        (chosen (prints_of accepted.now.entries (named accesses.now steps.now)) kept.now) }
-    ensures { OnOk result ((f : Print Cell)
-        → event_at member (prints_of accepted.now.entries (named accesses.now steps.now)) ≡ Some f
-        → IsFollowed (chosen (prints_of accepted.now.entries (named accesses.now steps.now)) kept.now) member f
+        (chosen (place_prints accepted.now.entries steps.now) kept.now) }
+    ensures { OnOk result ((f : Print ℕ)
+        → event_at member (place_prints accepted.now.entries steps.now) ≡ Some f
+        → IsFollowed (chosen (place_prints accepted.now.entries steps.now) kept.now) member f
         pending.old pending.new) }
 {
     match step_of(accepted, steps, member) {
-        Some(step) => follow(pending, member, step, kept, accesses),
+        Some(step) => accesses.follow(pending, member, &step.places, kept),
         None => Ok(()),
     }
 }
@@ -56,13 +55,13 @@ pub(crate) fn cone(
 ) -> Result<Vec<u32>, AllocError>
     requires many { length steps.now ≡ length accepted.now.entries }
     requires rising { IsRising kept.now }
-    requires beside { HasFootprints accepted.now.entries (named accesses.now steps.now) kept.now }
+    requires beside { HaveSteps accepted.now.entries steps.now kept.now }
     requires shown { Shows accesses.now
-        (chosen (prints_of accepted.now.entries (named accesses.now steps.now)) kept.now) }
+        (chosen (place_prints accepted.now.entries steps.now) kept.now) }
     requires among { is_among kept.now number ≡ true }
     ensures { IfOk result (λ members. members.items
         ≡ number
-        ∷ cone_behind number (prints_of accepted.now.entries (named accesses.now steps.now)) (number ∷ []) kept.now) }
+        ∷ cone_behind nat_cmp number (place_prints accepted.now.entries steps.now) (number ∷ []) kept.now) }
 {
     let mut members = Vec::new(alloc);
     let mut pending = Pending::new(alloc);

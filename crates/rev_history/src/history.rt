@@ -7,15 +7,16 @@ ghost use Rattle.rev_cells.specs.Opened.{IsOpened};
 ghost use Rattle.rev_events.specs.declared.refusal.Refusal.{Refusal};
 ghost use Rattle.rev_events.specs.Same.{event_eq};
 ghost use Rattle.rev_footprint.specs.Value.{FootprintValue, print_of};
+ghost use Rattle.rev_history.specs.Along.{HavePrints, inverted_along};
 ghost use Rattle.rev_history.specs.Checked.{HasNow, IsChecked};
 ghost use Rattle.rev_history.specs.Order.{IsOrder, IsSameOpening, answer_of, order_of};
 ghost use Rattle.rev_history.specs.Timeline.{IsHistory, IsRising, Timeline, accept_refusal, accepted_as, back_refusal, cone_numbers, cone_refusal, coned, event_at, greatest_kept, kept_events, kept_footprint, last_of, machine_at, nearest_conflict, opened, redo_refusal, redone, state_at, undo_refusal, undone};
 ghost use Rattle.rev_history.specs.Value.{cells_written};
 
-use crate::access_updates::{nearest, nearest_by, write_noted};
+use crate::access_updates::{nearest, write_noted};
 use crate::closing::cone;
 use crate::kept::KeptFootprint;
-use crate::order::{Order, both, first_pair};
+use crate::order::{Order, accesses_of, both, first_pair, pair_by_places};
 use crate::removal::{put_all_back, put_back, remove_members};
 use crate::step::{Checked, effect, effect_if_accepted, refusal};
 use crate::steps::{Step, step_of};
@@ -93,6 +94,8 @@ impl History {
         let usual = (graph.edges() as usize)
             .saturating_mul(2)
             .saturating_add(64);
+        let cells = Cells::new(alloc, opening)?;
+        let _first = cells.place(0);
         Ok(History {
             alloc,
             graph,
@@ -101,7 +104,7 @@ impl History {
             steps: Vec::with_capacity(alloc, usual)?,
             kept: SortedNumbers::with_capacity(alloc, usual)?,
             accesses: Accesses::new(alloc),
-            cells: Cells::new(alloc, opening)?,
+            cells,
             last: 0,
         })
     }
@@ -155,7 +158,7 @@ impl History {
         let step = step_of(&self.accepted, &self.steps, number)?;
         Some(KeptFootprint {
             step,
-            accesses: &self.accesses,
+            cells: &self.cells,
         })
     }
 
@@ -180,7 +183,13 @@ impl History {
         ensures least { let t = self.now.timeline in (k : ℕ) → result ≡ Some k
             → IsLeastInTheWay (machine_at t) t.opening (kept_events t) number (print_of footprint.now) k }
     {
-        nearest(number, footprint, self.kept.as_slice(), &self.accesses)
+        nearest(
+            number,
+            footprint,
+            self.kept.as_slice(),
+            &self.accesses,
+            &self.cells,
+        )
     }
 
     /// As [`History::nearest`], with the footprint of the kept event `other`; none where `other` is not kept. It takes
@@ -192,7 +201,8 @@ impl History {
     {
         let _place = place_of(self.kept.as_slice(), other)?;
         let step = step_of(&self.accepted, &self.steps, other)?;
-        nearest_by(number, step, self.kept.as_slice(), &self.accesses)
+        self.accesses
+            .nearest_by(number, &step.places, self.kept.as_slice())
     }
 
     /// Accepts an event under a number above all others, and keeps it.
@@ -216,6 +226,7 @@ impl History {
         self.steps.reserve(1)?;
         self.kept.reserve()?;
         let step = write_noted(
+            self.alloc,
             &mut self.accesses,
             &mut self.cells,
             number,
@@ -408,7 +419,9 @@ impl History {
         let Some(step) = step_of(&self.accepted, &self.steps, number) else {
             unreachable!()
         };
-        let dependent = nearest_by(number, step, self.kept.as_slice(), &self.accesses)?;
+        let dependent = self
+            .accesses
+            .nearest_by(number, &step.places, self.kept.as_slice())?;
         Some(Refusal::DependedOn(dependent))
     }
 
@@ -504,6 +517,25 @@ impl History {
         }
     }
 
+    /// Of all pairs of some kept events that conflict and of which the later one stands before the earlier one by the
+    /// places of their numbers the one with the least first number, and of these the least second one. It takes time
+    /// linear in what the events read and write, and hashes no cell.
+    ///
+    /// # Errors
+    /// [`AllocError`] only where an allocation was refused.
+    pub fn inverted_pair(
+        &self,
+        places: &[u32],
+        numbers: &[u32],
+    ) -> Result<Option<(u32, u32)>, AllocError>
+        requires rising { IsRising numbers.now }
+        requires kept { HavePrints self.now.timeline numbers.now }
+        ensures { IfOk result (λ pair. pair ≡ inverted_along self.now.timeline places.now numbers.now) }
+    {
+        let accesses = accesses_of(self.alloc, numbers, &self.accepted, &self.steps)?;
+        Ok(pair_by_places(places, numbers, &self.accepted, &self.steps, &accesses))
+    }
+
     /// A history of the same graph, built again, and the same opening, in which nothing was accepted yet.
     ///
     /// # Errors
@@ -548,6 +580,7 @@ impl History {
         let writes = effect(self.alloc, &self.graph, &self.cells, event)?;
         self.kept.reserve()?;
         let step = write_noted(
+            self.alloc,
             &mut self.accesses,
             &mut self.cells,
             number,

@@ -1,15 +1,15 @@
 //! Footprints of kept events, as a history lends them.
 ghost use Rattle.std.specs.Prelude.{◌≡◌, ◌<◌, IfOk, length, slice_index_or, take};
-ghost use Rattle.std.specs.FinSet as cells;
+ghost use Rattle.std.specs.FinSet as sets;
 ghost use Rattle.std.specs.List.{IsDistinct};
 ghost use Rattle.std.specs.Ordering.{eq_by_cmp};
-ghost use Rattle.rev_causal.specs.Store.{Footprint.Cells, among, conflict as conflict_of, is_accessed};
+ghost use Rattle.rev_causal.specs.Store.{among, conflict as conflict_of, is_accessed};
 ghost use Rattle.rev_cells.specs.Keys.{cell_cmp};
 ghost use Rattle.rev_footprint.specs.Value.{print_of};
+ghost use Rattle.rev_history.specs.Kept.{named_cells};
 
 use crate::steps::Step;
-use rev_accesses::Accesses;
-use rev_cells::Cell;
+use rev_cells::{Cell, Cells};
 use rev_footprint::{Footprint, HasCells, conflict_between};
 use std::alloc::{AllocError, Global};
 use std::marker::Model;
@@ -18,7 +18,7 @@ use std::marker::Model;
 #[derive(Drop)]
 pub struct KeptCells<'a> {
     places: &'a [u32],
-    accesses: &'a Accesses,
+    cells: &'a Cells,
 }
 
 impl<'a> Model for KeptCells<'a> {
@@ -26,15 +26,15 @@ impl<'a> Model for KeptCells<'a> {
     ghost use Rattle.rev_cells.specs.declared.cell.Cell.{Cell};
     ghost use Rattle.rev_cells.specs.Keys.{coded_cell};
     ghost use Rattle.std.specs.Coded.{coded_list};
-    ghost use Rattle.rev_accesses.specs.Places.{AreWithin, cells_at};
+    ghost use Rattle.rev_cells.specs.Places.{AreWithin, cells_at};
 
     ghost Value = { List Cell };
 
     ghost coded = { coded_list coded_cell };
 
-    ghost view = { λ a. cells_at a.accesses.now.cells a.places.now };
+    ghost view = { λ a. cells_at a.cells.now.places a.places.now };
 
-    ghost invariant = { λ a. AreWithin a.accesses.now.cells a.places.now };
+    ghost invariant = { λ a. AreWithin a.cells.now.places a.places.now };
 }
 
 impl<'a> KeptCells<'a> {
@@ -50,7 +50,7 @@ impl<'a> KeptCells<'a> {
         requires { index < length self.now }
         ensures { result.now ≡ slice_index_or self.now index result.now }
     {
-        match self.accesses.cell(self.places[index]) {
+        match self.cells.place(self.places[index] as u64) {
             Some(cell) => cell,
             None => unreachable!(),
         }
@@ -85,7 +85,7 @@ impl<'a> KeptCells<'a> {
 #[derive(Drop)]
 pub struct KeptFootprint<'a> {
     pub(crate) step: &'a Step,
-    pub(crate) accesses: &'a Accesses,
+    pub(crate) cells: &'a Cells,
 }
 
 impl<'a> Model for KeptFootprint<'a> {
@@ -97,22 +97,22 @@ impl<'a> Model for KeptFootprint<'a> {
 
     ghost coded = { footprint_code };
 
-    ghost view = { λ a. footprint_at a.accesses.now.cells a.step.now };
+    ghost view = { λ a. footprint_at a.cells.now.places a.step.now };
 
-    ghost invariant = { λ a. IsPlacedIn a.accesses.now.cells a.step.now };
+    ghost invariant = { λ a. IsPlacedIn a.cells.now.places a.step.now };
 }
 
 impl<'a> KeptFootprint<'a> {
     /// The cells that the event reads, each once, the written ones first. Of a whole event, which reads every cell,
     /// these are the written ones alone.
     pub fn reads(&self) -> KeptCells<'a>
-        ensures same { cells.from_list result ≡ self.now.reads }
+        ensures same { sets.from_list result ≡ self.now.reads }
         ensures first { take (length self.now.writes) result ≡ self.now.writes }
         ensures distinct { IsDistinct (eq_by_cmp cell_cmp) result }
     {
         KeptCells {
             places: self.step.places.read(),
-            accesses: self.accesses,
+            cells: self.cells,
         }
     }
 
@@ -123,7 +123,7 @@ impl<'a> KeptFootprint<'a> {
     {
         KeptCells {
             places: self.step.places.written(),
-            accesses: self.accesses,
+            cells: self.cells,
         }
     }
 
@@ -131,13 +131,13 @@ impl<'a> KeptFootprint<'a> {
     pub fn whole(&self) -> bool
         ensures { result ≡ self.now.whole }
     {
-        self.step.whole
+        self.step.places.whole()
     }
 
     /// Whether the event reads or writes a cell. Of a whole event, which reads every cell, only the named cells count.
     /// The named cells are looked at one by one.
     pub fn has(&self, cell: &Cell) -> bool
-        ensures { result ≡ is_accessed cell_cmp (Cells (cells.items self.now.reads) self.now.writes) cell.now }
+        ensures { result ≡ is_accessed cell_cmp (named_cells self.now) cell.now }
     {
         self.reads().has(cell)
     }

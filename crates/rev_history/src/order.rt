@@ -1,21 +1,19 @@
 //! Whether two histories of the same events are equivalent.
-ghost use Rattle.std.specs.Prelude.{◌≡◌, ◌&&◌, length, IsSome};
-ghost use Rattle.std.specs.List.{AllByRecursion};
+ghost use Rattle.std.specs.Prelude.{◌≡◌, ◌&&◌, length, IfOk};
+ghost use Rattle.std.specs.Ordering.{nat_cmp};
 ghost use Rattle.rev_accesses.specs.Value.{Shows};
 ghost use Rattle.rev_causal.specs.Chosen.{IsRising, chosen};
-ghost use Rattle.rev_causal.specs.History.{event_at};
 ghost use Rattle.rev_causal.specs.OrderCheck.{pair_answer};
 ghost use Rattle.rev_causal.specs.Store.{conflict};
-ghost use Rattle.rev_cells.specs.Keys.{cell_cmp};
 ghost use Rattle.rev_order.specs.Pairs.{inverted_pair};
 ghost use Rattle.rev_history.specs.Order.{answer_of};
-ghost use Rattle.rev_history.specs.Steps.{HasFootprints, named, prints_of};
+ghost use Rattle.rev_history.specs.Steps.{HaveSteps, place_prints};
 
-use crate::access_updates::partner;
 use crate::steps::{Step, step_of};
 use indexmap::IndexMap;
 use rev_accesses::Accesses;
 use rev_events::Event;
+use std::alloc::{AllocError, Global};
 
 /// Whether the events of two histories lead from one to the other by exchanges of neighbours that do not depend on each
 /// other (Mazurkiewicz traces).
@@ -30,7 +28,58 @@ pub enum Order {
     Pair(u32, u32),
 }
 
+// The lists of the steps of some kept events.
+pub(crate) fn accesses_of(
+    alloc: Global,
+    numbers: &[u32],
+    accepted: &IndexMap<u32, Event>,
+    steps: &[Option<Step>],
+) -> Result<Accesses, AllocError>
+    requires many { length steps.now ≡ length accepted.now.entries }
+    requires rising { IsRising numbers.now }
+    requires beside { HaveSteps accepted.now.entries steps.now numbers.now }
+    ensures { IfOk result (λ accesses. Shows accesses
+        (chosen (place_prints accepted.now.entries steps.now) numbers.now)) }
+{
+    let mut accesses = Accesses::new(alloc);
+    for number in numbers {
+        let Some(step) = step_of(accepted, steps, *number) else {
+            unreachable!()
+        };
+        accesses.put(*number, &step.places)?;
+    }
+    Ok(accesses)
+}
+
 // The first pair of kept events that conflict and stand the other way round by the places of their numbers.
+pub(crate) fn pair_by_places(
+    places: &[u32],
+    kept: &[u32],
+    accepted: &IndexMap<u32, Event>,
+    steps: &[Option<Step>],
+    accesses: &Accesses,
+) -> Option<(u32, u32)>
+    requires many { length steps.now ≡ length accepted.now.entries }
+    requires rising { IsRising kept.now }
+    requires beside { HaveSteps accepted.now.entries steps.now kept.now }
+    requires shown { Shows accesses.now
+        (chosen (place_prints accepted.now.entries steps.now) kept.now) }
+    ensures { result ≡ inverted_pair (conflict nat_cmp) places.now
+        (chosen (place_prints accepted.now.entries steps.now) kept.now) }
+{
+    let Some(first) = accesses.first_inverted(places, kept) else {
+        return None;
+    };
+    let Some(step) = step_of(accepted, steps, first) else {
+        unreachable!()
+    };
+    match accesses.partner(places, first, &step.places, kept) {
+        Some(second) => Some((first, second)),
+        None => None,
+    }
+}
+
+/// What the order check answers where the kept events are matched.
 pub(crate) fn first_pair(
     places: &[u32],
     kept: &[u32],
@@ -40,20 +89,14 @@ pub(crate) fn first_pair(
 ) -> Order
     requires many { length steps.now ≡ length accepted.now.entries }
     requires rising { IsRising kept.now }
-    requires beside { HasFootprints accepted.now.entries (named accesses.now steps.now) kept.now }
+    requires beside { HaveSteps accepted.now.entries steps.now kept.now }
     requires shown { Shows accesses.now
-        (chosen (prints_of accepted.now.entries (named accesses.now steps.now)) kept.now) }
-    ensures { answer_of result ≡ pair_answer (inverted_pair (conflict cell_cmp) places.now
-        (chosen (prints_of accepted.now.entries (named accesses.now steps.now)) kept.now)) }
+        (chosen (place_prints accepted.now.entries steps.now) kept.now) }
+    ensures { answer_of result ≡ pair_answer (inverted_pair (conflict nat_cmp) places.now
+        (chosen (place_prints accepted.now.entries steps.now) kept.now)) }
 {
-    let Some(first) = accesses.first_inverted(places, kept) else {
-        return Order::Same;
-    };
-    let Some(step) = step_of(accepted, steps, first) else {
-        unreachable!()
-    };
-    match partner(places, first, step, kept, accesses) {
-        Some(second) => Order::Pair(first, second),
+    match pair_by_places(places, kept, accepted, steps, accesses) {
+        Some((first, second)) => Order::Pair(first, second),
         None => Order::Same,
     }
 }

@@ -4,11 +4,9 @@ ghost use Rattle.rev_accesses.specs.Thinned.{AreThinned, IsGone};
 ghost use Rattle.rev_causal.specs.Chosen.{IsRising, is_among};
 ghost use Rattle.rev_causal.specs.History.{event_at};
 ghost use Rattle.rev_causal.specs.Store.{Footprint as Print};
-ghost use Rattle.rev_cells.specs.declared.cell.Cell.{Cell};
-ghost use Rattle.rev_history.specs.Steps.{named, prints_of};
+ghost use Rattle.rev_history.specs.Steps.{place_prints};
 ghost use Rattle.rev_history.specs.Removal.{IsConeHere, IsFreeHere, TakesConeOut, TakesOut};
 
-use crate::access_updates::remove_print_members;
 use crate::steps::{Step, step_of};
 use indexmap::IndexMap;
 use rev_accesses::Accesses;
@@ -27,13 +25,12 @@ fn remove_member(
     requires rising { IsRising members.now }
     requires member { is_among members.now number ≡ true }
     ensures thinned { AreThinned members.now accesses.old accesses.new }
-    ensures gone { (f : Print Cell)
-        → event_at number (prints_of accepted.now.entries (named accesses.old steps.now)) ≡ Some f
+    ensures gone { (f : Print ℕ)
+        → event_at number (place_prints accepted.now.entries steps.now) ≡ Some f
         → IsGone number f accesses.new }
-    ensures cells { accesses.new.cells ≡ accesses.old.cells }
 {
     if let Some(step) = step_of(accepted, steps, number) {
-        remove_print_members(accesses, number, members, step);
+        accesses.remove_members(number, members, &step.places);
     }
 }
 
@@ -48,10 +45,9 @@ pub(crate) fn remove_members(
     requires many { length steps.now ≡ length accepted.now.entries }
     requires rising { IsRising members.now }
     ensures thinned { AreThinned members.now accesses.old accesses.new }
-    ensures gone { (n : ℕ) (f : Print Cell) → is_among members.now n ≡ true
-        → event_at n (prints_of accepted.now.entries (named accesses.old steps.now)) ≡ Some f
+    ensures gone { (n : ℕ) (f : Print ℕ) → is_among members.now n ≡ true
+        → event_at n (place_prints accepted.now.entries steps.now) ≡ Some f
         → IsGone n f accesses.new }
-    ensures cells { accesses.new.cells ≡ accesses.old.cells }
 {
     for member in members {
         remove_member(*member, members, accepted, steps, accesses);
@@ -75,7 +71,7 @@ pub(crate) fn put_back(
     let Some(mut step) = steps[index].take() else {
         unreachable!()
     };
-    cells.exchange(&mut step.replaced);
+    cells.exchange_at(step.places.written(), &mut step.replaced);
 }
 
 /// Restores what the members of a cone replaced and drops their steps, from the last down: no kept event depends on the

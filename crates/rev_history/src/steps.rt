@@ -5,23 +5,21 @@ ghost use Rattle.rev_history.specs.Steps.{step_beside};
 
 use indexmap::IndexMap;
 use rev_accesses::Places;
-use rev_cells::{Cell, Value};
+use rev_cells::Value;
 use rev_events::Event;
 
-/// What stands beside a kept event: the places of the cells that the event reads and writes in the access lists,
-/// whether the event reads every cell, as a plan does, and what the cells that it writes held before it. No step stands
-/// beside an event that is not kept: a redo makes one.
+/// What stands beside a kept event: the places of the cells that the event reads and writes in the table of cells, and
+/// what those that it writes held before it, in their order. No step stands beside an event that is not kept: a redo
+/// makes one.
 pub(crate) struct Step {
     pub(crate) places: Places,
-    pub(crate) whole: bool,
-    pub(crate) replaced: Vec<(Cell, Value)>,
+    pub(crate) replaced: Vec<Value>,
 }
 
 impl Drop for Step {
     fn drop(self) {
         let Step {
             places: _places,
-            whole: _whole,
             replaced: _replaced,
         } = self;
     }

@@ -6,7 +6,7 @@ ghost use Rattle.rev_named.specs.Words.{begun_by as begun_by_byte, goes_on as go
 use std::alloc::{AllocError, Global};
 
 /// How a byte is read, by those before it.
-#[derive(Clone, Copy, Debug, PartialEq, Eq)]
+#[derive(Clone, Copy, PartialEq, Eq)]
 pub(crate) enum Mode {
     /// As itself.
     Plain,

@@ -56,7 +56,7 @@ pub enum ReadFault {
 }
 
 /// Why a line is not read.
-#[derive(Clone, Copy, Debug, PartialEq, Eq)]
+#[derive(Clone, Copy, PartialEq, Eq)]
 pub(crate) enum LineFault {
     /// An allocation failed.
     Memory,

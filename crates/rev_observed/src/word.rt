@@ -9,7 +9,7 @@ use crate::kind::Kind;
 use std::borrow::CowSlice;
 
 /// What a line begins with.
-#[derive(Clone, Copy, Debug, PartialEq, Eq)]
+#[derive(Clone, Copy, PartialEq, Eq)]
 pub(crate) enum Word {
     /// `path`
     Path,

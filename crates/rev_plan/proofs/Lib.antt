@@ -4,6 +4,7 @@ pub mod CycleLemmas
 pub mod StepsLemmas
 pub mod PlanLemmas
 pub mod ChainLemmas
+pub mod TurnLemmas
 pub mod RefusalLemmas
 pub mod OneChain
 pub mod PlannedLemmas

@@ -91,6 +91,20 @@ step_from builds state has edge =
     option_and_then (λ at. option_and_then (λ next. Some (at, next)) (producer_at builds state edge at))
     (next_input builds state has edge)
 
+-- the same at an edge that is wanted and has no reasons; at any other a chain ends
+abbrev pub unless_explained : Option (ℕ × ℕ) → List Reason → Option (ℕ × ℕ)
+unless_explained step [] = step
+unless_explained step (reason ∷ reasons) = None
+
+abbrev pub turn_from : List BuildValue → State → (ℕ → Bool) → ℕ → Option (ℕ × ℕ)
+turn_from builds state has edge =
+    if has_wanted_mark state edge
+    then unless_explained (step_from builds state has edge) (reasons_of builds state edge) else None
+
+-- the reasons that are told of an edge: those of one that is wanted
+abbrev pub told_reasons : List BuildValue → State → ℕ → List Reason
+told_reasons builds state edge = if has_wanted_mark state edge then reasons_of builds state edge else []
+
 abbrev pub chain_on : (ℕ → ChainValue) → ℕ → Option (ℕ × ℕ) → ChainValue
 chain_on rest edge None = ends_at edge []
 chain_on rest edge (Some step) = step_before (edge, step.0) (rest step.1)

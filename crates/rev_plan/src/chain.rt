@@ -1,9 +1,9 @@
 //! The chain from an edge to the reasons behind it.
-ghost use Rattle.std.specs.Prelude.{◌≡◌, ◌<◌, ℕ, Option, length, option_and_then, IfOk, slice_get};
+ghost use Rattle.std.specs.Prelude.{◌≡◌, ◌<◌, ℕ, [], Option, true, false, length, replicate, option_and_then, IfOk, IfSome, OnOk, slice_get, slice_set};
 ghost use Rattle.std.specs.List.{position};
 ghost use Rattle.rev_ranks.specs.Sets.{is_marked};
 ghost use Rattle.rev_dirty.specs.Reasons.{holds};
-ghost use Rattle.rev_plan.specs.Chain.{can_follow, chain_of, counted_producers as counted_producers_in, has_wanted_mark, step_from};
+ghost use Rattle.rev_plan.specs.Chain.{can_follow, chain_of, counted_producers as counted_producers_in, has_wanted_mark, step_from, told_reasons, turn_from};
 
 use crate::steps::line_producers;
 use rev_cells::{Cell, Cells, Mark, Value};
@@ -123,6 +123,72 @@ fn next_step(
     }
 }
 
+// Where a chain goes from an edge that it has come to, if it goes on: the edge then has its mark. What is told of the edge
+// is put into `reasons`.
+fn turn_at(
+    alloc: Global,
+    graph: &Graph,
+    cells: &Cells,
+    scan: &mut DependencyScan<'_>,
+    in_chain: &mut Vec<bool>,
+    edge: u32,
+    reasons: &mut Vec<Reason>,
+) -> Result<Option<(u64, u32)>, AllocError>
+    requires edge { edge < length graph.now.manifest.builds }
+    requires each { length in_chain.old.items ≡ length graph.now.manifest.builds }
+    requires graph { scan.old.graph ≡ graph.now }
+    requires state { scan.old.state ≡ cells.now.state }
+    requires none { reasons.old.items ≡ [] }
+    ensures turn { IfOk result (λ turn. turn ≡ turn_from graph.now.manifest.builds cells.now.state
+        (is_marked (slice_set in_chain.old.items edge true)) edge) }
+    ensures marks { IfOk result (λ turn.
+        IfSome turn (λ _. in_chain.new.items ≡ slice_set in_chain.old.items edge true)) }
+    ensures reasons { OnOk result (reasons.new.items
+        ≡ told_reasons graph.now.manifest.builds cells.now.state edge) }
+    ensures same { scan.new ≡ scan.old }
+{
+    if !is_wanted(cells, edge) {
+        return Ok(None);
+    }
+    *reasons = scan.reasons(edge)?;
+    if !reasons.is_empty() {
+        return Ok(None);
+    }
+    in_chain[edge as usize] = true;
+    next_step(alloc, graph, cells, in_chain, edge)
+}
+
+// Goes on from an edge, adds the steps of the chain, and gives the edge at which it ends. What is told of that edge is
+// put into `reasons`.
+fn walk(
+    alloc: Global,
+    graph: &Graph,
+    cells: &Cells,
+    scan: &mut DependencyScan<'_>,
+    in_chain: &mut Vec<bool>,
+    edge: u32,
+    steps: &mut Vec<(u32, u64)>,
+    reasons: &mut Vec<Reason>,
+) -> Result<u32, AllocError>
+    requires edge { edge < length graph.now.manifest.builds }
+    requires in_chain { in_chain.old.items ≡ replicate (length graph.now.manifest.builds) false }
+    requires graph { scan.old.graph ≡ graph.now }
+    requires state { scan.old.state ≡ cells.now.state }
+    requires no_steps { steps.old.items ≡ [] }
+    requires no_reasons { reasons.old.items ≡ [] }
+    ensures { IfOk result (λ last. chain_of graph.now.manifest.builds cells.now.state edge
+        ≡ record { steps = steps.new.items; last = last; reasons = reasons.new.items }) }
+{
+    let mut last = edge;
+    'turns: while let Some((position, next)) = turn_at(
+        alloc, graph, cells, scan, in_chain, last, reasons,
+    )? {
+        steps.push((last, position))?;
+        last = next;
+    }
+    Ok(last)
+}
+
 /// The chain from an edge. At an edge that is not `Wanted` it ends with no reasons. At one with reasons it ends with
 /// them. Else it steps by the first input, not order-only, whose producer is `Wanted` and not yet in the chain; without
 /// one it ends with no reasons.
@@ -138,37 +204,23 @@ pub fn why(alloc: Global, graph: &Graph, cells: &Cells, edge: u32) -> Result<Cha
     ensures reasons { IfOk result (λ chain. chain.reasons.items
         ≡ (chain_of graph.now.manifest.builds cells.now.state edge).reasons) }
 {
-    let mut scan = DependencyScan::new(alloc, graph, cells);
     let mut in_chain = vec![in alloc; false; graph.edges() as usize]?;
+    let mut scan = DependencyScan::new(alloc, graph, cells);
     let mut steps = Vec::new(alloc);
-    let mut last = edge;
-    while is_wanted(cells, last) {
-        let reasons = scan.reasons(last)?;
-        if !reasons.is_empty() {
-            return Ok(Chain {
-                steps,
-                last,
-                reasons,
-            });
-        }
-        in_chain[last as usize] = true;
-        match next_step(alloc, graph, cells, &in_chain, last)? {
-            Some((position, next)) => {
-                steps.push((last, position))?;
-                last = next;
-            }
-            None => {
-                return Ok(Chain {
-                    steps,
-                    last,
-                    reasons,
-                });
-            }
-        }
-    }
+    let mut reasons = Vec::new(alloc);
+    let last = walk(
+        alloc,
+        graph,
+        cells,
+        &mut scan,
+        &mut in_chain,
+        edge,
+        &mut steps,
+        &mut reasons,
+    )?;
     Ok(Chain {
         steps,
         last,
-        reasons: Vec::new(alloc),
+        reasons,
     })
 }

@@ -1,5 +1,5 @@
 //! The marks of a plan.
-ghost use Rattle.std.specs.Prelude.{◌≡◌, ◌<◌, ◌≤◌, ◌^◌, ℕ, None, not, ◌&&◌, find, map, length, IfOk, IfErr, OnOk, if◌then◌else◌};
+ghost use Rattle.std.specs.Prelude.{◌≡◌, ◌<◌, ◌≤◌, ◌^◌, ℕ, List, [], None, not, ◌&&◌, find, map, length, IfOk, IfErr, OnOk, if◌then◌else◌};
 ghost use Rattle.std.specs.List.{All, list_any, position, range_with_len};
 ghost use Rattle.rev_graph.specs.Graph.{build_at, is_known};
 ghost use Rattle.rev_dirty.specs.Inputs.{producers_in, paths_in, deps_record};
@@ -8,8 +8,8 @@ ghost use Rattle.rev_cells.specs.State.{State};
 ghost use Rattle.rev_cells.specs.declared.mark.Mark.TheVariants as mark;
 ghost use Rattle.rev_ranks.specs.Graph.{graph_of, Reaches};
 ghost use Rattle.rev_plan.specs.Fault.{Explains, NamesCycle};
-ghost use Rattle.rev_plan.specs.Plan.{edge_numbers, is_dirty, is_own_reason, is_running as is_running_in, mark_for, marks_of, needs_refusal, plan_refusal, targets_or};
-ghost use Rattle.rev_plan.specs.Steps.{AreDirty, AreListed, AreReached, mark_by};
+ghost use Rattle.rev_plan.specs.Plan.{edge_numbers, edges_by, input_paths, is_dirty, is_own_reason, is_running as is_running_in, mark_for, marks_of, needs_refusal, plan_refusal, targets_or};
+ghost use Rattle.rev_plan.specs.Steps.{AreDirty, AreListed, AreReached, IsSubgraph, mark_by};
 
 use crate::fault::PlanFault;
 use crate::lacking::missing_input_among;
@@ -111,6 +111,26 @@ fn is_dirty_where(
     Ok(has_own_reason(&reasons))
 }
 
+// Adds for each edge whether it has a mark and a reason of its own, where `listed` produce what deps records list.
+fn push_dirty(
+    scan: &mut DependencyScan<'_>,
+    listed: &[Vec<u32>],
+    marks: &[bool],
+    dirty: &mut Vec<bool>,
+) -> Result<(), AllocError>
+    requires listed { AreListed scan.old.graph.manifest.builds scan.old.state (graph_of listed.now) }
+    requires each_listed { length listed.now ≡ length scan.old.graph.manifest.builds }
+    requires each { length marks.now ≡ length scan.old.graph.manifest.builds }
+    requires few { length scan.old.graph.manifest.builds ≤ Graph.MAX_EDGES }
+    requires none { dirty.old.items ≡ [] }
+    ensures { OnOk result (AreDirty scan.old.graph.manifest.builds scan.old.state marks.now dirty.new.items) }
+{
+    for edge in 0..marks.len() {
+        dirty.push(is_dirty_where(scan, edge as u32, &listed[edge], marks[edge])?)?;
+    }
+    Ok(())
+}
+
 // The edges that have a mark and a reason of their own, where `listed` produce what deps records list. Each is asked
 // for its reasons once.
 fn dirty_among(
@@ -127,11 +147,9 @@ fn dirty_among(
     ensures { IfOk result (λ dirty.
         AreDirty graph.now.manifest.builds cells.now.state marks.now dirty.items) }
 {
-    let mut scan = DependencyScan::new(alloc, graph, cells);
     let mut dirty = Vec::with_capacity(alloc, marks.len())?;
-    for edge in 0..marks.len() {
-        dirty.push(is_dirty_where(&mut scan, edge as u32, &listed[edge], marks[edge])?)?;
-    }
+    let mut scan = DependencyScan::new(alloc, graph, cells);
+    push_dirty(&mut scan, listed, marks, &mut dirty)?;
     Ok(dirty)
 }
 
@@ -194,6 +212,37 @@ fn refuse_cycle(alloc: Global, steps: &[Vec<u32>]) -> Result<(), PlanFault>
     }
 }
 
+// The marks of edges, by which are reached, and by the steps from these to what produces their inputs.
+fn marks_among(
+    alloc: Global,
+    graph: &Graph,
+    cells: &Cells,
+    listed: &[Vec<u32>],
+    reached: &[bool],
+    inputs: &[Vec<u32>],
+) -> Result<Vec<Mark>, AllocError>
+    requires listed { AreListed graph.now.manifest.builds cells.now.state (graph_of listed.now) }
+    requires each_listed { length listed.now ≡ length graph.now.manifest.builds }
+    requires each_reached { length reached.now ≡ length graph.now.manifest.builds }
+    requires inside { All (λ v. All (λ s. s < length graph.now.manifest.builds) v.items) inputs.now }
+    requires each { length inputs.now ≡ length graph.now.manifest.builds }
+    requires few { length graph.now.manifest.builds ≤ Graph.MAX_EDGES }
+    // The marks are those of each plan that reaches these edges.
+    ensures { IfOk result (λ marks. (roots : List ℕ)
+        → AreReached graph.now.manifest.builds cells.now.state roots reached.now
+        → IsSubgraph (edges_by (input_paths cells.now.state) graph.now.manifest.builds)
+        reached.now (graph_of inputs.now)
+        → marks.items ≡ map (mark_for graph.now.manifest.builds cells.now.state roots)
+        (edge_numbers graph.now.manifest.builds)) }
+{
+    let dirty = dirty_among(alloc, graph, cells, listed, reached)?;
+    let counted = steps_among(alloc, graph, listed, reached, Along::Counted)?;
+    let wanted = leading_to(alloc, &counted, &dirty)?;
+    let waiting = leading_to(alloc, inputs, &wanted)?;
+    let marks = marks_by(alloc, &wanted, &waiting)?;
+    Ok(marks)
+}
+
 // The marks of a plan for the edges that produce its targets.
 fn plan_for(
     alloc: Global,
@@ -218,11 +267,7 @@ fn plan_for(
     }
     let inputs = steps_among(alloc, graph, listed, &reached, Along::Inputs)?;
     refuse_cycle(alloc, &inputs)?;
-    let dirty = dirty_among(alloc, graph, cells, listed, &reached)?;
-    let counted = steps_among(alloc, graph, listed, &reached, Along::Counted)?;
-    let wanted = leading_to(alloc, &counted, &dirty)?;
-    let waiting = leading_to(alloc, &inputs, &wanted)?;
-    let marks = marks_by(alloc, &wanted, &waiting)?;
+    let marks = marks_among(alloc, graph, cells, listed, &reached, &inputs)?;
     Ok(marks)
 }
 

@@ -1,97 +1,86 @@
--- Which places of a list are the first of their paths.
-use Rattle.std.proofs.Common.{◌≡◌, ◌≢◌, ℕ, ◌+◌, ◌<◌, zero, suc, Bool, true, false, not, ◌||◌, List, [], ◌∷◌, ◌++◌, length, get_or, take, Option, bytes_eq, inl, inr, refl, sym, ap, subst, ◌∙◌, arith, true≢false, if◌then◌else◌}
-use Rattle.std.specs.Prelude.{◌↔◌}
-use Rattle.std.specs.List.{list_any}
+-- Which places of a list may be told: the first of each path that is not quiet.
+use Rattle.std.proofs.Common.{◌≡◌, ℕ, ◌+◌, ◌<◌, Bool, true, false, List, [], ◌∷◌, ◌++◌, length, get_or, Contains, ◌⊎◌, inl, inr, sym, ap, subst, ◌∙◌, arith, true≢false}
+use Rattle.std.specs.Prelude.{All}
 use Rattle.std.proofs.lemmas.Bool.{cases_eq}
-use Rattle.std.proofs.lemmas.List.{get_or_append_left, get_or_push, length-append, take_more}
-use Rattle.std.proofs.lemmas.List.Folds.{list_any-append}
-use Rattle.std.proofs.lemmas.Slice.Eq.{bytes_eq-Decides}
-use Rattle.rev_races.specs.Answer.{IsFirstPlace}
-use Rattle.rev_races.specs.Searches.{AreFirstPlaces}
+use Rattle.std.proofs.lemmas.List.Elements.{All-contains, Contains-append_left, Contains-get_or, Contains-push, Contains-push_cases}
+use Rattle.rev_manifest.specs.Manifest.{BuildValue}
+use Rattle.rev_races.specs.Keys.{SomeBelow}
+use Rattle.rev_races.specs.Searches.{IsCovered, IsCovered.among as among, IsCovered.quiet as quiet, IsCovered.repeated as repeated, IsFirstOrQuiet, IsQuiet}
 
-or-true : (b : Bool) → (b || true) ≡ true
-or-true true = refl
-or-true false = refl
+-- The first places of a list are sifted. `has` says which paths were seen.
+pub record AreSifted (builds : List BuildValue) (user : ℕ) (paths : List (List ℕ)) (n : ℕ) (has : List ℕ → Bool) (places : List ℕ) : Type 0 where
+  pub within : All (λ place. place < length paths) places
+  pub firsts : All (IsFirstOrQuiet builds user paths) places
+  pub rest : (k : ℕ) → k < n → IsCovered builds user paths places k
+  pub seen : (path : List ℕ) → has path ≡ true → SomeBelow (λ k. get_or paths k [] ≡ path) n
+  pub known : (k : ℕ) → k < n → (has (get_or paths k []) ≡ true) ⊎ IsQuiet builds user (get_or paths k [])
 
-or-false : (b : Bool) → (b || false) ≡ b
-or-false true = refl
-or-false false = refl
+all-pushed : (P : ℕ → Type 0) (xs : List ℕ) (x : ℕ) → All P xs → P x → All P (xs ++ x ∷ [])
+all-pushed P xs x all new = λ k d inside.
+    elim (Contains-push_cases xs x (get_or (xs ++ x ∷ []) k d) (Contains-get_or (xs ++ x ∷ []) k d inside)) [
+      | inl old ↦ All-contains P xs (get_or (xs ++ x ∷ []) k d) all old
+      | inr same ↦ subst P same new
+    ]
 
--- one of the first paths is the same as another
-pub any-before : (paths : List (List ℕ)) (n before : ℕ) (path : List ℕ) → before < n → before < length paths → get_or paths before [] ≡ path → list_any (bytes_eq path) (take n paths) ≡ true
-any-before [] n before path less within is = absurd (omega (arith, within))
-any-before (p ∷ ps) zero before path less within is = absurd (omega (arith, less))
-any-before (p ∷ ps) (suc n) zero path less within is = ap (λ b. b || list_any (bytes_eq path) (take n ps)) ((bytes_eq-Decides path p).1 (sym is))
-any-before (p ∷ ps) (suc n) (suc before) path less within is =
-    ap (λ b. bytes_eq path p || b) (any-before ps n before path (omega (arith, less)) (omega (arith, within)) is) ∙ or-true (bytes_eq path p)
+covered-more : (builds : List BuildValue) (user : ℕ) (paths : List (List ℕ)) (places : List ℕ) (i k : ℕ) → IsCovered builds user paths places k → IsCovered builds user paths (places ++ i ∷ []) k
+covered-more builds user paths places i k (among c) = among (Contains-append_left places (i ∷ []) k c)
+covered-more builds user paths places i k (quiet q) = quiet q
+covered-more builds user paths places i k (repeated r) = repeated r
 
--- none of the first paths is
-pub none-before : (paths : List (List ℕ)) (n : ℕ) (path : List ℕ) → list_any (bytes_eq path) (take n paths) ≡ true → ((before : ℕ) → before < n → get_or paths before [] ≢ path) → ⊥
-none-before [] zero path e none = true≢false (sym e)
-none-before [] (suc n) path e none = true≢false (sym e)
-none-before (p ∷ ps) zero path e none = true≢false (sym e)
-none-before (p ∷ ps) (suc n) path e none = by (bytes_eq path p) refl (λ f. none-before ps n path f (λ before less. none (suc before) (omega (arith, less)))) e
-  where
-    by : (b : Bool) → bytes_eq path p ≡ b → (list_any (bytes_eq path) (take n ps) ≡ true → ⊥) → (b || list_any (bytes_eq path) (take n ps)) ≡ true → ⊥
-    by true same further e' = none 0 (omega arith) (sym ((bytes_eq-Decides path p).0 same))
-    by false same further e' = further e'
+further : (P : ℕ → Type 0) (n : ℕ) → SomeBelow P n → SomeBelow P (n + 1)
+further P n s = let b = s.below in record { number = s.number; below = omega (arith, b); holds = s.holds }
 
--- a path more is seen
-pub seen-more : (paths : List (List ℕ)) (i : ℕ) (path other : List ℕ) → i < length paths → get_or paths i [] ≡ path
-    → (if bytes_eq path other then true else list_any (bytes_eq other) (take i paths)) ≡ list_any (bytes_eq other) (take (i + 1) paths)
-seen-more paths i path other within is =
-    by (bytes_eq path other) refl
-    ∙ sym (ap (list_any (bytes_eq other)) (take_more paths i [] within ∙ ap (λ (p : List ℕ). take i paths ++ p ∷ []) is) ∙ list_any-append (bytes_eq other) (take i paths) (path ∷ []))
-  where
-    turned : (b : Bool) → bytes_eq path other ≡ b → bytes_eq other path ≡ b
-    turned true e = (bytes_eq-Decides other path).1 (sym ((bytes_eq-Decides path other).0 e))
-    turned false e = back (bytes_eq other path) refl
-      where
-        back : (b : Bool) → bytes_eq other path ≡ b → bytes_eq other path ≡ false
-        back true f = absurd (true≢false (sym ((bytes_eq-Decides path other).1 (sym ((bytes_eq-Decides other path).0 f))) ∙ e))
-        back false f = f
+-- one place more
+module _ (builds : List BuildValue) (user : ℕ) (paths : List (List ℕ)) (i : ℕ) (has also : List ℕ → Bool) (path : List ℕ) (places : List ℕ)
+    (inside : i < length paths) (is : get_or paths i [] ≡ path)
+    (noted : (also path ≡ true) ⊎ IsQuiet builds user path)
+    (kept : (other : List ℕ) → has other ≡ true → also other ≡ true)
+    (only : (other : List ℕ) → also other ≡ true → (other ≡ path) ⊎ (has other ≡ true))
+    (before : AreSifted builds user paths i has places) where
+  seen : (other : List ℕ) → also other ≡ true → SomeBelow (λ k. get_or paths k [] ≡ other) (i + 1)
+  seen other h = elim (only other h) [
+    | inl same ↦ record { number = i; below = omega arith; holds = is ∙ sym same }
+    | inr old ↦ further (λ k. get_or paths k [] ≡ other) i (before.seen other old)
+  ]
 
-    by : (b : Bool) → bytes_eq path other ≡ b
-        → (if b then true else list_any (bytes_eq other) (take i paths)) ≡ (list_any (bytes_eq other) (take i paths) || (bytes_eq other path || false))
-    by true e = sym (ap (λ b. list_any (bytes_eq other) (take i paths) || (b || false)) (turned true e) ∙ or-true (list_any (bytes_eq other) (take i paths)))
-    by false e = sym (ap (λ b. list_any (bytes_eq other) (take i paths) || (b || false)) (turned false e) ∙ or-false (list_any (bytes_eq other) (take i paths)))
+  known : (k : ℕ) → k < i + 1 → (also (get_or paths k []) ≡ true) ⊎ IsQuiet builds user (get_or paths k [])
+  known k below = elim (cases_eq k i) [
+    | inl same ↦ subst (λ (p : List ℕ). (also p ≡ true) ⊎ IsQuiet builds user p) (sym (ap (λ n. get_or paths n []) same ∙ is)) noted
+    | inr other ↦ elim (before.known k (omega (arith, below, other))) [ inl h ↦ inl (kept (get_or paths k []) h) | inr q ↦ inr q ]
+  ]
 
--- marks of the first places
-pub record FirstsBelow (paths : List (List ℕ)) (n : ℕ) (marks : List Bool) : Type 0 where
-  pub each : length marks ≡ n
-  pub exact : (place : ℕ) → place < n → (get_or marks place false ≡ true) ↔ IsFirstPlace paths place
+  -- its path was not seen, and may be told
+  pub sifted-new : has path ≡ false → AreSifted builds user paths (i + 1) also (places ++ i ∷ [])
+  sifted-new new = record {
+    within = all-pushed (λ place. place < length paths) places i before.within inside;
+    firsts = all-pushed (IsFirstOrQuiet builds user paths) places i before.firsts (λ k less same.
+        elim (before.known k less) [
+          | inl h ↦ absurd (true≢false (sym h ∙ ap has (same ∙ is) ∙ new))
+          | inr q ↦ subst (IsQuiet builds user) same q
+        ]);
+    rest = λ k below. elim (cases_eq k i) [
+      | inl same ↦ among (subst (Contains (places ++ i ∷ [])) (sym same) (Contains-push places i))
+      | inr other ↦ covered-more builds user paths places i k (before.rest k (omega (arith, below, other)))
+    ];
+    seen = seen;
+    known = known;
+  }
 
-pub firsts-more : (paths : List (List ℕ)) (i : ℕ) (marks all : List Bool) (new : Bool) (path : List ℕ) → i < length paths → get_or paths i [] ≡ path → FirstsBelow paths i marks
-    → new ≡ not (list_any (bytes_eq path) (take i paths)) → all ≡ marks ++ new ∷ [] → FirstsBelow paths (i + 1) all
-firsts-more paths i marks all new path within is before mark pushed = subst (FirstsBelow paths (i + 1)) (sym pushed) (record {
-  each = length-append marks (new ∷ []) ∙ ap (λ n. n + 1) before.each;
-  exact = λ place less. elim (cases_eq place i) [
-    | inl same ↦ subst (λ k. (get_or (marks ++ new ∷ []) k false ≡ true) ↔ IsFirstPlace paths k) (sym same) here
-    | inr other ↦
-        let below : place < i = omega (arith, less, other) in
-        let old : get_or (marks ++ new ∷ []) place false ≡ get_or marks place false = get_or_append_left marks (new ∷ []) false place (let each = before.each in omega (arith, below, each)) in
-        (λ h. (before.exact place below).0 (sym old ∙ h), λ f. old ∙ (before.exact place below).1 f)
-  ];
-})
-  where
-    last : get_or (marks ++ new ∷ []) i false ≡ not (list_any (bytes_eq path) (take i paths))
-    last = get_or_push marks new false i before.each ∙ mark
-
-    to : (b : Bool) → list_any (bytes_eq path) (take i paths) ≡ b → not b ≡ true → IsFirstPlace paths i
-    to true seen h = absurd (true≢false (sym h))
-    to false seen h = λ k less same. true≢false (sym (any-before paths i k path less (omega (arith, less, within)) (same ∙ is)) ∙ seen)
-
-    from : (b : Bool) → list_any (bytes_eq path) (take i paths) ≡ b → IsFirstPlace paths i → not b ≡ true
-    from true seen first = absurd (none-before paths i path seen (λ k less same. first k less (same ∙ sym is)))
-    from false seen first = refl
-
-    here : (get_or (marks ++ new ∷ []) i false ≡ true) ↔ IsFirstPlace paths i
-    here = (
-      λ h. to (list_any (bytes_eq path) (take i paths)) refl (sym last ∙ h),
-      λ f. last ∙ from (list_any (bytes_eq path) (take i paths)) refl f,
-    )
-
-pub firsts-all : (paths : List (List ℕ)) (n : ℕ) (marks : List Bool) → n ≡ length paths → FirstsBelow paths n marks → AreFirstPlaces paths marks
-firsts-all paths n marks all firsts =
-    let r = subst (λ k. FirstsBelow paths k marks) all firsts in
-    record { each = r.each; exact = r.exact }
+  -- its path was seen, or is quiet
+  pub sifted-old : (has path ≡ true) ⊎ IsQuiet builds user path → AreSifted builds user paths (i + 1) also places
+  sifted-old passed = record {
+    within = before.within;
+    firsts = before.firsts;
+    rest = λ k below. elim (cases_eq k i) [
+      | inl same ↦ subst (IsCovered builds user paths places) (sym same) here
+      | inr other ↦ before.rest k (omega (arith, below, other))
+    ];
+    seen = seen;
+    known = known;
+  }
+    where
+      here : IsCovered builds user paths places i
+      here = elim passed [
+        | inl h ↦ let s = before.seen path h in repeated (λ first. first s.number s.below (s.holds ∙ sym is))
+        | inr q ↦ quiet (subst (IsQuiet builds user) (sym is) q)
+      ]

@@ -1,18 +1,17 @@
 -- Marks of direct producers, lists with nothing to tell, and what the last search found.
-use Rattle.std.proofs.Common.{◌≡◌, ℕ, ◌+◌, ◌<◌, Bool, true, false, not, List, [], ◌∷◌, ◌++◌, length, get_or, set, Option, Some, None, inl, inr, refl, sym, ap, subst, ◌∙◌, arith, true≢false, Contains, ◌⊎◌}
+use Rattle.std.proofs.Common.{◌≡◌, ℕ, ◌<◌, Bool, true, false, not, List, [], length, get_or, set, Option, Some, None, inl, inr, refl, sym, ap, subst, ◌∙◌, arith, true≢false, Contains, ◌⊎◌}
 use Rattle.std.proofs.lemmas.Bool.{cases_eq}
 use Rattle.std.specs.Prelude.{◌↔◌, All}
 use Rattle.std.specs.Global.{Vec}
 use Rattle.std.proofs.lemmas.List.{get_or-map as at-map, length-set, get_or_default, get_or-set_same, get_or-set_other}
-use Rattle.std.proofs.lemmas.List.Elements.{All-contains, Contains-append_left, Contains-get_or, Contains-push, Contains-push_cases}
 use Rattle.rev_manifest.specs.Manifest.{BuildValue}
 use Rattle.rev_graph.specs.Graph.{GraphValue, IsGraph, build_at, producer_of, successor_lists, EdgeReaches, EdgeReaches.step as one_edge_step, EdgeReaches.further as then_on_edges, inputs_of}
 use Rattle.rev_graph.proofs.StepLemmas.{edge_way, length-successors, node_way, ranked-acyclic}
 use Rattle.rev_ranks.specs.Graph.{Steps, graph_of, successors_of, Reaches, Reaches.step as one_step, Reaches.further as then_on}
 use Rattle.rev_waits.specs.Waits.{AreWaitedFor, Makes, Makes.itself, Makes.behind, Waits}
-use Rattle.rev_races.specs.Answer.{IsToTell.itself as tells_itself, IsToTell.another as tells_another}
+use Rattle.rev_races.specs.Answer.{IsToTell, IsToTell.itself as tells_itself, IsToTell.another as tells_another}
 use Rattle.rev_races.specs.Keys.{SomeBelow, IsKeyAt, IsKeyAmong}
-use Rattle.rev_races.specs.Searches.{AreDirect, IsQuiet, IsKept}
+use Rattle.rev_races.specs.Searches.{AreDirect, IsCovered, IsCovered.among as among, IsCovered.quiet as quiet, IsCovered.repeated as repeated, IsFirstOrQuiet, IsFirstOrUntold, IsQuiet, IsKept}
 
 -- MARKS OF DIRECT PRODUCERS
 pub no-marks : (graph : List (List ℕ)) (marks : List (Option ℕ)) → length marks ≡ length graph → ((k : ℕ) → get_or marks k None ≡ None) → AreDirect graph marks
@@ -73,57 +72,39 @@ quiet-none builds user path none = record { waits = λ maker made. absurd (nobod
     nobody {maker} (itself at plain) = let no : None ≡ Some maker = sym none ∙ at in true≢false cc
     nobody {maker} (behind {phony = phony} at h inside made) = let no : None ≡ Some phony = sym none ∙ at in true≢false cc
 
--- one place more, that may be told, or is quiet
-pub places-more : (builds : List BuildValue) (user : ℕ) (paths : List (List ℕ)) (i : ℕ) (places all : List ℕ) → all ≡ places ++ i ∷ []
-    → ((k : ℕ) → k < i → Contains places k ⊎ IsQuiet builds user (get_or paths k [])) → (k : ℕ) → k < i + 1 → Contains all k ⊎ IsQuiet builds user (get_or paths k [])
-places-more builds user paths i places all pushed before k below = elim (cases_eq k i) [
-  | inl same ↦ inl (subst (λ xs. Contains xs k) (sym pushed) (subst (Contains (places ++ i ∷ [])) (sym same) (Contains-push places i)))
-  | inr other ↦ elim (before k (omega (arith, below, other))) [
-    | inl old ↦ inl (subst (λ xs. Contains xs k) (sym pushed) (Contains-append_left places (i ∷ []) k old))
-    | inr quiet ↦ inr quiet
-  ]
-]
-
-pub places-within : (n i : ℕ) (places all : List ℕ) → all ≡ places ++ i ∷ [] → i < n → All (λ place. place < n) places → All (λ place. place < n) all
-places-within n i places all pushed below within = subst (All (λ place. place < n)) (sym pushed) (λ k d inside.
-    elim (Contains-push_cases places i (get_or (places ++ i ∷ []) k d) (Contains-get_or (places ++ i ∷ []) k d inside)) [
-      | inl old ↦ All-contains (λ place. place < n) places (get_or (places ++ i ∷ []) k d) within old
-      | inr new ↦ subst (λ place. place < n) new below
-    ])
-
-pub quiet-more : (builds : List BuildValue) (user : ℕ) (paths : List (List ℕ)) (i : ℕ) (path : List ℕ) (places : List ℕ) → i < length paths → path ≡ get_or paths i path → IsQuiet builds user path
-    → ((k : ℕ) → k < i → Contains places k ⊎ IsQuiet builds user (get_or paths k [])) → (k : ℕ) → k < i + 1 → Contains places k ⊎ IsQuiet builds user (get_or paths k [])
-quiet-more builds user paths i path places within is quiet before k below = elim (cases_eq k i) [
-  | inl same ↦ inr (subst (IsQuiet builds user) (sym (ap (λ n. get_or paths n []) same ∙ get_or_default paths i [] path within ∙ sym is)) quiet)
-  | inr other ↦ before k (omega (arith, below, other))
-]
-
--- of a quiet path nothing is told
-pub nothing-told : (graph : GraphValue) (files paths : List (List ℕ)) (user place : ℕ) → IsGraph graph → IsQuiet graph.manifest.builds user (get_or paths place [])
-    → (k : List ℕ) → IsKeyAt graph.manifest.builds files paths user place k → ⊥
-nothing-told graph files paths user place is quiet k at =
-    let way : Waits graph.manifest.builds user at.maker = quiet.waits at.maker at.made in
-    elim at.key.told [
+-- nobody who makes a quiet path is to be told
+pub untold-quiet : (graph : GraphValue) (files : List (List ℕ)) (user : ℕ) (path : List ℕ) → IsGraph graph → IsQuiet graph.manifest.builds user path
+    → (maker : ℕ) → Makes graph.manifest.builds maker path → IsToTell graph.manifest.builds files user maker → ⊥
+untold-quiet graph files user path is hushed maker made told =
+    let way : Waits graph.manifest.builds user maker = hushed.waits maker made in
+    elim told [
       | tells_itself own ↦ ranked-acyclic graph.manifest.builds graph.ranks is.ranked user (subst (λ m. Waits graph.manifest.builds user m) own way)
       | tells_another apart ↦ apart.unordered way
     ]
 
+-- so the first place of a path that is not quiet is told alone
+pub firsts-untold : (graph : GraphValue) (files paths : List (List ℕ)) (user : ℕ) (places : List ℕ) → IsGraph graph
+    → All (IsFirstOrQuiet graph.manifest.builds user paths) places → All (IsFirstOrUntold graph.manifest.builds files user paths) places
+firsts-untold graph files paths user places is firsts = λ k d inside before maker less same made told.
+    untold-quiet graph files user (get_or paths (get_or places k d) []) is (firsts k d inside before less same) maker made told
+
 -- nothing is told at places that are not among these
 pub rest-untold : (graph : GraphValue) (files paths : List (List ℕ)) (user : ℕ) (places : List ℕ) → IsGraph graph
-    → ((place : ℕ) → place < length paths → Contains places place ⊎ IsQuiet graph.manifest.builds user (get_or paths place []))
+    → ((place : ℕ) → place < length paths → IsCovered graph.manifest.builds user paths places place)
     → (place : ℕ) → place < length paths → Contains places place ⊎ ((k : List ℕ) → IsKeyAt graph.manifest.builds files paths user place k → ⊥)
 rest-untold graph files paths user places is rest place below = elim (rest place below) [
-  | inl among ↦ inl among
-  | inr quiet ↦ inr (nothing-told graph files paths user place is quiet)
+  | among c ↦ inl c
+  | quiet q ↦ inr (λ k at. untold-quiet graph files user (get_or paths place []) is q at.maker at.made at.key.told)
+  | repeated r ↦ inr (λ k at. r at.key.first)
 ]
 
 -- where there is no such place, nothing is told
 pub none-among : (graph : GraphValue) (files paths : List (List ℕ)) (user : ℕ) (places : List ℕ) → IsGraph graph → length places ≡ 0
-    → ((place : ℕ) → place < length paths → Contains places place ⊎ IsQuiet graph.manifest.builds user (get_or paths place []))
+    → ((place : ℕ) → place < length paths → IsCovered graph.manifest.builds user paths places place)
     → (k : List ℕ) → IsKeyAmong graph.manifest.builds files paths user k → ⊥
-none-among graph files paths user places is empty rest k among = elim (rest-untold graph files paths user places is rest among.number among.below) [
+none-among graph files paths user places is empty rest k told = elim (rest-untold graph files paths user places is rest told.number told.below) [
   | inl c ↦ let within = c.1 in omega (arith, within, empty)
-  | inr none ↦ none k among.holds
+  | inr none ↦ none k told.holds
 ]
 
 -- what is told at the places, and nowhere else, is all that is told

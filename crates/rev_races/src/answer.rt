@@ -7,14 +7,14 @@ ghost use Rattle.rev_waits.specs.Waits.{AreWaitedFor, phony_lists};
 ghost use Rattle.rev_races.specs.Answer.{AreRaces};
 ghost use Rattle.rev_races.specs.Keys.{AreTold, IsKeyAmong, IsKeyAt, IsKeyOf};
 ghost use Rattle.rev_races.specs.Kinds.{IsBetween};
-ghost use Rattle.rev_races.specs.Searches.{AreDirect, AreFirstPlaces, AreKeptMakers, IsKept};
+ghost use Rattle.rev_races.specs.Searches.{AreDirect, AreKeptMakers, IsFirstOrUntold, IsKept};
 
 use crate::direct::{mark_direct, suspects};
 use crate::found::Found;
 use crate::kinds::with_kinds;
 use crate::listing::listed;
 use crate::making::{KeptMakers, makers_of, no_makers};
-use crate::order::{first_places, is_to_tell};
+use crate::order::is_to_tell;
 use crate::race::Race;
 use crate::search::{Search, grouped, no_search, search_for};
 use crate::told::Told;
@@ -33,12 +33,11 @@ fn add_at(
     waited: &[bool],
     user: u32,
     paths: &[Name],
-    firsts: &[bool],
     place: usize,
     behind: &mut KeptMakers,
     found: &mut Found,
 ) -> Result<(), AllocError>
-    requires firsts { AreFirstPlaces paths.now firsts.now }
+    requires first { IsFirstOrUntold graph.now.manifest.builds files.now user paths.now place }
     requires phony { graph_of phony.now ≡ phony_lists graph.now.manifest.builds }
     requires waited { AreWaitedFor graph.now.manifest.builds user waited.now }
     requires place { place < length paths.now }
@@ -47,9 +46,6 @@ fn add_at(
     ensures found { OnOk result ((k : List ℕ) → Contains found.new k
         ↔ (Contains found.old k ⊎ IsKeyAt graph.now.manifest.builds files.now paths.now user place k)) }
 {
-    if !firsts[place] {
-        return Ok(());
-    }
     let makers = makers_of(alloc, graph, phony, &paths[place], behind)?;
     for maker in &makers {
         if is_to_tell(graph, files, waited, user, *maker) {
@@ -68,12 +64,11 @@ fn add_among(
     waited: &[bool],
     user: u32,
     paths: &[Name],
-    firsts: &[bool],
     places: &[usize],
     behind: &mut KeptMakers,
     found: &mut Found,
 ) -> Result<(), AllocError>
-    requires firsts { AreFirstPlaces paths.now firsts.now }
+    requires firsts { All (IsFirstOrUntold graph.now.manifest.builds files.now user paths.now) places.now }
     requires phony { graph_of phony.now ≡ phony_lists graph.now.manifest.builds }
     requires waited { AreWaitedFor graph.now.manifest.builds user waited.now }
     requires within { All (λ place. place < length paths.now) places.now }
@@ -86,7 +81,7 @@ fn add_among(
 {
     for place in places {
         add_at(
-            alloc, graph, phony, files, waited, user, paths, firsts, *place, behind, found,
+            alloc, graph, phony, files, waited, user, paths, *place, behind, found,
         )?;
     }
     Ok(())
@@ -128,7 +123,6 @@ fn add_of(
     if places.is_empty() {
         return Ok(());
     }
-    let firsts = first_places(alloc, paths)?;
     search_for(alloc, graph, steps, user, search)?;
     add_among(
         alloc,
@@ -138,7 +132,6 @@ fn add_of(
         &search.waited,
         user,
         paths,
-        &firsts,
         &places,
         behind,
         found,

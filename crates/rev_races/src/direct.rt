@@ -1,11 +1,14 @@
 //! Lists with nothing to tell, found by a look at each path.
-ghost use Rattle.std.specs.Prelude.{◌≡◌, ◌<◌, ◌⊎◌, ℕ, [], None, Some, false, length, slice_index_or, Contains, IfOk, IsTrue};
+ghost use Rattle.std.specs.Prelude.{◌≡◌, ◌<◌, ◌⊎◌, ℕ, List, None, Some, false, true, bytes_eq, length, slice_index_or, IfOk, OnOk, IsTrue};
 ghost use Rattle.std.specs.List.{All};
+ghost use Rattle.indexmap.specs.IndexSet.{contains};
 ghost use Rattle.rev_graph.specs.Graph.{successor_lists};
 ghost use Rattle.rev_ranks.specs.Graph.{graph_of};
-ghost use Rattle.rev_races.specs.Searches.{AreDirect, IsQuiet};
+ghost use Rattle.rev_races.specs.Searches.{AreDirect, IsCovered, IsFirstOrQuiet, IsQuiet};
 
+use crate::order::is_new;
 use crate::runs::at;
+use indexmap::IndexSet;
 use rev_graph::Graph;
 use rev_paths::Name;
 use std::alloc::{AllocError, Global};
@@ -45,7 +48,32 @@ fn is_suspect(graph: &Graph, direct: &[Option<u32>], user: u32, path: &Name) -> 
     }
 }
 
-/// The places of a list whose paths may be told. `direct` has the marks of the user.
+// Whether a path may be told and was not seen, of which it is one then.
+fn is_new_suspect(
+    graph: &Graph,
+    direct: &[Option<u32>],
+    user: u32,
+    path: &Name,
+    seen: &mut IndexSet<Name>,
+) -> Result<bool, AllocError>
+    requires { AreDirect (successor_lists graph.now.manifest.builds) direct.now }
+    ensures new { IfOk result (λ new. new ≡ true → contains bytes_eq seen.old path.now ≡ false) }
+    ensures passed { IfOk result (λ new. new ≡ false
+        → (contains bytes_eq seen.old path.now ≡ true) ⊎ IsQuiet graph.now.manifest.builds user path.now) }
+    ensures noted { OnOk result ((contains bytes_eq seen.new path.now ≡ true)
+        ⊎ IsQuiet graph.now.manifest.builds user path.now) }
+    ensures kept { OnOk result ((other : List ℕ) → contains bytes_eq seen.old other ≡ true
+        → contains bytes_eq seen.new other ≡ true) }
+    ensures only { OnOk result ((other : List ℕ) → contains bytes_eq seen.new other ≡ true
+        → (other ≡ path.now) ⊎ (contains bytes_eq seen.old other ≡ true)) }
+{
+    if !is_suspect(graph, direct, user, path) {
+        return Ok(false);
+    }
+    is_new(seen, path)
+}
+
+/// The first places of the paths of a list that may be told. `direct` has the marks of the user.
 ///
 /// # Errors
 /// [`AllocError`] only where an allocation was refused.
@@ -58,12 +86,15 @@ pub(crate) fn suspects(
 ) -> Result<Vec<usize>, AllocError>
     requires { AreDirect (successor_lists graph.now.manifest.builds) direct.now }
     ensures within { IfOk result (λ places. All (λ place. place < length paths.now) places.items) }
-    ensures quiet { IfOk result (λ places. (place : ℕ) → place < length paths.now → Contains places.items place
-        ⊎ IsQuiet graph.now.manifest.builds user (slice_index_or paths.now place [])) }
+    ensures firsts { IfOk result (λ places. All (IsFirstOrQuiet graph.now.manifest.builds user paths.now) places.items) }
+    ensures rest { IfOk result (λ places. (place : ℕ) → place < length paths.now
+        → IsCovered graph.now.manifest.builds user paths.now places.items place) }
 {
+    let mut seen = IndexSet::new(alloc);
     let mut places = Vec::new(alloc);
     for (place, path) in paths.iter().enumerate() {
-        if is_suspect(graph, direct, user, path) {
+        let new = is_new_suspect(graph, direct, user, path, &mut seen)?;
+        if new {
             places.push(place)?;
         }
     }

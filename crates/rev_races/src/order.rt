@@ -4,12 +4,11 @@ ghost use Rattle.indexmap.specs.IndexSet.{contains};
 ghost use Rattle.rev_waits.specs.Waits.{AreWaitedFor};
 ghost use Rattle.rev_races.specs.Races.{MakesOneOf};
 ghost use Rattle.rev_races.specs.Answer.{IsToTell, IsUnordered};
-ghost use Rattle.rev_races.specs.Searches.{AreFirstPlaces};
 
 use indexmap::IndexSet;
 use rev_graph::Graph;
 use rev_paths::Name;
-use std::alloc::{AllocError, Global};
+use std::alloc::AllocError;
 
 /// Whether an edge makes one of some files.
 pub(crate) fn makes_one_of(graph: &Graph, files: &[Name], edge: u32) -> bool
@@ -60,28 +59,15 @@ pub(crate) fn is_to_tell(
     is_unordered(graph, files, waited, user, maker)
 }
 
-// Whether a path is new among those seen, of which it is one then.
-fn is_new(seen: &mut IndexSet<Name>, path: &Name) -> Result<bool, AllocError>
+/// Whether a path is new among those seen, of which it is one then.
+///
+/// # Errors
+/// [`AllocError`] only where an allocation was refused.
+pub(crate) fn is_new(seen: &mut IndexSet<Name>, path: &Name) -> Result<bool, AllocError>
     ensures new { IfOk result (λ new. new ≡ not (contains bytes_eq seen.old path.now)) }
     ensures seen { OnOk result ((other : List ℕ) → contains bytes_eq seen.new other
         ≡ (if bytes_eq path.now other then true else contains bytes_eq seen.old other)) }
 {
     let new = seen.insert(path.copy()?)?;
     Ok(new)
-}
-
-/// For each place of a list whether no place before it has the path that stands there, in time linear in the list, up to
-/// hashing.
-///
-/// # Errors
-/// [`AllocError`] only where an allocation was refused.
-pub(crate) fn first_places(alloc: Global, paths: &[Name]) -> Result<Vec<bool>, AllocError>
-    ensures { IfOk result (λ firsts. AreFirstPlaces paths.now firsts.items) }
-{
-    let mut seen = IndexSet::new(alloc);
-    let mut firsts = Vec::new(alloc);
-    for path in paths {
-        firsts.push(is_new(&mut seen, path)?)?;
-    }
-    Ok(firsts)
 }

@@ -1,7 +1,9 @@
 //! The report of a run: the text that is written for files, a trace and a script.
-ghost use Rattle.std.specs.Prelude.{◌≡◌, ◌<◌, ◌≤◌, ◌+◌, IfOk, IsSome, OnOk, drop, length};
+ghost use Rattle.std.specs.Prelude.{◌≡◌, ◌≢◌, ◌<◌, ◌≤◌, ◌+◌, [], ℕ, IfOk, IsSome, OnOk, Option, drop, length};
+ghost use Rattle.rev_commands.specs.declared.command.Command.{Command};
 ghost use Rattle.rev_report.specs.Report.{after_word, edges_report, kept_text, left_after, named_text, report, script_report, script_text, session_text, trace_report, why_edge, word_text};
 ghost use Rattle.rev_script.specs.Output.{Writes};
+ghost use Rattle.rev_script.specs.declared.script.Word.TheVariants as word_is;
 ghost use Rattle.rev_script.specs.declared.status.Status.TheVariants as status_is;
 ghost use Rattle.rev_script.specs.SeenTurns.{seen_turns};
 ghost use Rattle.rev_script.specs.Turns.{AreOf, turns};
@@ -130,6 +132,30 @@ fn write_order<W: Write>(
     send(writer, &text)
 }
 
+// Writes what a word asks for that is neither a command nor `run`. Which lane says it, and which turns are left, does
+// not count.
+fn write_asked<W: Write>(
+    alloc: Global,
+    desk: &Desk,
+    word: &Word,
+    writer: &mut W,
+) -> Result<(), RunFault>
+    requires no_command { (command : Command) → word.now ≢ word_is.Command command }
+    requires no_run { (most : Option ℕ) → word.now ≢ word_is.Run most }
+    ensures { Writes result (W.contents writer.old) (W.contents writer.new) (word_text 0 desk.now [] word.now) }
+{
+    match word {
+        Word::Kept => write_kept(alloc, desk.history(), writer),
+        Word::Marks => write_marks(alloc, desk.history(), writer),
+        Word::Stamps => write_stamps(alloc, desk.history(), writer),
+        Word::Logs => write_logs(alloc, desk.history(), writer),
+        Word::Why(out) => write_why(alloc, desk.history(), out, writer),
+        Word::Dependents(which) => write_dependents(alloc, desk, *which, writer),
+        Word::Order(numbers) => write_order(alloc, desk.history(), numbers.as_slice(), writer),
+        Word::Command(_) | Word::Run(_) => unreachable!(),
+    }
+}
+
 // Does a word of the script, where so many turns were taken before, and says how many are taken then.
 fn run_word<W: Write>(
     alloc: Global,
@@ -159,32 +185,8 @@ fn run_word<W: Write>(
             Ok(before)
         }
         Word::Run(most) => run_taken(alloc, desk, turns, before, *most, writer),
-        Word::Kept => {
-            write_kept(alloc, desk.history(), writer)?;
-            Ok(before)
-        }
-        Word::Marks => {
-            write_marks(alloc, desk.history(), writer)?;
-            Ok(before)
-        }
-        Word::Stamps => {
-            write_stamps(alloc, desk.history(), writer)?;
-            Ok(before)
-        }
-        Word::Logs => {
-            write_logs(alloc, desk.history(), writer)?;
-            Ok(before)
-        }
-        Word::Why(out) => {
-            write_why(alloc, desk.history(), out, writer)?;
-            Ok(before)
-        }
-        Word::Dependents(which) => {
-            write_dependents(alloc, desk, *which, writer)?;
-            Ok(before)
-        }
-        Word::Order(numbers) => {
-            write_order(alloc, desk.history(), numbers.as_slice(), writer)?;
+        _ => {
+            write_asked(alloc, desk, word, writer)?;
             Ok(before)
         }
     }

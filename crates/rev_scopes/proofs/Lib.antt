@@ -5,3 +5,4 @@ pub mod LawLemmas
 pub mod RuleLemmas
 pub mod ScopeLemmas
 pub mod SlotLemmas
+pub mod GivenLemmas

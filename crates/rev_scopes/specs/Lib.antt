@@ -2,6 +2,7 @@ pub mod Bindings
 pub mod Edges
 pub mod Expansion
 pub mod Fault
+pub mod Given
 pub mod Laws
 pub mod RuleNames
 pub mod Scopes

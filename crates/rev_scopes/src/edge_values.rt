@@ -1,11 +1,12 @@
 //! Expansion at the end, edge by edge.
-ghost use Rattle.std.specs.Prelude.{◌≡◌, ◌≢◌, ◌≤◌, [], List, ℕ, IsTrue, codes, length, IfOk, OnOk, IsErrOf, IfSome, IfNone, not, false, ◌↔◌, None, Some, option_map};
+ghost use Rattle.std.specs.Prelude.{◌≡◌, ◌≢◌, ◌≤◌, [], List, ℕ, IsTrue, codes, length, IfOk, OnOk, IsErrOf, MatchResult, IfSome, IfNone, not, false, ◌↔◌, None, Some, option_map};
 ghost use Rattle.rev_paths.specs.Quoting.{quote};
 ghost use Rattle.rev_syntax.specs.Pieces.{seen_piece};
 ghost use Rattle.rev_scopes.specs.Expansion.{limited, appended};
 ghost use Rattle.rev_scopes.specs.declared.rule_variable.RuleVariable.{RuleVariable};
 ghost use Rattle.rev_scopes.specs.RuleNames.{name_of, is_needed};
 ghost use Rattle.rev_scopes.specs.Edges.{joined, paths_named, seen_edge, HasValue, AllHaveValues, SomeNeedsItself, SomeIsTooLarge, IsResponseFile, response_given, given_for, compared};
+ghost use Rattle.rev_scopes.specs.Given.{AreGiven, IsGiven, IsOfSize};
 ghost use Rattle.rev_scopes.specs.Slots.{seen_slots, AreOf, IsFound, IsAdded, IsTried, IsRight, IsWaiting, Waits, IsKnowable, AreStuck, IsSettledFor, NoneWaits, SomeWaits};
 ghost use Rattle.rev_scopes.specs.declared.growth.TheConstants.{MAX_VALUE_BYTES};
 
@@ -301,11 +302,9 @@ fn known_value(
     requires slots { AreOf (seen_edge edge.now) (seen_slots slots.now) }
     requires known { NoneWaits (seen_edge edge.now) (seen_slots slots.now) }
     requires needed { IsTrue (is_needed variable) }
-    ensures value { IfOk result (λ value. HasValue (seen_edge edge.now) (name_of variable) value.items) }
-    ensures within { IfOk result (λ value. length value.items ≤ MAX_VALUE_BYTES) }
-    ensures too_large { IsErrOf result ValueFault.TooLarge → SomeIsTooLarge (seen_edge edge.now) }
-    ensures all { IsErrOf result ValueFault.TooLarge → AllHaveValues (seen_edge edge.now) }
-    ensures finite { result ≢ Err ValueFault.NeedsItself }
+    ensures { MatchResult result
+        (λ value. IsGiven (seen_edge edge.now) (name_of variable) value.items)
+        (IsOfSize (seen_edge edge.now)) }
 {
     let mut value = Growth::new(alloc);
     let _is_known = push_piece(
@@ -319,6 +318,35 @@ fn known_value(
         Some(bytes) => Ok(bytes),
         None => Err(ValueFault::TooLarge),
     }
+}
+
+// The values of all variables that do not wait, without a response file.
+fn known_values(
+    alloc: Global,
+    edge: &EdgeEnv<'_>,
+    slots: &[Slot<'_>],
+) -> Result<EdgeVariables, ValueFault>
+    requires slots { AreOf (seen_edge edge.now) (seen_slots slots.now) }
+    requires known { NoneWaits (seen_edge edge.now) (seen_slots slots.now) }
+    ensures { MatchResult result (AreGiven (seen_edge edge.now)) (IsOfSize (seen_edge edge.now)) }
+{
+    let command = known_value(alloc, edge, slots, RuleVariable::Command)?;
+    let depfile = known_value(alloc, edge, slots, RuleVariable::Depfile)?;
+    let deps = known_value(alloc, edge, slots, RuleVariable::Deps)?;
+    let generator = known_value(alloc, edge, slots, RuleVariable::Generator)?;
+    let restat = known_value(alloc, edge, slots, RuleVariable::Restat)?;
+    let rspfile_content = known_value(alloc, edge, slots, RuleVariable::RspfileContent)?;
+    let pool = known_value(alloc, edge, slots, RuleVariable::Pool)?;
+    Ok(EdgeVariables {
+        command,
+        depfile,
+        deps,
+        generator,
+        restat,
+        rspfile: None,
+        rspfile_content,
+        pool,
+    })
 }
 
 // The path of an edge's response file, once no more can be found out of it; none where it is too large.
@@ -386,24 +414,9 @@ pub fn edge_variables(alloc: Global, edge: &EdgeEnv<'_>) -> Result<EdgeVariables
     ensures too_large { IsErrOf result ValueFault.TooLarge → SomeIsTooLarge (seen_edge edge.now) }
 {
     let slots = settled_slots(alloc, edge)?;
-    let command = known_value(alloc, edge, &slots, RuleVariable::Command)?;
-    let depfile = known_value(alloc, edge, &slots, RuleVariable::Depfile)?;
-    let deps = known_value(alloc, edge, &slots, RuleVariable::Deps)?;
-    let generator = known_value(alloc, edge, &slots, RuleVariable::Generator)?;
-    let restat = known_value(alloc, edge, &slots, RuleVariable::Restat)?;
-    let rspfile_content = known_value(alloc, edge, &slots, RuleVariable::RspfileContent)?;
-    let pool = known_value(alloc, edge, &slots, RuleVariable::Pool)?;
-    let rspfile = response_file(alloc, edge, slots)?;
-    Ok(EdgeVariables {
-        command,
-        depfile,
-        deps,
-        generator,
-        restat,
-        rspfile,
-        rspfile_content,
-        pool,
-    })
+    let mut values = known_values(alloc, edge, &slots)?;
+    values.rspfile = response_file(alloc, edge, slots)?;
+    Ok(values)
 }
 
 /// The command that is compared with the recorded one: the command and, where the content of its response file is not

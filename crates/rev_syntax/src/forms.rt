@@ -14,7 +14,7 @@ use crate::text::Text;
 use std::alloc::Global;
 
 /// What the first line of a statement says.
-#[derive(Debug, Drop)]
+#[derive(Drop)]
 pub(crate) enum Header<'a> {
     /// `rule NAME`.
     Rule(&'a [u8]),
@@ -33,7 +33,7 @@ pub(crate) enum Header<'a> {
 }
 
 /// The inputs of a build line.
-#[derive(Debug, Drop)]
+#[derive(Drop)]
 pub(crate) struct Inputs<'a> {
     ins: Vec<Text<'a>>,
     implicit: Vec<Text<'a>>,

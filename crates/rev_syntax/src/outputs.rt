@@ -4,7 +4,7 @@ ghost use Rattle.std.specs.Prelude.{◌<◌, ◌+◌, length};
 use crate::text::Text;
 
 /// The outputs of a build line, which has at least one.
-#[derive(Debug, Drop)]
+#[derive(Drop)]
 pub(crate) struct Outputs<'a> {
     /// Those before `|`.
     pub(crate) outs: Vec<Text<'a>>,

@@ -10,3 +10,4 @@ pub mod LineLemmas
 pub mod SaysLemmas
 pub mod MigrateLemmas
 pub mod MentionedLemmas
+pub mod VerbLemmas

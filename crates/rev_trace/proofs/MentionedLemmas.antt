@@ -1,8 +1,8 @@
 -- A list that mentions one more path.
-use Rattle.std.proofs.Common.{◌≡◌, ◌==◌, ◌||◌, ℕ, Bool, true, false, cond, List, [], ◌∷◌, ◌++◌, Some, None, refl, sym, ap, ◌∙◌, eq-eqb, true≢false, bytes_eq}
+use Rattle.std.proofs.Common.{◌≡◌, ◌==◌, ◌||◌, ℕ, zero, suc, slice_get, Bool, true, false, cond, List, [], ◌∷◌, ◌++◌, Some, None, refl, sym, ap, ◌∙◌, eq-eqb, true≢false, bytes_eq}
 use Rattle.std.specs.Cmp.Lexicographic.{nat_list_eq_equiv}
 use Rattle.std.specs.List.{list_any, IsDistinct}
-use Rattle.std.specs.Map.{lookup}
+use Rattle.std.specs.Map.{keys_of, lookup}
 use Rattle.std.proofs.lemmas.List.Folds.{list_any-append}
 use Rattle.std.proofs.lemmas.Map.Keys.{IsDistinct-push}
 use Rattle.std.proofs.lemmas.Slice.Eq.{bytes_eq-Decides}
@@ -62,3 +62,9 @@ module _ (old new : LastLists) (list : ℕ) (path : List ℕ) (now : lookup (byt
     others = others;
     first = λ e had. let no : None ≡ Some list = sym was ∙ had in cc;
   }
+
+-- the name at a place
+pub name-at : (lists : LastLists) (place : ℕ) (name : List ℕ) (last : ℕ) → slice_get lists place ≡ Some (name, last) → slice_get (keys_of lists) place ≡ Some name
+name-at [] place name last h = absurd (let no : None ≡ Some (name, last) = h in cc)
+name-at (e ∷ es) zero name last h = let same : Some e ≡ Some (name, last) = h in let pair : e ≡ (name, last) = cc in ap (λ (x : List ℕ × ℕ). Some x.0) pair
+name-at (e ∷ es) (suc place) name last h = name-at es place name last h

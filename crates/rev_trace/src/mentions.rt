@@ -1,5 +1,5 @@
 //! Listed paths, each kept once.
-ghost use Rattle.std.specs.Prelude.{◌≡◌, ◌∷◌, [], ◌||◌, ◌<◌, false, slice_get, IfOk, bytes_eq};
+ghost use Rattle.std.specs.Prelude.{◌≡◌, ◌∷◌, [], ◌||◌, ◌<◌, false, slice_get, Some, IfOk, IfSome, bytes_eq};
 ghost use Rattle.std.specs.List.{IsDistinct};
 ghost use Rattle.std.specs.Cmp.Lexicographic.{nat_list_eq_equiv};
 ghost use Rattle.std.specs.Cmp.Rules.{comparing, hashing};
@@ -15,7 +15,7 @@ use indexmap::{Equivalent, IndexMap};
 use rev_cells::Names;
 use rev_events::ListedPaths;
 use rev_fields::{LineFault, path};
-use rev_paths::Name;
+use rev_paths::{Name, same_bytes};
 use std::alloc::{AllocError, Global};
 use std::borrow::CowSlice;
 use std::hash::{Hash, Hasher};
@@ -45,7 +45,59 @@ impl Equivalent<Name> for Mention<'_> {
     ghost respects_eq = { λ m. nat_list_eq_equiv.congr m.text.now };
 
     fn equivalent(&self, name: &Name) -> bool {
-        self.text == name.as_bytes()
+        same_bytes(self.text, name.as_bytes())
+    }
+}
+
+// Which path was mentioned right after each, the last time. Lists mostly repeat what stands in those before them, so the
+// next mention is guessed by it, and looked up only where the guess is wrong.
+struct Followers {
+    // The place of the follower of the path at each place.
+    after: Vec<usize>,
+    // The place of the path that was mentioned last.
+    last: usize,
+}
+
+impl Drop for Followers {
+    fn drop(self) {
+        let Followers {
+            after: _after,
+            last: _last,
+        } = self;
+    }
+}
+
+impl Followers {
+    // No paths.
+    fn new(alloc: Global) -> Followers {
+        Followers {
+            after: Vec::new(alloc),
+            last: 0,
+        }
+    }
+
+    // The place that is mentioned next, as far as it can be guessed.
+    fn guess(&self) -> Option<usize> {
+        match self.after.get(self.last) {
+            Some(place) => Some(*place),
+            None => None,
+        }
+    }
+
+    // Notes that the path at a place was mentioned.
+    fn note(&mut self, place: usize) {
+        if let Some(after) = self.after.get_mut(self.last) {
+            *after = place;
+        }
+        self.last = place;
+    }
+
+    // Notes a mention of a path that is one more.
+    fn grow(&mut self) -> Result<(), AllocError> {
+        let place = self.after.len();
+        self.after.push(0)?;
+        self.note(place);
+        Ok(())
     }
 }
 
@@ -55,6 +107,7 @@ impl Equivalent<Name> for Mention<'_> {
 pub(crate) struct Mentions {
     last_lists: IndexMap<Name, u32>,
     list: u32,
+    followers: Followers,
 }
 
 impl Drop for Mentions {
@@ -62,6 +115,7 @@ impl Drop for Mentions {
         let Mentions {
             last_lists: _last_lists,
             list: _list,
+            followers: _followers,
         } = self;
     }
 }
@@ -88,6 +142,7 @@ impl Mentions {
         Mentions {
             last_lists: IndexMap::new(alloc),
             list: 0,
+            followers: Followers::new(alloc),
         }
     }
 
@@ -116,11 +171,30 @@ impl Mentions {
             self.old.list m.0 m.1) }
     {
         if let Some(place) = self.last_lists.get_index_of(&path) {
+            self.followers.note(place);
             return self.mention_at(place);
         }
         let own = path.copy()?;
+        self.followers.grow()?;
         self.last_lists.insert(path, self.list)?;
         Ok((own, false))
+    }
+
+    // The place of the path that has this text, where it follows again what it followed the last time.
+    fn guessed(&self, text: &[u8]) -> Option<usize>
+        ensures within { IfSome result (λ place. place < index_map_len self.now.last_lists) }
+        ensures text { IfSome result (λ place. slice_get (keys self.now.last_lists) place ≡ Some text.now) }
+    {
+        let Some(place) = self.followers.guess() else {
+            return None;
+        };
+        let Some((name, _)) = self.last_lists.get_index(place) else {
+            return None;
+        };
+        if same_bytes(text, name.as_bytes()) {
+            return Some(place);
+        }
+        None
     }
 
     // The path that a text names, mentioned by the list, and whether the list mentioned it before.
@@ -130,7 +204,12 @@ impl Mentions {
         ensures mentioned { IfOk result (λ m. IsMentioned self.old.last_lists.entries self.new.last_lists.entries
             self.old.list m.0 m.1) }
     {
+        if let Some(place) = self.guessed(text) {
+            self.followers.note(place);
+            return Ok(self.mention_at(place)?);
+        }
         if let Some(place) = self.last_lists.get_index_of(Mention { text }) {
+            self.followers.note(place);
             return Ok(self.mention_at(place)?);
         }
         let path = path(alloc, text)?;

@@ -41,6 +41,27 @@ pub(crate) enum Verb {
     Continue,
 }
 
+// All verbs.
+const VERBS: [Verb; 17] = [
+    Verb::Plan,
+    Verb::Start,
+    Verb::Finish,
+    Verb::Fail,
+    Verb::Abort,
+    Verb::Clean,
+    Verb::Pass,
+    Verb::Touch,
+    Verb::Interrupt,
+    Verb::Resize,
+    Verb::Undo,
+    Verb::Redo,
+    Verb::Cone,
+    Verb::Back,
+    Verb::Break,
+    Verb::Unbreak,
+    Verb::Continue,
+];
+
 impl Verb {
     /// The word.
     pub(crate) fn word(self) -> &'static [u8]
@@ -71,56 +92,10 @@ impl Verb {
     pub(crate) fn of_word(word: &[u8]) -> Option<Verb>
         ensures { result ≡ verb_of word.now }
     {
-        if word == b"plan".as_slice() {
-            return Some(Verb::Plan);
-        }
-        if word == b"start".as_slice() {
-            return Some(Verb::Start);
-        }
-        if word == b"finish".as_slice() {
-            return Some(Verb::Finish);
-        }
-        if word == b"fail".as_slice() {
-            return Some(Verb::Fail);
-        }
-        if word == b"abort".as_slice() {
-            return Some(Verb::Abort);
-        }
-        if word == b"clean".as_slice() {
-            return Some(Verb::Clean);
-        }
-        if word == b"pass".as_slice() {
-            return Some(Verb::Pass);
-        }
-        if word == b"touch".as_slice() {
-            return Some(Verb::Touch);
-        }
-        if word == b"interrupt".as_slice() {
-            return Some(Verb::Interrupt);
-        }
-        if word == b"resize".as_slice() {
-            return Some(Verb::Resize);
-        }
-        if word == b"undo".as_slice() {
-            return Some(Verb::Undo);
-        }
-        if word == b"redo".as_slice() {
-            return Some(Verb::Redo);
-        }
-        if word == b"cone".as_slice() {
-            return Some(Verb::Cone);
-        }
-        if word == b"back".as_slice() {
-            return Some(Verb::Back);
-        }
-        if word == b"break".as_slice() {
-            return Some(Verb::Break);
-        }
-        if word == b"unbreak".as_slice() {
-            return Some(Verb::Unbreak);
-        }
-        if word == b"continue".as_slice() {
-            return Some(Verb::Continue);
+        for verb in &VERBS {
+            if word == verb.word() {
+                return Some(*verb);
+            }
         }
         None
     }

@@ -2,7 +2,7 @@ use Rattle.std.proofs.Common.{◌≡◌, ℕ, ◌-◌, ◌&&◌, ◌||◌, Bool,
 use Rattle.std.specs.Prelude.{OnOk, nat_lt}
 use Rattle.rev_causal.specs.Chosen.{IsRising, is_among}
 use Rattle.rev_accesses.specs.Following.{is_below, is_between}
-use Rattle.rev_accesses.proofs.IndexLemmas.{take_whole}
+use Rattle.rev_accesses.proofs.PlaceLemmas.{take_whole}
 use Rattle.rev_numbers.proofs.RisingLemmas.{among_drop, rising_drop}
 use Rattle.rev_accesses.proofs.between.add_between.Goals as goal
 

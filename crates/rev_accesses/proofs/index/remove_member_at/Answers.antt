@@ -1,32 +1,29 @@
-use Rattle.std.proofs.Common.{refl}
-use Rattle.indexmap.proofs.CallerLemmas.{keys-with_value_at}
+use Rattle.std.proofs.Common.{◌<◌, ◌≤◌, length, refl, arith}
 use Rattle.rev_accesses.specs.Users.{listed, other}
-use Rattle.rev_accesses.proofs.PlacedLemmas.{IsPlaced, gone_there, is_placed, left_there, no_cell, none_gone, thinned_there}
+use Rattle.rev_accesses.proofs.PlaceLemmas.{gone_there, left_there, none_gone, thinned_there}
 use Rattle.rev_accesses.proofs.ThinnedLemmas.{thinned_same}
 use Rattle.rev_accesses.proofs.index.remove_member_at.Goals as goal
 
-placed : (c : goal.After-index-in-Some-1) → IsPlaced c.args.index.now.entries c.args.place c.in-Some.users.now
-placed c = is_placed c.args.index.now c.args.place c.in-Some.users.now c.in-Some.ensures.unique c.in-Some.ensures.value
+pub returns-then-place-len-clause-thinned : goal.returns-then-place-len-clause-thinned
+returns-then-place-len-clause-thinned c =
+    let lt : c.args.place < length c.args.index.now.items = omega (arith, c.if-place-len.true, c.len.ensures, c.args.index.now.ok.0) in
+    thinned_there c.args.access c.args.index.now.items c.args.place c.index_mut.result.now c.remove_members.new.self lt c.index_mut.ensures.value c.args.members.now c.remove_members.ensures.thinned
 
-pub returns-in-Some-clause-thinned : goal.returns-in-Some-clause-thinned
-returns-in-Some-clause-thinned c =
-    thinned_there c.args.access c.args.index.now.entries c.args.place c.in-Some.users.now c.remove_members.new.self (placed c) c.args.members.now c.remove_members.ensures.thinned
+pub returns-then-place-len-clause-gone : goal.returns-then-place-len-clause-gone
+returns-then-place-len-clause-gone c =
+    let lt : c.args.place < length c.args.index.now.items = omega (arith, c.if-place-len.true, c.len.ensures, c.args.index.now.ok.0) in
+    gone_there c.args.access c.args.index.now.items c.args.place c.index_mut.result.now c.remove_members.new.self lt c.index_mut.ensures.value c.args.number c.remove_members.ensures.gone
 
-pub returns-in-Some-clause-gone : goal.returns-in-Some-clause-gone
-returns-in-Some-clause-gone c =
-    gone_there c.args.access c.args.index.now.entries c.args.place c.in-Some.users.now c.remove_members.new.self (placed c) c.args.number c.remove_members.ensures.gone
+pub returns-then-place-len-clause-rest : goal.returns-then-place-len-clause-rest
+returns-then-place-len-clause-rest c =
+    let lt : c.args.place < length c.args.index.now.items = omega (arith, c.if-place-len.true, c.len.ensures, c.args.index.now.ok.0) in
+    left_there (other c.args.access) c.args.index.now.items c.args.place c.index_mut.result.now c.remove_members.new.self lt c.index_mut.ensures.value (λ ks. ks) c.remove_members.ensures.rest
 
-pub returns-in-Some-clause-rest : goal.returns-in-Some-clause-rest
-returns-in-Some-clause-rest c =
-    left_there (other c.args.access) c.args.index.now.entries c.args.place c.in-Some.users.now c.remove_members.new.self (placed c) (λ ks. ks) c.remove_members.ensures.rest
+pub returns-else-place-len-clause-thinned : goal.returns-else-place-len-clause-thinned
+returns-else-place-len-clause-thinned c =
+    thinned_same c.args.members.now (listed c.args.access c.args.index.now.items) (listed c.args.access c.args.index.now.items) (λ q. refl)
 
-pub returns-in-Some-clause-cells : goal.returns-in-Some-clause-cells
-returns-in-Some-clause-cells c = keys-with_value_at c.args.index.now c.args.place c.remove_members.new.self
-
-pub returns-in_default-clause-thinned : goal.returns-in_default-clause-thinned
-returns-in_default-clause-thinned c =
-    thinned_same c.args.members.now (listed c.args.access c.args.index.now.entries) (listed c.args.access c.args.index.now.entries) (λ q. refl)
-
-pub returns-in_default-clause-gone : goal.returns-in_default-clause-gone
-returns-in_default-clause-gone c =
-    none_gone c.args.access c.args.index.now.entries c.args.place (no_cell c.args.index.now.entries c.args.place c.in_default.ensures.value) c.args.number
+pub returns-else-place-len-clause-gone : goal.returns-else-place-len-clause-gone
+returns-else-place-len-clause-gone c =
+    let le : length c.args.index.now.items ≤ c.args.place = omega (arith, c.if-place-len.false, c.len.ensures, c.args.index.now.ok.0) in
+    none_gone c.args.access c.args.index.now.items c.args.place le c.args.number

@@ -1,46 +1,9 @@
-use Rattle.std.proofs.Common.{ℕ, List, Some, None}
-use Rattle.rev_accesses.specs.Value.{Prints}
-use Rattle.rev_causal.specs.Chosen.{chosen}
-use Rattle.rev_causal.specs.History as causal
-use Rattle.rev_causal.proofs.Chosen.{chosen-rises}
-use Rattle.rev_history.specs.Steps.{footprint_at, named, prints_of}
-use Rattle.rev_history.proofs.BesideKept.{prints_accepted}
-use Rattle.rev_history.proofs.Listed.{numbers_chosen}
-use Rattle.rev_history.proofs.NamedLemmas.{none_named, some_named}
-use Rattle.rev_history.proofs.OrderLemmas.{pair_none, pair_some, inverted_print}
+use Rattle.std.proofs.Common.{ap}
+use Rattle.rev_causal.specs.OrderCheck.{pair_answer}
 use Rattle.rev_history.proofs.order.first_pair.Goals as goal
 
-pub returns-in_default : goal.returns-in_default
-returns-in_default c =
-    let all : Prints = prints_of c.args.accepted.now.entries (named c.args.accesses.now c.args.steps.now) in
-    let kept : List ℕ = c.args.kept.now in
-    let rising : causal.IsRising (chosen all kept) = chosen-rises all kept c.requires.rising in
-    let numbers = numbers_chosen all kept (prints_accepted c.args.accepted.now.entries (named c.args.accesses.now c.args.steps.now) kept c.requires.beside) in
-    pair_none c.args.places.now c.args.accepted.now.entries (named c.args.accesses.now c.args.steps.now) kept (c.in_default.ensures (chosen all kept) rising numbers c.requires.shown)
-
-pub unreachable-requires : goal.unreachable-requires
-unreachable-requires c =
-    let all : Prints = prints_of c.args.accepted.now.entries (named c.args.accesses.now c.args.steps.now) in
-    let kept : List ℕ = c.args.kept.now in
-    let rising : causal.IsRising (chosen all kept) = chosen-rises all kept c.requires.rising in
-    let numbers = numbers_chosen all kept (prints_accepted c.args.accepted.now.entries (named c.args.accesses.now c.args.steps.now) kept c.requires.beside) in
-    inverted_print c.args.places.now c.args.accepted.now.entries (named c.args.accesses.now c.args.steps.now) kept c.requires.beside c.in-Some.first
-    (c.in-Some.ensures (chosen all kept) rising numbers c.requires.shown) (none_named c.args.accesses.now c.in-Some.first c.args.accepted.now.entries c.args.steps.now c.in_default-step_of.ensures)
-
-pub returns-in-Some-partner : goal.returns-in-Some-partner
-returns-in-Some-partner c =
-    let all : Prints = prints_of c.args.accepted.now.entries (named c.args.accesses.now c.args.steps.now) in
-    let kept : List ℕ = c.args.kept.now in
-    let rising : causal.IsRising (chosen all kept) = chosen-rises all kept c.requires.rising in
-    let numbers = numbers_chosen all kept (prints_accepted c.args.accepted.now.entries (named c.args.accesses.now c.args.steps.now) kept c.requires.beside) in
-    pair_some c.args.places.now c.args.accepted.now.entries (named c.args.accesses.now c.args.steps.now) kept c.in-Some.first (footprint_at c.args.accesses.now.cells c.in-Some-step_of.step.now) (Some c.in-Some-partner.second)
-    (c.in-Some.ensures (chosen all kept) rising numbers c.requires.shown) (some_named c.args.accesses.now c.in-Some.first c.args.accepted.now.entries c.args.steps.now c.in-Some-step_of.step.now c.in-Some-step_of.ensures) (c.in-Some-partner.ensures (chosen all kept) rising numbers c.requires.shown)
+pub returns-in-Some : goal.returns-in-Some
+returns-in-Some c = ap pair_answer c.in-Some.ensures
 
 pub returns-in-None : goal.returns-in-None
-returns-in-None c =
-    let all : Prints = prints_of c.args.accepted.now.entries (named c.args.accesses.now c.args.steps.now) in
-    let kept : List ℕ = c.args.kept.now in
-    let rising : causal.IsRising (chosen all kept) = chosen-rises all kept c.requires.rising in
-    let numbers = numbers_chosen all kept (prints_accepted c.args.accepted.now.entries (named c.args.accesses.now c.args.steps.now) kept c.requires.beside) in
-    pair_some c.args.places.now c.args.accepted.now.entries (named c.args.accesses.now c.args.steps.now) kept c.in-Some.first (footprint_at c.args.accesses.now.cells c.in-Some-step_of.step.now) None
-    (c.in-Some.ensures (chosen all kept) rising numbers c.requires.shown) (some_named c.args.accesses.now c.in-Some.first c.args.accepted.now.entries c.args.steps.now c.in-Some-step_of.step.now c.in-Some-step_of.ensures) (c.in-None.ensures (chosen all kept) rising numbers c.requires.shown)
+returns-in-None c = ap pair_answer c.in-None.ensures

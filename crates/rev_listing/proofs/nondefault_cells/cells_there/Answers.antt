@@ -1,4 +1,4 @@
-use Rattle.std.proofs.Common.{◌≡◌, ◌+◌, ℕ, List, take, IfOk, ap, subst, ◌∙◌, sym, arith}
+use Rattle.std.proofs.Common.{◌≡◌, ◌<◌, ◌+◌, List, length, take, IfOk, ap, subst, ◌∙◌, sym, arith}
 use Rattle.std.proofs.lemmas.Grind.{common_steps}
 use Rattle.rev_cells.specs.declared.cell.Cell.{Cell}
 use Rattle.rev_listing.proofs.CellLemmas.{AreThere, all_there, none_there, place_within, puts_cell, skips_default}
@@ -28,3 +28,13 @@ returns c =
     let collected : IfOk c.collect.result (λ there. there.items ≡ c.loop-place.there.entries) = grind (arith, common_steps) in
     let whole = all_there c.args.cells.now.state c.args.cells.now.places c.loop-place.place c.loop-place.there.entries c.in_default.ensures.place c.in_default.ensures.all c.loop-place.invariant in
     cells_from c.collect.result c.loop-place.there.entries c.args.cells.now.state collected whole
+
+pub loop-place-smaller : goal.loop-place-smaller
+loop-place-smaller c =
+    let within : c.loop-place.place < length c.args.cells.now.places = place_within c.args.cells.now.places c.loop-place.place c.in-Some.cell.now c.in-Some.ensures.place in
+    omega (arith, within)
+
+pub overflow_add-place : goal.overflow_add-place
+overflow_add-place c =
+    let within : c.loop-place.place < length c.args.cells.now.places = place_within c.args.cells.now.places c.loop-place.place c.in-Some.cell.now c.in-Some.ensures.place in
+    omega (arith, within, c.in-Some.ensures.few)

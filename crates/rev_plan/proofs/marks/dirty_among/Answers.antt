@@ -1,44 +1,14 @@
-use Rattle.std.proofs.Common.{◌≡◌, ℕ, ◌<◌, ◌&&◌, List, ◌++◌, ◌∷◌, [], length, ◌∙◌, ap, arith, sym}
-use Rattle.std.proofs.lemmas.List.{get_or-map}
-use Rattle.std.proofs.lemmas.List.FromFn.{map-range_with_len_more}
-use Rattle.rev_manifest.specs.Manifest.{BuildValue}
-use Rattle.rev_graph.specs.Graph.{build_at, no_build}
-use Rattle.rev_ranks.specs.Graph.{successors_of}
-use Rattle.rev_ranks.specs.Sets.{is_marked}
-use Rattle.rev_ranks.proofs.Ways.{successors_are}
-use Rattle.rev_dirty.specs.Inputs.{producers_in, paths_in, deps_record}
-use Rattle.rev_plan.specs.Steps.{listed_paths}
-use Rattle.rev_dirty.specs.ScanValue.{ScanValue}
-use Rattle.rev_plan.specs.Plan.{is_dirty}
-use Rattle.rev_plan.proofs.PlanLemmas.{dirty-are}
+use Rattle.std.proofs.Common.{subst, sym, ◌∙◌}
+use Rattle.rev_cells.specs.State.{State}
+use Rattle.rev_graph.specs.Graph.{GraphValue}
+use Rattle.rev_plan.specs.Plan.{edges_by}
+use Rattle.rev_plan.specs.Steps.{AreDirty, listed_paths}
 use Rattle.rev_plan.proofs.marks.dirty_among.Goals as goal
 
-pub is_dirty_where-requires-clause-listed : goal.is_dirty_where-requires-clause-listed
-is_dirty_where-requires-clause-listed c =
-    let edge = c.loop-edge.edge in
-    let builds = c.args.graph.now.manifest.builds in
-    let state = c.args.cells.now.state in
-    let within : edge < length c.args.listed.now = omega (arith, c.loop-edge-test.true, c.requires.each, c.requires.each_listed) in
-    let inside : edge < length builds = omega (arith, c.loop-edge-test.true, c.requires.each) in
-    c.deref.ensures.value ∙ sym (successors_are c.args.listed.now edge c.index-listed-edge.result within c.index-listed-edge.is)
-    ∙ ap (λ (lists : List (List ℕ)). successors_of lists edge) c.requires.listed.are
-    ∙ get_or-map (λ (build : BuildValue). producers_in builds (listed_paths state build)) builds edge no_build [] inside
-    ∙ sym (λ i. producers_in (c.loop-edge.invariant.graph i).manifest.builds (paths_in (deps_record (c.loop-edge.invariant.state i) (build_at (c.loop-edge.invariant.graph i).manifest.builds edge))))
-
-pub loop-edge-preserved : goal.loop-edge-preserved
-loop-edge-preserved c =
-    let edge = c.loop-edge.edge in
-    let is : c.in_ok-is_dirty_where.field-0 ≡ (is_marked c.args.marks.now edge && is_dirty c.args.graph.now.manifest.builds c.args.cells.now.state edge) =
-    c.in_ok-is_dirty_where.ensures.dirty ∙ (λ i. is_marked c.args.marks.now edge && is_dirty (c.loop-edge.invariant.graph i).manifest.builds (c.loop-edge.invariant.state i) edge) in
-    record {
-      graph = ap (λ (s : ScanValue). s.graph) c.in_ok-is_dirty_where.ensures.same ∙ c.loop-edge.invariant.graph;
-      state = ap (λ (s : ScanValue). s.state) c.in_ok-is_dirty_where.ensures.same ∙ c.loop-edge.invariant.state;
-      dirty =
-          c.in_ok-push.ensures.items ∙ (λ i. c.loop-edge.invariant.dirty i ++ is i ∷ [])
-          ∙ sym (map-range_with_len_more (λ edge. is_marked c.args.marks.now edge && is_dirty c.args.graph.now.manifest.builds c.args.cells.now.state edge) 0 edge edge (omega arith));
-    }
+pub push_dirty-requires-clause-listed : goal.push_dirty-requires-clause-listed
+push_dirty-requires-clause-listed c = record { are = c.requires.listed.are ∙ sym (λ i. edges_by (listed_paths (c.new-scan.ensures.state i)) (c.new-scan.ensures.graph i).manifest.builds) }
 
 pub returns : goal.returns
 returns c =
-    dirty-are c.args.graph.now.manifest.builds c.args.cells.now.state c.args.marks.now c.loop-edge.dirty.items c.loop-edge.edge c.requires.each (omega (arith, c.loop-edge-test.false, c.requires.each))
-    c.loop-edge.invariant.dirty
+    subst (λ (state : State). AreDirty c.args.graph.now.manifest.builds state c.args.marks.now c.push_dirty.new.dirty.items) c.new-scan.ensures.state
+    (subst (λ (graph : GraphValue). AreDirty graph.manifest.builds c.new-scan.result.state c.args.marks.now c.push_dirty.new.dirty.items) c.new-scan.ensures.graph c.in_ok-push_dirty.ensures)

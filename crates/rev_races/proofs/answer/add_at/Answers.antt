@@ -1,10 +1,9 @@
-use Rattle.std.proofs.Common.{◌≡◌, ℕ, ◌+◌, List, [], length, get_or, Contains, ◌⊎◌, inl, inr, true, false, sym, subst, ◌∙◌, arith, true≢false}
+use Rattle.std.proofs.Common.{◌≡◌, ℕ, ◌+◌, List, [], length, get_or, Contains, ◌⊎◌, true, false, sym, subst, ◌∙◌, arith, true≢false}
 use Rattle.std.specs.Prelude.{◌↔◌}
 use Rattle.std.proofs.lemmas.List.{get_or_default}
 use Rattle.std.proofs.lemmas.List.Elements.{Contains-get_or}
 use Rattle.rev_races.specs.Keys.{SomeBelow, IsKeyBy}
 use Rattle.rev_races.proofs.KeyLemmas.{some-more, some-skip, either-more, key-by, keys-at, makers-are}
-use Rattle.rev_races.proofs.AnswerLemmas.{mark-at}
 use Rattle.rev_races.proofs.RaceLemmas.{maker-command}
 use Rattle.rev_races.proofs.answer.add_at.Goals as goal
 use Rattle.rev_races.proofs.answer.add_at.Goals.{then-is_to_tell+in_ok-add, else-is_to_tell}
@@ -24,23 +23,20 @@ loop-maker-preserved c =
     let place = c.args.place in
     let items = c.deref-maker-items.result.now in
     let i = c.loop-maker.maker-index in
+    let told = c.is_to_tell.ensures.0 in
+    let made = (makers-are builds items c.in_ok-makers.makers.items c.index-paths-place.result (get_or paths place []) c.deref-maker-items.ensures.value
+    (c.index-paths-place.is ∙ get_or_default paths place c.index-paths-place.result [] c.requires.place) c.in_ok-makers.ensures.makers (get_or items i 0)).0 (Contains-get_or items i 0 c.loop-maker-test.true) in
     elim c.if-is_to_tell.branch [
       | then-is_to_tell+in_ok-add w ↦ λ k.
           subst (λ (fs : List (List ℕ)). Contains fs k ↔ (Contains c.args.found.now k ⊎ SomeBelow (λ j. IsKeyBy builds files paths user place (get_or items j 0) k) (i + 1))) (sym w.found-is)
           (some-more (λ j. IsKeyBy builds files paths user place (get_or items j 0) k) i (c.loop-maker.invariant k)
-          (either-more (w.in_ok-add.ensures k) (key-by builds files paths user place (get_or items i 0) k (c.is_to_tell.ensures.0 w.if-is_to_tell.true) ((c.requires.firsts.exact c.args.place c.requires.place).0 (mark-at c.args.firsts.now c.args.place _ true (omega (arith, c.requires.place, c.requires.firsts.each)) c.if-not-firsts-place.false)))))
+          (either-more (w.in_ok-add.ensures k) (key-by builds files paths user place (get_or items i 0) k (told w.if-is_to_tell.true)
+          (λ before less same. c.requires.first before (get_or items i 0) less same made (told w.if-is_to_tell.true)))))
       | else-is_to_tell w ↦ λ k.
           subst (λ (fs : List (List ℕ)). Contains fs k ↔ (Contains c.args.found.now k ⊎ SomeBelow (λ j. IsKeyBy builds files paths user place (get_or items j 0) k) (i + 1))) (sym w.found-is)
           (some-skip (λ j. IsKeyBy builds files paths user place (get_or items j 0) k) i (c.loop-maker.invariant k)
           (λ key. true≢false (sym (c.is_to_tell.ensures.1 key.told) ∙ w.if-is_to_tell.false)))
     ]
-
--- a place that is not the first gives nothing
-pub returns-then-not-firsts-place-clause-found : goal.returns-then-not-firsts-place-clause-found
-returns-then-not-firsts-place-clause-found c = λ k. (
-  λ h. inl h,
-  λ e. elim e [ inl h ↦ h | inr key ↦ absurd (true≢false (sym ((c.requires.firsts.exact c.args.place c.requires.place).1 key.key.first) ∙ mark-at c.args.firsts.now c.args.place _ false (omega (arith, c.requires.place, c.requires.firsts.each)) c.if-not-firsts-place.true)) ],
-)
 
 pub returns-clause-found : goal.returns-clause-found
 returns-clause-found c = λ k.

@@ -1,10 +1,7 @@
-use Rattle.std.proofs.Common.{ℕ, ◌<◌, length, get_or, [], Contains, ◌⊎◌}
-use Rattle.std.specs.Prelude.{All}
-use Rattle.rev_races.specs.Searches.{IsQuiet}
+use Rattle.std.proofs.Common.{bytes_eq}
+use Rattle.indexmap.specs.IndexSet.{contains}
+use Rattle.rev_races.proofs.FirstLemmas.{AreSifted}
 use Rattle.rev_races.proofs.direct.suspects.Given as goal
 
 abbrev pub invariant-loop-place : goal.invariant-loop-place
-invariant-loop-place l = record {
-  within : All (λ place. place < length l.paths) l.places.items;
-  rest : (k : ℕ) → k < l.place → Contains l.places.items k ⊎ IsQuiet l.graph.manifest.builds l.user (get_or l.paths k []);
-}
+invariant-loop-place l = AreSifted l.graph.manifest.builds l.user l.paths l.place (contains bytes_eq l.seen) l.places.items

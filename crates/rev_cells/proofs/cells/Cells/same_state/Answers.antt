@@ -1,4 +1,4 @@
-use Rattle.std.proofs.Common.{◌≡◌, true, sym, ◌∙◌, ap}
+use Rattle.std.proofs.Common.{sym, ◌∙◌, ap}
 use Rattle.rev_cells.specs.Table.{Table}
 use Rattle.rev_cells.proofs.AlikeLemmas.{state_told}
 use Rattle.rev_cells.proofs.cells.Cells.same_state.Goals as goal

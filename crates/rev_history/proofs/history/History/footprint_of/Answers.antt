@@ -13,16 +13,16 @@ returns-in_err-_place c =
 
 pub returns : goal.returns
 returns c =
-    some_named c.self.inside.accesses c.args.number c.self.inside.accepted.entries c.self.inside.steps.items c.in_ok-step.step.now (c.in_ok-step.ensures ∙ ap (λ (xs : List Placed). step_beside c.args.number c.self.inside.accepted.entries xs) c.deref.ensures.value)
+    some_named c.self.inside.cells.places c.args.number c.self.inside.accepted.entries c.self.inside.steps.items c.in_ok-step.step.now (c.in_ok-step.ensures ∙ ap (λ (xs : List Placed). step_beside c.args.number c.self.inside.accepted.entries xs) c.deref.ensures.value)
     ∙ print_found c.self.inside c.self.invariant.sound c.args.self.now.timeline (ap (λ (h : HistoryValue). h.timeline) c.self.view_is) c.args.number c.as_slice.result.now (beside_of c.self.inside) c.as_slice.ensures.same c.in_ok-_place.ensures.among refl
 
 pub returns-in_err-step : goal.returns-in_err-step
 returns-in_err-step c =
     c.from_residual-in_err-step.ensures
-    ∙ none_named c.self.inside.accesses c.args.number c.self.inside.accepted.entries c.self.inside.steps.items (c.in_err-step.ensures ∙ ap (λ (xs : List Placed). step_beside c.args.number c.self.inside.accepted.entries xs) c.deref.ensures.value)
+    ∙ none_named c.self.inside.cells.places c.args.number c.self.inside.accepted.entries c.self.inside.steps.items (c.in_err-step.ensures ∙ ap (λ (xs : List Placed). step_beside c.args.number c.self.inside.accepted.entries xs) c.deref.ensures.value)
     ∙ print_found c.self.inside c.self.invariant.sound c.args.self.now.timeline (ap (λ (h : HistoryValue). h.timeline) c.self.view_is) c.args.number c.as_slice.result.now (beside_of c.self.inside) c.as_slice.ensures.same c.in_ok-_place.ensures.among refl
 
 pub invariant_of-result : goal.invariant_of-result
 invariant_of-result c =
-    placed_beside c.self.inside.accesses.cells c.args.number c.self.inside.accepted.entries c.self.inside.steps.items c.in_ok-step.step.now c.self.invariant.placed
+    placed_beside c.self.inside.cells.places c.args.number c.self.inside.accepted.entries c.self.inside.steps.items c.in_ok-step.step.now c.self.invariant.placed
     (c.in_ok-step.ensures ∙ ap (λ (xs : List Placed). step_beside c.args.number c.self.inside.accepted.entries xs) c.deref.ensures.value)

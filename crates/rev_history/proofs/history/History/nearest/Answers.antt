@@ -6,13 +6,15 @@ use Rattle.rev_history.specs.Timeline.{IsHistory, kept_events, machine_at}
 use Rattle.rev_history.specs.Value.{HistoryValue}
 use Rattle.rev_history.specs.Sound.{kept_prints}
 use Rattle.rev_history.proofs.Fields.{history_of}
-use Rattle.rev_history.proofs.Listed.{prints_rise, prints_numbers, nearest_found}
+use Rattle.rev_history.proofs.Listed.{nearest_found}
+use Rattle.rev_history.proofs.NearestLemmas.{kept_are_named, kept_named, named_numbers, named_rise}
 use Rattle.rev_history.proofs.history.History.nearest.Goals as goal
 
 pub returns-clause-same : goal.returns-clause-same
 returns-clause-same c =
     nearest_found c.self.inside c.self.invariant.sound c.args.self.now.timeline (ap (λ (h : HistoryValue). h.timeline) c.self.view_is) c.args.number c.args.footprint.now c.nearest.result
-    (c.nearest.ensures (kept_prints c.self.inside) (prints_rise c.self.inside c.self.invariant.sound) (prints_numbers c.self.inside c.self.invariant.sound ∙ sym c.as_slice.ensures.same) c.self.invariant.shown)
+    (c.nearest.ensures (kept_prints c.self.inside) (kept_named c.self.inside) (named_rise c.self.inside c.self.invariant) (named_numbers c.self.inside c.self.invariant ∙ sym c.as_slice.ensures.same) c.self.invariant.shown
+    (kept_are_named c.self.inside c.self.invariant))
 
 pub returns-clause-least : goal.returns-clause-least
 returns-clause-least c = λ k found.

@@ -1,0 +1,15 @@
+use Rattle.std.proofs.Common.{sym, ◌∙◌}
+use Rattle.rev_causal.specs.AccessLists.{first_above, lesser}
+use Rattle.rev_history.proofs.PairedLemmas.{readers_none, readers_same, writers_none, writers_same}
+use Rattle.rev_history.proofs.access_updates.first_user.Goals as goal
+
+pub returns-in-Some : goal.returns-in-Some
+returns-in-Some c = λ prints named shown are.
+    c.first_user.ensures
+    ∙ (λ i. lesser (first_above c.args.number ((shown.writers c.in-Some.place ∙ sym (writers_same c.args.cells.now.places are.distinct c.in-Some.place c.args.cell.now prints named c.in-Some.ensures.some are.paired)) i))
+    (first_above c.args.number ((shown.readers c.in-Some.place ∙ sym (readers_same c.args.cells.now.places are.distinct c.in-Some.place c.args.cell.now prints named c.in-Some.ensures.some are.paired)) i)))
+
+pub returns-in-None : goal.returns-in-None
+returns-in-None c = λ prints named shown are.
+    sym (λ i. lesser (first_above c.args.number (writers_none c.args.cells.now.places are.distinct c.args.cell.now prints named c.in-None.ensures.none are.paired i))
+    (first_above c.args.number (readers_none c.args.cells.now.places are.distinct c.args.cell.now prints named c.in-None.ensures.none are.paired i)))
