@@ -17,7 +17,7 @@ from pathlib import Path
 ALL = """//! All libraries.
 #![tactic(auto)]
 
-/// This is no number.
+/// Not a number.
 pub fn number() -> u8 {
     true
 }
