@@ -1,5 +1,5 @@
 //! The forms of an answer that continuous integration reads.
-use rev_conflicts_text::{Certified, Finding, Kind, numbered_words};
+use rev_conflicts_text::{Certified, Finding, kind_word, numbered_words};
 use rev_formats::{Item, baseline, github, junit, sarif};
 use rev_races_text::{Clash, Edge, Report, SideFile, Sources, Told, race_words};
 use std::alloc::{AllocError, Global};
@@ -84,18 +84,6 @@ fn file_of<'a>(edge: Edge<'a>) -> &'a [u8] {
     }
 }
 
-// The word of the kind of a finding.
-fn finding_word(kind: Kind) -> &'static str {
-    match kind {
-        Kind::Race => "race",
-        Kind::Cycle => "cycle",
-        Kind::Clash => "clash",
-        Kind::Unstable => "unstable",
-        Kind::Undeclared | Kind::Anothers => "undeclared",
-        Kind::Unlisted => "unlisted",
-    }
-}
-
 /// Adds findings by an observation, which are numbered from 1.
 ///
 /// # Errors
@@ -112,7 +100,7 @@ pub fn push_findings<'a>(
         let place = finding.place(sources);
         items.push(Item {
             id: finding.id(sources),
-            kind: finding_word(finding.kind),
+            kind: kind_word(finding.kind),
             is_error: !finding.is_of_next_build(),
             path: finding.path.as_bytes(),
             maker: finding.maker_output(sources),

@@ -1,5 +1,5 @@
--- Marks of direct producers, places with nothing to tell, and what the last search found.
-use Rattle.std.proofs.Common.{◌≡◌, ◌≢◌, ℕ, zero, suc, ◌+◌, ◌<◌, ◌≤◌, nat_le, Bool, true, List, [], ◌∷◌, ◌++◌, length, get_or, set, take, Option, Some, None, ◌⊎◌, inl, inr, refl, sym, ap, subst, ◌∙◌, arith, Contains}
+-- Marks of direct producers, and places with nothing to tell.
+use Rattle.std.proofs.Common.{◌≡◌, ◌≢◌, ℕ, zero, suc, ◌+◌, ◌<◌, ◌≤◌, nat_le, true, List, [], ◌∷◌, ◌++◌, length, get_or, set, take, Option, Some, None, ◌⊎◌, inl, inr, refl, sym, ap, subst, ◌∙◌, arith, Contains}
 use Rattle.std.specs.Global.{Vec}
 use Rattle.std.proofs.lemmas.Bool.{cases_eq, cases_lt, or_cases, leb-true, and_parts}
 use Rattle.std.proofs.lemmas.List.{get_or-map as at-map, length-map, length-set, get_or_default, get_or-set_same, get_or-set_other}
@@ -7,12 +7,13 @@ use Rattle.std.proofs.lemmas.List.Elements.{Contains-append_left, Contains-push}
 use Rattle.std.proofs.lemmas.List.Folds.{list_any_more}
 use Rattle.rev_manifest.specs.Manifest.{BuildValue}
 use Rattle.rev_graph.specs.Graph.{successor_lists, EdgeReaches.step as one_edge_step}
-use Rattle.rev_graph.proofs.StepLemmas.{edge_step, edge_way, length-successors, node_way}
-use Rattle.rev_ranks.specs.Graph.{Steps, graph_of, successors_of, Reaches, Reaches.step as one_step, Reaches.further as then_on}
-use Rattle.rev_waits.specs.Waits.{AreWaitedFor, Waits}
+use Rattle.rev_graph.proofs.StepLemmas.{edge_step}
+use Rattle.rev_ranks.specs.Graph.{Steps, graph_of, successors_of}
+use Rattle.rev_waits.specs.Waits.{Waits}
 use Rattle.rev_conflicts.specs.Ranges.{has_path, is_in}
 use Rattle.rev_observed.specs.declared.path_set.PathRange.{PathRange}
-use Rattle.rev_conflicts.specs.Tables.{AreDirect, AreNexts, AreQuiet}
+use Rattle.rev_races.specs.Searches.{AreDirect}
+use Rattle.rev_conflicts.specs.Tables.{AreNexts, AreQuiet}
 
 -- MARKS OF DIRECT PRODUCERS
 pub no-marks : (graph : List (List ℕ)) (marks : List (Option ℕ)) → length marks ≡ length graph → ((k : ℕ) → get_or marks k None ≡ None) → AreDirect graph marks
@@ -21,18 +22,6 @@ no-marks graph marks each none = record {
   sound = λ node from h.
       let no : None ≡ Some from = sym (none node) ∙ h in
       cc;
-}
-
-pub one-mark : (graph : List (List ℕ)) (marks : List (Option ℕ)) (edge node : ℕ) → node < length marks → Steps graph edge node → AreDirect graph marks → AreDirect graph (set marks node (Some edge))
-one-mark graph marks edge node within step are = record {
-  each = length-set marks node (Some edge) ∙ are.each;
-  sound = λ other from h. elim (cases_eq other node) [
-    | inl same ↦
-        let both : Some edge ≡ Some from = sym (ap (λ n. get_or (set marks node (Some edge)) n None) same ∙ get_or-set_same marks node (Some edge) None within) ∙ h in
-        let is : edge ≡ from = cc in
-        subst (λ f. Steps graph f other) is (subst (λ n. Steps graph edge n) (sym same) step)
-    | inr apart ↦ are.sound other from (sym (get_or-set_other marks node other (Some edge) None apart) ∙ h)
-  ];
 }
 
 pub marked-waits : (builds : List BuildValue) (marks : List (Option ℕ)) (user edge : ℕ) → AreDirect (successor_lists builds) marks → get_or marks edge None ≡ Some user → Waits builds user edge
@@ -150,36 +139,6 @@ nexts-all lists nexts left none are = record {
   within = λ n to. are.within n (omega (arith, none)) to;
   between = λ n p c up below one. are.between n p c (omega (arith, none)) up below one;
 }
-
--- THE LAST SEARCH
--- what steps to the same nodes reaches the same ones
-same-reached : {graph : List (List ℕ)} {a b n : ℕ} → successors_of graph a ≡ successors_of graph b → Reaches graph a n → Reaches graph b n
-same-reached {graph} {a} {b} {n} same (one_step s) = one_step (subst (λ list. Contains list n) same s)
-same-reached {graph} {a} {b} {n} same (then_on {s = m} s way) = then_on (subst (λ list. Contains list m) same s) way
-
-pub same-waited : (builds : List BuildValue) (a b : ℕ) (marks : List Bool) → successors_of (successor_lists builds) a ≡ successors_of (successor_lists builds) b
-    → AreWaitedFor builds a marks → AreWaitedFor builds b marks
-same-waited builds a b marks same are = record {
-  each = are.each;
-  exact = λ other. (
-    λ h. edge_way (same-reached same (node_way ((are.exact other).0 h))),
-    λ way. (are.exact other).1 (edge_way (same-reached (sym same) (node_way way))),
-  );
-}
-
--- the edges that one steps to, as they were read
-pub same-steps : (vectors : List (Vec ℕ)) (a b : ℕ) (v w : Vec ℕ) → a < length vectors → b < length vectors → v ≡ get_or vectors a v → w ≡ get_or vectors b w → v.items ≡ w.items
-    → successors_of (graph_of vectors) a ≡ successors_of (graph_of vectors) b
-same-steps vectors a b v w a_within b_within is also same = at a v a_within is ∙ same ∙ sym (at b w b_within also)
-  where
-    at : (k : ℕ) (x : Vec ℕ) → k < length vectors → x ≡ get_or vectors k x → successors_of (graph_of vectors) k ≡ x.items
-    at k x within here = at-map (λ (y : Vec ℕ). y.items) vectors k x [] within ∙ sym (ap (λ (y : Vec ℕ). y.items) here)
-
-pub waited-again : (builds : List BuildValue) (vectors : List (Vec ℕ)) (a b : ℕ) (v w : Vec ℕ) (marks : List Bool) → graph_of vectors ≡ successor_lists builds → a < length builds → b < length builds
-    → v ≡ get_or vectors a v → w ≡ get_or vectors b w → v.items ≡ w.items → AreWaitedFor builds a marks → AreWaitedFor builds b marks
-waited-again builds vectors a b v w marks are a_within b_within is also same =
-    let each = length-successors builds vectors are in
-    same-waited builds a b marks (subst (λ g. successors_of g a ≡ successors_of g b) are (same-steps vectors a b v w (omega (arith, each, a_within)) (omega (arith, each, b_within)) is also same))
 
 -- WHAT IS FOUND OF A RANGE
 -- the next place of one that was read, by its list

@@ -1,5 +1,5 @@
 -- Tables of who touches which place, and what is found by them.
-use Rattle.std.specs.Prelude.{◌≡◌, ◌≢◌, ◌⊎◌, ◌↔◌, ℕ, zero, suc, ◌+◌, ◌<◌, ◌≤◌, ◌^◌, Bool, true, false, ◌||◌, List, [], ◌∷◌, ◌++◌, map, length, Option, Some, None, IfSome, slice_get, slice_index_or, if◌then◌else◌}
+use Rattle.std.specs.Prelude.{◌≡◌, ◌≢◌, ◌⊎◌, ◌↔◌, ℕ, zero, suc, ◌+◌, ◌<◌, ◌≤◌, ◌^◌, Bool, true, false, ◌||◌, List, [], ◌∷◌, ◌++◌, map, length, Option, Some, None, slice_get, slice_index_or, if◌then◌else◌}
 use Rattle.std.specs.List.{Contains}
 use Rattle.std.specs.Option.{option_map}
 use Rattle.std.specs.List.Sorted.{IsStrictlySortedBy}
@@ -7,7 +7,7 @@ use Rattle.std.specs.Ordering.{nat_cmp}
 use Rattle.std.specs.Cmp.Lexicographic.{slice_cmp}
 use Rattle.rev_manifest.specs.Manifest.{BuildValue}
 use Rattle.rev_ranks.specs.Graph.{Steps, successors_of}
-use Rattle.rev_waits.specs.Waits.{AreWaitedFor, Waits}
+use Rattle.rev_waits.specs.Waits.{Waits}
 use Rattle.rev_observed.specs.CommandValues.{CommandValue}
 use Rattle.rev_observed.specs.declared.kind.Kind.TheVariants.{Reads, Stats, Misses, Lists}
 use Rattle.rev_conflicts.specs.declared.place.Place.{Place}
@@ -81,16 +81,6 @@ pub record AreNexts (lists : List (List ℕ)) (nexts : List ℕ) : Type 0 where
 abbrev pub AreQuiet : List BuildValue → List ℕ → ℕ → List ℕ → Type 0
 AreQuiet builds edges user commands =
     (c : ℕ) → Contains commands c → (slice_index_or edges c 0 ≡ user) ⊎ Waits builds user (slice_index_or edges c 0)
-
--- a mark for each node; a mark with a number says that this one steps to the node
-pub record AreDirect (graph : List (List ℕ)) (marks : List (Option ℕ)) : Type 0 where
-  pub each : length marks ≡ length graph
-  pub sound : (node from : ℕ) → slice_index_or marks node None ≡ Some from → Steps graph from node
-
--- where there was a search, its marks are those of its edge
-pub record IsKept (builds : List BuildValue) (edge : Option ℕ) (marks : List Bool) : Type 0 where
-  pub within : IfSome edge (λ e. e < length builds)
-  pub waited : IfSome edge (λ e. AreWaitedFor builds e marks)
 
 -- the command has to do with the file, or with the entries of the folder
 abbrev pub uses_at : CommandValue → Place → Bool

@@ -14,12 +14,13 @@ use crate::found::Found;
 use crate::kinds::with_kinds;
 use crate::meeting::add_of;
 use crate::nexts::with_nexts;
-use crate::search::{grouped, no_search};
+use crate::search::grouped;
 use crate::table::{Tables, make_tables};
 use crate::told::Told;
 use rev_graph::Graph;
 use rev_observed::{Command, Observation};
 use rev_paths::{Name, Paths};
+use rev_races::no_search;
 use rev_waits::steps;
 use std::alloc::{AllocError, Global};
 

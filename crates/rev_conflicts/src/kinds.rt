@@ -11,11 +11,11 @@ ghost use Rattle.rev_conflicts.specs.declared.place.Place.TheVariants.{File, Ent
 use crate::conflict::{Change, Conflict, ConflictKind, Look};
 use crate::doing::{changes_file, does, look_at};
 use crate::place::Place;
-use crate::search::{no_search, search_for};
 use crate::told::Told;
 use rev_graph::Graph;
 use rev_observed::{Command, Kind};
 use rev_paths::{Name, Paths};
+use rev_races::{no_search, search_for};
 use std::alloc::{AllocError, Global};
 
 // Whether an edge makes the path of a number.

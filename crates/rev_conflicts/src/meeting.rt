@@ -3,18 +3,19 @@ ghost use Rattle.std.specs.Prelude.{◌≡◌, ◌≢◌, ◌<◌, ◌↔◌, �
 ghost use Rattle.rev_graph.specs.Graph.{successor_lists};
 ghost use Rattle.rev_ranks.specs.Graph.{graph_of, successors_of};
 ghost use Rattle.rev_waits.specs.Waits.{AreWaitedFor, Waits};
-ghost use Rattle.rev_conflicts.specs.Tables.{AreDirect, AreNexts, AreQuiet, IsApart, IsKept, IsKeyAt, IsKeyBy, IsKeyOf, SomeBelow, place_in, uses_at};
+ghost use Rattle.rev_races.specs.Searches.{AreDirect, IsKept};
+ghost use Rattle.rev_conflicts.specs.Tables.{AreNexts, AreQuiet, IsApart, IsKeyAt, IsKeyBy, IsKeyOf, SomeBelow, place_in, uses_at};
 ghost use Rattle.rev_conflicts.specs.declared.place.Place.{Place};
 ghost use Rattle.rev_conflicts.specs.declared.place.Place.TheVariants.{File, Entries};
 
 use crate::found::Found;
 use crate::nexts::Table;
 use crate::place::Place;
-use crate::quiet::{add_all_suspects, mark_direct};
-use crate::search::{Search, search_for};
+use crate::quiet::add_all_suspects;
 use crate::told::Told;
 use rev_graph::Graph;
 use rev_observed::{Command, Kind};
+use rev_races::{Search, mark_direct, search_for};
 use std::alloc::{AllocError, Global};
 
 // Whether an edge is another than the user's, does not run before all else, and is none that the user waits for.

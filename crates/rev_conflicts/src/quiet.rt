@@ -1,48 +1,17 @@
 //! Places with nothing to tell, found by a look at who touches them.
-ghost use Rattle.std.specs.Prelude.{◌≡◌, ◌<◌, ◌≤◌, ◌⊎◌, ℕ, None, Some, true, length, slice_index_or, All, Contains, IsTrue, OnOk};
+ghost use Rattle.std.specs.Prelude.{◌≡◌, ◌≤◌, ◌⊎◌, ℕ, true, slice_index_or, Contains, IsTrue, OnOk};
 ghost use Rattle.rev_graph.specs.Graph.{successor_lists};
 ghost use Rattle.rev_ranks.specs.Graph.{graph_of, successors_of};
 ghost use Rattle.rev_waits.specs.Waits.{Waits};
+ghost use Rattle.rev_races.specs.Searches.{AreDirect};
 ghost use Rattle.rev_conflicts.specs.Ranges.{has_path};
-ghost use Rattle.rev_conflicts.specs.Tables.{AreDirect, AreNexts, AreQuiet};
+ghost use Rattle.rev_conflicts.specs.Tables.{AreNexts, AreQuiet};
 
 use crate::nexts::Table;
 use rev_graph::Graph;
 use rev_observed::PathRange;
+use rev_races::is_marked;
 use std::alloc::AllocError;
-
-/// Marks the edges that an edge steps to with its number. Marks are not cleared: a mark with another number is none.
-pub(crate) fn mark_direct(steps: &[Vec<u32>], edge: u32, direct: &mut Vec<Option<u32>>)
-    requires edge { edge < length steps.now }
-    requires inside { All (λ v. All (λ s. s < length steps.now) v.items) steps.now }
-    requires direct { AreDirect (graph_of steps.now) direct.old.items }
-    ensures { AreDirect (graph_of steps.now) direct.new.items }
-{
-    let producers = steps[edge as usize].as_slice();
-    for producer in producers {
-        direct[*producer as usize] = Some(edge);
-    }
-}
-
-// The mark of a node.
-fn mark_of(direct: &[Option<u32>], node: u32) -> Option<u32>
-    ensures { result ≡ slice_index_or direct.now node None }
-{
-    match direct.get(node as usize) {
-        Some(mark) => *mark,
-        None => None,
-    }
-}
-
-// Whether a mark says that an edge steps to another.
-fn is_marked(direct: &[Option<u32>], node: u32, edge: u32) -> bool
-    ensures { IsTrue result → slice_index_or direct.now node None ≡ Some edge }
-{
-    match mark_of(direct, node) {
-        Some(marked) => marked == edge,
-        None => false,
-    }
-}
 
 // Whether an edge is the user's, or one that it steps to.
 fn is_near(graph: &Graph, direct: &[Option<u32>], user: u32, edge: u32) -> bool

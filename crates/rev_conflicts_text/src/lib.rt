@@ -13,6 +13,7 @@ pub use certificate::{CertainLine, Stale, Way};
 pub use certified::{Certified, NOT_CERTAIN};
 pub use finding::{Finding, Kind};
 pub use json::findings_json;
+pub use lines::kind_word;
 pub use told::{
     add_undeclared, add_unlisted, conflict_findings, conflicts_left, pair_of, races_left, seen_in,
 };

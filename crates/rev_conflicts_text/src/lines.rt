@@ -84,8 +84,8 @@ impl fmt::Display for ListedWords<'_> {
     }
 }
 
-/// The word for a kind.
-pub(crate) fn kind_word(kind: Kind) -> &'static str
+/// The word for a kind, as words, JSON and identities have it.
+pub fn kind_word(kind: Kind) -> &'static str
     ensures { result.now ≡ kind_word kind }
 {
     match kind {

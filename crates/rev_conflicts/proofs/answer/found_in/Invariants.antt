@@ -2,7 +2,8 @@ use Rattle.std.proofs.Common.{◌≡◌, ◌<◌, ℕ, List, true, length, get_o
 use Rattle.rev_ranks.specs.Graph.{graph_of}
 use Rattle.rev_observed.specs.CommandValues.{CommandValue}
 use Rattle.rev_conflicts.specs.declared.place.Place.{Place}
-use Rattle.rev_conflicts.specs.Tables.{AreDirect, IsKept, IsKeyAt, IsKeyOf, SomeBelow, uses_at}
+use Rattle.rev_races.specs.Searches.{AreDirect, IsKept}
+use Rattle.rev_conflicts.specs.Tables.{IsKeyAt, IsKeyOf, SomeBelow, uses_at}
 use Rattle.rev_conflicts.proofs.answer.found_in.Given as goal
 
 abbrev pub invariant-loop-number : goal.invariant-loop-number

@@ -1,6 +1,7 @@
 use Rattle.std.proofs.Common.{◌≡◌, take}
 use Rattle.std.specs.List.{filter_map}
-use Rattle.rev_conflicts.specs.Tables.{IsKept, scene, with_kind}
+use Rattle.rev_races.specs.Searches.{IsKept}
+use Rattle.rev_conflicts.specs.Tables.{scene, with_kind}
 use Rattle.rev_conflicts.proofs.kinds.with_kinds.Given as goal
 
 abbrev pub invariant-loop-one : goal.invariant-loop-one
