@@ -26,13 +26,7 @@ pub(crate) fn makes_one_of(graph: &Graph, files: &[Name], edge: u32) -> bool
 
 /// Whether nothing orders an edge before another: it is not that edge, is not waited for, and makes none of the files
 /// that are read before all else. `waited` has the edges that the other waits for.
-pub fn is_unordered(
-    graph: &Graph,
-    files: &[Name],
-    waited: &[bool],
-    user: u32,
-    maker: u32,
-) -> bool
+pub fn is_unordered(graph: &Graph, files: &[Name], waited: &[bool], user: u32, maker: u32) -> bool
     requires maker { maker < length graph.now.manifest.builds }
     requires waited { AreWaitedFor graph.now.manifest.builds user waited.now }
     ensures { IsTrue result ↔ IsUnordered graph.now.manifest.builds files.now user maker }
