@@ -6,6 +6,9 @@ from pathlib import Path
 
 import costs
 
+# What has to be done before the time that is left is told: seconds of the clock, and marks of crates that were proved.
+ENOUGH_SECONDS, ENOUGH_MARKED = 60, 100
+
 
 def minutes(seconds: float) -> str:
     """A time as it is told."""
@@ -69,7 +72,7 @@ class Gate:
         proofs, edits = costs.by_crate(took, "proof", "tests"), costs.by_crate(took, "edits")
         here = [it for it in proofs if it in self.proved and it in self.marks]
         marked, spent = sum(self.marks[it] for it in here), sum(took.values())
-        if passed < 60 or spent <= 0 or marked < 100:
+        if passed < ENOUGH_SECONDS or spent <= 0 or marked < ENOUGH_MARKED:
             return None
         usual = sum(self.marks.values()) / max(len(self.marks), 1)
         left = 0.0
