@@ -43,8 +43,8 @@ impl Answer {
     }
 }
 
-/// What is written about items, with a baseline that knows them where the user wants one. Then nothing is new, so a status that
-/// says that something is found becomes 0.
+/// What is written about items, with a baseline that knows them where the user wants one. Nothing is new then, so a
+/// status that says that something is found becomes 0.
 ///
 /// # Errors
 /// [`AllocError`] only where an allocation was refused.
