@@ -1,13 +1,13 @@
 -- Lines, cell by cell.
 use Rattle.std.proofs.Common.{◌≡◌, ℕ, ◌<◌, ◌≤◌, ◌+◌, List, [], ◌∷◌, ◌++◌, length, get_or, take, map, refl, sym, ap, ◌∙◌, append_assoc, append-nil, Result, Ok, Err, IfOk, OnOk}
-use Rattle.std.proofs.lemmas.List.{take_more, take_all, map-append}
+use Rattle.std.proofs.lemmas.List.{take_more, take_all}
 use Rattle.std.specs.Prelude.{codes}
 use Rattle.std.specs.Global.{Vec}
 use Rattle.std.specs.List.{flat_map}
 use Rattle.rev_cells.specs.declared.cell.Cell.{Cell}
 use Rattle.rev_cells.specs.declared.value.Value.{Value}
 use Rattle.rev_cells.specs.State.{State, value_at}
-use Rattle.rev_fields.specs.Fields.{field_text, line_of, spaced}
+use Rattle.rev_fields.specs.Fields.{field_text, spaced}
 use Rattle.rev_listing.specs.Listing.{cells_there, line, listed, told}
 
 -- fields of paths, each with a space before it
@@ -56,9 +56,3 @@ cells_from (Err e) es s same whole = tt
 pub fact-at : {E : Type 0} (r : Result (Unit {0}) E) (new text bytes wanted : List ℕ) → bytes ≡ wanted → OnOk r (new ≡ text ++ spaced (field_text bytes)) → OnOk r (new ≡ text ++ spaced (field_text wanted))
 fact-at (Ok x) new text bytes wanted e h = h ∙ ap (λ b. text ++ spaced (field_text b)) e
 fact-at (Err x) new text bytes wanted e h = tt
-
--- a reason of one part, as it is written
-pub one-part : {E : Type 0} (r : Result (Unit {0}) E) (new text word part : List ℕ) (fields : List (List ℕ)) → word ∷ part ∷ [] ≡ fields → OnOk r (new ≡ text ++ spaced word ++ spaced part) → OnOk r (new ≡ text ++ flat_map spaced fields)
-one-part (Ok x) new text word part fields e h =
-    h ∙ append_assoc text (spaced word) (spaced part) ∙ ap (λ l. text ++ (spaced word ++ l)) (sym (append-nil (spaced part))) ∙ ap (λ fs. text ++ flat_map spaced fs) e
-one-part (Err x) new text word part fields e h = tt

@@ -1,5 +1,5 @@
 -- Why an edge is dirty: the way from it to an edge with reasons, and the reasons of that one.
-use Rattle.std.specs.Prelude.{ℕ, List, [], ◌∷◌, ◌++◌, codes, map}
+use Rattle.std.specs.Prelude.{ℕ, List, [], ◌∷◌, ◌++◌, codes}
 use Rattle.std.specs.List.{flat_map, slice_index_or}
 use Rattle.rev_cells.specs.State.{State}
 use Rattle.rev_manifest.specs.Manifest.{BuildValue}
@@ -21,16 +21,29 @@ abbrev pub input_at : List BuildValue → State → ℕ → ℕ → List ℕ
 input_at builds state edge position =
     field_text (slice_index_or (paths_of (inputs state (build_at builds edge))) position [])
 
+abbrev pub reason_word : Reason → List ℕ
+reason_word (reason.Missing o) = codes "missing"
+reason_word reason.NoDeps = codes "no-deps"
+reason_word reason.DepsOld = codes "deps-old"
+reason_word (reason.Rebuilt i) = codes "rebuilt"
+reason_word (reason.MissingDep i) = codes "missing-dep"
+reason_word (reason.Older o i) = codes "older"
+reason_word (reason.NoRecord o) = codes "no-record"
+reason_word (reason.Command o) = codes "command"
+
+-- the output and the input that a reason is about
+abbrev pub reason_paths : List BuildValue → State → ℕ → Reason → List (List ℕ)
+reason_paths builds state edge (reason.Missing o) = output_at builds edge o ∷ []
+reason_paths builds state edge reason.NoDeps = []
+reason_paths builds state edge reason.DepsOld = []
+reason_paths builds state edge (reason.Rebuilt i) = input_at builds state edge i ∷ []
+reason_paths builds state edge (reason.MissingDep i) = input_at builds state edge i ∷ []
+reason_paths builds state edge (reason.Older o i) = output_at builds edge o ∷ input_at builds state edge i ∷ []
+reason_paths builds state edge (reason.NoRecord o) = output_at builds edge o ∷ []
+reason_paths builds state edge (reason.Command o) = output_at builds edge o ∷ []
+
 abbrev pub reason_fields : List BuildValue → State → ℕ → Reason → List (List ℕ)
-reason_fields builds state edge (reason.Missing o) = codes "missing" ∷ output_at builds edge o ∷ []
-reason_fields builds state edge reason.NoDeps = codes "no-deps" ∷ []
-reason_fields builds state edge reason.DepsOld = codes "deps-old" ∷ []
-reason_fields builds state edge (reason.Rebuilt i) = codes "rebuilt" ∷ input_at builds state edge i ∷ []
-reason_fields builds state edge (reason.MissingDep i) = codes "missing-dep" ∷ input_at builds state edge i ∷ []
-reason_fields builds state edge (reason.Older o i) =
-    codes "older" ∷ output_at builds edge o ∷ input_at builds state edge i ∷ []
-reason_fields builds state edge (reason.NoRecord o) = codes "no-record" ∷ output_at builds edge o ∷ []
-reason_fields builds state edge (reason.Command o) = codes "command" ∷ output_at builds edge o ∷ []
+reason_fields builds state edge r = reason_word r ∷ reason_paths builds state edge r
 
 -- `why OUT via IN` for a step by an input
 abbrev pub step_text : List BuildValue → State → ℕ × ℕ → List ℕ

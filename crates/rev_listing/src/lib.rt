@@ -10,5 +10,5 @@ mod stamps;
 
 pub use logs::logs_text;
 pub use marks::marks_text;
-pub use reasons::why_text;
+pub use reasons::{reason_word, why_text};
 pub use stamps::stamps_text;

@@ -3,7 +3,7 @@ ghost use Rattle.std.specs.Prelude.{◌≡◌, ◌++◌, ◌<◌, codes, length,
 ghost use Rattle.std.specs.List.{flat_map};
 ghost use Rattle.rev_fields.specs.Fields.{spaced};
 ghost use Rattle.rev_listing.specs.Marks.{output_field};
-ghost use Rattle.rev_listing.specs.Why.{input_at, output_at, reason_fields, reason_text, reasons_text, step_text, why_text};
+ghost use Rattle.rev_listing.specs.Why.{input_at, reason_fields, reason_paths, reason_text, reason_word as reason_word_of, reasons_text, step_text, why_text};
 
 use crate::output::{next_edge, next_input, next_output};
 use rev_cells::Cells;
@@ -12,37 +12,47 @@ use rev_graph::Graph;
 use rev_plan::why;
 use std::alloc::{AllocError, Global};
 
-// Adds a word and the output of an edge at a position.
-fn push_with_output(
-    text: &mut Vec<u8>,
-    word: &[u8],
-    graph: &Graph,
-    edge: u32,
-    position: u64,
-) -> Result<(), AllocError>
-    ensures { OnOk result (text.new.items
-        ≡ text.old.items ++ word.now
-        ++ spaced (output_at graph.now.manifest.builds edge position)) }
+/// The word of a reason, as a listing has it.
+pub fn reason_word(reason: Reason) -> &'static str
+    ensures { result.now ≡ reason_word_of reason }
 {
-    text.extend_from_slice(word)?;
-    next_output(text, graph, edge, position)
+    match reason {
+        Reason::Missing(_) => "missing",
+        Reason::NoDeps => "no-deps",
+        Reason::DepsOld => "deps-old",
+        Reason::Rebuilt(_) => "rebuilt",
+        Reason::MissingDep(_) => "missing-dep",
+        Reason::Older(_, _) => "older",
+        Reason::NoRecord(_) => "no-record",
+        Reason::Command(_) => "command",
+    }
 }
 
-// Adds a word and the input of an edge at a position.
-fn push_with_input(
+// Adds the output and the input that a reason is about.
+fn push_reason_paths(
     text: &mut Vec<u8>,
-    word: &[u8],
     graph: &Graph,
     cells: &Cells,
     edge: u32,
-    position: u64,
+    reason: Reason,
 ) -> Result<(), AllocError>
     ensures { OnOk result (text.new.items
-        ≡ text.old.items ++ word.now
-        ++ spaced (input_at graph.now.manifest.builds cells.now.state edge position)) }
+        ≡ text.old.items ++ flat_map spaced
+        (reason_paths graph.now.manifest.builds cells.now.state edge reason)) }
 {
-    text.extend_from_slice(word)?;
-    next_input(text, graph, cells, edge, position)
+    match reason {
+        Reason::NoDeps | Reason::DepsOld => Ok(()),
+        Reason::Missing(output) | Reason::NoRecord(output) | Reason::Command(output) => {
+            next_output(text, graph, edge, output)
+        }
+        Reason::Rebuilt(input) | Reason::MissingDep(input) => {
+            next_input(text, graph, cells, edge, input)
+        }
+        Reason::Older(output, input) => {
+            next_output(text, graph, edge, output)?;
+            next_input(text, graph, cells, edge, input)
+        }
+    }
 }
 
 // Adds a reason.
@@ -57,21 +67,9 @@ fn push_reason(
         ≡ text.old.items ++ flat_map spaced
         (reason_fields graph.now.manifest.builds cells.now.state edge reason)) }
 {
-    match reason {
-        Reason::Missing(output) => push_with_output(text, b" missing", graph, edge, output),
-        Reason::NoDeps => text.extend_from_slice(b" no-deps"),
-        Reason::DepsOld => text.extend_from_slice(b" deps-old"),
-        Reason::Rebuilt(input) => push_with_input(text, b" rebuilt", graph, cells, edge, input),
-        Reason::MissingDep(input) => {
-            push_with_input(text, b" missing-dep", graph, cells, edge, input)
-        }
-        Reason::Older(output, input) => {
-            push_with_output(text, b" older", graph, edge, output)?;
-            next_input(text, graph, cells, edge, input)
-        }
-        Reason::NoRecord(output) => push_with_output(text, b" no-record", graph, edge, output),
-        Reason::Command(output) => push_with_output(text, b" command", graph, edge, output),
-    }
+    text.extend_from_slice(b" ")?;
+    text.extend_from_slice(reason_word(reason).as_bytes())?;
+    push_reason_paths(text, graph, cells, edge, reason)
 }
 
 // Adds `why OUT REASON`.
@@ -138,6 +136,21 @@ fn push_why(text: &mut Vec<u8>, graph: &Graph, edge: u32) -> Result<(), AllocErr
     next_edge(text, graph, edge)
 }
 
+// Adds `via IN`.
+fn push_via(
+    text: &mut Vec<u8>,
+    graph: &Graph,
+    cells: &Cells,
+    edge: u32,
+    position: u64,
+) -> Result<(), AllocError>
+    ensures { OnOk result (text.new.items ≡ text.old.items ++ codes " via"
+        ++ spaced (input_at graph.now.manifest.builds cells.now.state edge position)) }
+{
+    text.extend_from_slice(b" via")?;
+    next_input(text, graph, cells, edge, position)
+}
+
 // Adds `why OUT via IN`.
 fn push_step(
     text: &mut Vec<u8>,
@@ -151,7 +164,7 @@ fn push_step(
         (edge, position)) }
 {
     push_why(text, graph, edge)?;
-    push_with_input(text, b" via", graph, cells, edge, position)?;
+    push_via(text, graph, cells, edge, position)?;
     text.extend_from_slice(b"\n")
 }
 

@@ -1,12 +1,14 @@
 -- Events that were accepted, said again to a history that opened alike.
-use Rattle.std.proofs.Common.{◌≡◌, ◌+◌, ◌==◌, ℕ, Bool, true, false, List, [], ◌∷◌, Option, None, Some, Result, Ok, Err, refl, sym, subst, if◌then◌else◌}
+use Rattle.std.proofs.Common.{◌≡◌, ◌+◌, ◌==◌, ℕ, Bool, true, false, List, [], ◌∷◌, Option, None, Some, Ok, Err, refl, ap, sym, subst, ◌∙◌, if◌then◌else◌}
 use Rattle.rev_events.specs.declared.event.Event.{Event}
 use Rattle.rev_events.specs.declared.refusal.Refusal.{Refusal}
+use Rattle.rev_causal.specs.OrderCheck.{OrderAnswer}
 use Rattle.rev_graph.specs.Alike.{LendAlike}
 use Rattle.rev_manifest.specs.Builds.{ManifestValue}
-use Rattle.rev_history.specs.Order.{IsSameOpening}
+use Rattle.rev_events.specs.Same.{event_eq}
+use Rattle.rev_history.specs.Order.{IsSameOpening, order_of}
 use Rattle.rev_history.specs.Timeline.{Timeline, accept_refusal, accepted_as, event_at, last_of, opened}
-use Rattle.rev_order_text.specs.Orders.{Said, and_then, unless_refused, said_event, said_again}
+use Rattle.rev_order_text.specs.Ordered.{Said, and_then, ordered_of, said_again, said_event, unless_refused}
 
 -- a history has the same opening as another
 pub record OpensAlike (t u : Timeline) : Type 0 where
@@ -22,7 +24,7 @@ event_alike : (t u : Timeline) (n : ℕ) (o : Option Event) → OpensAlike t u �
 event_alike t u n None a = tt
 event_alike t u n (Some e) a = by (last_of u.accepted == 4294967295) (accept_refusal u e)
   where
-    by : (b : Bool) (r : Option Refusal) → IfSaid (OpensAlike t) (if b then Err (n, 94) else unless_refused n r (accepted_as (last_of u.accepted + 1) e u))
+    by : (b : Bool) (r : Option Refusal) → IfSaid (OpensAlike t) (if b then Err (n, None) else unless_refused n r (accepted_as (last_of u.accepted + 1) e u))
     by true r = tt
     by false None = record { manifest = a.manifest; jobs = a.jobs; opening = a.opening }
     by false (Some r) = tt
@@ -46,3 +48,7 @@ same_opening t u v ns e said =
       jobs = a.jobs;
       opening = a.opening;
     }
+
+-- the order check of what was said again, where nothing was refused
+pub answered : (t v : Timeline) (said : Said) (answer : OrderAnswer) → said ≡ Ok v → answer ≡ order_of event_eq true t v → ordered_of t said ≡ Ok answer
+answered t v said answer e same = ap (ordered_of t) e ∙ sym (ap (λ (a : OrderAnswer). Ok a) same)

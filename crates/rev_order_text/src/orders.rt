@@ -1,10 +1,11 @@
-//! The word `order`.
+//! The line of the word `order`.
 ghost use Rattle.std.specs.Prelude.{◌≡◌, ◌++◌, codes, decimal, IfOk};
-ghost use Rattle.rev_history.specs.Order.{IsSameOpening, answer_of};
-ghost use Rattle.rev_history.specs.Timeline.{event_at};
-ghost use Rattle.rev_order_text.specs.Orders.{answer_text as answer_text_of, one_said, order_text as order_text_of, said_again, said_by, said_event};
+ghost use Rattle.rev_history.specs.Order.{answer_of};
+ghost use Rattle.rev_order_text.specs.Ordered.{outcome_of};
+ghost use Rattle.rev_order_text.specs.Orders.{answer_text as answer_text_of, code_in, order_line, order_text as order_text_of};
 
-use rev_events::{Fault, Refusal};
+use crate::ordered::{Ordered, run_in_order};
+use rev_events::Refusal;
 use rev_fields::push_number;
 use rev_history::{History, Order};
 use std::alloc::{AllocError, Global};
@@ -12,40 +13,14 @@ use std::alloc::{AllocError, Global};
 /// The code of a journal that has no room for an entry.
 const FULL: u16 = 94;
 
-// Accepts the event of a number in another history, under the next number there; or the code of its refusal.
-fn say(history: &History, other: &mut History, number: u32) -> Result<Option<u16>, AllocError>
-    ensures { IfOk result (λ refused. said_event other.old.timeline number (event_at history.now.timeline number)
-        ≡ one_said number refused other.new.timeline) }
+// The code of a refusal; where there is none, that of a full journal.
+fn code_of(refusal: Option<Refusal>) -> u16
+    ensures { result ≡ code_in refusal }
 {
-    let Some(event) = history.event(number) else {
-        return Ok(Some(Refusal::NoSuchEvent.code()));
-    };
-    let Some(next) = other.last().checked_add(1) else {
-        return Ok(Some(FULL));
-    };
-    match other.accept(next, event) {
-        Ok(()) => Ok(None),
-        Err(Fault::Refused(refusal)) => Ok(Some(refusal.code())),
-        Err(Fault::Memory) => Err(AllocError),
+    match refusal {
+        Some(refusal) => refusal.code(),
+        None => FULL,
     }
-}
-
-// Accepts the events of numbers in another history, in their order; or the first number whose event it does not accept,
-// with the code of the refusal.
-fn say_again(
-    history: &History,
-    other: &mut History,
-    numbers: &[u32],
-) -> Result<Option<(u32, u16)>, AllocError>
-    ensures { IfOk result (λ refused. said_again history.now.timeline other.old.timeline numbers.now
-        ≡ said_by refused other.new.timeline) }
-{
-    for number in numbers {
-        if let Some(code) = say(history, other, *number)? {
-            return Ok(Some((*number, code)));
-        }
-    }
-    Ok(None)
 }
 
 // What the order check answered, as a line.
@@ -79,18 +54,20 @@ fn refused_text(alloc: Global, number: u32, code: u16) -> Result<Vec<u8>, AllocE
     Ok(text)
 }
 
-/// The line of `order N...`. The accepted events of these numbers run from the opening, in this order, in a history of
-/// their own, and that history is compared with the kept events.
+// The line of what another order of events makes.
+fn ordered_text(alloc: Global, ordered: Ordered) -> Result<Vec<u8>, AllocError>
+    ensures { IfOk result (λ text. text.items ≡ order_line (outcome_of ordered)) }
+{
+    match ordered {
+        Ordered::Ran(order) => answer_text(alloc, order),
+        Ordered::Refused(number, why) => refused_text(alloc, number, code_of(why)),
+    }
+}
+
+/// The line of `order N...`, of what these events make in this order ([`run_in_order`]).
 pub fn order_text(alloc: Global, history: &History, numbers: &[u32]) -> Result<Vec<u8>, AllocError>
     ensures { IfOk result (λ text. text.items ≡ order_text_of history.now.timeline numbers.now) }
 {
-    let mut other = history.reopened()?;
-    let refused = say_again(history, &mut other, numbers)?;
-    match refused {
-        None => {
-            let order = history.same_order(&other)?;
-            answer_text(alloc, order)
-        }
-        Some((number, code)) => refused_text(alloc, number, code),
-    }
+    let ordered = run_in_order(history, numbers)?;
+    ordered_text(alloc, ordered)
 }

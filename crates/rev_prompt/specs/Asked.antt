@@ -7,6 +7,7 @@ use Rattle.rev_listing.specs.Logs.{logs_text}
 use Rattle.rev_listing.specs.Marks.{marks_text}
 use Rattle.rev_listing.specs.Stamps.{stamps_text}
 use Rattle.rev_observed.specs.Observations.{ObservationValue}
+use Rattle.rev_order_text.specs.Ordered.{IsOrdered, run_again}
 use Rattle.rev_prompt.specs.declared.answers.Answer.{Answer}
 use Rattle.rev_prompt.specs.declared.answers.Answer.TheVariants as answer
 use Rattle.rev_prompt.specs.declared.question.Question.{Question}
@@ -15,7 +16,6 @@ use Rattle.rev_prompt.specs.Answers.{IsDependents, IsNeeds, IsNoOutput, IsWho, I
 use Rattle.rev_prompt.specs.Cones.{IsWouldCone}
 use Rattle.rev_prompt.specs.Lines.{only}
 use Rattle.rev_prompt.specs.Named.{OfEvent, OfEvents}
-use Rattle.rev_prompt.specs.Ordered.{IsOrderOf}
 use Rattle.rev_prompt.specs.Users.{IsReaders, IsWriters}
 
 -- the kept events
@@ -55,6 +55,11 @@ abbrev pub IsMarks : Timeline → Option (List ℕ) → Answer → Type 0
 IsMarks t None told = AreLines (marks_text t.manifest.builds (state_at t)) told
 IsMarks t (Some out) (answer.NoOutput path) = IsNoOutput t out path
 IsMarks t (Some out) told = OfOutput t out (λ edge. AreLines (mark_at t edge) told)
+
+-- what these events make where they run in this order
+abbrev pub IsOrderOf : Timeline → List ℕ → Answer → Type 0
+IsOrderOf t numbers (answer.Order told) = IsOrdered t (run_again t numbers) told
+IsOrderOf t numbers _ = ⊥
 
 -- By the desk, what was observed of the recording, and the edges of its observed commands. What is not said of a
 -- question here is said where it is answered, or is tested.

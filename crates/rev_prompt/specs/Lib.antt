@@ -5,7 +5,6 @@ pub mod Cones
 pub mod Found
 pub mod Lines
 pub mod Named
-pub mod Ordered
 pub mod Past
 pub mod Reasons
 pub mod Spans

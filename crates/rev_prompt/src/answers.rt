@@ -1,11 +1,11 @@
 //! What questions are answered.
 use crate::found::Found;
-use crate::ordered::Ordered;
 use crate::question::Reach;
 use rev_dirty::Reason;
 use rev_held::Link;
 use rev_looked::{Naming, Need, User};
 use rev_observed::Kind;
+use rev_order_text::Ordered;
 use rev_paths::Name;
 use std::alloc::AllocError;
 

@@ -9,19 +9,18 @@ ghost use Rattle.rev_cells.specs.Values.{Fits};
 ghost use Rattle.rev_cells.specs.declared.cell.Cell.{Cell};
 ghost use Rattle.rev_cells.specs.declared.cell.Cell.TheVariants as cell;
 ghost use Rattle.rev_cells.specs.declared.value.Value.{Value};
-ghost use Rattle.rev_prompt.specs.Asked.{AreLogs, AreStamps, IsKept, IsMarks, mark_at, records_at, stamp_at};
+ghost use Rattle.rev_prompt.specs.Asked.{AreLogs, AreStamps, IsKept, IsMarks, IsOrderOf, mark_at, records_at, stamp_at};
 ghost use Rattle.rev_prompt.specs.Lines.{only as only_these};
 ghost use Rattle.rev_prompt.specs.Named.{OfEvents};
-ghost use Rattle.rev_prompt.specs.Ordered.{IsOrderOf};
 
 use crate::answers::Answer;
 use crate::events::named_events;
-use crate::ordered::run_in_order;
 use crate::question::EventName;
 use rev_cells::{Cell, Cells, Opening, Value};
 use rev_desk::Desk;
 use rev_history::History;
 use rev_listing::{logs_text, marks_text, stamps_text};
+use rev_order_text::run_in_order;
 use rev_paths::Name;
 use std::alloc::{AllocError, Global};
 

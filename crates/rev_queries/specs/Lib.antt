@@ -3,4 +3,5 @@ pub mod Edges
 pub mod Own
 pub mod Readings
 pub mod Rebuilds
+pub mod Statement
 pub mod Times

@@ -1,4 +1,3 @@
-use Rattle.std.proofs.Common.{arith}
 use Rattle.rev_graph.specs.Graph.{build_at}
 use Rattle.rev_listing.proofs.InputLemmas.{line-bytes, further-bytes}
 use Rattle.rev_listing.proofs.LineLemmas.{fact-at}

@@ -1,6 +1,6 @@
 use Rattle.std.proofs.Common.{◌≡◌, drop}
-use Rattle.rev_order_text.specs.Orders.{said_again}
-use Rattle.rev_prompt.proofs.ordered.say_again.Given as goal
+use Rattle.rev_order_text.specs.Ordered.{said_again}
+use Rattle.rev_order_text.proofs.ordered.say_again.Given as goal
 
 -- what is left is said to the history so far
 abbrev pub invariant-loop-number : goal.invariant-loop-number

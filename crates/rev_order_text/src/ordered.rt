@@ -1,8 +1,7 @@
 //! What another order of events makes.
 ghost use Rattle.std.specs.Prelude.{◌≡◌, IfOk};
 ghost use Rattle.rev_history.specs.Timeline.{event_at};
-ghost use Rattle.rev_order_text.specs.Orders.{said_again, said_event};
-ghost use Rattle.rev_prompt.specs.Ordered.{IsOrdered, run_again, said_by};
+ghost use Rattle.rev_order_text.specs.Ordered.{IsOrdered, ordered_of, outcome_of, run_again, said_again, said_by, said_event};
 
 use rev_events::{Fault, Refusal};
 use rev_history::{History, Order};
@@ -57,17 +56,26 @@ fn say_again(
     Ok(None)
 }
 
-/// What the accepted events of these numbers make, which run from the opening in this order.
+/// What the accepted events of these numbers make. They run from the opening, in this order, in a history of their own,
+/// and that history is compared with the kept events. Time is linear in the events and their footprints, up to hashing.
 ///
 /// # Errors
 /// [`AllocError`] only where an allocation was refused.
-pub(crate) fn run_in_order(history: &History, numbers: &[u32]) -> Result<Ordered, AllocError>
-    ensures { IfOk result (λ ordered. IsOrdered history.now.timeline
+pub fn run_in_order(history: &History, numbers: &[u32]) -> Result<Ordered, AllocError>
+    // What it says of the two histories.
+    ensures meaning { IfOk result (λ ordered. IsOrdered history.now.timeline
         (run_again history.now.timeline numbers.now) ordered) }
+    // It is what a function of the history and the numbers says.
+    ensures exact { IfOk result (λ ordered. outcome_of ordered
+        ≡ ordered_of history.now.timeline (run_again history.now.timeline numbers.now)) }
 {
     let mut other = history.reopened()?;
-    match say_again(history, &mut other, numbers)? {
-        None => Ok(Ordered::Ran(history.same_order(&other)?)),
+    let refused = say_again(history, &mut other, numbers)?;
+    match refused {
+        None => {
+            let order = history.same_order(&other)?;
+            Ok(Ordered::Ran(order))
+        }
         Some((number, why)) => Ok(Ordered::Refused(number, why)),
     }
 }
