@@ -27,3 +27,10 @@ filtered-at p xs i d done after within so now =
     now ∙ ap (λ ys. ys ++ (if p (get_or xs i d) then get_or xs i d ∷ [] else [])) so
     ∙ sym (filter-append p (take i xs) (get_or xs i d ∷ []))
     ∙ ap (filter p) (sym (take_more xs i d within))
+
+-- the same, by whether the one at the place passes
+pub filtered-by : {A : Type 0} (p : A → Bool) (xs : List A) (i : ℕ) (d : A) (done after : List A) (passes : Bool)
+    → i < length xs → done ≡ filter p (take i xs) → passes ≡ p (get_or xs i d)
+    → after ≡ done ++ (if passes then get_or xs i d ∷ [] else []) → after ≡ filter p (take (i + 1) xs)
+filtered-by p xs i d done after passes within so is now =
+    filtered-at p xs i d done after within so (now ∙ ap (λ b. done ++ (if b then get_or xs i d ∷ [] else [])) is)

@@ -26,17 +26,26 @@ abbrev pub well_before : Ending → Option ℕ → ℕ → Bool
 well_before Well (Some ended) number = nat_lt ended number
 well_before _ _ number = false
 
--- there is a run, and it ended well before the event of a number
-abbrev pub done_before : Option Last → ℕ → Bool
-done_before None number = false
-done_before (Some last) number = well_before last.ending last.ended number
+-- an edge is made before the event of a number: its last run ended well before it; without a run, it had been made
+-- before the recording began
+abbrev pub is_made : Option Last → Bool → ℕ → Bool
+is_made None earlier number = earlier
+is_made (Some last) earlier number = well_before last.ending last.ended number
 
-abbrev pub is_finished_alone : Option Last → ℕ → Option Last → ℕ → Bool
-is_finished_alone last began other other_began = done_before last began && not (done_before other other_began)
+abbrev pub is_made_at : List (Option Last) → List Bool → ℕ → ℕ → Bool
+is_made_at lasts earlier number edge = is_made (last_at lasts edge) (slice_index_or earlier edge false) number
 
--- THE MAKERS THAT HAD FINISHED HERE ALONE before a command began: the last run of each ended well before it began here,
--- and that of its twin did not before it began there
-abbrev pub finished_alone_of : ℕ → List (Option Last) → ℕ → List (Option ℕ) → List (Option Last) → ℕ → List ℕ
-finished_alone_of edges lasts began twins others other_began =
-    filter (λ edge. is_finished_alone (last_at lasts edge) began (twin_last twins others edge) other_began)
-    (range_with_len 0 edges)
+-- the same of an edge that may not be there
+abbrev pub is_made_by : List (Option Last) → List Bool → ℕ → Option ℕ → Bool
+is_made_by lasts earlier number None = false
+is_made_by lasts earlier number (Some edge) = is_made_at lasts earlier number edge
+
+abbrev pub is_finished_alone : List (Option Last) → List Bool → ℕ → List (Option ℕ) → List (Option Last) → List Bool → ℕ → ℕ → Bool
+is_finished_alone lasts earlier began twins others others_earlier other_began edge =
+    is_made_at lasts earlier began edge && not (is_made_by others others_earlier other_began (slice_index_or twins edge None))
+
+-- THE MAKERS THAT HAD FINISHED HERE ALONE before a command began: each was made before it began here, and its twin was
+-- not before it began there
+abbrev pub finished_alone_of : ℕ → List (Option Last) → List Bool → ℕ → List (Option ℕ) → List (Option Last) → List Bool → ℕ → List ℕ
+finished_alone_of edges lasts earlier began twins others others_earlier other_began =
+    filter (is_finished_alone lasts earlier began twins others others_earlier other_began) (range_with_len 0 edges)

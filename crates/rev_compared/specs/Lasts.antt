@@ -1,5 +1,5 @@
 -- The last run of each edge.
-use Rattle.std.specs.Prelude.{ℕ, ◌==◌, ◌&&◌, List, [], ◌∷◌, Option, None, Some, if◌then◌else◌}
+use Rattle.std.specs.Prelude.{ℕ, nat_lt, Bool, ◌==◌, ◌&&◌, List, [], ◌∷◌, Option, None, Some, if◌then◌else◌}
 use Rattle.rev_events.specs.declared.event.Event.{Event}
 use Rattle.rev_events.specs.declared.event.Event.TheVariants.{Fail, Abort}
 use Rattle.rev_history.specs.Timeline.{Timeline, event_at}
@@ -30,3 +30,7 @@ last_from t edge best (r ∷ rs) = last_from t edge (if r.kept && (r.edge == edg
 -- THE LAST KEPT RUN of an edge
 abbrev pub last_of : Timeline → ℕ → Option Last
 last_of t edge = last_from t edge None (runs_of t)
+
+-- a run began before the event of a number
+abbrev pub is_begun_before : ℕ → Run → Bool
+is_begun_before number r = nat_lt r.began number

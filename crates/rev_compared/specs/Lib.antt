@@ -1,5 +1,6 @@
 pub mod Alone
 pub mod Differences
+pub mod Earlier
 pub mod Inverted
 pub mod Lasts
 pub mod Matched

@@ -1,6 +1,6 @@
 //! Which commands ran in one build alone, and which had ended in one alone before another began.
-ghost use Rattle.std.specs.Prelude.{◌≡◌, ◌++◌, ◌∷◌, [], None, Some, slice_index_or, if◌then◌else◌, IfOk, OnOk};
-ghost use Rattle.rev_compared.specs.Alone.{finished_alone_of, done_before as done_before_of, is_finished_alone as is_finished_alone_of, is_alone as is_alone_of, ran_alone_of, twin_last as twin_last_of};
+ghost use Rattle.std.specs.Prelude.{◌≡◌, ◌++◌, ◌∷◌, [], None, Some, false, slice_index_or, if◌then◌else◌, IfOk, OnOk};
+ghost use Rattle.rev_compared.specs.Alone.{finished_alone_of, is_alone as is_alone_of, is_finished_alone as is_finished_alone_of, is_made as is_made_of, is_made_at as is_made_at_of, is_made_by as is_made_by_of, ran_alone_of, twin_last as twin_last_of};
 
 use crate::lasts::{Ending, Last};
 use std::alloc::{AllocError, Global};
@@ -77,11 +77,36 @@ pub fn ran_alone(
     Ok(found)
 }
 
-// Whether there is a run, and it ended well before the event of a number.
-fn done_before(last: Option<Last>, number: u32) -> bool
-    ensures { result ≡ done_before_of last number }
+/// What was made in a history when one of its commands began.
+#[derive(Clone, Copy)]
+pub struct Moment<'a> {
+    /// The number of the event that began the command.
+    pub number: u32,
+    /// For each edge the last of its runs that began before that event, as
+    /// [`last_runs_before`](crate::last_runs_before) gives it.
+    pub lasts: &'a [Option<Last>],
+    /// For each edge whether it had been made before the recording began, as [`made_earlier`](crate::made_earlier)
+    /// gives it.
+    pub earlier: &'a [bool],
+}
+
+// What is marked of an edge, by the marks of all.
+fn mark_at(marks: &[bool], edge: u32) -> bool
+    ensures { result ≡ slice_index_or marks.now edge false }
+{
+    if edge as usize >= marks.len() {
+        return false;
+    }
+    marks[edge as usize]
+}
+
+// Whether an edge is made before the event of a number: its last run ended well before it, or it has none and had been
+// made earlier.
+fn is_made(last: Option<Last>, earlier: bool, number: u32) -> bool
+    ensures { result ≡ is_made_of last earlier number }
 {
     match last {
+        None => earlier,
         Some(
             Last {
                 ended: Some(ended),
@@ -93,36 +118,60 @@ fn done_before(last: Option<Last>, number: u32) -> bool
     }
 }
 
-// Whether one run ended well before an event, and not the other before another event.
-fn is_finished_alone(last: Option<Last>, began: u32, other: Option<Last>, other_began: u32) -> bool
-    ensures { result ≡ is_finished_alone_of last began other other_began }
+// The same of an edge at a moment.
+fn is_made_at(moment: &Moment<'_>, edge: u32) -> bool
+    ensures { result ≡ is_made_at_of moment.now.lasts.now moment.now.earlier.now moment.now.number edge }
 {
-    done_before(last, began) && !done_before(other, other_began)
+    is_made(
+        last_at(moment.lasts, edge),
+        mark_at(moment.earlier, edge),
+        moment.number,
+    )
 }
 
-/// Those of so many edges whose commands had ended well before one began here, and whose twins had not before it began
-/// there, in their order. `began` is the number of the event that began it here, and `other_began` there. `lasts` are
-/// the last runs of the edges, `twins` their twins in the other graph, and `others` the last runs of the edges there.
+// The same of an edge that may not be there.
+fn is_made_by(moment: &Moment<'_>, edge: Option<u32>) -> bool
+    ensures { result ≡ is_made_by_of moment.now.lasts.now moment.now.earlier.now moment.now.number edge }
+{
+    match edge {
+        Some(edge) => is_made_at(moment, edge),
+        None => false,
+    }
+}
+
+// Whether an edge is made at one moment, and its twin not at another.
+fn is_finished_alone(
+    here: &Moment<'_>,
+    twins: &[Option<u32>],
+    there: &Moment<'_>,
+    edge: u32,
+) -> bool
+    ensures { result ≡ is_finished_alone_of here.now.lasts.now here.now.earlier.now here.now.number twins.now
+        there.now.lasts.now there.now.earlier.now there.now.number edge }
+{
+    is_made_at(here, edge) && !is_made_by(there, twin_at(twins, edge))
+}
+
+/// Those of so many edges that were made when a command began here, and whose twins were not when it began there, or
+/// which have no twin, in their order. `here` and `there` are the moments at which it began, and `twins` are the twins
+/// of the edges in the other graph.
 ///
 /// # Errors
 /// [`AllocError`] only where an allocation was refused.
 pub fn finished_alone(
     alloc: Global,
     edges: u32,
-    lasts: &[Option<Last>],
-    began: u32,
+    here: &Moment<'_>,
     twins: &[Option<u32>],
-    others: &[Option<Last>],
-    other_began: u32,
+    there: &Moment<'_>,
 ) -> Result<Vec<u32>, AllocError>
     ensures { IfOk result (λ found. found.items
-        ≡ finished_alone_of edges lasts.now began twins.now others.now other_began) }
+        ≡ finished_alone_of edges here.now.lasts.now here.now.earlier.now here.now.number twins.now
+        there.now.lasts.now there.now.earlier.now there.now.number) }
 {
     let mut found = Vec::new(alloc);
     for edge in 0..edges {
-        let last = last_at(lasts, edge);
-        let other = twin_last(twins, others, edge);
-        let passes = is_finished_alone(last, began, other, other_began);
+        let passes = is_finished_alone(here, twins, there, edge);
         add_where(&mut found, edge, passes)?;
     }
     Ok(found)

@@ -1,8 +1,8 @@
 //! The last run of each edge.
-ghost use Rattle.std.specs.Prelude.{◌≡◌, ◌<◌, ◌==◌, ◌&&◌, ℕ, length, None, Some, slice_index_or, if◌then◌else◌, IfOk};
+ghost use Rattle.std.specs.Prelude.{◌≡◌, ◌<◌, ◌==◌, ◌&&◌, ◌++◌, ◌∷◌, [], ℕ, filter, length, None, Some, slice_index_or, if◌then◌else◌, IfOk, OnOk};
 ghost use Rattle.std.specs.Option.{option_copied};
 ghost use Rattle.rev_runs.specs.Runs.{runs_of};
-ghost use Rattle.rev_compared.specs.Lasts.{ending_by as ending_by_event, ending_of as ending_of_run, last_by as last_by_run, last_from, last_of};
+ghost use Rattle.rev_compared.specs.Lasts.{ending_by as ending_by_event, ending_of as ending_of_run, is_begun_before as is_begun_before_of, last_by as last_by_run, last_from, last_of};
 
 use rev_events::Event;
 use rev_history::History;
@@ -102,4 +102,53 @@ pub fn last_runs(alloc: Global, history: &History) -> Result<Vec<Option<Last>>, 
 {
     let runs = runs(alloc, history)?;
     lasts_in(alloc, history, &runs)
+}
+
+// Whether a run began before the event of a number.
+fn is_begun_before(number: u32, run: &Run) -> bool
+    ensures { result ≡ is_begun_before_of number run.now }
+{
+    run.began < number
+}
+
+// Adds a run that passes.
+fn add_run(runs: &mut Vec<Run>, run: Run, passes: bool) -> Result<(), AllocError>
+    ensures { OnOk result (runs.new.items ≡ runs.old.items ++ (if passes then run ∷ [] else [])) }
+{
+    if passes {
+        runs.push(run)?;
+    }
+    Ok(())
+}
+
+// Those of some runs that began before the event of a number.
+fn begun_before(alloc: Global, runs: &[Run], number: u32) -> Result<Vec<Run>, AllocError>
+    ensures { IfOk result (λ begun. begun.items ≡ filter (is_begun_before_of number) runs.now) }
+{
+    let mut begun = Vec::new(alloc);
+    for run in runs {
+        let passes = is_begun_before(number, run);
+        add_run(&mut begun, *run, passes)?;
+    }
+    Ok(begun)
+}
+
+/// Of some runs of a history the last kept one of each edge that began before the event of a number, by the number of
+/// the edge; `None` where it has none. `runs` are those that [`rev_runs::runs`] gives.
+///
+/// # Errors
+/// [`AllocError`] only where an allocation was refused.
+pub fn last_runs_before(
+    alloc: Global,
+    history: &History,
+    runs: &[Run],
+    number: u32,
+) -> Result<Vec<Option<Last>>, AllocError>
+    ensures size { IfOk result (λ lasts. length lasts.items ≡ length history.now.timeline.manifest.builds) }
+    ensures last { IfOk result (λ lasts. (edge : ℕ) → edge < length history.now.timeline.manifest.builds
+        → slice_index_or lasts.items edge None
+        ≡ last_from history.now.timeline edge None (filter (is_begun_before_of number) runs.now)) }
+{
+    let begun = begun_before(alloc, runs, number)?;
+    lasts_in(alloc, history, &begun)
 }

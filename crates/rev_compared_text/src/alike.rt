@@ -171,10 +171,10 @@ fn push_reads<'a>(
     other: Side<'a>,
     d: &Differing,
 ) -> Result<(), AllocError> {
-    let here = listed(one, &d.last);
-    let there = listed(other, &d.other);
-    push_names(key, &beside(alloc, here, there)?)?;
-    push_names(key, &beside(alloc, there, here)?)
+    let here = listed(alloc, one, d.edge, &d.last)?;
+    let there = listed(alloc, other, d.twin, &d.other)?;
+    push_names(key, &beside(alloc, here.as_slice(), there.as_slice())?)?;
+    push_names(key, &beside(alloc, there.as_slice(), here.as_slice())?)
 }
 
 // What runs that differ alike have in common: how the commands ended, the kinds of what differs, and, where asked, the

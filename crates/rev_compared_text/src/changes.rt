@@ -1,4 +1,5 @@
 //! What differs between two build statements, by name.
+use crate::reads::{add_others, set_of};
 use crate::side::Side;
 use indexmap::IndexMap;
 use rev_compared::same_pools;
@@ -11,37 +12,6 @@ use std::alloc::{AllocError, Global};
 const SHORT: usize = 80;
 // The most bytes of a command that words tell, unless they tell all.
 const PART: usize = 240;
-
-// Adds the paths to those that are there.
-fn add_to_set(set: &mut IndexMap<Name, ()>, paths: &[Name]) -> Result<(), AllocError> {
-    for path in paths {
-        set.insert(path.copy()?, ())?;
-    }
-    Ok(())
-}
-
-// Adds the paths that are not among some.
-fn add_others<'a>(
-    alone: &mut Vec<Shown<'a>>,
-    paths: &'a [Name],
-    set: &IndexMap<Name, ()>,
-) -> Result<(), AllocError> {
-    for path in paths {
-        if !set.contains_key(path) {
-            alone.push(Shown(path.as_bytes()))?;
-        }
-    }
-    Ok(())
-}
-
-// The paths of some lists, to look one up.
-fn set_of_all(alloc: Global, lists: &[&[Name]]) -> Result<IndexMap<Name, ()>, AllocError> {
-    let mut set = IndexMap::new(alloc);
-    for list in lists {
-        add_to_set(&mut set, list)?;
-    }
-    Ok(set)
-}
 
 // The paths of some lists that are not among others.
 fn others_than<'a>(
@@ -62,7 +32,7 @@ fn in_none<'a>(
     lists: &[&'a [Name]],
     others: &[&[Name]],
 ) -> Result<Vec<Shown<'a>>, AllocError> {
-    let set = set_of_all(alloc, others)?;
+    let set = set_of(alloc, others)?;
     others_than(alloc, lists, &set)
 }
 

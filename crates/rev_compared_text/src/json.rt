@@ -1,7 +1,7 @@
 //! The comparison as JSON objects, one a line.
 use crate::changes::{flags_that_differ, inputs_alone, outputs_alone};
 use crate::facts::{Changed, Differing, Facts, Inverted, alone_in, counts};
-use crate::flakes::{Days, Flake, Maker, failed_in_one, failed_in_other, makers_of};
+use crate::flakes::{Days, Flake, Maker, Pasts, failed_in_one, failed_in_other, makers_of};
 use crate::reads::{beside, listed, there_alone};
 use crate::side::{Day, ending_word, event_name};
 use rev_races_text::{Edge, Shown, Text, push_object};
@@ -22,13 +22,15 @@ struct RecordingObject<'a> {
 }
 
 // A command that failed on one day and passed on the other, with a maker that had finished before it on the good day
-// alone. `side` is the good day. The edges have their events there, and under `other` those of the bad day.
+// alone. `side` is the good day. The edges have their events there, and under `other` those of the bad day. `earlier`
+// says that the maker did not run on the good day, since it had been made before.
 #[derive(Clone, Copy, Serialize)]
 struct FinishedObject<'a> {
     side: &'static str,
     user: Edge<'a>,
     maker: Edge<'a>,
     listed: bool,
+    earlier: bool,
     other_user: Edge<'a>,
     other_maker: Option<Edge<'a>>,
     other_status: Option<&'static str>,
@@ -133,6 +135,7 @@ fn push_finished<'a>(
         user: days.good.edge(flake.good_edge),
         maker: days.good.edge(maker.edge),
         listed: maker.is_listed,
+        earlier: maker.is_earlier,
         other_user: days.bad.edge(flake.bad_edge),
         other_maker,
         other_status,
@@ -146,8 +149,12 @@ fn push_flakes<'a>(
     days: Days<'a>,
     flakes: &[Flake],
 ) -> Result<(), AllocError> {
+    if flakes.is_empty() {
+        return Ok(());
+    }
+    let pasts = Pasts::new(alloc, days)?;
     for flake in flakes.iter().take(FLAKES) {
-        let makers = makers_of(alloc, days, flake)?;
+        let makers = makers_of(alloc, days, &pasts, flake)?;
         for maker in &makers {
             push_finished(alloc, text, days, flake, maker)?;
         }
@@ -214,12 +221,12 @@ fn push_difference<'a>(
     d: &Differing,
 ) -> Result<(), AllocError> {
     let (one, other) = (both.a.side, both.b.side);
-    let here = listed(one, &d.last);
-    let there = listed(other, &d.other);
+    let here = listed(alloc, one, d.edge, &d.last)?;
+    let there = listed(alloc, other, d.twin, &d.other)?;
     let a_outputs = there_alone(alloc, one, d.edge, &d.last, other, &d.other)?;
     let b_outputs = there_alone(alloc, other, d.twin, &d.other, one, &d.last)?;
-    let a_reads = beside(alloc, here, there)?;
-    let b_reads = beside(alloc, there, here)?;
+    let a_reads = beside(alloc, here.as_slice(), there.as_slice())?;
+    let b_reads = beside(alloc, there.as_slice(), here.as_slice())?;
     let object = RunObject {
         a: both.a.edge(d.edge),
         b: both.b.edge(d.twin),

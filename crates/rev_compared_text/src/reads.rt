@@ -2,31 +2,112 @@
 use crate::side::Side;
 use indexmap::IndexMap;
 use rev_compared::{Last, end_of, stamps_of};
+use rev_depfile::{DepfileFault, read};
 use rev_events::{Event, Listing};
 use rev_paths::Name;
 use rev_races_text::Shown;
 use std::alloc::{AllocError, Global};
 
-/// The paths that a command is said to have read, where they were listed.
-pub(crate) fn listed<'a>(side: Side<'a>, last: &Last) -> &'a [Name] {
+/// The paths that a command is said to have read: as they were listed, or as its depfile has them.
+#[derive(Drop)]
+pub(crate) enum Listed<'a> {
+    Shared(&'a [Name]),
+    Read(Vec<Name>),
+}
+
+impl Listed<'_> {
+    /// The paths.
+    pub(crate) fn as_slice(&self) -> &[Name] {
+        match self {
+            Listed::Shared(paths) => *paths,
+            Listed::Read(paths) => paths.as_slice(),
+        }
+    }
+}
+
+// The outputs of an edge.
+fn outputs_of<'a>(alloc: Global, side: Side<'a>, edge: u32) -> Result<Vec<Name>, AllocError> {
+    let mut outputs = Vec::new(alloc);
+    let Some(build) = side.build(edge) else {
+        return Ok(outputs);
+    };
+    for output in build.explicit_outs() {
+        outputs.push(output.copy()?)?;
+    }
+    for output in build.implicit_outs() {
+        outputs.push(output.copy()?)?;
+    }
+    Ok(outputs)
+}
+
+// The paths that a depfile of an edge has; none where it has a fault, as no accepted event has.
+fn read_of<'a>(
+    alloc: Global,
+    side: Side<'a>,
+    edge: u32,
+    text: &[u8],
+) -> Result<Vec<Name>, AllocError> {
+    let outputs = outputs_of(alloc, side, edge)?;
+    match read(alloc, text, &outputs) {
+        Ok(paths) => Ok(paths),
+        Err(DepfileFault::Memory) => Err(AllocError),
+        Err(_) => Ok(Vec::new(alloc)),
+    }
+}
+
+/// The paths that the command of an edge is said to have read in its last run.
+pub(crate) fn listed<'a>(
+    alloc: Global,
+    side: Side<'a>,
+    edge: u32,
+    last: &Last,
+) -> Result<Listed<'a>, AllocError> {
     match end_of(side.history, last.ended) {
         Some(
             Event::Finish {
                 listing: Listing::Paths(paths),
                 ..
             },
-        ) => paths.as_slice(),
-        _ => &[],
+        ) => Ok(Listed::Shared(paths.as_slice())),
+        Some(
+            Event::Finish {
+                listing: Listing::Depfile(text),
+                ..
+            },
+        ) => Ok(Listed::Read(read_of(alloc, side, edge, text.as_slice())?)),
+        _ => Ok(Listed::Shared(&[])),
     }
 }
 
-/// Paths, to look one up.
-pub(crate) fn set_of(alloc: Global, paths: &[Name]) -> Result<IndexMap<Name, ()>, AllocError> {
-    let mut set = IndexMap::new(alloc);
+// Adds the paths to those that are there.
+fn add_to_set(set: &mut IndexMap<Name, ()>, paths: &[Name]) -> Result<(), AllocError> {
     for path in paths {
         set.insert(path.copy()?, ())?;
     }
+    Ok(())
+}
+
+/// The paths of some lists, to look one up.
+pub(crate) fn set_of(alloc: Global, lists: &[&[Name]]) -> Result<IndexMap<Name, ()>, AllocError> {
+    let mut set = IndexMap::new(alloc);
+    for list in lists {
+        add_to_set(&mut set, list)?;
+    }
     Ok(set)
+}
+
+/// Adds the paths that are not among some.
+pub(crate) fn add_others<'a>(
+    alone: &mut Vec<Shown<'a>>,
+    paths: &'a [Name],
+    set: &IndexMap<Name, ()>,
+) -> Result<(), AllocError> {
+    for path in paths {
+        if !set.contains_key(path) {
+            alone.push(Shown(path.as_bytes()))?;
+        }
+    }
+    Ok(())
 }
 
 /// The paths of some that are not among others.
@@ -35,13 +116,9 @@ pub(crate) fn beside<'a>(
     paths: &'a [Name],
     others: &[Name],
 ) -> Result<Vec<Shown<'a>>, AllocError> {
-    let set = set_of(alloc, others)?;
+    let set = set_of(alloc, &[others])?;
     let mut alone = Vec::new(alloc);
-    for path in paths {
-        if !set.contains_key(path) {
-            alone.push(Shown(path.as_bytes()))?;
-        }
-    }
+    add_others(&mut alone, paths, &set)?;
     Ok(alone)
 }
 

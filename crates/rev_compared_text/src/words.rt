@@ -2,7 +2,9 @@
 use crate::alike::{FEW, Group, alike_changes, alike_runs};
 use crate::changes::{Part, flags_that_differ, inputs_alone, outputs_alone, part_of};
 use crate::facts::{Changed, Differing, Facts, Inverted, alone_in, counts};
-use crate::flakes::{Days, Flake, Maker, failed_in_one, failed_in_other, makers_of, story_of};
+use crate::flakes::{
+    Days, Flake, Maker, Pasts, failed_in_one, failed_in_other, makers_of, story_of,
+};
 use crate::reads::{beside, listed, there_alone};
 use crate::side::{Day, Side, ending_word, event_name};
 use rev_manifest::Build;
@@ -322,14 +324,14 @@ fn push_reads<'a>(
     d: &Differing,
     all: bool,
 ) -> Result<(), AllocError> {
-    let here = listed(one, &d.last);
-    let there = listed(other, &d.other);
-    let alone = beside(alloc, here, there)?;
+    let here = listed(alloc, one, d.edge, &d.last)?;
+    let there = listed(alloc, other, d.twin, &d.other)?;
+    let alone = beside(alloc, here.as_slice(), there.as_slice())?;
     let has_here = push_paths(text, "listed as read", "A", &alone, all)?;
-    let other_alone = beside(alloc, there, here)?;
+    let other_alone = beside(alloc, there.as_slice(), here.as_slice())?;
     let has_there = push_paths(text, "listed as read", "B", &other_alone, all)?;
     if !has_here && !has_there {
-        text.push_str("    the lists of what was read differ in their order or form\n")?;
+        text.push_str("    the same is listed as read, in another order or form\n")?;
     }
     Ok(())
 }
@@ -412,6 +414,9 @@ fn push_maker<'a>(text: &mut String, days: Days<'a>, maker: &Maker) -> Result<()
     let story = story_of(days.bad, maker);
     let (bad, good) = (days.bad.letter, days.good.letter);
     write!(text, "    {placed}: {story} in {bad}")?;
+    if maker.is_earlier {
+        write!(text, "; had been made before {good}")?;
+    }
     if maker.is_listed {
         write!(text, "; listed as read in {good}")?;
     }
@@ -441,13 +446,20 @@ fn push_flake<'a>(
     alloc: Global,
     text: &mut String,
     days: Days<'a>,
+    pasts: &Pasts,
     flake: &Flake,
     all: bool,
 ) -> Result<(), AllocError> {
     let placed = days.bad.side.edge(flake.bad_edge);
     let (bad, good) = (days.bad.letter, days.good.letter);
-    let makers = makers_of(alloc, days, flake)?;
+    let makers = makers_of(alloc, days, pasts, flake)?;
     let count = makers.len();
+    if count == 0 {
+        return write!(
+            text,
+            "  {placed}: nothing had finished before it in {good} alone\n"
+        );
+    }
     write!(
         text,
         "  {placed}: {count} had finished before it in {good} and not in {bad}\n"
@@ -472,9 +484,10 @@ fn push_flakes<'a>(
     }
     let (bad, good) = (days.bad.letter, days.good.letter);
     write!(text, "failed in {bad} and passed in {good}: {count}\n")?;
+    let pasts = Pasts::new(alloc, days)?;
     let most = if all { ALL_FLAKES } else { FLAKES };
     for flake in flakes.iter().take(most) {
-        push_flake(alloc, text, days, flake, all)?;
+        push_flake(alloc, text, days, &pasts, flake, all)?;
     }
     let more = count.saturating_sub(most);
     if more != 0 {
