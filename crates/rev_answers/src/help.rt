@@ -1,4 +1,5 @@
 //! What the prompt tells of itself.
+use crate::request::{Request, request_of};
 use rev_prompt::Question;
 use rev_shown::push_shown;
 use std::alloc::{AllocError, Global};
@@ -259,12 +260,18 @@ fn push_lines_of(text: &mut Vec<u8>, word: &[u8]) -> Result<(), AllocError> {
 
 /// Adds what `help` tells: of all words, or of one with an example.
 pub(crate) fn push_help(text: &mut Vec<u8>, question: &Question) -> Result<(), AllocError> {
-    match question {
-        Question::HelpOf(word) => {
+    match request_of(question) {
+        Request::Help(Some(word)) => {
             push_lines_of(text, word)?;
             push_word(text, word)
         }
-        _ => text.extend_from_slice(HELP),
+        Request::Help(None)
+        | Request::Command(_)
+        | Request::Rebuilds(_)
+        | Request::Change
+        | Request::Output
+        | Request::Order
+        | Request::Rest => text.extend_from_slice(HELP),
     }
 }
 

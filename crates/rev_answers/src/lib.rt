@@ -20,6 +20,7 @@ mod order;
 mod reasons;
 mod refusals;
 mod replay;
+mod request;
 mod runs;
 mod screen;
 mod seen;

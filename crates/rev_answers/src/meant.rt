@@ -1,10 +1,11 @@
 //! What was meant by a path that is not there: no edge makes it, or none names it.
+use crate::request::{Request, request_of};
 use crate::statements::listed;
 use crate::told::{Told, history_of, path_of};
 use rev_manifest::Build;
 use rev_observed::Observation;
 use rev_paths::Name;
-use rev_prompt::{Query, Question};
+use rev_prompt::Question;
 use rev_shown::push_shown;
 use std::alloc::{AllocError, Global};
 
@@ -93,14 +94,11 @@ pub(crate) fn meant<'a>(
 
 // What is told of a pattern where a question takes none.
 fn takes_no_pattern(question: &Question) -> &'static [u8] {
-    match question {
-        Question::Undo(_) | Question::Redo(_) | Question::Cone(_) => {
-            b": a change of the history is of one event, and takes no pattern"
-        }
-        Question::Without(_) | Question::Until(_) =>
-            b": this is of one output, and takes no pattern",
-        Question::Order(_) => b": an order names one event after the other, and takes no pattern",
-        _ => b"",
+    match request_of(question) {
+        Request::Change => b": a change of the history is of one event, and takes no pattern",
+        Request::Output => b": this is of one output, and takes no pattern",
+        Request::Order => b": an order names one event after the other, and takes no pattern",
+        Request::Help(_) | Request::Command(_) | Request::Rebuilds(_) | Request::Rest => b"",
     }
 }
 
@@ -340,9 +338,14 @@ pub(crate) fn push_near_paths(
 
 // The paths that are asked about by `rebuilds`.
 fn touched<'a>(told: Told<'a>) -> &'a [Name] {
-    match told.question {
-        Question::Query(Query::Rebuilds(paths), _) => paths,
-        _ => &[],
+    match request_of(told.question) {
+        Request::Rebuilds(paths) => paths,
+        Request::Help(_)
+        | Request::Command(_)
+        | Request::Change
+        | Request::Output
+        | Request::Order
+        | Request::Rest => &[],
     }
 }
 

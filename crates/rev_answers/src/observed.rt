@@ -34,7 +34,13 @@ fn look_word(look: Kind) -> &'static [u8] {
     match look {
         Kind::Reads => b"read",
         Kind::Misses => b"miss",
-        _ => b"check",
+        Kind::Stats
+        | Kind::Lists
+        | Kind::Writes
+        | Kind::Edits
+        | Kind::Deletes
+        | Kind::Temps
+        | Kind::Folders => b"check",
     }
 }
 
@@ -183,7 +189,13 @@ fn looked_words(look: Kind) -> &'static [u8] {
     match look {
         Kind::Reads => b" read ",
         Kind::Misses => b" asked in vain for ",
-        _ => b" asked for ",
+        Kind::Stats
+        | Kind::Lists
+        | Kind::Writes
+        | Kind::Edits
+        | Kind::Deletes
+        | Kind::Temps
+        | Kind::Folders => b" asked for ",
     }
 }
 

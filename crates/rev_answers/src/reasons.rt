@@ -11,20 +11,6 @@ use rev_prompt::{Because, Span, Way};
 use rev_shown::push_shown;
 use std::alloc::AllocError;
 
-/// The word of a reason, as a report writes it.
-pub(crate) fn reason_word(reason: Reason) -> &'static str {
-    match reason {
-        Reason::Missing(_) => "missing",
-        Reason::NoDeps => "no-deps",
-        Reason::DepsOld => "deps-old",
-        Reason::Rebuilt(_) => "rebuilt",
-        Reason::MissingDep(_) => "missing-dep",
-        Reason::Older(_, _) => "older",
-        Reason::NoRecord(_) => "no-record",
-        Reason::Command(_) => "command",
-    }
-}
-
 // The words before the output, between it and the input, and behind both.
 fn reason_parts(reason: Reason) -> (&'static [u8], &'static [u8], &'static [u8]) {
     match reason {

@@ -40,7 +40,11 @@ pub(crate) fn subject_of<'a>(told: Told<'_>, command: &'a Command) -> Subject<'a
         Command::Undo(which) | Command::Redo(which) | Command::Cone(which) => {
             subject_named(told, *which, command)
         }
-        _ => Subject::Command(command),
+        Command::Event(_)
+        | Command::Back
+        | Command::Break(_)
+        | Command::Unbreak(_)
+        | Command::Continue => Subject::Command(command),
     }
 }
 

@@ -5,6 +5,7 @@ use rev_dirty::listed_inputs;
 use rev_fields::push_number;
 use rev_manifest::Build;
 use rev_paths::Name;
+use rev_queries::rule_in;
 use rev_shown::push_shown;
 use std::alloc::AllocError;
 
@@ -69,43 +70,8 @@ pub(crate) fn from_line(bytes: &[u8], line: u64) -> &[u8] {
     &[]
 }
 
-// Whether a byte may stand in the name of a rule (Ninja manual, lexical syntax).
-fn is_of_name(byte: u8) -> bool {
-    byte.is_ascii_alphanumeric() || byte == b'_' || byte == b'-' || byte == b'.'
-}
-
-// The name at the beginning of some bytes, behind spaces and a line's end that is written `$`.
-fn name_at(bytes: &[u8]) -> &[u8] {
-    let bytes = bytes.trim_ascii_start();
-    let bytes = bytes
-        .strip_prefix(b"$\n")
-        .unwrap_or(bytes)
-        .trim_ascii_start();
-    match bytes.iter().position(|byte| !is_of_name(*byte)) {
-        Some(end) => bytes.get(..end).unwrap_or(bytes),
-        None => bytes,
-    }
-}
-
-// The name of the rule of a build statement, which stands behind the first `:` before which no `$` stands.
-fn rule_in(statement: &[u8]) -> Option<&[u8]> {
-    let mut is_escaped = false;
-    for (place, byte) in statement.iter().enumerate() {
-        if is_escaped {
-            is_escaped = false;
-        } else if *byte == b'$' {
-            is_escaped = true;
-        } else if *byte == b':' {
-            return Some(name_at(statement.get(place.saturating_add(1)..)?));
-        } else if *byte == b'\n' {
-            return None;
-        }
-    }
-    None
-}
-
 /// The name of the rule of an edge, as its build statement has it.
 pub(crate) fn rule_of<'a>(told: Told<'a>, build: &Build) -> Option<&'a [u8]> {
     let (_, bytes) = told.session.files.get(build.file() as usize)?;
-    rule_in(from_line(bytes, build.line()))
+    Some(rule_in(from_line(bytes, build.line())))
 }

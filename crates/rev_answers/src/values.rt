@@ -4,12 +4,12 @@ use crate::edges::push_edge;
 use crate::events::{is_kept, push_words};
 use crate::meant::{is_among, near_paths};
 use crate::object::Object;
-use crate::reasons::reason_word;
 use crate::told::{Told, history_of};
 use rev_cells::Cell;
 use rev_events::Event;
 use rev_graph::Graph;
 use rev_history::History;
+use rev_listing::reason_word;
 use rev_paths::Name;
 use rev_prompt::{Because, Link, Span, time_at};
 use rev_shown::push_shown;
@@ -119,7 +119,13 @@ fn put_rest(object: &mut Object, alloc: Global, event: &Event) -> Result<(), All
             object.put_number(alloc, "pool", u64::from(*pool))?;
             object.put_number(alloc, "depth", u64::from(*depth))
         }
-        _ => Ok(()),
+        Event::Start { slot: None, .. }
+        | Event::Finish { .. }
+        | Event::Fail { .. }
+        | Event::Abort { .. }
+        | Event::Clean { .. }
+        | Event::Pass { .. }
+        | Event::Interrupt => Ok(()),
     }
 }
 

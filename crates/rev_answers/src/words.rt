@@ -13,6 +13,7 @@ use crate::order::push_order;
 use crate::reasons::push_why;
 use crate::refusals::{NEXT_LINE, Subject, push_full, push_refusal, subject_of};
 use crate::replay::{push_steps, push_tally};
+use crate::request::{Request, request_of};
 use crate::runs::push_with;
 use crate::times::push_at;
 use crate::told::{Told, history_of};
@@ -212,10 +213,17 @@ fn push_without(
 
 /// What was refused, of a question and the event that it names.
 pub(crate) fn subject_asked<'a>(told: Told<'a>, number: Option<u32>) -> Subject<'a> {
-    match (number, told.question) {
-        (Some(number), _) => Subject::Event(number),
-        (None, Question::Command(command)) => subject_of(told, command),
-        _ => Subject::Nothing,
+    if let Some(number) = number {
+        return Subject::Event(number);
+    }
+    match request_of(told.question) {
+        Request::Command(command) => subject_of(told, command),
+        Request::Help(_)
+        | Request::Rebuilds(_)
+        | Request::Change
+        | Request::Output
+        | Request::Order
+        | Request::Rest => Subject::Nothing,
     }
 }
 

@@ -247,22 +247,22 @@ module _ (builds : List BuildValue) (state : State) (changes : List ℕ → Opti
 abbrev pub is_seen : (List ℕ → Option ChangeValue) → List (List ℕ) → List ℕ → Bool
 is_seen changes before path = is_some (changes path) && list_any (bytes_eq path) before
 
-bytes-same : (xs ys : List ℕ) → bytes_eq xs ys ≡ true → xs ≡ ys
+pub bytes-same : (xs ys : List ℕ) → bytes_eq xs ys ≡ true → xs ≡ ys
 bytes-same xs ys e = (bytes_eq-Decides xs ys).0 e
 
-same-bytes : (xs ys : List ℕ) → xs ≡ ys → bytes_eq xs ys ≡ true
+pub same-bytes : (xs ys : List ℕ) → xs ≡ ys → bytes_eq xs ys ≡ true
 same-bytes xs ys e = (bytes_eq-Decides xs ys).1 e
 
-or-false : (b : Bool) → (b || false) ≡ b
+pub or-false : (b : Bool) → (b || false) ≡ b
 or-false true = refl
 or-false false = refl
 
-or-true : (b : Bool) → (b || true) ≡ true
+pub or-true : (b : Bool) → (b || true) ≡ true
 or-true true = refl
 or-true false = refl
 
 -- a list up to a place and the path there
-take-more : (paths : List (List ℕ)) (place : ℕ) (path : List ℕ) → slice_get paths place ≡ Some path → take (place + 1) paths ≡ take place paths ++ path ∷ []
+pub take-more : (paths : List (List ℕ)) (place : ℕ) (path : List ℕ) → slice_get paths place ≡ Some path → take (place + 1) paths ≡ take place paths ++ path ∷ []
 take-more paths place path stands =
     take_more paths place [] (slice_get_within paths place path stands)
     ∙ ap (λ (p : List ℕ). take place paths ++ p ∷ []) (get_or_from_slice_get paths place path [] stands)
@@ -304,7 +304,7 @@ seen-more changes paths place path stands other =
         ∙ when-other (is_some (changes path)) (is_some (changes other)) (turned-round false e)
 
 -- a path that stands before a place
-any-at : (paths : List (List ℕ)) (place before : ℕ) (path : List ℕ) → before < place → slice_get paths before ≡ Some path → list_any (bytes_eq path) (take place paths) ≡ true
+pub any-at : (paths : List (List ℕ)) (place before : ℕ) (path : List ℕ) → before < place → slice_get paths before ≡ Some path → list_any (bytes_eq path) (take place paths) ≡ true
 any-at [] place before path less stands =
     let no : None ≡ Some path = stands in
     absurd (true≢false cc)
@@ -321,7 +321,7 @@ pub record StandsAt (paths : List (List ℕ)) (place : ℕ) (path : List ℕ) : 
   pub less : before < place
   pub stands : slice_get paths before ≡ Some path
 
-at-any : (paths : List (List ℕ)) (place : ℕ) (path : List ℕ) → list_any (bytes_eq path) (take place paths) ≡ true → StandsAt paths place path
+pub at-any : (paths : List (List ℕ)) (place : ℕ) (path : List ℕ) → list_any (bytes_eq path) (take place paths) ≡ true → StandsAt paths place path
 at-any [] zero path e = absurd (true≢false (sym e))
 at-any [] (suc place) path e = absurd (true≢false (sym e))
 at-any (p ∷ ps) zero path e = absurd (true≢false (sym e))

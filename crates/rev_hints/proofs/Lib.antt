@@ -1,3 +1,4 @@
 pub mod RunningLemmas
 pub mod ChangeLemmas
 pub mod HintLemmas
+pub mod NameLemmas

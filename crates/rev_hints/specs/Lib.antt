@@ -1,3 +1,4 @@
 pub mod Running
 pub mod Changes
 pub mod Hints
+pub mod Names

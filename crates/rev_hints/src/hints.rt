@@ -58,8 +58,8 @@ fn others(alloc: Global, edges: &[u32], user: u32) -> Result<Vec<u32>, AllocErro
         .collect(alloc)
 }
 
-// Whether an edge has a mark.
-fn is_marked(marks: &[bool], edge: u32) -> bool
+/// Whether an edge has a mark.
+pub(crate) fn is_marked(marks: &[bool], edge: u32) -> bool
     ensures { result ≡ slice_index_or marks.now edge false }
 {
     if edge as usize >= marks.len() {
@@ -102,8 +102,8 @@ fn add_hint(
     Ok(())
 }
 
-// Whether a path is new among those seen, of which it is one then.
-fn is_new(seen: &mut IndexSet<Name>, path: &Name) -> Result<bool, AllocError>
+/// Whether a path is new among those seen, of which it is one then.
+pub(crate) fn is_new(seen: &mut IndexSet<Name>, path: &Name) -> Result<bool, AllocError>
     ensures new { IfOk result (λ new. new ≡ not (contains bytes_eq seen.old path.now)) }
     ensures seen { OnOk result ((other : List ℕ) → contains bytes_eq seen.new other
         ≡ (if bytes_eq path.now other then true else contains bytes_eq seen.old other)) }
@@ -261,8 +261,8 @@ pub fn change_hints(
     Ok(hints)
 }
 
-// What an edge lists; nothing where it has no list.
-fn paths_of(history: &History, edge: u32) -> &[Name]
+/// What an edge lists; nothing where it has no list.
+pub(crate) fn paths_of(history: &History, edge: u32) -> &[Name]
     requires { edge < length history.now.timeline.manifest.builds }
     ensures { result.now ≡ listed history.now.timeline.manifest history.now.timeline.opening
         (kept_events history.now.timeline) edge }

@@ -1,23 +1,10 @@
 //! Why commands ran, by the state of the plan.
 use rev_cells::Cells;
-use rev_dirty::{DependencyScan, Reason};
+use rev_dirty::DependencyScan;
 use rev_graph::Graph;
+use rev_listing::reason_word;
 use std::alloc::{AllocError, Global};
 use std::marker::Model;
-
-// The word of a reason, as a report writes it.
-fn reason_word(reason: Reason) -> &'static str {
-    match reason {
-        Reason::Missing(_) => "missing",
-        Reason::NoDeps => "no-deps",
-        Reason::DepsOld => "deps-old",
-        Reason::Rebuilt(_) => "rebuilt",
-        Reason::MissingDep(_) => "missing-dep",
-        Reason::Older(_, _) => "older",
-        Reason::NoRecord(_) => "no-record",
-        Reason::Command(_) => "command",
-    }
-}
 
 /// The reasons of the edges of a graph in one state. It keeps what it learned of phony edges, as the scan below it does.
 #[derive(Drop)]

@@ -1,5 +1,6 @@
 //! The rules that build statements name.
 use rev_manifest::Build;
+use rev_queries::rule_in;
 use std::alloc::{AllocError, Global};
 
 /// Where the lines of the files of a manifest begin.
@@ -19,38 +20,6 @@ fn starts_of(alloc: Global, bytes: &[u8]) -> Result<Vec<usize>, AllocError> {
         }
     }
     Ok(starts)
-}
-
-// What stands behind the first `:` of a build statement that no `$` escapes (Ninja manual, lexical syntax).
-fn behind_colon(statement: &[u8]) -> &[u8] {
-    let mut is_escaped = false;
-    for (place, byte) in statement.iter().enumerate() {
-        if is_escaped {
-            is_escaped = false;
-        } else if *byte == b'$' {
-            is_escaped = true;
-        } else if *byte == b':' {
-            return statement.get(place.saturating_add(1)..).unwrap_or(b"");
-        }
-    }
-    b""
-}
-
-// Whether a byte may stand in the name of a rule (Ninja manual, lexical syntax).
-fn is_of_rule(byte: u8) -> bool {
-    byte.is_ascii_alphanumeric() || matches!(byte, b'_' | b'-' | b'.')
-}
-
-// The first name in a text: a line's end behind a `$` is a space.
-fn first_name(text: &[u8]) -> &[u8] {
-    let Some(from) = text.iter().position(|byte| is_of_rule(*byte)) else {
-        return b"";
-    };
-    let rest = text.get(from..).unwrap_or(b"");
-    match rest.iter().position(|byte| !is_of_rule(*byte)) {
-        Some(end) => rest.get(..end).unwrap_or(b""),
-        None => rest,
-    }
 }
 
 impl Lines {
@@ -78,7 +47,7 @@ impl Lines {
     /// The name of the rule of an edge, as its build statement has it; nothing where the statement has none.
     pub(crate) fn rule_of<'a>(&self, files: &'a [(Vec<u8>, Vec<u8>)], build: &Build) -> &'a [u8] {
         match self.statement(files, build) {
-            Some(statement) => first_name(behind_colon(statement)),
+            Some(statement) => rule_in(statement),
             None => b"",
         }
     }
