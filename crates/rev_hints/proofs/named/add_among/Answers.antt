@@ -27,27 +27,27 @@ loop-place-preserved c =
     let path = c.index-paths-place.result in
     let stands : slice_get c.args.paths.now c.loop-place.place ≡ Some c.index-paths-place.result = slice_get_read c.args.paths.now (length c.args.paths.now) place path refl c.loop-place-test.true c.index-paths-place.is in
     let seen = λ (other : List ℕ).
-        c.in_ok-first.ensures.seen other
-        ∙ ap (λ b. if bytes_eq path other then true else b) (c.loop-place.invariant.seen other)
-        ∙ seen-next paths place path stands other in
+    c.in_ok-first.ensures.seen other
+    ∙ ap (λ b. if bytes_eq path other then true else b) (c.loop-place.invariant.seen other)
+    ∙ seen-next paths place path stands other in
     elim c.if-first.branch [
       | then-first+in_ok-add_at w ↦ record {
-          hints = λ h.
-              subst (λ (hs : Vec NameHint). Contains hs.items h ↔ (Contains c.args.hints.now.items h ⊎ SomeBelow (λ p. IsHintHere builds files names whole user paths p h) (place + 1))) (sym w.hints-is)
-              (some-more (λ p. IsHintHere builds files names whole user paths p h) place (c.loop-place.invariant.hints h)
-              (either-more (w.in_ok-add_at.ensures.hints h) (hint-here builds files whole user place names paths path stands h
-              (first-place paths place path (sym (c.loop-place.invariant.seen path) ∙ not-true (contains bytes_eq c.loop-place.seen path) (sym c.in_ok-first.ensures.new ∙ w.if-first.true))))));
-          seen = seen;
-          kept = subst (λ (k : KeptMakers). AreKeptMakers builds k.phony k.makers.items) (sym w.kept-is) w.in_ok-add_at.ensures.kept;
-        }
+        hints = λ h.
+            subst (λ (hs : Vec NameHint). Contains hs.items h ↔ (Contains c.args.hints.now.items h ⊎ SomeBelow (λ p. IsHintHere builds files names whole user paths p h) (place + 1))) (sym w.hints-is)
+            (some-more (λ p. IsHintHere builds files names whole user paths p h) place (c.loop-place.invariant.hints h)
+            (either-more (w.in_ok-add_at.ensures.hints h) (hint-here builds files whole user place names paths path stands h
+            (first-place paths place path (sym (c.loop-place.invariant.seen path) ∙ not-true (contains bytes_eq c.loop-place.seen path) (sym c.in_ok-first.ensures.new ∙ w.if-first.true))))));
+        seen = seen;
+        kept = subst (λ (k : KeptMakers). AreKeptMakers builds k.phony k.makers.items) (sym w.kept-is) w.in_ok-add_at.ensures.kept;
+      }
       | else-first w ↦ record {
-          hints = λ h.
-              subst (λ (hs : Vec NameHint). Contains hs.items h ↔ (Contains c.args.hints.now.items h ⊎ SomeBelow (λ p. IsHintHere builds files names whole user paths p h) (place + 1))) (sym w.hints-is)
-              (some-skip (λ p. IsHintHere builds files names whole user paths p h) place (c.loop-place.invariant.hints h)
-              (none-here builds files whole user place names paths path stands h (sym (c.loop-place.invariant.seen path) ∙ not-false (contains bytes_eq c.loop-place.seen path) (sym c.in_ok-first.ensures.new ∙ w.if-first.false))));
-          seen = seen;
-          kept = subst (λ (k : KeptMakers). AreKeptMakers builds k.phony k.makers.items) (sym w.kept-is) c.loop-place.invariant.kept;
-        }
+        hints = λ h.
+            subst (λ (hs : Vec NameHint). Contains hs.items h ↔ (Contains c.args.hints.now.items h ⊎ SomeBelow (λ p. IsHintHere builds files names whole user paths p h) (place + 1))) (sym w.hints-is)
+            (some-skip (λ p. IsHintHere builds files names whole user paths p h) place (c.loop-place.invariant.hints h)
+            (none-here builds files whole user place names paths path stands h (sym (c.loop-place.invariant.seen path) ∙ not-false (contains bytes_eq c.loop-place.seen path) (sym c.in_ok-first.ensures.new ∙ w.if-first.false))));
+        seen = seen;
+        kept = subst (λ (k : KeptMakers). AreKeptMakers builds k.phony k.makers.items) (sym w.kept-is) c.loop-place.invariant.kept;
+      }
     ]
 
 pub returns-clause-hints : goal.returns-clause-hints
