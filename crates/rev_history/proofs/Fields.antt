@@ -314,14 +314,6 @@ has_step a s n i o among place is none =
     let here : step_at n a.accepted.entries (beside_of a) ≡ Some o = beside_at n a.accepted.entries (beside_of a) i place ∙ slice_get-get_or (beside_of a) i o lt ∙ ap Some (sym is) in
     true≢false (sym (s.beside n o here ∙ among) ∙ ap is_some (sym none))
 
--- an event whose redo is not refused is accepted now
-pub accepted_now : (a : Inside) → IsSound a → (n : ℕ) (e : Event) → redo_refusal (timeline_of a) n ≡ None → causal.event_at n a.accepted.entries ≡ Some e → refusal a.graph.manifest a.cells.jobs a.cells.state e ≡ None
-accepted_now a s n e free at =
-    let r : IsReady (timeline_of a) n = is_ready (timeline_of a) n free in
-    let one : Some r.event ≡ Some e = sym r.at ∙ at in
-    let same : r.event ≡ e = cc in
-    ap₂ (λ j v. refusal a.graph.manifest j v e) s.jobs (state_of a s) ∙ ap (refusal a.graph.manifest a.opening.jobs (state_at (timeline_of a))) (sym same) ∙ r.accepts
-
 -- what stands beside an event is a footprint of its own
 own_footprint : (m : ManifestValue) (es : List (ℕ × Event)) (steps : List Beside) (n : ℕ) (f : FootprintValue) (e : Event) → HaveFootprints m es steps → Some f ≡ footprint_beside n es steps → causal.event_at n es ≡ Some e → IsFootprintOf m e f
 own_footprint m [] steps n f e h is at = cc

@@ -17,14 +17,17 @@ use Rattle.rev_causal.proofs.Chosen.{AllAccepted, All-chosen, some_is, all_below
 use Rattle.rev_causal.proofs.KeptTables.{put_last}
 use Rattle.rev_causal.proofs.Runs.{either}
 use Rattle.rev_cells.specs.declared.cell.Cell.{Cell}
+use Rattle.rev_cells.specs.declared.value.Value.{Value}
+use Rattle.rev_cells.specs.Effects.{stored_values}
 use Rattle.rev_cells.specs.Keys.{cell_cmp}
 use Rattle.rev_cells.proofs.EntryLemmas.{cells_total}
 use Rattle.rev_events.specs.declared.event.Event.{Event}
+use Rattle.rev_events.specs.Machine.{effect}
 use Rattle.rev_footprint.specs.Value as footprints
 use Rattle.rev_footprint.specs.Value.{FootprintValue}
 use Rattle.rev_history.specs.declared.history.History.TheInside.{Inside}
 use Rattle.rev_footprint.specs.Footprint.{footprint}
-use Rattle.rev_history.specs.Checked.{HasNow}
+use Rattle.rev_history.specs.Checked.{HasNow, WritesNow}
 use Rattle.rev_history.specs.Sound.{beside_of, IsSound, kept_prints, timeline_of}
 use Rattle.rev_history.specs.Steps.{Placed, place_prints, placed_print, print_of, prints_of, step_value}
 use Rattle.rev_history.specs.Timeline.{Timeline, event_at, state_at, nearest_conflict}
@@ -126,3 +129,14 @@ has_now a s t view n e f at is d there =
 pub print_now : (a : Inside) → IsSound a → (t : Timeline) → timeline_of a ≡ t → (n : ℕ) (e : Event) (f : FootprintValue) → HasNow t n f → causal.event_at n a.accepted.entries ≡ Some e → f ≡ footprint a.graph.manifest a.cells.state e
 print_now a s t view n e f now at =
     now e (ap (λ (v : Timeline). event_at v n) (sym view) ∙ at) ∙ ap (λ (v : Timeline). footprint v.manifest (state_at v) e) (sym view) ∙ ap (λ v. footprint a.graph.manifest v e) (sym (state_of a s))
+
+-- what the event of a number writes now
+pub writes_now : (a : Inside) → IsSound a → (t : Timeline) → timeline_of a ≡ t → (n : ℕ) (e : Event) (ws : List (Cell × Value)) → Some e ≡ event_at t n → stored_values ws ≡ effect a.graph.manifest a.cells.state e → (d : Event) → event_at t n ≡ Some d → stored_values ws ≡ effect t.manifest (state_at t) d
+writes_now a s t view n e ws at is d there =
+    let one : Some e ≡ Some d = at ∙ there in
+    let same : e ≡ d = cc in
+    is ∙ ap₂ (effect a.graph.manifest) (state_of a s) same ∙ ap (λ (v : Timeline). effect v.manifest (state_at v) d) view
+
+pub stored_now : (a : Inside) → IsSound a → (t : Timeline) → timeline_of a ≡ t → (n : ℕ) (e : Event) (ws : List (Cell × Value)) → WritesNow t n ws → causal.event_at n a.accepted.entries ≡ Some e → stored_values ws ≡ effect a.graph.manifest a.cells.state e
+stored_now a s t view n e ws now at =
+    now.stored e (ap (λ (v : Timeline). event_at v n) (sym view) ∙ at) ∙ ap (λ (v : Timeline). effect v.manifest (state_at v) e) (sym view) ∙ ap (λ v. effect a.graph.manifest v e) (sym (state_of a s))

@@ -8,7 +8,7 @@ ghost use Rattle.rev_events.specs.declared.refusal.Refusal.{Refusal};
 ghost use Rattle.rev_events.specs.Same.{event_eq};
 ghost use Rattle.rev_footprint.specs.Value.{FootprintValue, print_of};
 ghost use Rattle.rev_history.specs.Along.{HavePrints, inverted_along};
-ghost use Rattle.rev_history.specs.Checked.{HasNow, IsChecked};
+ghost use Rattle.rev_history.specs.Checked.{HasNow, IsChecked, WritesNow};
 ghost use Rattle.rev_history.specs.Order.{IsOrder, IsSameOpening, answer_of, order_of};
 ghost use Rattle.rev_history.specs.Timeline.{IsHistory, IsRising, Timeline, accept_refusal, accepted_as, back_refusal, cone_numbers, cone_refusal, coned, event_at, greatest_kept, kept_events, kept_footprint, last_of, machine_at, nearest_conflict, opened, redo_refusal, redone, state_at, undo_refusal, undone};
 ghost use Rattle.rev_history.specs.Value.{cells_written};
@@ -18,11 +18,11 @@ use crate::closing::cone;
 use crate::kept::KeptFootprint;
 use crate::order::{Order, accesses_of, both, first_pair, pair_by_places};
 use crate::removal::{put_all_back, put_back, remove_members};
-use crate::step::{Checked, effect, effect_if_accepted, refusal};
+use crate::step::{Checked, effect_if_accepted, refusal};
 use crate::steps::{Step, step_of};
 use indexmap::IndexMap;
 use rev_accesses::Accesses;
-use rev_cells::{Cells, Opening};
+use rev_cells::{Cell, Cells, Opening, Value};
 use rev_events::{Event, Fault, Refusal};
 use rev_footprint::{Footprint, footprint as footprint_now};
 use rev_graph::Graph;
@@ -279,8 +279,8 @@ impl History {
     {
         match self.redo_checked(number)? {
             Checked::Refused(refusal) => Err(Fault::Refused(refusal)),
-            Checked::Free(footprint) => {
-                self.keep(number, footprint)?;
+            Checked::Free(footprint, writes) => {
+                self.keep(number, footprint, writes)?;
                 Ok(())
             }
         }
@@ -434,11 +434,11 @@ impl History {
     {
         match self.redo_checked(number)? {
             Checked::Refused(refusal) => Ok(Some(refusal)),
-            Checked::Free(_) => Ok(None),
+            Checked::Free(_, _) => Ok(None),
         }
     }
 
-    // Whether `redo` would put an event back now.
+    // Whether `redo` would put an event back now. What the event then writes is worked out with its refusal.
     fn redo_checked(&self, number: u32) -> Result<Checked, AllocError>
         ensures { IfOk result (IsChecked self.now.timeline number) }
     {
@@ -448,18 +448,22 @@ impl History {
         if self.kept.has(number) {
             return Ok(Checked::Refused(Refusal::AlreadyKept));
         }
-        let refused = refusal(self.alloc, &self.graph, &self.cells, event)?;
-        if let Some(refusal) = refused {
-            let [first, _] = refusal.numbers();
-            return Ok(Checked::Refused(Refusal::NotNow {
-                refusal: refusal.code(),
-                first,
-            }));
-        }
-        let footprint = footprint_now(self.alloc, &self.graph, &self.cells, event)?;
-        match self.nearest(number, &footprint) {
-            Some(other) => Ok(Checked::Refused(Refusal::Overtaken(other))),
-            None => Ok(Checked::Free(footprint)),
+        match effect_if_accepted(self.alloc, &self.graph, &self.cells, event) {
+            Err(Fault::Memory) => Err(AllocError),
+            Err(Fault::Refused(refusal)) => {
+                let [first, _] = refusal.numbers();
+                Ok(Checked::Refused(Refusal::NotNow {
+                    refusal: refusal.code(),
+                    first,
+                }))
+            }
+            Ok(writes) => {
+                let footprint = footprint_now(self.alloc, &self.graph, &self.cells, event)?;
+                match self.nearest(number, &footprint) {
+                    Some(other) => Ok(Checked::Refused(Refusal::Overtaken(other))),
+                    None => Ok(Checked::Free(footprint, writes)),
+                }
+            }
         }
     }
 
@@ -563,21 +567,23 @@ impl History {
         self.kept.take(number);
     }
 
-    // Keeps an event at its number's place, with the footprint that it has now. No later kept event may conflict with
-    // it.
-    fn keep(&mut self, number: u32, footprint: Footprint) -> Result<(), AllocError>
+    // Keeps an event at its number's place, with the footprint that it has now and what it writes now. No later kept
+    // event may conflict with it.
+    fn keep(
+        &mut self,
+        number: u32,
+        footprint: Footprint,
+        writes: Vec<(Cell, Value)>,
+    ) -> Result<(), AllocError>
         requires free { redo_refusal self.old.timeline number ≡ None }
         requires print { HasNow self.old.timeline number footprint }
+        requires writes { WritesNow self.old.timeline number writes.items }
         ensures ok { OnOk result (self.new.timeline ≡ redone number self.old.timeline) }
         ensures err { OnErr result (self.new ≡ self.old) }
     {
         let Some(index) = self.accepted.get_index_of(&number) else {
             unreachable!()
         };
-        let Some(event) = self.accepted.get(&number) else {
-            unreachable!()
-        };
-        let writes = effect(self.alloc, &self.graph, &self.cells, event)?;
         self.kept.reserve()?;
         let step = write_noted(
             self.alloc,

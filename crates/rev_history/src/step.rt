@@ -12,18 +12,17 @@ ghost use Rattle.rev_events.specs.declared.refusal.Refusal.{Refusal};
 ghost use Rattle.rev_events.specs.Machine.{effect as effect_in, refusal as refusal_in};
 
 use rev_cells::{Cell, Cells, Value};
-use rev_events::{
-    Event, Fault, Refusal, check, effect as effect_now, effect_if_accepted as answer_now,
-};
+use rev_events::{Event, Fault, Refusal, check, effect_if_accepted as answer_now};
 use rev_footprint::Footprint;
 use rev_graph::Graph;
 use std::alloc::{AllocError, Global};
 
-/// Whether the event of a number can be put back now: why it cannot, or the footprint that it has now.
+/// Whether the event of a number can be put back now: why it cannot, or the footprint that it has now and what it
+/// writes now.
 #[derive(Drop)]
 pub(crate) enum Checked {
     Refused(Refusal),
-    Free(Footprint),
+    Free(Footprint, Vec<(Cell, Value)>),
 }
 
 /// Why the present state refuses an event, where it does.
@@ -41,24 +40,6 @@ pub(crate) fn refusal(
         Err(Fault::Refused(refusal)) => Ok(Some(refusal)),
         Err(Fault::Memory) => Err(AllocError),
     }
-}
-
-/// What an event writes, which the present state accepts: each cell once, with its new value.
-pub(crate) fn effect(
-    alloc: Global,
-    graph: &Graph,
-    cells: &Cells,
-    event: &Event,
-) -> Result<Vec<(Cell, Value)>, AllocError>
-    requires { refusal_in graph.now.manifest cells.now.jobs cells.now.state event.now ≡ None }
-    ensures writes { IfOk result (λ writes. stored_values writes.items
-        ≡ effect_in graph.now.manifest cells.now.state event.now) }
-    ensures fits { IfOk result (λ writes. AllByRecursion (λ (w : Cell × Value). Fits w.0 w.1) writes.items) }
-    ensures once { IfOk result (λ writes. IsDistinct (eq_by_cmp cell_cmp) (cells_of writes.items)) }
-{
-    let _edges = graph.edges();
-    let writes = effect_now(alloc, graph, cells, event)?;
-    Ok(writes)
 }
 
 /// What an event writes where the present state accepts it: each cell once, with its new value. Else why the state

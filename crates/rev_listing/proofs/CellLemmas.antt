@@ -1,5 +1,5 @@
 -- The cells that are not at their default, in order.
-use Rattle.std.proofs.Common.{◌≡◌, ℕ, zero, suc, ◌<◌, ◌≤◌, ◌+◌, Bool, true, false, cond, not, ◌||◌, ◌&&◌, List, [], ◌∷◌, ◌++◌, Option, Some, None, IsSome, is_some, Contains, map, filter, length, take, slice_get, get_or, refl, sym, ap, subst, ◌∙◌, arith, ◌⊎◌, inl, inr}
+use Rattle.std.proofs.Common.{◌≡◌, ℕ, zero, suc, ◌<◌, ◌≤◌, ◌+◌, Bool, true, false, cond, not, ◌||◌, ◌&&◌, List, [], ◌∷◌, ◌++◌, Option, Some, None, IsSome, Contains, map, filter, length, take, slice_get, get_or, refl, sym, ap, subst, ◌∙◌, arith, ◌⊎◌, inl, inr}
 use Rattle.std.proofs.lemmas.List.{take_more, take_all}
 use Rattle.std.proofs.lemmas.Option.{slice_get_within, get_or_from_slice_get, slice_get_cases}
 use lib.Dec.{T}
@@ -19,9 +19,10 @@ use Rattle.rev_cells.specs.declared.value.Value.{Value}
 use Rattle.rev_cells.specs.contracts.cell.CellOrd.TheImpl as order
 use Rattle.rev_cells.specs.Keys.{cell_cmp}
 use Rattle.rev_cells.specs.Values.{default_of, is_default}
-use Rattle.rev_cells.specs.State.{State, default_or, value_at}
+use Rattle.rev_cells.specs.State.{State, default_or}
 use Rattle.rev_cells.proofs.EntryLemmas.{cells_exact, cells_total}
-use Rattle.rev_listing.specs.Listing.{cells_there, is_there}
+use Rattle.rev_listing.specs.Listing.{is_there, is_told}
+use Rattle.rev_listing.specs.declared.nondefault_cells.Kinds.{Kinds}
 use Rattle.rev_listing.proofs.LineLemmas.{cells_of}
 
 abbrev pub cell_ord : Cell → Cell → Ordering
@@ -74,21 +75,21 @@ same_cell p q e = cells_exact p q (equal (cell_cmp p q) e)
 abbrev pub given : Bool → Option (Unit {0})
 given b = cond b (Some unit) None
 
--- whether a cell is among these and is not at its default
-abbrev pub among : State → List Cell → Cell → Option (Unit {0})
-among s cells q = cond (is_there s q) (cond (list_any (eq_by_cmp cell_cmp q) cells) (Some unit) None) None
+-- whether a cell is among these and a test holds of it
+abbrev pub among : (Cell → Bool) → List Cell → Cell → Option (Unit {0})
+among p cells q = cond (p q) (cond (list_any (eq_by_cmp cell_cmp q) cells) (Some unit) None) None
 
--- entries in order, with the cells that are not at their default and no others
-pub record AreThere (s : State) (cells : List Cell) (es : List (Cell × Unit {0})) : Type 0 where
+-- entries in order, with the cells of which a test holds and no others
+pub record AreThere (p : Cell → Bool) (cells : List Cell) (es : List (Cell × Unit {0})) : Type 0 where
   pub sorted : T (is_sorted cell_cmp es)
-  pub found : (q : Cell) → find cell_cmp q es ≡ among s cells q
+  pub found : (q : Cell) → find cell_cmp q es ≡ among p cells q
 
 -- what is among no cells
 abbrev among-none : Bool → Option (Unit {0})
 among-none b = cond b (cond false (Some unit) None) None
 
-pub none_there : (s : State) (es : List (Cell × Unit {0})) → es ≡ [] → AreThere s [] es
-none_there s es e = subst (AreThere s []) (sym e) (record { sorted = tt; found = λ q. sym (nothing (is_there s q)) })
+pub none_there : (p : Cell → Bool) (es : List (Cell × Unit {0})) → es ≡ [] → AreThere p [] es
+none_there p es e = subst (AreThere p []) (sym e) (record { sorted = tt; found = λ q. sym (nothing (p q)) })
   where
     nothing : (b : Bool) → among-none b ≡ None
     nothing true = refl
@@ -106,28 +107,28 @@ any_pushed f (x ∷ xs) y = ap (λ b. f x || b) (any_pushed f xs y) ∙ or_assoc
     or_assoc true b c = refl
     or_assoc false b c = refl
 
-among-pushed : (s : State) (cells : List Cell) (c q : Cell) → among s (cells ++ c ∷ []) q ≡ cond (is_there s q) (cond (list_any (eq_by_cmp cell_cmp q) cells || eq_by_cmp cell_cmp q c) (Some unit) None) None
-among-pushed s cells c q = ap (λ b. cond (is_there s q) (cond b (Some unit) None) None) (any_pushed (eq_by_cmp cell_cmp q) cells c)
+among-pushed : (p : Cell → Bool) (cells : List Cell) (c q : Cell) → among p (cells ++ c ∷ []) q ≡ cond (p q) (cond (list_any (eq_by_cmp cell_cmp q) cells || eq_by_cmp cell_cmp q c) (Some unit) None) None
+among-pushed p cells c q = ap (λ b. cond (p q) (cond b (Some unit) None) None) (any_pushed (eq_by_cmp cell_cmp q) cells c)
 
--- a cell at its default
-skipped : (s : State) (cells : List Cell) (c q : Cell) → is_there s c ≡ false → among s cells q ≡ among s (cells ++ c ∷ []) q
-skipped s cells c q default = at (eq_by_cmp cell_cmp q c) refl ∙ sym (among-pushed s cells c q)
+-- a cell of which it does not hold
+skipped : (p : Cell → Bool) (cells : List Cell) (c q : Cell) → p c ≡ false → among p cells q ≡ among p (cells ++ c ∷ []) q
+skipped p cells c q default = at (eq_by_cmp cell_cmp q c) refl ∙ sym (among-pushed p cells c q)
   where
     or_false : (a : Bool) → given a ≡ given (a || false)
     or_false true = refl
     or_false false = refl
 
-    at : (b : Bool) → eq_by_cmp cell_cmp q c ≡ b → among s cells q ≡ cond (is_there s q) (cond (list_any (eq_by_cmp cell_cmp q) cells || eq_by_cmp cell_cmp q c) (Some unit) None) None
+    at : (b : Bool) → eq_by_cmp cell_cmp q c ≡ b → among p cells q ≡ cond (p q) (cond (list_any (eq_by_cmp cell_cmp q) cells || eq_by_cmp cell_cmp q c) (Some unit) None) None
     at true same =
-        let none : is_there s q ≡ false = ap (is_there s) (same_cell q c same) ∙ default in
+        let none : p q ≡ false = ap p (same_cell q c same) ∙ default in
         ap (λ b. cond b (cond (list_any (eq_by_cmp cell_cmp q) cells) (Some unit) None) None) none ∙ sym (ap (λ b. cond b (cond (list_any (eq_by_cmp cell_cmp q) cells || eq_by_cmp cell_cmp q c) (Some unit) None) None) none)
     at false other =
-        ap (λ o. cond (is_there s q) o None) (or_false (list_any (eq_by_cmp cell_cmp q) cells))
-        ∙ sym (ap (λ b. cond (is_there s q) (cond (list_any (eq_by_cmp cell_cmp q) cells || b) (Some unit) None) None) other)
+        ap (λ o. cond (p q) o None) (or_false (list_any (eq_by_cmp cell_cmp q) cells))
+        ∙ sym (ap (λ b. cond (p q) (cond (list_any (eq_by_cmp cell_cmp q) cells || b) (Some unit) None) None) other)
 
--- a cell that is there
-added : (s : State) (cells : List Cell) (c q : Cell) → is_there s c ≡ true → cond (eq_by_cmp cell_cmp q c) (Some unit) (among s cells q) ≡ among s (cells ++ c ∷ []) q
-added s cells c q there = at (eq_by_cmp cell_cmp q c) refl ∙ sym (among-pushed s cells c q)
+-- a cell of which it holds
+added : (p : Cell → Bool) (cells : List Cell) (c q : Cell) → p c ≡ true → cond (eq_by_cmp cell_cmp q c) (Some unit) (among p cells q) ≡ among p (cells ++ c ∷ []) q
+added p cells c q there = at (eq_by_cmp cell_cmp q c) refl ∙ sym (among-pushed p cells c q)
   where
     or_true : (a : Bool) → given true ≡ given (a || true)
     or_true true = refl
@@ -137,15 +138,15 @@ added s cells c q there = at (eq_by_cmp cell_cmp q c) refl ∙ sym (among-pushed
     or_false true = refl
     or_false false = refl
 
-    at : (b : Bool) → eq_by_cmp cell_cmp q c ≡ b → cond (eq_by_cmp cell_cmp q c) (Some unit) (among s cells q) ≡ cond (is_there s q) (cond (list_any (eq_by_cmp cell_cmp q) cells || eq_by_cmp cell_cmp q c) (Some unit) None) None
+    at : (b : Bool) → eq_by_cmp cell_cmp q c ≡ b → cond (eq_by_cmp cell_cmp q c) (Some unit) (among p cells q) ≡ cond (p q) (cond (list_any (eq_by_cmp cell_cmp q) cells || eq_by_cmp cell_cmp q c) (Some unit) None) None
     at true same =
-        let some : is_there s q ≡ true = ap (is_there s) (same_cell q c same) ∙ there in
-        ap (λ b. cond b (Some unit) (among s cells q)) same ∙ or_true (list_any (eq_by_cmp cell_cmp q) cells)
+        let some : p q ≡ true = ap p (same_cell q c same) ∙ there in
+        ap (λ b. cond b (Some unit) (among p cells q)) same ∙ or_true (list_any (eq_by_cmp cell_cmp q) cells)
         ∙ sym (ap (λ b. cond b (cond (list_any (eq_by_cmp cell_cmp q) cells || eq_by_cmp cell_cmp q c) (Some unit) None) None) some
         ∙ ap (λ b. cond (list_any (eq_by_cmp cell_cmp q) cells || b) (Some unit) None) same)
     at false other =
-        ap (λ b. cond b (Some unit) (among s cells q)) other ∙ ap (λ o. cond (is_there s q) o None) (or_false (list_any (eq_by_cmp cell_cmp q) cells))
-        ∙ sym (ap (λ b. cond (is_there s q) (cond (list_any (eq_by_cmp cell_cmp q) cells || b) (Some unit) None) None) other)
+        ap (λ b. cond b (Some unit) (among p cells q)) other ∙ ap (λ o. cond (p q) o None) (or_false (list_any (eq_by_cmp cell_cmp q) cells))
+        ∙ sym (ap (λ b. cond (p q) (cond (list_any (eq_by_cmp cell_cmp q) cells || b) (Some unit) None) None) other)
 
 next_place : (places : List Cell) (i : ℕ) (c : Cell) → Some c ≡ slice_get places i → take (i + 1) places ≡ take i places ++ c ∷ []
 next_place places i c here =
@@ -154,18 +155,18 @@ next_place places i c here =
 pub place_within : (places : List Cell) (i : ℕ) (c : Cell) → Some c ≡ slice_get places i → i < length places
 place_within places i c here = slice_get_within places i c (sym here)
 
-pub skips_default : (s : State) (places : List Cell) (i : ℕ) (c : Cell) (es : List (Cell × Unit {0})) → Some c ≡ slice_get places i → is_there s c ≡ false → AreThere s (take i places) es → AreThere s (take (i + 1) places) es
-skips_default s places i c es here default l =
-    subst (λ cs. AreThere s cs es) (sym (next_place places i c here)) (record { sorted = l.sorted; found = λ q. l.found q ∙ skipped s (take i places) c q default })
+pub skips_default : (p : Cell → Bool) (places : List Cell) (i : ℕ) (c : Cell) (es : List (Cell × Unit {0})) → Some c ≡ slice_get places i → p c ≡ false → AreThere p (take i places) es → AreThere p (take (i + 1) places) es
+skips_default p places i c es here default l =
+    subst (λ cs. AreThere p cs es) (sym (next_place places i c here)) (record { sorted = l.sorted; found = λ q. l.found q ∙ skipped p (take i places) c q default })
 
-pub puts_cell : (s : State) (places : List Cell) (i : ℕ) (c k : Cell) (es new : List (Cell × Unit {0})) → Some c ≡ slice_get places i → is_there s c ≡ true → k ≡ c → new ≡ insert_entry cell_ord es k tt → AreThere s (take i places) es → AreThere s (take (i + 1) places) new
-puts_cell s places i c k es new here there copied put_in l =
+pub puts_cell : (p : Cell → Bool) (places : List Cell) (i : ℕ) (c k : Cell) (es new : List (Cell × Unit {0})) → Some c ≡ slice_get places i → p c ≡ true → k ≡ c → new ≡ insert_entry cell_ord es k tt → AreThere p (take i places) es → AreThere p (take (i + 1) places) new
+puts_cell p places i c k es new here there copied put_in l =
     let entries : new ≡ put cell_cmp c tt es = put_in ∙ ap (λ o. insert_entry o es k tt) cell_ord-is ∙ ap (λ x. insert_entry cell_cmp es x tt) copied ∙ insert-put es c in
-    let whole : AreThere s (take i places ++ c ∷ []) (put cell_cmp c tt es) = record {
+    let whole : AreThere p (take i places ++ c ∷ []) (put cell_cmp c tt es) = record {
       sorted = is_sorted-put cell_cmp cells_total c tt es l.sorted;
-      found = λ q. find-put cell_cmp cells_total q c tt es ∙ ap (λ o. cond (eq_by_cmp cell_cmp q c) (Some unit) o) (l.found q) ∙ added s (take i places) c q there;
+      found = λ q. find-put cell_cmp cells_total q c tt es ∙ ap (λ o. cond (eq_by_cmp cell_cmp q c) (Some unit) o) (l.found q) ∙ added p (take i places) c q there;
     } in
-    subst (λ cs. AreThere s cs new) (sym (next_place places i c here)) (subst (AreThere s (take i places ++ c ∷ [])) (sym entries) whole)
+    subst (λ cs. AreThere p cs new) (sym (next_place places i c here)) (subst (AreThere p (take i places ++ c ∷ [])) (sym entries) whole)
 
 -- entries without their values
 abbrev forget : List (Cell × Value) → List Entry
@@ -219,14 +220,14 @@ any_at q (c ∷ cs) (suc i) h at = or_true (eq_by_cmp cell_cmp q c) (list_any (e
     or_true true b e = refl
     or_true false b e = e
 
--- entries of all places are those of the cells that are there
-pub all_there : (s : State) (places : List Cell) (i : ℕ) (es : List (Cell × Unit {0})) → None ≡ slice_get places i → ((c : Cell) → IsSome (map.get s c) → Contains places c) → AreThere s (take i places) es → cells_of es ≡ cells_there s
-all_there s places i es none all l =
-    ap cells_of (same_entries cell_cmp cells_total cells_exact es (forget kept) l.sorted sorted (λ q. l.found q ∙ ap (λ cs. among s cs q) (take_all i places past) ∙ same q (is_there s q) refl ∙ sym (found q)))
-    ∙ cells-forget kept ∙ keys-where (is_there s) (map.entries s)
+-- entries of all places are those of the cells of which a test holds that holds of no default
+pub all_there : (s : State) (p : Cell → Bool) → ((q : Cell) → p q ≡ true → is_there s q ≡ true) → (places : List Cell) (i : ℕ) (es : List (Cell × Unit {0})) → None ≡ slice_get places i → ((c : Cell) → IsSome (map.get s c) → Contains places c) → AreThere p (take i places) es → cells_of es ≡ filter p (map.keys s)
+all_there s p only places i es none all l =
+    ap cells_of (same_entries cell_cmp cells_total cells_exact es (forget kept) l.sorted sorted (λ q. l.found q ∙ ap (λ cs. among p cs q) (take_all i places past) ∙ same q (p q) refl ∙ sym (found q)))
+    ∙ cells-forget kept ∙ keys-where p (map.entries s)
   where
     kept : List (Cell × Value)
-    kept = where_key cell_cmp (is_there s) (map.entries s)
+    kept = where_key cell_cmp p (map.entries s)
 
     past : length places ≤ i
     past = by (slice_get_cases places i).1
@@ -236,21 +237,29 @@ all_there s places i es none all l =
         by (inr h) = h.0
 
     sorted : T (is_sorted cell_cmp (forget kept))
-    sorted = subst T (sym (sorted-forget kept)) (is_sorted-where_key cell_cmp (is_there s) (map.entries s) (map.entries_sorted s))
+    sorted = subst T (sym (sorted-forget kept)) (is_sorted-where_key cell_cmp p (map.entries s) (map.entries_sorted s))
 
-    found : (q : Cell) → find cell_cmp q (forget kept) ≡ cond (is_there s q) (forgotten (map.get s q)) None
+    found : (q : Cell) → find cell_cmp q (forget kept) ≡ cond (p q) (forgotten (map.get s q)) None
     found q =
-        find-forget q kept ∙ ap forgotten (find-where_key cell_cmp (is_there s) q (λ x tie. ap (is_there s) (sym (cells_exact q x tie))) (map.entries s))
-        ∙ inside (is_there s q) ∙ ap (λ o. cond (is_there s q) (forgotten o) None) (sym (map.get-entries s q))
+        find-forget q kept ∙ ap forgotten (find-where_key cell_cmp p q (λ x tie. ap p (sym (cells_exact q x tie))) (map.entries s))
+        ∙ inside (p q) ∙ ap (λ o. cond (p q) (forgotten o) None) (sym (map.get-entries s q))
       where
         inside : (b : Bool) → forgotten (cond b (find cell_cmp q (map.entries s)) None) ≡ cond b (forgotten (find cell_cmp q (map.entries s))) None
         inside true = refl
         inside false = refl
 
-    same : (q : Cell) (b : Bool) → is_there s q ≡ b → among s places q ≡ cond (is_there s q) (forgotten (map.get s q)) None
+    same : (q : Cell) (b : Bool) → p q ≡ b → among p places q ≡ cond (p q) (forgotten (map.get s q)) None
     same q true there =
-        let h = there-some q (map.get s q) there in
+        let h = there-some q (map.get s q) (only q there) in
         let at : Contains places q = all q h.1 in
-        ap (λ o. cond (is_there s q) o None) (ap (λ b. cond b (Some unit) None) (any_at q places at.0 at.1 at.2) ∙ sym h.0)
+        ap (λ o. cond (p q) o None) (ap (λ b. cond b (Some unit) None) (any_at q places at.0 at.1 at.2) ∙ sym h.0)
     same q false default =
         ap (λ b. cond b (cond (list_any (eq_by_cmp cell_cmp q) places) (Some unit) None) None) default ∙ sym (ap (λ b. cond b (forgotten (map.get s q)) None) default)
+
+second : (a b : Bool) → (a && b) ≡ true → b ≡ true
+second true b h = h
+second false b h = let no : false ≡ true = h in cc
+
+-- a cell that is told is there
+pub told_there : (k : Kinds) (s : State) (q : Cell) → is_told k s q ≡ true → is_there s q ≡ true
+told_there k s q h = second _ (is_there s q) h

@@ -6,7 +6,7 @@ ghost use Rattle.std.specs.Option.{option_copied};
 ghost use Rattle.rev_cells.specs.State.{built_in, deps_in, value_at};
 ghost use Rattle.rev_listing.specs.Logs.{built_text, deps_text, log_text, logs_text};
 
-use crate::nondefault_cells::cells_there;
+use crate::nondefault_cells::{Kinds, cells_told};
 use rev_cells::{BuiltRecord, Cell, Cells, DepsRecord, Value};
 use rev_fields::{next_field, next_number, next_paths};
 use rev_paths::Name;
@@ -95,7 +95,7 @@ fn push_cell(text: &mut Vec<u8>, cells: &Cells, cell: &Cell) -> Result<(), Alloc
 pub fn logs_text(alloc: Global, cells: &Cells) -> Result<Vec<u8>, AllocError>
     ensures { IfOk result (λ text. text.items ≡ logs_text cells.now.state) }
 {
-    let there = cells_there(alloc, cells)?;
+    let there = cells_told(alloc, cells, Kinds::Logs)?;
     let mut text = Vec::new(alloc);
     for (cell, _) in &there {
         push_cell(&mut text, cells, cell)?;

@@ -8,7 +8,7 @@ ghost use Rattle.rev_listing.specs.Listing.{line};
 ghost use Rattle.rev_listing.specs.Marks.{depth_text, halted_text, job_text, mark_fields, mark_text, marks_text, number_or_dash, numbers_or_dash, output_field, slot_text};
 ghost use Rattle.std.specs.Prelude.{codes, decimal};
 
-use crate::nondefault_cells::cells_there;
+use crate::nondefault_cells::{Kinds, cells_told};
 use crate::output::next_edge;
 use rev_cells::{Cell, Cells, Mark, Value};
 use rev_fields::{next_number, next_numbers};
@@ -233,7 +233,7 @@ fn push_cell(
 pub fn marks_text(alloc: Global, graph: &Graph, cells: &Cells) -> Result<Vec<u8>, AllocError>
     ensures { IfOk result (λ text. text.items ≡ marks_text graph.now.manifest.builds cells.now.state) }
 {
-    let there = cells_there(alloc, cells)?;
+    let there = cells_told(alloc, cells, Kinds::Marks)?;
     let mut text = Vec::new(alloc);
     for (cell, _) in &there {
         push_cell(&mut text, graph, cells, cell)?;

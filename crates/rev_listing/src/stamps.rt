@@ -4,7 +4,7 @@ ghost use Rattle.rev_cells.specs.State.{stamp_in, value_at};
 ghost use Rattle.rev_listing.specs.Listing.{told};
 ghost use Rattle.rev_listing.specs.Stamps.{stamp_text, stamps_text};
 
-use crate::nondefault_cells::cells_there;
+use crate::nondefault_cells::{Kinds, cells_told};
 use rev_cells::{Cell, Cells, Value};
 use rev_fields::{next_field, next_number};
 use std::alloc::{AllocError, Global};
@@ -54,7 +54,7 @@ fn push_cell(text: &mut Vec<u8>, cells: &Cells, cell: &Cell) -> Result<(), Alloc
 pub fn stamps_text(alloc: Global, cells: &Cells) -> Result<Vec<u8>, AllocError>
     ensures { IfOk result (λ text. text.items ≡ stamps_text cells.now.state) }
 {
-    let there = cells_there(alloc, cells)?;
+    let there = cells_told(alloc, cells, Kinds::Stamps)?;
     let mut text = Vec::new(alloc);
     for (cell, _) in &there {
         push_cell(&mut text, cells, cell)?;

@@ -1,7 +1,23 @@
-use Rattle.std.proofs.Common.{◌≡◌}
+use Rattle.std.proofs.Common.{◌≡◌, true, false, [], refl}
+use Rattle.rev_cells.specs.declared.cell.Cell.{Cell}
+use Rattle.rev_cells.specs.declared.cell.Cell.TheVariants as cell
+use Rattle.rev_cells.specs.declared.value.Value.{Value}
+use Rattle.rev_listing.specs.declared.nondefault_cells.Kinds.TheVariants as kinds
+use Rattle.rev_listing.specs.Listing.{is_of}
 use Rattle.rev_listing.specs.Stamps.{stamp_text}
 use Rattle.rev_listing.proofs.LineLemmas.{told-more, told-all}
 use Rattle.rev_listing.proofs.stamps.stamps_text.Goals as goal
+
+-- of no other cell anything is told
+silent : (c : Cell) (v : Value) → is_of kinds.Stamps c ≡ false → stamp_text c v ≡ []
+silent (cell.Stamp path) v h = let no : true ≡ false = h in cc
+silent (cell.Mark edge) v h = refl
+silent (cell.Job job) v h = refl
+silent (cell.Slot pool place) v h = refl
+silent (cell.Depth pool) v h = refl
+silent (cell.Built path) v h = refl
+silent (cell.Deps path) v h = refl
+silent cell.Halted v h = refl
 
 pub loop-cell-preserved : goal.loop-cell-preserved
 loop-cell-preserved c =
@@ -9,4 +25,4 @@ loop-cell-preserved c =
 
 pub returns : goal.returns
 returns c =
-    told-all stamp_text c.args.cells.now.state c.deref-cell-items.result.now c.in_ok-there.there.items c.loop-cell.cell-index c.loop-cell.text.items c.loop-cell-test.false c.deref-cell-items.ensures.value c.in_ok-there.ensures c.loop-cell.invariant
+    told-all stamp_text c.args.cells.now.state kinds.Stamps silent c.deref-cell-items.result.now c.in_ok-there.there.items c.loop-cell.cell-index c.loop-cell.text.items c.loop-cell-test.false c.deref-cell-items.ensures.value c.in_ok-there.ensures c.loop-cell.invariant

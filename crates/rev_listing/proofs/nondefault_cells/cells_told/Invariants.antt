@@ -1,10 +1,11 @@
 use Rattle.std.proofs.Common.{length, take, ◌-◌}
+use Rattle.rev_listing.specs.Listing.{is_told}
 use Rattle.rev_listing.proofs.CellLemmas.{AreThere}
-use Rattle.rev_listing.proofs.nondefault_cells.cells_there.Given as goal
+use Rattle.rev_listing.proofs.nondefault_cells.cells_told.Given as goal
 
--- the cells of the places so far that are not at their default
+-- the cells of the places so far that are told
 abbrev pub invariant-loop-place : goal.invariant-loop-place
-invariant-loop-place l = AreThere l.cells.state (take l.place l.cells.places) l.there.entries
+invariant-loop-place l = AreThere (is_told l.kinds l.cells.state) (take l.place l.cells.places) l.there.entries
 
 abbrev pub decreases-loop-place : goal.decreases-loop-place
 decreases-loop-place l = length l.cells.places - l.place
