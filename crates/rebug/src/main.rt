@@ -95,31 +95,24 @@ fn end<'a, R: Eprint + AllocGlobal, W: Write + Drop>(
     Ok(status)
 }
 
-// Writes a trace in version 2 to the standard output, or the line of its fault.
-fn write_trace<'a, R: Print + Eprint + AllocGlobal>(
-    rt: &R,
-    inputs: Inputs<'_>,
-) -> Result<Status, ProgramFault<'a>> {
-    let alloc = rt.alloc();
-    let Ok(mut writer) = BufWriter::new(alloc, io::writer(rt)) else {
-        return Err(ProgramFault::Memory);
-    };
-    let status = write_migrated(alloc, inputs.trace.1, &mut writer)?;
-    end(rt, &mut writer, inputs, status)
-}
-
-// Reads the trace and writes it in version 2. No other file is read.
+// Writes the trace in version 2 to the standard output, or the line of its fault. No other file is read.
 fn migrate<'a, R: Files + Print + Eprint + AllocGlobal>(
     rt: &R,
     options: &Options<'a>,
 ) -> Result<Status, ProgramFault<'a>> {
+    let alloc = rt.alloc();
     let trace = read_lines(rt, options.trace)?;
-    let inputs = Inputs {
-        files: &[],
-        trace: (options.trace.as_bytes(), &trace),
-        script: (options.script.as_bytes(), &[]),
+    let Ok(mut writer) = BufWriter::new(alloc, io::writer(rt)) else {
+        return Err(ProgramFault::Memory);
     };
-    write_trace(rt, inputs)
+    let status = write_migrated(alloc, &trace, &mut writer)?;
+    let (files, script) = (Vec::new(alloc), Vec::new(alloc));
+    let inputs = Inputs {
+        files: &files,
+        trace: (options.trace.as_bytes(), &trace),
+        script: (options.script.as_bytes(), &script),
+    };
+    end(rt, &mut writer, inputs, status)
 }
 
 // Leaves what a run has in memory to the system, which takes all of it back when the program ends.
@@ -127,42 +120,32 @@ fn leave(memory: RunMemory) {
     mem::forget(memory);
 }
 
-// Writes the report on what was read to the standard output.
-fn write_report<'a, R: Print + Eprint + AllocGlobal + Threads + Wait + Sync>(
-    rt: &R,
-    workers: bool,
-    inputs: Inputs<'_>,
-) -> Result<Status, ProgramFault<'a>> {
-    let alloc = rt.alloc();
-    let Ok(mut writer) = BufWriter::new(alloc, io::writer(rt)) else {
-        return Err(ProgramFault::Memory);
-    };
-    let (files, trace, script) = (inputs.files, inputs.trace.1, inputs.script.1);
-    let mut memory = RunMemory::new();
-    let ran = if workers {
-        run_parallel_in(rt, alloc, files, trace, script, &mut writer, &mut memory)
-    } else {
-        run_serial_in(alloc, files, trace, script, &mut writer, &mut memory)
-    };
-    leave(memory);
-    let status = ran?;
-    end(rt, &mut writer, inputs, status)
-}
-
-// Reads the files and writes the report.
+// Reads the files and writes the report to the standard output.
 fn report<'a, R: Files + Print + Eprint + AllocGlobal + Threads + Wait + Sync>(
     rt: &R,
     options: &Options<'a>,
 ) -> Result<Status, ProgramFault<'a>> {
+    let alloc = rt.alloc();
     let files = read_manifest(rt, options)?;
     let trace = read_lines(rt, options.trace)?;
     let script = read_lines(rt, options.script)?;
+    let Ok(mut writer) = BufWriter::new(alloc, io::writer(rt)) else {
+        return Err(ProgramFault::Memory);
+    };
+    let mut memory = RunMemory::new();
+    let ran = if options.workers {
+        run_parallel_in(rt, alloc, &files, &trace, &script, &mut writer, &mut memory)
+    } else {
+        run_serial_in(alloc, &files, &trace, &script, &mut writer, &mut memory)
+    };
+    leave(memory);
+    let status = ran?;
     let inputs = Inputs {
         files: &files,
         trace: (options.trace.as_bytes(), &trace),
         script: (options.script.as_bytes(), &script),
     };
-    write_report(rt, options.workers, inputs)
+    end(rt, &mut writer, inputs, status)
 }
 
 fn main(rt: HostRuntime) -> ExitCode {
