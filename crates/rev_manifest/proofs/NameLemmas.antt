@@ -126,7 +126,7 @@ insert-by : (keys : List (List ℕ)) (v y : List ℕ) (b : Bool) → list_any (b
 insert-by keys v y true h = insert-present keys v y (bytes_eq y v) refl h
 insert-by keys v y false h = has_path-push keys v y
 
-has_path-insert : (keys : List (List ℕ)) (v y : List ℕ) → has_path (insert_key bytes_eq keys v) y ≡ (has_path keys y || bytes_eq y v)
+pub has_path-insert : (keys : List (List ℕ)) (v y : List ℕ) → has_path (insert_key bytes_eq keys v) y ≡ (has_path keys y || bytes_eq y v)
 has_path-insert keys v y = insert-by keys v y (list_any (bytes_eq v) keys) refl
 
 -- a set with one more of the names
@@ -135,6 +135,42 @@ pub names_more : (keys first names : List (List ℕ)) (v x y : List ℕ) → v �
 names_more keys first names v x y same h =
     has_path-insert keys v y ∙ ap (λ z. has_path keys y || bytes_eq y z) same ∙ ap (λ b. b || bytes_eq y x) h
     ∙ or_assoc (has_path first y) (has_path names y) (bytes_eq y x) ∙ ap (λ b. has_path first y || b) (sym (has_path-push names x y))
+
+-- what a name that is none of some paths adds to one of these
+pub skipped : (among paths : List (List ℕ)) (x path : List ℕ) → has_path among x ≡ false → has_path among path ≡ true → has_path paths path ≡ (has_path paths path || bytes_eq path x)
+skipped among paths x path absent there = by (bytes_eq path x) refl
+  where
+    by : (b : Bool) → bytes_eq path x ≡ b → has_path paths path ≡ (has_path paths path || b)
+    by false e = sym (or_false (has_path paths path))
+    by true e =
+        let same : path ≡ x = (bytes_eq-Decides path x).0 e in
+        let wrong : false ≡ true = sym absent ∙ sym (ap (has_path among) same) ∙ there in
+        cc
+
+-- paths with one more
+pub one_more : (first names : List (List ℕ)) (x path : List ℕ) (b : Bool) → b ≡ (has_path first path || has_path names path)
+    → (b || bytes_eq path x) ≡ (has_path first path || has_path (names ++ x ∷ []) path)
+one_more first names x path b h =
+    ap (λ c. c || bytes_eq path x) h ∙ or_assoc (has_path first path) (has_path names path) (bytes_eq path x)
+    ∙ ap (λ c. has_path first path || c) (sym (has_path-push names x path))
+
+-- three lists in turn
+pub three_more : (b : Bool) (xs ys zs : List (List ℕ)) (path : List ℕ) → (((b || has_path xs path) || has_path ys path) || has_path zs path) ≡ (b || has_path (xs ++ ys ++ zs) path)
+three_more true xs ys zs path = refl
+three_more false xs ys zs path =
+    ap (λ c. c || has_path zs path) (sym (list_any-append (bytes_eq path) xs ys)) ∙ sym (list_any-append (bytes_eq path) (xs ++ ys) zs)
+
+-- one test in place of another that agrees with it on the paths
+pub filter-agreed : (p q : List ℕ → Bool) (xs : List (List ℕ)) → ((x : List ℕ) → has_path xs x ≡ true → p x ≡ q x) → filter p xs ≡ filter q xs
+filter-agreed p q [] same = refl
+filter-agreed p q (x ∷ xs) same =
+    let here : has_path (x ∷ xs) x ≡ true = ap (λ b. b || has_path xs x) ((bytes_eq-Decides x x).1 refl) in
+    let rest = filter-agreed p q xs (λ y there. same y (or_later (bytes_eq y x) (has_path xs y) there)) in
+    (λ i. cond (same x here i) (x ∷ rest i) (rest i))
+  where
+    or_later : (a b : Bool) → b ≡ true → (a || b) ≡ true
+    or_later true b h = refl
+    or_later false b h = h
 
 -- one test in place of an equal one
 pub filter-same : (p q : List ℕ → Bool) → ((x : List ℕ) → p x ≡ q x) → (xs : List (List ℕ)) → filter p xs ≡ filter q xs

@@ -1,5 +1,5 @@
 //! Expansion at the end: edge by edge, when all files are read.
-ghost use Rattle.std.specs.Prelude.{◌≡◌, ◌++◌, ◌||◌, not, filter, map, List, ℕ, Ok, IfOk, IfSome, OnOk, MatchResult, length, option_map};
+ghost use Rattle.std.specs.Prelude.{◌≡◌, ◌++◌, ◌||◌, not, filter, map, List, ℕ, Ok, IfOk, IfSome, OnOk, MatchResult, length, option_map, bytes_eq, true};
 ghost use Rattle.std.specs.List.{flat_map, All};
 ghost use Rattle.rev_manifest.specs.Answers.{IsFault};
 ghost use Rattle.rev_manifest.specs.Names.{has_path};
@@ -18,7 +18,7 @@ use crate::manifest::{Manifest, Parts};
 use crate::names::{add_names, push_others};
 use crate::parallel::builds_by_threads;
 use crate::pools::Pools;
-use crate::shared_text::shared;
+use crate::shared_text::{shared, shared_command};
 use indexmap::IndexSet;
 use rev_paths::Name;
 use rev_scopes::{
@@ -141,10 +141,8 @@ fn command_build(
     let keeps_deps = !is_empty(&values.depfile) || !is_empty(&values.deps);
     let restat = !is_empty(&values.restat);
     let generator = !is_empty(&values.generator);
-    let command = shared(
-        texts,
-        compared_command(values.command, &values.rspfile_content)?,
-    )?;
+    let compared = compared_command(values.command, &values.rspfile_content)?;
+    let command = shared_command(texts, &edge.rule, compared)?;
     let paths = edge.paths;
     Ok(Build {
         phony: false,
@@ -269,28 +267,90 @@ pub(crate) fn builds_of(
     Ok(EndedEdges { builds, left })
 }
 
-// Adds the inputs of an edge to a set.
-fn add_inputs(set: &mut IndexSet<Name>, build: &Build) -> Result<(), AllocError>
+// Adds the outputs of an edge to a set.
+fn add_outputs(set: &mut IndexSet<Name>, build: &Build) -> Result<(), AllocError>
     ensures { OnOk result ((path : List ℕ)
         → has_path set.new.keys path
-        ≡ (has_path set.old.keys path || has_path (inputs_of build.now) path)) }
+        ≡ (has_path set.old.keys path || has_path (outputs_of build.now) path)) }
 {
-    add_names(set, &build.explicit)?;
-    add_names(set, &build.implicit)?;
-    add_names(set, &build.order_only)?;
+    add_names(set, &build.explicit_outs)?;
+    add_names(set, &build.implicit_outs)?;
     Ok(())
 }
 
-// The inputs of all edges.
-fn inputs_of(alloc: Global, builds: &[Build]) -> Result<IndexSet<Name>, AllocError>
+// The outputs of all edges.
+fn all_outputs(alloc: Global, builds: &[Build]) -> Result<IndexSet<Name>, AllocError>
     ensures { IfOk result (λ set. (path : List ℕ)
-        → has_path set.keys path ≡ has_path (flat_map inputs_of builds.now) path) }
+        → has_path set.keys path ≡ has_path (flat_map outputs_of builds.now) path) }
 {
     let mut set = IndexSet::new(alloc);
     for build in builds {
-        add_inputs(&mut set, build)?;
+        add_outputs(&mut set, build)?;
     }
     Ok(set)
+}
+
+// Adds a name to those that are used, where it is an output.
+fn add_if_output(
+    used: &mut IndexSet<Name>,
+    outputs: &IndexSet<Name>,
+    name: &Name,
+) -> Result<(), AllocError>
+    ensures { OnOk result ((path : List ℕ) → has_path outputs.now.keys path ≡ true
+        → has_path used.new.keys path ≡ (has_path used.old.keys path || bytes_eq path name.now)) }
+{
+    if !outputs.contains(name) {
+        return Ok(());
+    }
+    used.insert(name.copy()?)?;
+    Ok(())
+}
+
+// Adds the outputs among names.
+fn add_outputs_among(
+    used: &mut IndexSet<Name>,
+    outputs: &IndexSet<Name>,
+    names: &[Name],
+) -> Result<(), AllocError>
+    ensures { OnOk result ((path : List ℕ) → has_path outputs.now.keys path ≡ true
+        → has_path used.new.keys path ≡ (has_path used.old.keys path || has_path names.now path)) }
+{
+    for name in names {
+        add_if_output(used, outputs, name)?;
+    }
+    Ok(())
+}
+
+// Adds the outputs among the inputs of an edge.
+fn add_inputs(
+    used: &mut IndexSet<Name>,
+    outputs: &IndexSet<Name>,
+    build: &Build,
+) -> Result<(), AllocError>
+    ensures { OnOk result ((path : List ℕ) → has_path outputs.now.keys path ≡ true
+        → has_path used.new.keys path
+        ≡ (has_path used.old.keys path || has_path (inputs_of build.now) path)) }
+{
+    add_outputs_among(used, outputs, &build.explicit)?;
+    add_outputs_among(used, outputs, &build.implicit)?;
+    add_outputs_among(used, outputs, &build.order_only)?;
+    Ok(())
+}
+
+// The outputs that are an input of some edge. Most inputs are sources, of which no set is made.
+fn used_outputs(
+    alloc: Global,
+    outputs: &IndexSet<Name>,
+    builds: &[Build],
+) -> Result<IndexSet<Name>, AllocError>
+    ensures { IfOk result (λ used. (path : List ℕ) → has_path outputs.now.keys path ≡ true
+        → has_path used.keys path ≡ has_path (flat_map inputs_of builds.now) path) }
+{
+    let mut used = IndexSet::new(alloc);
+    for build in builds {
+        add_inputs(&mut used, outputs, build)?;
+    }
+    Ok(used)
 }
 
 // Adds the outputs of an edge that are not in a set.
@@ -332,8 +392,9 @@ fn defaults_of(
     if let Some(names) = named {
         return Ok(names);
     }
-    let set = inputs_of(alloc, builds)?;
-    let left = other_outputs(alloc, &set, builds)?;
+    let outputs = all_outputs(alloc, builds)?;
+    let used = used_outputs(alloc, &outputs, builds)?;
+    let left = other_outputs(alloc, &used, builds)?;
     Ok(left)
 }
 
