@@ -5,8 +5,9 @@ use Rattle.std.specs.Option.{option_map}
 use Rattle.rev_causal.specs.History as causal
 use Rattle.rev_causal.proofs.Chosen.{AllAccepted}
 use Rattle.rev_footprint.specs.Value.{FootprintValue, print_of}
+use Rattle.rev_history.specs.Along.{prints_along}
 use Rattle.rev_history.specs.Timeline.{Timeline, footprints_along, kept_events, kept_footprint}
-use Rattle.rev_compared.specs.Inverted.{is_compared, prints_of}
+use Rattle.rev_compared.specs.Inverted.{is_compared}
 
 -- UNDER ONE NUMBER
 mapped_at : (n : ℕ) (ps : List (ℕ × FootprintValue))
@@ -19,16 +20,16 @@ mapped_at n (p ∷ ps) =
       | false ↦ mapped_at n ps
     ]
 
-pub print_at : (t : Timeline) (n : ℕ) → causal.event_at n (prints_of t) ≡ option_map print_of (kept_footprint t n)
+pub print_at : (t : Timeline) (n : ℕ) → causal.event_at n (prints_along t) ≡ option_map print_of (kept_footprint t n)
 print_at t n = mapped_at n (footprints_along t.manifest t.opening (kept_events t))
 
 -- a number that has a footprint there is kept, with that footprint
-pub print-there : (t : Timeline) (n : ℕ) → IsSome (causal.event_at n (prints_of t))
-    → (f : FootprintValue) × ((kept_footprint t n ≡ Some f) × (causal.event_at n (prints_of t) ≡ Some (print_of f)))
+pub print-there : (t : Timeline) (n : ℕ) → IsSome (causal.event_at n (prints_along t))
+    → (f : FootprintValue) × ((kept_footprint t n ≡ Some f) × (causal.event_at n (prints_along t) ≡ Some (print_of f)))
 print-there t n some = by (kept_footprint t n) refl
   where
     by : (o : Option FootprintValue) → kept_footprint t n ≡ o
-        → (f : FootprintValue) × ((kept_footprint t n ≡ Some f) × (causal.event_at n (prints_of t) ≡ Some (print_of f)))
+        → (f : FootprintValue) × ((kept_footprint t n ≡ Some f) × (causal.event_at n (prints_along t) ≡ Some (print_of f)))
     by None e = absurd (true≢false (sym some ∙ ap is_some (print_at t n ∙ ap (option_map print_of) e)))
     by (Some f) e = (f, (e, print_at t n ∙ ap (option_map print_of) e))
 
@@ -49,11 +50,11 @@ is-some-map (Some f) = refl
 
 -- each has a footprint
 pub compared-accepted : (t : Timeline) (matched : List (Option ℕ)) (ks : List ℕ)
-    → AllAccepted (prints_of t) (filter (is_compared t matched) ks)
+    → AllAccepted (prints_along t) (filter (is_compared t matched) ks)
 compared-accepted t matched [] = tt
 compared-accepted t matched (k ∷ ks) = by (is_compared t matched k) refl (compared-accepted t matched ks)
   where
-    by : (b : Bool) → is_compared t matched k ≡ b → AllAccepted (prints_of t) (filter (is_compared t matched) ks)
-        → AllAccepted (prints_of t) (cond b (k ∷ filter (is_compared t matched) ks) (filter (is_compared t matched) ks))
+    by : (b : Bool) → is_compared t matched k ≡ b → AllAccepted (prints_along t) (filter (is_compared t matched) ks)
+        → AllAccepted (prints_along t) (cond b (k ∷ filter (is_compared t matched) ks) (filter (is_compared t matched) ks))
     by true e rest = (ap is_some (print_at t k) ∙ is-some-map (kept_footprint t k) ∙ and-left _ _ e, rest)
     by false e rest = rest

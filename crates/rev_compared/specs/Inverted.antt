@@ -5,15 +5,10 @@ use Rattle.rev_causal.specs.Store.{Footprint, conflict}
 use Rattle.rev_cells.specs.declared.cell.Cell.{Cell}
 use Rattle.rev_cells.specs.Keys.{cell_cmp}
 use Rattle.rev_history.specs.Along.{prints_along}
-use Rattle.rev_history.specs.Named.{CellPrints}
 use Rattle.rev_history.specs.Timeline.{Timeline}
 use Rattle.rev_order.specs.Lowest.{lowest_place}
 use Rattle.rev_order.specs.Pairs.{inverted_pair}
 use Rattle.rev_runs.specs.Runs.{is_kept}
-
--- the footprints that the kept events have at their places, under their numbers
-abbrev pub prints_of : Timeline → CellPrints
-prints_of t = prints_along t
 
 -- the event is kept, and one there is the same
 abbrev pub is_compared : Timeline → List (Option ℕ) → ℕ → Bool
@@ -27,11 +22,11 @@ compared_of t matched = filter (is_compared t matched) t.kept
 abbrev pub places_of : List (Option ℕ) → List ℕ
 places_of matched = map (λ other. unwrap_or other 0) matched
 
--- THE FIRST INVERTED PAIR: of all pairs of these events of which the later one depends on the earlier one and stands
--- before it there, the one with the least first number, and of these the least second one
+-- THE FIRST INVERTED PAIR: two of these events are inverted where the later one depends on the earlier one and stands
+-- before it there; the first pair has the least first number, and among those with it the least second one
 abbrev pub first_inverted_of : Timeline → List (Option ℕ) → Option (ℕ × ℕ)
 first_inverted_of t matched =
-    inverted_pair (conflict cell_cmp) (places_of matched) (chosen (prints_of t) (compared_of t matched))
+    inverted_pair (conflict cell_cmp) (places_of matched) (chosen (prints_along t) (compared_of t matched))
 
 -- whether an event depends on another one, where that one has a footprint
 abbrev pub is_dependent : Footprint Cell → Option (Footprint Cell) → Bool

@@ -5,8 +5,9 @@ ghost use Rattle.rev_causal.specs.Chosen.{IsRising as IsRisingNumbers, chosen};
 ghost use Rattle.rev_causal.specs.History.{event_at};
 ghost use Rattle.rev_causal.specs.Store.{conflict};
 ghost use Rattle.rev_cells.specs.Keys.{cell_cmp};
+ghost use Rattle.rev_history.specs.Along.{prints_along};
 ghost use Rattle.rev_order.specs.Pairs.{inverted_pair};
-ghost use Rattle.rev_compared.specs.Inverted.{first_inverted_of, is_compared as is_compared_of, places_of as places_by, prints_of};
+ghost use Rattle.rev_compared.specs.Inverted.{first_inverted_of, is_compared as is_compared_of, places_of as places_by};
 
 use crate::alone::{add_where, twin_at};
 use crate::sought::{lowest_places, pair_near};
@@ -58,9 +59,9 @@ fn pair_in(
     numbers: &[u32],
 ) -> Result<Option<(u32, u32)>, AllocError>
     requires rising { IsRisingNumbers numbers.now }
-    requires kept { AllByRecursion (λ n. IsSome (event_at n (prints_of history.now.timeline))) numbers.now }
+    requires kept { AllByRecursion (λ n. IsSome (event_at n (prints_along history.now.timeline))) numbers.now }
     ensures { IfOk result (λ pair. pair ≡ inverted_pair (conflict cell_cmp) places.now
-        (chosen (prints_of history.now.timeline) numbers.now)) }
+        (chosen (prints_along history.now.timeline) numbers.now)) }
 {
     let lowest = lowest_places(alloc, places, numbers)?;
     match pair_near(history, places, numbers, &lowest) {
@@ -72,11 +73,11 @@ fn pair_in(
     }
 }
 
-/// Of all pairs of kept events of which the later one depends on the earlier one and stands before it in another
-/// history the one with the least first number, and of these the least second one. `matched` has for each number of an
-/// event the number of the same event there, as [`matched`](crate::matched) gives it; events without one are left out.
-/// Two events depend on each other where one writes what the other reads or writes. It takes time linear in what the
-/// events read and write.
+/// The first inverted pair of the kept events. Two events are inverted where the later one depends on the earlier one,
+/// and stands before it in another history. The first pair has the least first number, and among those with it the
+/// least second one. `matched` has for each number of an event the number of the same event there, as
+/// [`matched`](crate::matched) gives it; events without one are left out. Two events depend on each other where one
+/// writes what the other reads or writes. It takes time linear in what the events read and write.
 ///
 /// # Errors
 /// [`AllocError`] only where an allocation was refused.

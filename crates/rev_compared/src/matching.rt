@@ -60,10 +60,10 @@ fn match_of(
     match_in(lasts, twins, others, number, edge)
 }
 
-/// For each number of an event of a history, from 0, the number of the same event of another history: the start of the
-/// last run of an edge is the start of the last run of its twin, and its end the end of that. `None` where there is no
-/// such event. `lasts` are the last runs of the edges, `twins` their twins in the other graph, and `others` the last
-/// runs of the edges there.
+/// For each number of an event of a history, from 0, the number of the same event of another history, or `None`. The
+/// start of the last run of an edge is the start of the last run of its twin, and its end is the end of that run.
+/// `lasts` are the last runs of the edges, `twins` their twins in the other graph, and `others` the last runs of the
+/// edges there.
 ///
 /// # Errors
 /// [`AllocError`] only where an allocation was refused.

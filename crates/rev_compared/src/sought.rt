@@ -6,14 +6,15 @@ ghost use Rattle.rev_causal.specs.History.{event_at};
 ghost use Rattle.rev_causal.specs.Store.{conflict as conflict_of};
 ghost use Rattle.rev_cells.specs.Keys.{cell_cmp};
 ghost use Rattle.rev_footprint.specs.Value.{FootprintValue, print_of};
+ghost use Rattle.rev_history.specs.Along.{prints_along};
 ghost use Rattle.rev_history.specs.Timeline.{kept_footprint};
-ghost use Rattle.rev_order.specs.Lowest.{is_lower as is_lower_of};
-ghost use Rattle.rev_order.specs.Overtaken.{overtakes as overtakes_by, place_at as place_in};
+ghost use Rattle.rev_order.specs.Overtaken.{overtakes as overtakes_by};
 ghost use Rattle.rev_order.specs.Pairs.{inverted_pair, partner_of};
-ghost use Rattle.rev_compared.specs.Inverted.{AreLowest, is_dependent as is_dependent_on, prints_of};
+ghost use Rattle.rev_compared.specs.Inverted.{AreLowest, is_dependent as is_dependent_on};
 
 use rev_history::{History, KeptFootprint, conflict};
 use rev_numbers::lesser;
+use rev_order::{is_lower, place_at};
 use std::alloc::{AllocError, Global};
 
 // How many steps the search takes for each event at most: two cells that are compared are a step.
@@ -22,26 +23,6 @@ const STEPS: usize = 64;
 /// The search took all its steps and found nothing.
 #[derive(Clone, Copy)]
 pub(crate) struct Long;
-
-// The place of a number in the other history.
-fn place_at(places: &[u32], number: u32) -> u32
-    ensures { result ≡ place_in places.now number }
-{
-    match places.get(number as usize) {
-        Some(place) => *place,
-        None => 0,
-    }
-}
-
-// Whether the lowest place is below another.
-fn is_lower(lowest: Option<u32>, place: u32) -> bool
-    ensures { result ≡ is_lower_of lowest place }
-{
-    match lowest {
-        None => false,
-        Some(lowest) => lowest < place,
-    }
-}
 
 /// From each place of some numbers on the lowest place of theirs in the other history.
 ///
@@ -87,7 +68,7 @@ fn is_dependent(
     left: &mut usize,
 ) -> Result<bool, Long>
     ensures { IfOk result (λ is. is ≡ is_dependent_on (print_of footprint.now)
-        (event_at number (prints_of history.now.timeline))) }
+        (event_at number (prints_along history.now.timeline))) }
 {
     let Some(other) = history.footprint_of(number) else {
         return Ok(false);
@@ -106,7 +87,7 @@ fn is_inverted(
     left: &mut usize,
 ) -> Result<bool, Long>
     ensures { IfOk result (λ is. is ≡ (overtakes_by places.now first number
-        && is_dependent_on (print_of footprint.now) (event_at number (prints_of history.now.timeline)))) }
+        && is_dependent_on (print_of footprint.now) (event_at number (prints_along history.now.timeline)))) }
 {
     if number <= first || place_at(places, number) >= place_at(places, first) {
         return Ok(false);
@@ -128,7 +109,7 @@ fn overtaking(
     requires within { at < length numbers.now }
     requires lowest { AreLowest places.now numbers.now lowest.now }
     ensures { IfOk result (λ partner. partner ≡ partner_of (conflict_of cell_cmp) places.now
-        (chosen (prints_of history.now.timeline) (drop (at + 1) numbers.now)) (get_or numbers.now at 0)
+        (chosen (prints_along history.now.timeline) (drop (at + 1) numbers.now)) (get_or numbers.now at 0)
         (print_of footprint.now)) }
 {
     let first = numbers[at];
@@ -159,7 +140,7 @@ fn partner_near(
     ensures { IfOk result (λ partner. (f : FootprintValue)
         → kept_footprint history.now.timeline (get_or numbers.now at 0) ≡ Some f
         → partner ≡ partner_of (conflict_of cell_cmp) places.now
-        (chosen (prints_of history.now.timeline) (drop (at + 1) numbers.now)) (get_or numbers.now at 0) (print_of f)) }
+        (chosen (prints_along history.now.timeline) (drop (at + 1) numbers.now)) (get_or numbers.now at 0) (print_of f)) }
 {
     if !is_lower(lowest[at + 1], place_at(places, numbers[at])) {
         return Ok(None);
@@ -179,14 +160,14 @@ pub(crate) fn pair_near(
     lowest: &[Option<u32>],
 ) -> Result<Option<(u32, u32)>, usize>
     requires rising { IsRisingNumbers numbers.now }
-    requires kept { AllByRecursion (λ n. IsSome (event_at n (prints_of history.now.timeline))) numbers.now }
+    requires kept { AllByRecursion (λ n. IsSome (event_at n (prints_along history.now.timeline))) numbers.now }
     requires lowest { AreLowest places.now numbers.now lowest.now }
     ensures pair { IfOk result (λ pair. pair ≡ inverted_pair (conflict_of cell_cmp) places.now
-        (chosen (prints_of history.now.timeline) numbers.now)) }
+        (chosen (prints_along history.now.timeline) numbers.now)) }
     ensures within { IfErr result (λ at. at < length numbers.now) }
     ensures rest { IfErr result (λ at. inverted_pair (conflict_of cell_cmp) places.now
-        (chosen (prints_of history.now.timeline) (drop at numbers.now))
-        ≡ inverted_pair (conflict_of cell_cmp) places.now (chosen (prints_of history.now.timeline) numbers.now)) }
+        (chosen (prints_along history.now.timeline) (drop at numbers.now))
+        ≡ inverted_pair (conflict_of cell_cmp) places.now (chosen (prints_along history.now.timeline) numbers.now)) }
 {
     let mut left = numbers.len().saturating_mul(STEPS);
     for at in 0..numbers.len() {

@@ -9,7 +9,7 @@ use rev_manifest::{Build, Manifest};
 /// What differs between the statements of an edge and of its twin.
 #[derive(Clone, Copy, Debug, PartialEq, Eq)]
 pub struct Changes {
-    /// Whether the outputs differ, or which of them are implicit.
+    /// Whether the outputs differ, or which outputs are implicit.
     pub outputs: bool,
     /// Whether the inputs differ, of whichever kind, or their order.
     pub inputs: bool,

@@ -1,7 +1,7 @@
 use Rattle.std.proofs.Common.{sym, subst, ◌∙◌}
 use Rattle.rev_causal.specs.Chosen.{IsRising}
 use Rattle.rev_causal.proofs.Chosen.{AllAccepted, IsRising-filter}
-use Rattle.rev_compared.specs.Inverted.{prints_of}
+use Rattle.rev_history.specs.Along.{prints_along}
 use Rattle.rev_compared.proofs.Prints.{compared-accepted}
 use Rattle.rev_compared.proofs.inverted.first_inverted.Goals as goal
 
@@ -12,5 +12,5 @@ pair_in-requires-clause-rising c =
 
 pub pair_in-requires-clause-kept : goal.pair_in-requires-clause-kept
 pair_in-requires-clause-kept c =
-    subst (AllAccepted (prints_of c.args.history.now.timeline)) (sym (c.deref-2.ensures.value ∙ c.in_ok-numbers.ensures))
+    subst (AllAccepted (prints_along c.args.history.now.timeline)) (sym (c.deref-2.ensures.value ∙ c.in_ok-numbers.ensures))
     (compared-accepted c.args.history.now.timeline c.args.matched.now c.kept.result.now)

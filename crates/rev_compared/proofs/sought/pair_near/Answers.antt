@@ -1,8 +1,8 @@
 use Rattle.std.proofs.Common.{ℕ, ◌<◌, List, IsSome, None, Some, length, get_or, sym, ◌∙◌, arith}
+use Rattle.rev_history.specs.Along.{prints_along}
 use Rattle.rev_history.specs.Named.{CellPrints}
 use Rattle.rev_causal.specs.History as causal
 use Rattle.rev_footprint.specs.Value.{print_of}
-use Rattle.rev_compared.specs.Inverted.{prints_of}
 use Rattle.rev_compared.proofs.Prints.{All-get, print-there}
 use Rattle.rev_compared.proofs.SoughtLemmas.{pair-at}
 use Rattle.rev_compared.proofs.sought.pair_near.Goals as goal
@@ -10,7 +10,7 @@ use Rattle.rev_compared.proofs.sought.pair_near.Goals as goal
 pub returns-in-Ok-Some-clause-pair : goal.returns-in-Ok-Some-clause-pair
 returns-in-Ok-Some-clause-pair c =
     let t = c.args.history.now.timeline in
-    let es : CellPrints = prints_of t in
+    let es : CellPrints = prints_along t in
     let ks : List ℕ = c.args.numbers.now in
     let i : ℕ = c.loop-at.at in
     let within : i < length ks = omega (arith, c.loop-at-test.true) in
@@ -22,7 +22,7 @@ returns-in-Ok-Some-clause-pair c =
 pub loop-at-preserved : goal.loop-at-preserved
 loop-at-preserved c =
     let t = c.args.history.now.timeline in
-    let es : CellPrints = prints_of t in
+    let es : CellPrints = prints_along t in
     let ks : List ℕ = c.args.numbers.now in
     let i : ℕ = c.loop-at.at in
     let within : i < length ks = omega (arith, c.loop-at-test.true) in

@@ -1,8 +1,8 @@
 use Rattle.std.proofs.Common.{◌≡◌, ℕ, ◌+◌, List, false, drop, get_or, ap₂, sym, ◌∙◌, arith}
 use Rattle.rev_footprint.specs.Value.{print_of}
+use Rattle.rev_history.specs.Along.{prints_along}
 use Rattle.rev_order.specs.Lowest.{is_lower, lowest_place}
 use Rattle.rev_order.specs.Overtaken.{place_at}
-use Rattle.rev_compared.specs.Inverted.{prints_of}
 use Rattle.rev_compared.proofs.SoughtLemmas.{partner-none}
 use Rattle.rev_compared.proofs.sought.partner_near.Goals as goal
 
@@ -13,4 +13,4 @@ returns-then-not-is_lower c = λ f kept.
     let n : ℕ = get_or ks c.args.at 0 in
     let low : is_lower (lowest_place places (drop (c.args.at + 1) ks)) (place_at places n) ≡ false =
     sym (c.is_lower.ensures ∙ ap₂ is_lower (c.requires.lowest.at (c.args.at + 1) (omega (arith, c.requires.within))) c.place_at.ensures) ∙ c.if-not-is_lower.true in
-    sym (partner-none places (prints_of c.args.history.now.timeline) (drop (c.args.at + 1) ks) n (print_of f) low)
+    sym (partner-none places (prints_along c.args.history.now.timeline) (drop (c.args.at + 1) ks) n (print_of f) low)
