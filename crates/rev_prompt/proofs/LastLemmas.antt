@@ -1,12 +1,12 @@
 -- What was found in a list so far, and with one more element.
-use Rattle.std.proofs.Common.{◌≡◌, ℕ, ◌+◌, ◌<◌, Bool, true, false, cond, List, [], ◌∷◌, ◌++◌, length, get_or, take, map, reverse, Option, Some, refl, sym, ap, ◌∙◌}
+use Rattle.std.proofs.Common.{◌≡◌, ℕ, ◌+◌, ◌<◌, Bool, true, false, cond, List, [], ◌∷◌, ◌++◌, length, get_or, take, map, reverse, Option, Some, None, refl, sym, ap, ◌∙◌, arith}
 use Rattle.std.specs.Prelude.{filter, find, if◌then◌else◌}
 use Rattle.std.specs.Option.{option_map}
 use Rattle.std.proofs.lemmas.List.{get_or_default, map-append, reverse-append, take_more}
 use Rattle.std.proofs.lemmas.List.Elements.{filter-append}
 
 -- the elements up to a place
-so-far : {A : Type 0} (xs : List A) (i : ℕ) (x : A) → i < length xs → x ≡ get_or xs i x
+pub so-far : {A : Type 0} (xs : List A) (i : ℕ) (x : A) → i < length xs → x ≡ get_or xs i x
     → take (i + 1) xs ≡ take i xs ++ x ∷ []
 so-far xs i x within is = take_more xs i x within ∙ ap (λ z. take i xs ++ z ∷ []) (sym is)
 
@@ -71,3 +71,26 @@ pub passing-at : {A B : Type 0} (p : A → Bool) (f : A → B) (xs : List A) (i 
     → after ≡ map f (filter p (take (i + 1) xs))
 passing-at p f xs i d done after within so now =
     passing-next p f xs i (get_or xs i d) done after within (get_or_default xs i d (get_or xs i d) within) so now
+
+-- the last that passes, from the end on: it is the last element, or it stands before that
+last-of : {A : Type 0} (p : A → Bool) (before : List A) (x : A)
+    → find p (reverse (before ++ x ∷ [])) ≡ cond (p x) (Some x) (find p (reverse before))
+last-of p before x = ap (find p) (reverse-append before (x ∷ []))
+
+pub last-found : {A : Type 0} (p : A → Bool) (rest before : List A) (x : A) (last : Option A) (passes : Bool)
+    → rest ≡ before ++ x ∷ [] → passes ≡ p x → passes ≡ true → find p (reverse rest) ≡ last → Some x ≡ last
+last-found p rest before x last passes is tested holds so =
+    sym (ap (λ (b : Bool). cond b (Some x) (find p (reverse before))) (sym tested ∙ holds))
+    ∙ sym (last-of p before x) ∙ sym (ap (λ xs. find p (reverse xs)) is) ∙ so
+
+pub last-before : {A : Type 0} (p : A → Bool) (rest before : List A) (x : A) (last : Option A) (passes : Bool)
+    → rest ≡ before ++ x ∷ [] → passes ≡ p x → passes ≡ false → find p (reverse rest) ≡ last
+    → find p (reverse before) ≡ last
+last-before p rest before x last passes is tested fails so =
+    sym (ap (λ (b : Bool). cond b (Some x) (find p (reverse before))) (sym tested ∙ fails))
+    ∙ sym (last-of p before x) ∙ sym (ap (λ xs. find p (reverse xs)) is) ∙ so
+
+pub last-none : {A : Type 0} (p : A → Bool) (rest : List A) (last : Option A) → length rest ≡ 0
+    → find p (reverse rest) ≡ last → None ≡ last
+last-none p [] last none so = so
+last-none p (x ∷ xs) last none so = absurd (omega (arith, none))

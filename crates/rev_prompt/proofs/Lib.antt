@@ -1,3 +1,4 @@
+pub mod EachLemmas
 pub mod InputLemmas
 pub mod LastLemmas
 pub mod LedLemmas

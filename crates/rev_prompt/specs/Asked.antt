@@ -79,3 +79,10 @@ IsAnswer d o edges (question.Marks out) told = IsMarks d.history out told
 IsAnswer d o edges (question.Stamps path) told = AreStamps d.history path told
 IsAnswer d o edges (question.Logs path) told = AreLogs d.history path told
 IsAnswer d o edges _ told = ⊤
+
+-- one answer for each question, in their order
+abbrev pub AreAnswers : DeskValue → Option ObservationValue → List ℕ → List Question → List Answer → Type 0
+AreAnswers d o edges [] [] = ⊤
+AreAnswers d o edges (question ∷ questions) (told ∷ more) =
+    IsAnswer d o edges question told × AreAnswers d o edges questions more
+AreAnswers d o edges _ _ = ⊥

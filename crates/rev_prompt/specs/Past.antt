@@ -9,6 +9,7 @@ use Rattle.rev_events.specs.Machine.{after}
 use Rattle.rev_history.specs.Timeline.{IsHistory, Timeline, chosen, event_at, machine_at, state_at}
 use Rattle.rev_plan.specs.Chain.{has_wanted_mark}
 use Rattle.rev_prompt.specs.declared.answers.Span.{Span}
+use Rattle.rev_prompt.specs.declared.past.Planned.{Planned}
 
 abbrev pub is_plan : Option Event → Bool
 is_plan (Some (Plan targets)) = true
@@ -45,6 +46,14 @@ state_by t n = led_by t n t.opening t.kept
 abbrev pub state_then : Timeline → Option ℕ → State
 state_then t None = state_at t
 state_then t (Some n) = state_by t n
+
+-- it holds the state after its plan
+abbrev pub IsPlanned : Timeline → Planned → Type 0
+IsPlanned t planned = planned.cells.state ≡ state_by t planned.plan
+
+-- the same, and its plan is this one
+abbrev pub IsPlannedBy : Timeline → ℕ → Planned → Type 0
+IsPlannedBy t plan planned = (planned.plan ≡ plan) × IsPlanned t planned
 
 -- the history that ends with n: of the kept numbers those up to it
 abbrev pub up_to : ℕ → Timeline → Timeline

@@ -1,6 +1,7 @@
 //! Events by name.
-ghost use Rattle.std.specs.Prelude.{◌≡◌, if◌then◌else◌, option_and_then, IfOk};
+ghost use Rattle.std.specs.Prelude.{◌≡◌, option_and_then, IfOk};
 ghost use Rattle.std.specs.Option.{option_copied};
+ghost use Rattle.rev_graph.specs.Graph.{producer_of};
 ghost use Rattle.rev_prompt.specs.Answers.{IsWho};
 ghost use Rattle.rev_prompt.specs.Named.{AreNamed, IsLastOrNone, IsNamed, IsNoneAt, accepted_number, is_at as is_at_path, is_meant, is_meant_at, is_of_kind as is_of_kind_named, is_of_producer as is_of_edge_if, is_touch_of as is_touch_at, kind_word as word_of, last_at as last_at_path};
 
@@ -63,49 +64,60 @@ fn is_of_producer(graph: &Graph, event: &Event, producer: Option<u32>) -> bool
     }
 }
 
-// Whether an event is at a path: a touch of it, or an event of the edge that makes it.
-fn is_at(graph: &Graph, event: &Event, path: &Name) -> bool
+// Whether an event is at a path: a touch of it, or an event of its producer, the edge that makes it.
+fn is_at(graph: &Graph, event: &Event, path: &Name, producer: Option<u32>) -> bool
+    requires { producer ≡ producer_of graph.now.manifest.builds path.now }
     ensures { result ≡ is_at_path graph.now.manifest.builds path.now event.now }
 {
-    is_touch_of(event, path) || is_of_producer(graph, event, graph.producer(path))
+    is_touch_of(event, path) || is_of_producer(graph, event, producer)
 }
 
 // Whether there is an event, and it is of a name's kind and at a path.
-fn is_there(graph: &Graph, event: Option<&Event>, name: &EventName, path: &Name) -> bool
+fn is_there(
+    graph: &Graph,
+    event: Option<&Event>,
+    name: &EventName,
+    path: &Name,
+    producer: Option<u32>,
+) -> bool
+    requires { producer ≡ producer_of graph.now.manifest.builds path.now }
     ensures { result ≡ is_meant graph.now.manifest.builds name.now path.now (option_copied event.entry) }
 {
     match event {
-        Some(event) => is_of_kind(event, name) && is_at(graph, event, path),
+        Some(event) => is_of_kind(event, name) && is_at(graph, event, path, producer),
         None => false,
     }
 }
 
-// The later one of a number that passes and of the last such before it.
-fn later(passes: bool, number: u32, last: Option<u32>) -> Option<u32>
-    ensures { result ≡ (if passes then Some number else last) }
-{
-    if passes {
-        return Some(number);
-    }
-    last
-}
-
 // Whether the event of a number is of a name's kind and at a path.
-fn passes(history: &History, name: &EventName, path: &Name, number: u32) -> bool
+fn passes(
+    history: &History,
+    name: &EventName,
+    path: &Name,
+    producer: Option<u32>,
+    number: u32,
+) -> bool
+    requires { producer ≡ producer_of history.now.timeline.manifest.builds path.now }
     ensures { result ≡ is_meant_at history.now.timeline name.now path.now number }
 {
-    is_there(history.graph(), history.event(number), name, path)
+    let event = history.event(number);
+    is_there(history.graph(), event, name, path, producer)
 }
 
-// The last kept event at a path, of the kind that the name has, if it has one.
+// The last kept event at a path, of the kind that the name has, if it has one. The kept events are gone through from the
+// last one on.
 fn last_at(history: &History, name: &EventName, path: &Name) -> Option<u32>
     ensures { result ≡ last_at_path history.now.timeline name.now path.now }
 {
-    let mut last = None;
-    for kept in history.kept() {
-        last = later(passes(history, name, path, *kept), *kept, last);
+    let producer = history.graph().producer(path);
+    let mut rest = history.kept();
+    while let Some((number, before)) = rest.split_last() {
+        if passes(history, name, path, producer, *number) {
+            return Some(*number);
+        }
+        rest = before;
     }
-    last
+    None
 }
 
 // What is answered where no kept event is at a path.

@@ -5,6 +5,7 @@ mod advance;
 mod answers;
 mod causes;
 mod commands;
+mod each;
 mod events;
 mod found;
 pub mod laws;
@@ -24,6 +25,7 @@ pub use answers::{
     Answer, Because, Deed, Needs, Readers, Span, Step, Tally, Wait, Way, Writers, has_answer,
 };
 pub use commands::would_cone;
+pub use each::asked_each;
 pub use found::{EdgeFound, Found, Rebuilt};
 pub use line::{LineFault, texts_of};
 pub use past::state_by;

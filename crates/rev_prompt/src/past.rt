@@ -1,10 +1,10 @@
 //! The state in which an edge was planned.
-ghost use Rattle.std.specs.Prelude.{◌≡◌, ◌∷◌, ℕ, if◌then◌else◌, false, IfOk, List, None, OnOk, Some, nat_lt};
+ghost use Rattle.std.specs.Prelude.{◌≡◌, ◌∷◌, ℕ, if◌then◌else◌, false, IfOk, IfSome, List, None, OnOk, Some, nat_lt};
 ghost use Rattle.std.specs.Option.{option_copied};
 ghost use Rattle.rev_history.specs.Timeline.{event_at};
 ghost use Rattle.rev_plan.specs.Chain.{has_wanted_mark};
 ghost use Rattle.rev_events.specs.Machine.{after, refusal};
-ghost use Rattle.rev_prompt.specs.Past.{IsLed, IsOpeningOf, is_plan as is_plan_event, is_plan_before as is_plan_below, plan_before as plan_before_of, plan_of as plan_of_run, state_by as state_by_of};
+ghost use Rattle.rev_prompt.specs.Past.{IsLed, IsOpeningOf, IsPlanned, IsPlannedBy, is_plan as is_plan_event, is_plan_before as is_plan_below, plan_before as plan_before_of, plan_of as plan_of_run, state_by as state_by_of};
 
 use crate::answers::Span;
 use rev_cells::{Cell, Cells, Mark, Opening, Value};
@@ -133,4 +133,47 @@ pub fn state_by(
         follow_number(alloc, history, &mut cells, *number)?;
     }
     Ok(cells)
+}
+
+/// The state after a plan.
+pub(crate) struct Planned {
+    /// The number of the plan.
+    pub(crate) plan: u32,
+    /// What each cell holds after it.
+    pub(crate) cells: Cells,
+}
+
+// Written, since a derived drop is proved again at each exit of each caller.
+impl Drop for Planned {
+    fn drop(self) {
+        let Planned {
+            plan: _plan,
+            cells: _cells,
+        } = self;
+    }
+}
+
+/// The state after a plan, from the opening, which is that of the history. It is worked out anew, unless it is the one
+/// that was kept.
+///
+/// # Errors
+/// [`AllocError`] only where an allocation was refused.
+pub(crate) fn state_after(
+    alloc: Global,
+    history: &History,
+    opening: &Opening,
+    plan: u32,
+    kept: Option<Planned>,
+) -> Result<Planned, AllocError>
+    requires { IsOpeningOf history.now.timeline opening.now → IfSome kept (IsPlanned history.now.timeline) }
+    ensures { IsOpeningOf history.now.timeline opening.now
+        → IfOk result (IsPlannedBy history.now.timeline plan) }
+{
+    if let Some(planned) = kept {
+        if planned.plan == plan {
+            return Ok(planned);
+        }
+    }
+    let cells = state_by(alloc, history, opening, plan)?;
+    Ok(Planned { plan, cells })
 }

@@ -4,6 +4,7 @@ ghost use Rattle.std.specs.Option.{option_copied, option_map};
 ghost use Rattle.rev_prompt.specs.Found.{IsCritical, IsEdgeFound, IsEdges, IsMakes, IsReads, IsRebuilds, IsRefusal, IsSlowest, begun_at as begun_by, changes_of, deeds_in, last_targets as last_targets_of, looks_at, rebuilt_of as rebuilt_by, refusal_of as refusal_by};
 ghost use Rattle.rev_prompt.specs.Past.{plan_before};
 ghost use Rattle.rev_prompt.specs.Reasons.{because as because_of};
+ghost use Rattle.rev_runs.specs.Runs.{runs_of};
 
 use crate::answers::{Answer, Because, Deed};
 use crate::events::named_event;
@@ -13,7 +14,7 @@ use crate::query::Query;
 use crate::question::EventName;
 use crate::reasons::because;
 use crate::session::Session;
-use crate::spans::last_run;
+use crate::spans::last_of;
 use crate::users::{observed_readers, observed_writers};
 use rev_cells::Cells;
 use rev_desk::{Desk, Reply};
@@ -27,7 +28,7 @@ use rev_plan::PlanFault;
 use rev_queries::{
     Rebuild, Timed, critical, edges_like, readings, rebuilds, slowest, timed_runs, users,
 };
-use rev_runs::edge_of_event;
+use rev_runs::{Run, edge_of_event, runs};
 use std::alloc::{AllocError, Global};
 
 // The most links of a chain that are told.
@@ -120,25 +121,41 @@ fn edge_named(desk: &Desk, name: &EventName) -> Result<Result<u32, Answer>, Allo
     }
 }
 
-/// What `edge` finds of an edge beside its build line: its last kept run, and who waits for it.
+/// What `edge` finds of an edge beside its build line, by the runs of the history: its last kept run, and who waits for
+/// it.
 pub(crate) fn edge_found(
     alloc: Global,
     history: &History,
     edge: u32,
+    runs: &[Run],
 ) -> Result<EdgeFound, AllocError>
+    requires { runs.now ≡ runs_of history.now.timeline }
     ensures { IfOk result (λ told. IsEdgeFound history.now.timeline edge told) }
 {
-    let run = last_run(alloc, history, edge)?;
+    let run = last_of(runs, edge);
     let users = users(alloc, history.graph(), edge)?;
     Ok(EdgeFound { edge, run, users })
 }
 
-// `edge OUT`: the edge of an output, or of an event.
-fn edge(alloc: Global, desk: &Desk, name: &EventName) -> Result<Answer, AllocError> {
+/// `edge OUT`: the edge of an output, or of an event, by the runs of the history.
+pub(crate) fn edge_by(
+    alloc: Global,
+    desk: &Desk,
+    name: &EventName,
+    runs: &[Run],
+) -> Result<Answer, AllocError>
+    requires { runs.now ≡ runs_of desk.now.history }
+{
     match edge_named(desk, name)? {
-        Ok(edge) => Ok(Answer::Found(Found::Edge(edge_found(alloc, desk.history(), edge)?))),
+        Ok(edge) => Ok(Answer::Found(Found::Edge(edge_found(alloc, desk.history(), edge, runs)?))),
         Err(answer) => Ok(answer),
     }
+}
+
+// The same of one output or event.
+fn edge(alloc: Global, desk: &Desk, name: &EventName) -> Result<Answer, AllocError> {
+    let runs = runs(alloc, desk.history())?;
+    edge_by(alloc, desk, name, &runs)
 }
 
 /// `edges WORD`: the edges with an output that matches a pattern.

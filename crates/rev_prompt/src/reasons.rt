@@ -1,19 +1,21 @@
 //! Why an edge runs, or ran.
-ghost use Rattle.std.specs.Prelude.{◌≡◌, ◌++◌, ◌<◌, length, map, option_and_then, slice_get, IfOk};
+ghost use Rattle.std.specs.Prelude.{◌≡◌, ◌++◌, ◌<◌, length, map, option_and_then, slice_get, IfOk, IfSome, OnOk};
 ghost use Rattle.std.specs.Option.{option_copied};
 ghost use Rattle.rev_prompt.specs.Answers.{IsWhy};
-ghost use Rattle.rev_prompt.specs.Past.{IsOpeningOf, state_then};
+ghost use Rattle.rev_prompt.specs.Past.{IsOpeningOf, IsPlanned, state_then};
 ghost use Rattle.rev_prompt.specs.Reasons.{IsWay, because as because_of, input_in as input_of, input_path, output_in as output_of, output_path, wait_of as wait_of_step};
+ghost use Rattle.rev_runs.specs.Runs.{runs_of};
 
 use crate::answers::{Answer, Because, Wait, Way};
-use crate::past::{plan_of, state_by};
-use crate::spans::last_run;
+use crate::past::{Planned, plan_of, state_after};
+use crate::spans::last_of;
 use rev_cells::{Cells, Opening};
 use rev_dirty::{Reason, listed_inputs};
 use rev_graph::Graph;
 use rev_history::History;
 use rev_paths::Name;
 use rev_plan::why as chain_of;
+use rev_runs::{Run, runs};
 use std::alloc::{AllocError, Global};
 
 // What stands at a position of two slices, one behind the other.
@@ -205,23 +207,56 @@ fn way_of(alloc: Global, graph: &Graph, cells: &Cells, edge: u32) -> Result<Way,
     })
 }
 
-// The way from an edge to its reasons in the state after a plan, or in the present one.
+// The way from an edge to its reasons in the state after a plan, or in the present one. The state after a plan is kept for
+// the next way.
 fn way_then(
     alloc: Global,
     history: &History,
     opening: &Opening,
     edge: u32,
     plan: Option<u32>,
+    kept: &mut Option<Planned>,
 ) -> Result<Way, AllocError>
-    requires { edge < length history.now.timeline.manifest.builds }
-    ensures { IsOpeningOf history.now.timeline opening.now → IfOk result (λ way.
+    requires edge { edge < length history.now.timeline.manifest.builds }
+    requires kept { IsOpeningOf history.now.timeline opening.now → IfSome kept.old (IsPlanned history.now.timeline) }
+    ensures way { IsOpeningOf history.now.timeline opening.now → IfOk result (λ way.
         IsWay history.now.timeline.manifest.builds (state_then history.now.timeline plan) edge way) }
+    ensures kept { OnOk result (IsOpeningOf history.now.timeline opening.now
+        → IfSome kept.new (IsPlanned history.now.timeline)) }
 {
     let Some(plan) = plan else {
         return way_of(alloc, history.graph(), history.cells(), edge);
     };
-    let then = state_by(alloc, history, opening, plan)?;
-    way_of(alloc, history.graph(), &then, edge)
+    let then = state_after(alloc, history, opening, plan, kept.take())?;
+    let way = way_of(alloc, history.graph(), &then.cells, edge)?;
+    *kept = Some(then);
+    Ok(way)
+}
+
+/// As [`why`], by the runs of the history, for one output after the other: the state after a plan is kept for the next
+/// one.
+pub(crate) fn why_by(
+    alloc: Global,
+    history: &History,
+    opening: &Opening,
+    out: &Name,
+    runs: &[Run],
+    kept: &mut Option<Planned>,
+) -> Result<Answer, AllocError>
+    requires runs { runs.now ≡ runs_of history.now.timeline }
+    requires kept { IsOpeningOf history.now.timeline opening.now → IfSome kept.old (IsPlanned history.now.timeline) }
+    ensures answer { IsOpeningOf history.now.timeline opening.now
+        → IfOk result (λ answer. IsWhy history.now.timeline out.now answer) }
+    ensures kept { OnOk result (IsOpeningOf history.now.timeline opening.now
+        → IfSome kept.new (IsPlanned history.now.timeline)) }
+{
+    let Some(edge) = history.graph().producer(out) else {
+        return Ok(Answer::NoOutput(out.copy()?));
+    };
+    let run = last_of(runs, edge);
+    let plan = plan_of(history, edge, run);
+    let way = way_then(alloc, history, opening, edge, plan, kept)?;
+    Ok(Answer::Why(out.copy()?, run, plan, way))
 }
 
 /// `why OUT`: why an edge is to run, where the present plan wants it, or else why it ran last, by its reasons at the
@@ -235,11 +270,7 @@ pub(crate) fn why(
     ensures { IsOpeningOf history.now.timeline opening.now
         → IfOk result (λ answer. IsWhy history.now.timeline out.now answer) }
 {
-    let Some(edge) = history.graph().producer(out) else {
-        return Ok(Answer::NoOutput(out.copy()?));
-    };
-    let run = last_run(alloc, history, edge)?;
-    let plan = plan_of(history, edge, run);
-    let way = way_then(alloc, history, opening, edge, plan)?;
-    Ok(Answer::Why(out.copy()?, run, plan, way))
+    let runs = runs(alloc, history)?;
+    let mut kept = None;
+    why_by(alloc, history, opening, out, &runs, &mut kept)
 }

@@ -1,7 +1,8 @@
 //! Which commands ran when.
 ghost use Rattle.std.specs.Prelude.{◌≡◌, ◌∷◌, ◌++◌, [], if◌then◌else◌, IfOk, OnOk, Some};
 ghost use Rattle.rev_prompt.specs.Answers.{IsWith};
-ghost use Rattle.rev_prompt.specs.Spans.{is_before_end, is_beside as is_beside_of, is_kept_of as is_kept, last_in, last_run as last_run_of, others_in, overlaps as overlaps_of, span_of as span_of_run};
+ghost use Rattle.rev_prompt.specs.Spans.{is_before_end, is_beside as is_beside_of, is_kept_of as is_kept, last_in, others_in, overlaps as overlaps_of, span_of as span_of_run};
+ghost use Rattle.rev_runs.specs.Runs.{runs_of};
 
 use crate::answers::{Answer, Span};
 use rev_history::History;
@@ -36,8 +37,8 @@ fn later(run: &Run, edge: u32, last: Option<Span>) -> Option<Span>
     last
 }
 
-// The last of some runs that is kept and one of an edge.
-fn last_of(runs: &[Run], edge: u32) -> Option<Span>
+/// The last of some runs that is kept and one of an edge.
+pub(crate) fn last_of(runs: &[Run], edge: u32) -> Option<Span>
     ensures { result ≡ last_in edge runs.now }
 {
     let mut last = None;
@@ -45,18 +46,6 @@ fn last_of(runs: &[Run], edge: u32) -> Option<Span>
         last = later(run, edge, last);
     }
     last
-}
-
-/// The last run of an edge's command that is kept.
-pub(crate) fn last_run(
-    alloc: Global,
-    history: &History,
-    edge: u32,
-) -> Result<Option<Span>, AllocError>
-    ensures { IfOk result (λ run. run ≡ last_run_of history.now.timeline edge) }
-{
-    let runs = runs(alloc, history)?;
-    Ok(last_of(&runs, edge))
 }
 
 // Whether a run that began at a number began before another ended, which may still run.
@@ -104,17 +93,30 @@ fn others(alloc: Global, runs: &[Run], span: Span) -> Result<Vec<Span>, AllocErr
     Ok(spans)
 }
 
-/// `with OUT`: the last run of an edge's command, and the runs that overlapped it.
-pub(crate) fn with(alloc: Global, history: &History, out: &Name) -> Result<Answer, AllocError>
+/// As [`with`], by the runs of the history.
+pub(crate) fn with_by(
+    alloc: Global,
+    history: &History,
+    out: &Name,
+    runs: &[Run],
+) -> Result<Answer, AllocError>
+    requires { runs.now ≡ runs_of history.now.timeline }
     ensures { IfOk result (λ answer. IsWith history.now.timeline out.now answer) }
 {
     let Some(edge) = history.graph().producer(out) else {
         return Ok(Answer::NoOutput(out.copy()?));
     };
-    let runs = runs(alloc, history)?;
-    let Some(run) = last_of(&runs, edge) else {
+    let Some(run) = last_of(runs, edge) else {
         return Ok(Answer::With(out.copy()?, None, Vec::new(alloc)));
     };
-    let others = others(alloc, &runs, run)?;
+    let others = others(alloc, runs, run)?;
     Ok(Answer::With(out.copy()?, Some(run), others))
+}
+
+/// `with OUT`: the last run of an edge's command, and the runs that overlapped it.
+pub(crate) fn with(alloc: Global, history: &History, out: &Name) -> Result<Answer, AllocError>
+    ensures { IfOk result (λ answer. IsWith history.now.timeline out.now answer) }
+{
+    let runs = runs(alloc, history)?;
+    with_by(alloc, history, out, &runs)
 }

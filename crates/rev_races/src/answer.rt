@@ -5,11 +5,13 @@ ghost use Rattle.rev_history.specs.Timeline.{kept_events};
 ghost use Rattle.rev_ranks.specs.Graph.{graph_of};
 ghost use Rattle.rev_waits.specs.Waits.{AreWaitedFor, phony_lists};
 ghost use Rattle.rev_races.specs.Answer.{AreRaces};
+ghost use Rattle.rev_races.specs.Endings.{AreEndings};
 ghost use Rattle.rev_races.specs.Keys.{AreTold, IsKeyAmong, IsKeyAt, IsKeyOf};
 ghost use Rattle.rev_races.specs.Kinds.{IsBetween};
 ghost use Rattle.rev_races.specs.Searches.{AreDirect, AreKeptMakers, IsFirstOrUntold, IsKept};
 
 use crate::direct::{mark_direct, suspects};
+use crate::endings::output_endings;
 use crate::found::Found;
 use crate::kinds::with_kinds;
 use crate::listing::listed;
@@ -93,6 +95,7 @@ fn add_of(
     history: &History,
     steps: &[Vec<u32>],
     phony: &[Vec<u32>],
+    endings: &[bool],
     files: &[Name],
     direct: &mut Vec<Option<u32>>,
     search: &mut Search,
@@ -103,6 +106,7 @@ fn add_of(
     requires user { user < length history.now.timeline.manifest.builds }
     requires steps { graph_of steps.now ≡ successor_lists history.now.timeline.manifest.builds }
     requires phony { graph_of phony.now ≡ phony_lists history.now.timeline.manifest.builds }
+    requires endings { AreEndings history.now.timeline.manifest.builds endings.now }
     requires direct { AreDirect (graph_of steps.now) direct.old.items }
     requires kept { IsKept history.now.timeline.manifest.builds search.old.edge search.old.waited.items }
     requires behind { AreKeptMakers history.now.timeline.manifest.builds behind.old.phony behind.old.makers.items }
@@ -119,7 +123,7 @@ fn add_of(
     let graph = history.graph();
     let _edges = graph.edges();
     mark_direct(steps, user, direct);
-    let places = suspects(alloc, graph, direct, user, paths)?;
+    let places = suspects(alloc, graph, endings, direct, user, paths)?;
     if places.is_empty() {
         return Ok(());
     }
@@ -152,6 +156,7 @@ fn found_in(
 {
     let graph = history.graph();
     let phony = phony_steps(alloc, graph)?;
+    let endings = output_endings(alloc, graph)?;
     let mut direct = vec![in alloc; None; graph.edges() as usize]?;
     let mut search = no_search(alloc);
     let mut behind = no_makers(alloc);
@@ -163,6 +168,7 @@ fn found_in(
             history,
             steps,
             &phony,
+            &endings,
             files,
             &mut direct,
             &mut search,
@@ -181,8 +187,9 @@ fn found_in(
 /// `files` are those from which the manifest was read. The edges that make one of them run before all else, and race
 /// with no edge.
 ///
-/// Each listed path is looked up once, and once more where an edge makes it to which the user does not step. Only in
-/// this case a search goes through what the user waits for: one search for all users that step to the same edges.
+/// Each listed path that ends like an output is looked up once, and once more where an edge makes it to which the user
+/// does not step. Only in this case a search goes through what the user waits for: one search for all users that step to
+/// the same edges.
 ///
 /// # Errors
 /// [`AllocError`] only where an allocation was refused.

@@ -4,8 +4,10 @@ ghost use Rattle.std.specs.List.{All};
 ghost use Rattle.indexmap.specs.IndexSet.{contains};
 ghost use Rattle.rev_graph.specs.Graph.{successor_lists};
 ghost use Rattle.rev_ranks.specs.Graph.{graph_of};
+ghost use Rattle.rev_races.specs.Endings.{AreEndings};
 ghost use Rattle.rev_races.specs.Searches.{AreDirect, IsCovered, IsFirstOrQuiet, IsQuiet};
 
+use crate::endings::may_be_made;
 use crate::order::is_new;
 use crate::runs::at;
 use indexmap::IndexSet;
@@ -38,10 +40,20 @@ pub fn is_marked(direct: &[Option<u32>], node: u32, edge: u32) -> bool
 
 // Whether an edge makes a path, or others do, that the user may not wait for: no edge that the user steps to produces
 // it.
-fn is_suspect(graph: &Graph, direct: &[Option<u32>], user: u32, path: &Name) -> bool
-    requires { AreDirect (successor_lists graph.now.manifest.builds) direct.now }
+fn is_suspect(
+    graph: &Graph,
+    endings: &[bool],
+    direct: &[Option<u32>],
+    user: u32,
+    path: &Name,
+) -> bool
+    requires endings { AreEndings graph.now.manifest.builds endings.now }
+    requires direct { AreDirect (successor_lists graph.now.manifest.builds) direct.now }
     ensures { result ≡ false → IsQuiet graph.now.manifest.builds user path.now }
 {
+    if !may_be_made(endings, path) {
+        return false;
+    }
     match graph.producer(path) {
         Some(producer) => !is_marked(direct, producer, user),
         None => false,
@@ -51,12 +63,14 @@ fn is_suspect(graph: &Graph, direct: &[Option<u32>], user: u32, path: &Name) -> 
 // Whether a path may be told and was not seen, of which it is one then.
 fn is_new_suspect(
     graph: &Graph,
+    endings: &[bool],
     direct: &[Option<u32>],
     user: u32,
     path: &Name,
     seen: &mut IndexSet<Name>,
 ) -> Result<bool, AllocError>
-    requires { AreDirect (successor_lists graph.now.manifest.builds) direct.now }
+    requires endings { AreEndings graph.now.manifest.builds endings.now }
+    requires direct { AreDirect (successor_lists graph.now.manifest.builds) direct.now }
     ensures new { IfOk result (λ new. new ≡ true → contains bytes_eq seen.old path.now ≡ false) }
     ensures passed { IfOk result (λ new. new ≡ false
         → (contains bytes_eq seen.old path.now ≡ true) ⊎ IsQuiet graph.now.manifest.builds user path.now) }
@@ -67,24 +81,27 @@ fn is_new_suspect(
     ensures only { OnOk result ((other : List ℕ) → contains bytes_eq seen.new other ≡ true
         → (other ≡ path.now) ⊎ (contains bytes_eq seen.old other ≡ true)) }
 {
-    if !is_suspect(graph, direct, user, path) {
+    if !is_suspect(graph, endings, direct, user, path) {
         return Ok(false);
     }
     is_new(seen, path)
 }
 
-/// The first places of the paths of a list that may be told. `direct` has the marks of the user.
+/// The first places of the paths of a list that may be told. `endings` has a mark for each ending of an output, and
+/// `direct` has the marks of the user.
 ///
 /// # Errors
 /// [`AllocError`] only where an allocation was refused.
 pub(crate) fn suspects(
     alloc: Global,
     graph: &Graph,
+    endings: &[bool],
     direct: &[Option<u32>],
     user: u32,
     paths: &[Name],
 ) -> Result<Vec<usize>, AllocError>
-    requires { AreDirect (successor_lists graph.now.manifest.builds) direct.now }
+    requires endings { AreEndings graph.now.manifest.builds endings.now }
+    requires direct { AreDirect (successor_lists graph.now.manifest.builds) direct.now }
     ensures within { IfOk result (λ places. All (λ place. place < length paths.now) places.items) }
     ensures firsts { IfOk result (λ places. All (IsFirstOrQuiet graph.now.manifest.builds user paths.now) places.items) }
     ensures rest { IfOk result (λ places. (place : ℕ) → place < length paths.now
@@ -93,7 +110,7 @@ pub(crate) fn suspects(
     let mut seen = IndexSet::new(alloc);
     let mut places = Vec::new(alloc);
     for (place, path) in paths.iter().enumerate() {
-        let new = is_new_suspect(graph, direct, user, path, &mut seen)?;
+        let new = is_new_suspect(graph, endings, direct, user, path, &mut seen)?;
         if new {
             places.push(place)?;
         }
