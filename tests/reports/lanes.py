@@ -17,6 +17,22 @@ touch c 1
 start b.o 1
 """
 
+# A lane that meets its own break, and undoes what met it.
+PAUSED = """\
+rebug-trace 1
+jobs 2
+stamp a.c 10
+stamp b.c 20
+lane 0
+plan app
+break finish a.o
+start a.o 0
+start b.o 1
+finish a.o 100
+finish b.o 110
+undo 5
+"""
+
 ROWS = {
     "break pause label": Row(
         manifest=COMPILES,
@@ -338,5 +354,201 @@ undo 4
 dependents 4
 6 1 ok
 """,
+    ),
+    # Lane 1 has a break, an event, and a command that is refused, since the break has paused the desk.
+    "a label names an accepted event": Row(
+        manifest=COMPILES,
+        trace="""\
+rebug-trace 1
+jobs 2
+stamp a.c 10
+stamp b.c 20
+lane 0
+plan app
+start a.o 0
+finish a.o 100
+lane 1
+break finish a.o
+start b.o 1
+finish b.o 110
+""",
+        script="""\
+run
+run 1
+kept
+dependents 0:3
+dependents 1:1
+dependents 1:2
+dependents 1:3
+dependents 3:1
+touch a.c 11
+unbreak 2
+unbreak 2
+""",
+        report="""\
+1 0 ok
+2 1 ok
+3 0 ok
+4 1 ok
+5 0 ok break 2
+6 1 refused 92
+kept 1 plan app
+kept 3 start a.o 0
+kept 4 start b.o 1
+kept 5 finish a.o 100
+dependents 5
+refused 80
+dependents 4
+refused 80
+refused 80
+7 2 refused 92
+8 2 ok
+9 2 refused 93
+""",
+    ),
+    "redone by number what was undone by label": Row(
+        manifest=COMPILES,
+        trace="""\
+rebug-trace 1
+jobs 2
+stamp a.c 10
+stamp b.c 20
+lane 0
+plan app
+start a.o 0
+start b.o 1
+finish a.o 100
+finish b.o 110
+""",
+        script="""\
+run
+undo 0:5
+undo 3
+redo 5
+redo 3
+redo 5
+redo 5
+""",
+        report="""\
+1 0 ok
+2 0 ok
+3 0 ok
+4 0 ok
+5 0 ok
+6 1 ok
+7 1 ok
+8 1 refused 84 67
+9 1 ok
+10 1 ok
+11 1 refused 83
+""",
+    ),
+    "a break that stands no more, and a cone": Row(
+        manifest=COMPILES,
+        trace="""\
+rebug-trace 1
+jobs 2
+stamp a.c 10
+stamp b.c 20
+lane 0
+plan app
+start a.o 0
+finish a.o 100
+""",
+        script="""\
+run 2
+break finish a.o
+unbreak 3
+run
+cone 2
+back
+unbreak 3
+""",
+        report="""\
+1 0 ok
+2 0 ok
+3 1 ok
+4 1 ok
+5 0 ok
+6 1 cone 2
+7 1 ok
+8 1 refused 93
+""",
+    ),
+    # On threads the desk is closed once its lane has said all, and goes on as it was: paused, with its break.
+    "a paused desk goes on": Row(
+        manifest=COMPILES,
+        trace=PAUSED,
+        script="""\
+run
+run
+kept
+marks
+stamps
+logs
+touch c 1
+unbreak 2
+unbreak 2
+continue
+redo 5
+logs
+""",
+        report="""\
+1 0 ok
+2 0 ok
+3 0 ok
+4 0 ok
+5 0 ok break 2
+6 0 refused 92
+7 0 ok
+kept 1 plan app
+kept 3 start a.o 0
+kept 4 start b.o 1
+mark 0 a.o running 0 - 10
+mark 1 b.o running 1 - 20
+mark 2 app wanted
+job 0 0
+job 1 1
+stamp a.c 10
+stamp b.c 20
+8 1 refused 92
+9 1 ok
+10 1 refused 93
+11 1 ok
+12 1 ok
+built a.o 100 cc\\s-c\\sa.c\\s-o\\sa.o
+""",
+        on_threads=True,
+    ),
+    "a desk goes back to its opening": Row(
+        manifest=COMPILES,
+        trace=PAUSED,
+        script="""\
+run
+run
+back
+back
+back
+back
+marks
+stamps
+logs
+""",
+        report="""\
+1 0 ok
+2 0 ok
+3 0 ok
+4 0 ok
+5 0 ok break 2
+6 0 refused 92
+7 0 ok
+8 1 ok
+9 1 ok
+10 1 ok
+11 1 refused 86
+stamp a.c 10
+stamp b.c 20
+""",
+        on_threads=True,
     ),
 }

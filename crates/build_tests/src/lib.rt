@@ -1,5 +1,5 @@
-//! The tests of the crates from the state of a build to its events: cells, access lists, reasons, plans, events, each
-//! through what is public.
+//! The tests of the crates from paths to the state of a build: paths, ranks, cells, access lists, reasons, each through
+//! what is public, where the program does not show it. What it shows stands in tests/reports.
 //!
 //! They stand in a crate of their own because a crate's tests are proved together with the crate: here, nothing but the
 //! tests is proved, over libraries that are.
@@ -10,9 +10,9 @@ mod accesses;
 #[cfg(test)]
 mod cells;
 #[cfg(test)]
-mod events;
+mod paths;
 #[cfg(test)]
-mod plans;
+mod ranks;
 #[cfg(test)]
 mod reasons;
 #[cfg(test)]

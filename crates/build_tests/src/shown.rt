@@ -1,5 +1,5 @@
-// Cells and what they hold, as texts.
-use rev_cells::{Cell, Mark, Value};
+// What cells hold, as texts.
+use rev_cells::{Mark, Value};
 use rev_fields::next_number;
 use rev_paths::Name;
 use std::alloc::AllocError;
@@ -7,32 +7,6 @@ use std::alloc::AllocError;
 fn push_name(text: &mut Vec<u8>, word: &[u8], name: &Name) -> Result<(), AllocError> {
     text.extend_from_slice(word)?;
     text.extend_from_slice(name.as_bytes())
-}
-
-pub(crate) fn push_cell(text: &mut Vec<u8>, cell: &Cell) -> Result<(), AllocError> {
-    match cell {
-        Cell::Stamp(path) => push_name(text, b"stamp ", path),
-        Cell::Mark(edge) => {
-            text.extend_from_slice(b"mark")?;
-            next_number(text, u64::from(*edge))
-        }
-        Cell::Job(job) => {
-            text.extend_from_slice(b"job")?;
-            next_number(text, u64::from(*job))
-        }
-        Cell::Slot(pool, slot) => {
-            text.extend_from_slice(b"slot")?;
-            next_number(text, u64::from(*pool))?;
-            next_number(text, u64::from(*slot))
-        }
-        Cell::Depth(pool) => {
-            text.extend_from_slice(b"depth")?;
-            next_number(text, u64::from(*pool))
-        }
-        Cell::Built(path) => push_name(text, b"built ", path),
-        Cell::Deps(path) => push_name(text, b"deps ", path),
-        Cell::Halted => text.extend_from_slice(b"halted"),
-    }
 }
 
 fn push_holder(text: &mut Vec<u8>, holder: Option<u32>) -> Result<(), AllocError> {

@@ -19,10 +19,12 @@ const RULES: &str =
     "rule c\n  command = c $out\nrule cc\n  command = cc $out\n  deps = gcc\n  depfile = $out.d\n\
     rule r\n  command = r $out\n  restat = 1\n";
 
-// The places of the observations.
-const PATHS: [&str; 8] = ["a.c", "a.h", "gen.h", "lib.a", "a.o", "app", "log", "app.d"];
+// The places of the observations, by their numbers: 0 a.c, 1 a.h, 2 gen.h, 3 lib.a, 4 a.o, 5 app, 6 log, 7 app.d.
+const PATHS: &str =
+    "rebug-observed 1\nby hand\npath a.c\npath a.h\npath gen.h\npath lib.a\npath a.o\npath app\npath log\npath app.d\n";
 
-// The build lines, what the deps log lists for app, what the commands did, and what is told of app.
+// The build lines, what the deps log lists for app, what the commands did as the file `observed` has it, and what is told
+// of app.
 #[derive(Clone, Copy)]
 struct Row {
     lines: &'static str,
@@ -31,114 +33,109 @@ struct Row {
     due: &'static str,
 }
 
-// What counts for the edge: its line, and its list.
-const LISTED: [Row; 4] = [
-    Row {
-        lines: "build app: c a.c\n",
-        list: &[],
-        seen: "edge app\nreads a.c\nwrites app",
-        due: "",
-    },
-    Row {
-        lines: "build app: c a.c | a.h\n",
-        list: &[],
-        seen: "edge app\nreads a.c a.h\nwrites app",
-        due: "",
-    },
-    Row {
-        lines: "build app: cc a.c\n",
-        list: &["a.c", "a.h"],
-        seen: "edge app\nreads a.c a.h\nwrites app",
-        due: "",
-    },
-    Row {
-        lines: "build app: cc a.c\n",
-        list: &["a.h"],
-        seen: "edge app\nreads a.c a.h log\nwrites app",
-        due: "Neither log app\n",
-    },
-];
-
 // A source that no edge makes: covered where it counts for an edge that app meets.
-const SOURCES: [Row; 3] = [
+const SOURCES: &[Row] = &[
     Row {
         lines: "build app: c a.c\n",
         list: &[],
-        seen: "edge app\nreads a.c a.h\nwrites app",
+        seen: "edge app\nreads 0 1\nwrites 5",
         due: "Neither a.h app\n",
     },
     Row {
         lines: "build a.o: c a.c a.h\nbuild app: c a.o\n",
         list: &[],
-        seen: "edge app\nreads a.h a.o\nwrites app",
+        seen: "edge app\nreads 1 4\nwrites 5",
         due: "Covered a.h app\n",
     },
     Row {
         lines: "build a.o: c a.c a.h\nbuild app: c a.c || a.o\n",
         list: &[],
-        seen: "edge app\nreads a.c a.h\nwrites app",
+        seen: "edge app\nreads 0 1\nwrites 5",
         due: "Neither a.h app\n",
     },
 ];
 
-// A file that another edge makes. An order-only input covers nothing, and a way over an edge with restat holds back.
-const MADE: [Row; 5] = [
+// The others.
+const ROWS: &[Row] = &[
+    // What counts for the edge: its line, and its list.
+    Row {
+        lines: "build app: c a.c\n",
+        list: &[],
+        seen: "edge app\nreads 0\nwrites 5",
+        due: "",
+    },
+    Row {
+        lines: "build app: c a.c | a.h\n",
+        list: &[],
+        seen: "edge app\nreads 0 1\nwrites 5",
+        due: "",
+    },
+    Row {
+        lines: "build app: cc a.c\n",
+        list: &["a.c", "a.h"],
+        seen: "edge app\nreads 0 1\nwrites 5",
+        due: "",
+    },
+    Row {
+        lines: "build app: cc a.c\n",
+        list: &["a.h"],
+        seen: "edge app\nreads 0 1 6\nwrites 5",
+        due: "Neither log app\n",
+    },
+    // A file that another edge makes. An order-only input covers nothing, and a way over an edge with restat holds back.
     Row {
         lines: "build gen.h: c a.c\nbuild app: c || gen.h\n",
         list: &[],
-        seen: "edge gen.h\nwrites gen.h\nedge app\nreads gen.h\nwrites app",
+        seen: "edge gen.h\nwrites 2\nedge app\nreads 2\nwrites 5",
         due: "Neither gen.h app\n",
     },
     Row {
         lines: "build gen.h: c a.c\nbuild a.o: c gen.h\nbuild app: c a.o\n",
         list: &[],
-        seen: "edge gen.h\nwrites gen.h\nedge app\nreads gen.h a.o\nwrites app",
+        seen: "edge gen.h\nwrites 2\nedge app\nreads 2 4\nwrites 5",
         due: "Covered gen.h app\n",
     },
     Row {
         lines: "build gen.h: c a.c\nbuild all: phony gen.h\nbuild app: c | all\n",
         list: &[],
-        seen: "edge gen.h\nwrites gen.h\nedge app\nreads gen.h\nwrites app",
+        seen: "edge gen.h\nwrites 2\nedge app\nreads 2\nwrites 5",
         due: "Covered gen.h app\n",
     },
     Row {
         lines: "build gen.h: c a.c\nbuild all: phony gen.h\nbuild app: c || all\n",
         list: &[],
-        seen: "edge gen.h\nwrites gen.h\nedge app\nreads gen.h\nwrites app",
+        seen: "edge gen.h\nwrites 2\nedge app\nreads 2\nwrites 5",
         due: "Neither gen.h app\n",
     },
     Row {
         lines: "build gen.h: c a.c\nbuild lib.a: r gen.h\nbuild app: c lib.a\n",
         list: &[],
-        seen: "edge gen.h\nwrites gen.h\nedge app\nreads gen.h lib.a\nwrites app",
+        seen: "edge gen.h\nwrites 2\nedge app\nreads 2 3\nwrites 5",
         due: "HeldBack gen.h app\n",
     },
-];
-
-// What the command leaves itself, its depfile, and what something stronger is told of: a race, and an undeclared file.
-const NONE: [Row; 4] = [
+    // What the command leaves itself, its depfile, and what something stronger is told of: a race, and an undeclared file.
     Row {
         lines: "build app: c a.c\n",
         list: &[],
-        seen: "edge app\nreads a.c log\nwrites app log",
+        seen: "edge app\nreads 0 6\nwrites 5 6",
         due: "",
     },
     Row {
         lines: "build app: cc a.c\n",
         list: &[],
-        seen: "edge app\nreads a.c app.d\nwrites app",
+        seen: "edge app\nreads 0 7\nwrites 5",
         due: "",
     },
     Row {
         lines: "build gen.h: c a.c\nbuild app: c a.c\n",
         list: &[],
-        seen: "edge gen.h\nwrites gen.h\nedge app\nreads gen.h\nwrites app",
+        seen: "edge gen.h\nwrites 2\nedge app\nreads 2\nwrites 5",
         due: "",
     },
     Row {
         lines: "build gen.h: c a.c\nbuild app: c || gen.h\n",
         list: &[],
-        seen: "edge gen.h\nwrites gen.h log\nedge app\nreads log\nwrites app",
+        seen: "edge gen.h\nwrites 2 6\nedge app\nreads 6\nwrites 5",
         due: "",
     },
 ];
@@ -221,7 +218,7 @@ fn told_of(alloc: Global, row: &Row, patterns: &str) -> Result<Vec<u8>, Fail> {
     build.extend_from_slice(row.lines.as_bytes())?;
     let manifest = manifest_of(alloc, &build)?;
     let history = history_of(alloc, &manifest, row.list)?;
-    let observation = observation_of(alloc, &PATHS, row.seen)?;
+    let observation = observation_of(alloc, PATHS, row.seen)?;
     let mut text = Vec::new(alloc);
     for told in &unlisted_in(alloc, &manifest, &history, &observation, patterns)? {
         push_told(alloc, &mut text, history.graph(), &observation, told)?;
@@ -229,10 +226,11 @@ fn told_of(alloc: Global, row: &Row, patterns: &str) -> Result<Vec<u8>, Fail> {
     Ok(text)
 }
 
-// The build lines of the first row of which another thing is told than is due; nothing where there is none.
-fn first_other<'a>(alloc: Global, rows: &'a [Row]) -> Result<&'a str, Fail> {
+// The build lines of the first row of which another thing is told than is due, without what patterns hide; nothing where
+// there is none.
+fn first_other<'a>(alloc: Global, rows: &'a [Row], patterns: &str) -> Result<&'a str, Fail> {
     for row in rows {
-        if told_of(alloc, row, "")?.as_slice() != row.due.as_bytes() {
+        if told_of(alloc, row, patterns)?.as_slice() != row.due.as_bytes() {
             return Ok(row.lines);
         }
     }
@@ -240,43 +238,28 @@ fn first_other<'a>(alloc: Global, rows: &'a [Row]) -> Result<&'a str, Fail> {
 }
 
 #[test]
-fn what_the_line_or_the_list_names_is_listed(rt: HostRuntime) -> Result<(), Fail> {
-    let other = first_other(rt.alloc(), &LISTED)?;
-    assert!(rt; other == "", "{other}");
+fn what_no_line_and_no_list_names_is_unlisted(rt: HostRuntime) -> Result<(), Fail> {
+    for rows in [ROWS, SOURCES] {
+        let other = first_other(rt.alloc(), rows, "")?;
+        assert!(rt; other == "", "{other}");
+    }
     Ok(())
 }
 
-#[test]
-fn a_source_is_covered_where_an_edge_that_is_met_has_it(rt: HostRuntime) -> Result<(), Fail> {
-    let other = first_other(rt.alloc(), &SOURCES)?;
-    assert!(rt; other == "", "{other}");
-    Ok(())
-}
-
-#[test]
-fn a_made_file_is_covered_through_inputs_that_count(rt: HostRuntime) -> Result<(), Fail> {
-    let other = first_other(rt.alloc(), &MADE)?;
-    assert!(rt; other == "", "{other}");
-    Ok(())
-}
-
-#[test]
-fn what_is_its_own_or_told_already_is_no_unlisted_file(rt: HostRuntime) -> Result<(), Fail> {
-    let other = first_other(rt.alloc(), &NONE)?;
-    assert!(rt; other == "", "{other}");
-    Ok(())
+// Whether nothing is told of rows where patterns hide it.
+fn are_hidden(alloc: Global, rows: &[Row], patterns: &str) -> Result<bool, Fail> {
+    for row in rows {
+        if !told_of(alloc, row, patterns)?.is_empty() {
+            return Ok(false);
+        }
+    }
+    Ok(true)
 }
 
 #[test]
 fn a_hidden_file_is_no_unlisted_file(rt: HostRuntime) -> Result<(), Fail> {
-    let alloc = rt.alloc();
-    for row in &SOURCES {
-        assert!(rt; told_of(alloc, row, "*.h")?.is_empty(), "{}", row.lines);
-        assert!(rt;
-            told_of(alloc, row, "*.c")?.as_slice() == row.due.as_bytes(),
-            "{}",
-            row.lines
-        );
-    }
+    assert!(rt; are_hidden(rt.alloc(), SOURCES, "*.h")?);
+    let other = first_other(rt.alloc(), SOURCES, "*.c")?;
+    assert!(rt; other == "", "{other}");
     Ok(())
 }

@@ -1,5 +1,5 @@
-//! The tests of the crates that undo and of the program's parts: the theory's registers, histories, desks and
-//! sentences, each through what is public.
+//! The tests of the crates that undo, and of sentences beside reports: the theory's registers, histories and sentences,
+//! each through what is public. What desks answer is in tests/reports.
 //!
 //! They stand in a crate of their own because a crate's tests are proved together with the crate: here, nothing but the
 //! tests is proved, over libraries that are.
@@ -7,8 +7,6 @@
 
 #[cfg(test)]
 mod builds;
-#[cfg(test)]
-mod desks;
 #[cfg(test)]
 mod histories;
 #[cfg(test)]
