@@ -13,13 +13,17 @@ from collections.abc import Iterator, Sequence
 from dataclasses import dataclass
 from pathlib import Path
 
-# The crate over all libraries. Its one error has the front end end there, before the prover reads anything.
+# The crate over all libraries. What is moved twice is the last error that the front end looks for, behind names, types and
+# what is let go: it ends there, before the prover reads anything.
 ALL = """//! All libraries.
 #![tactic(auto)]
 
-/// Not a number.
-pub fn number() -> u8 {
-    true
+/// What has no copy.
+pub struct Kept;
+
+/// It is there once.
+pub fn twice(it: Kept) -> (Kept, Kept) {
+    (it, it)
 }
 """
 ITS_OWN = "src/lib.rt:"
