@@ -13,8 +13,8 @@ from collections.abc import Iterator, Sequence
 from dataclasses import dataclass
 from pathlib import Path
 
-# The crate over all libraries. What is moved twice is the last error that the front end looks for, behind names, types and
-# what is let go: it ends there, before the prover reads anything.
+# The crate over all libraries. What is moved twice is the last error that the front end looks for, behind names, types
+# and what is let go: it ends there, before the prover reads anything.
 ALL = """//! All libraries.
 #![tactic(auto)]
 
