@@ -93,7 +93,10 @@ def work_of(words: list[str], place: str) -> Work | None:
 
 
 class Meter:
-    """Counts what the provers that come from a process take. What one takes after the last reading is not seen."""
+    """Counts what the provers that come from a process take. What one takes after the last reading is not seen.
+
+    A prover that has several jobs begins copies of itself, which may end between two readings. What they took is their
+    prover's, as the kernel adds it up."""
 
     def __init__(self, top: int) -> None:
         self.top = top
@@ -108,16 +111,23 @@ class Meter:
         processes = running_now()
         self.running = set()
         spent = 0.0
+        taken: dict[tuple[int, str], float] = {}
+        # The prover that a process is, or whose copy it is.
+        provers: dict[int, tuple[int, str]] = {}
+        # (what began a process comes before it)
         for one in below(self.top, processes):
             process = processes[one]
             spent += process.all
-            key = (one, process.began)
+            key = provers.get(process.parent, (one, process.began))
             # (a process may yet become the prover)
             work = self.works.get(key) or what_runs(one)
             if work:
+                provers[one] = key
                 self.works[key] = work
-                self.took[key] = process.own
+                taken[key] = taken.get(key, 0.0) + process.all
                 self.running.add(work)
+        for key, seconds in taken.items():
+            self.took[key] = max(self.took.get(key, 0.0), seconds)
         self.spent = max(self.spent, spent)
 
     def costs(self) -> dict[Work, float]:
