@@ -7,8 +7,8 @@ use crate::observed::{Observed, observed_in, read_observed};
 use crate::times::{KnownTimes, LabelTime, label_times};
 use crate::told::{leave, manifest_of, races_in, refuse, trace_of, write};
 use rev_answers::{
-    Many, Told, answer_json, answer_words, each_json, each_words, fault_json, not_asked_words,
-    objects_json, opening_json, opening_words, screen_of,
+    Many, Told, answer_json, answer_words, each_json, each_words, fault_json, meant_word,
+    not_asked_words, objects_json, opening_json, opening_words, screen_of,
 };
 use rev_desk::Desk;
 use rev_manifest::Manifest;
@@ -75,15 +75,16 @@ struct Style<'a> {
 const MOST_OUTPUTS: usize = 20;
 
 // What is written for a line that has no answer, behind which an empty line asks for the next command or not.
-fn told(
+fn told_with(
     alloc: Global,
     session: &Session<'_>,
     text: &[u8],
+    meant: Option<&str>,
     style: Style<'_>,
     repeats: bool,
 ) -> Result<Answered, AllocError> {
     let text = if style.json {
-        fault_json(alloc, text)?
+        fault_json(alloc, text, meant)?
     } else {
         Vec::from_slice(alloc, text)?
     };
@@ -94,6 +95,17 @@ fn told(
         is_answer: false,
         ends: false,
     })
+}
+
+// The same, where no word may have been meant.
+fn told(
+    alloc: Global,
+    session: &Session<'_>,
+    text: &[u8],
+    style: Style<'_>,
+    repeats: bool,
+) -> Result<Answered, AllocError> {
+    told_with(alloc, session, text, None, style, repeats)
 }
 
 // What an answer is in words, or as an object.
@@ -317,7 +329,7 @@ fn written_for_words(
         Err(rev_fields::LineFault::Memory) => Err(AllocError),
         Err(_) => {
             let words = not_asked_words(alloc, texts)?;
-            told(alloc, session, &words, style, false)
+            told_with(alloc, session, &words, meant_word(texts), style, false)
         }
     }
 }

@@ -236,7 +236,8 @@ fn told_of<'a>(
     let sources = &grounds.sources;
     let certificate = found.certificate;
     let observation = &observed.observation;
-    let findings = conflict_findings_in(alloc, history, observation, &certificate.conflicts)?;
+    let conflicts = &certificate.conflicts;
+    let findings = conflict_findings_in(alloc, history, sources.builds, observation, conflicts)?;
     let findings = leaving.findings(alloc, sources, findings)?;
     let clashes = told_clashes(alloc, sources.builds)?;
     let clashes = leaving.clashes(alloc, sources, &clashes)?;

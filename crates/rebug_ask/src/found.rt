@@ -4,11 +4,13 @@ ghost use Rattle.rev_named.specs.Named.{AreLastComponents};
 use crate::hinted::are_whole;
 use indexmap::IndexMap;
 use rev_clashes::{SideFile, clashes};
+use rev_conflicts_text::{build_folder, is_one_file};
 use rev_graph::Graph;
 use rev_hints::{change_hints, listed_path};
 use rev_history::History;
 use rev_manifest::Build;
 use rev_named::{LastComponents, last_components, named_outputs};
+use rev_patched::writable_output;
 use rev_paths::Name;
 use rev_printed::Entry;
 use rev_races::{Race, listed, path_of, races, stories};
@@ -17,7 +19,6 @@ use rev_races_text::{
     Shown, Sources, Story, Suspect, Told, Untold,
 };
 use rev_runs::runs;
-use rev_shown::first_output;
 use rev_suspects::{bases, failures, suspects};
 use rev_witness::{find_witness, witness_text};
 use std::alloc::{AllocError, Global};
@@ -148,18 +149,25 @@ fn basis_at(bases: &[Option<Basis>], edge: u32) -> Option<Basis> {
     }
 }
 
-// What mends a race: the first output of its maker, unless an order is there already or makes a cycle.
-fn mend_of<'a>(graph: &'a Graph, kind: Kind, maker: u32) -> Option<&'a Name> {
+/// The output of an edge that an order-only input can name: the first one that can be written on a build line, as a
+/// patch has it.
+pub fn orderable_output(builds: &[Build], edge: u32) -> Option<&Name> {
+    writable_output(builds.get(edge as usize)?)
+}
+
+// What mends a race: an output of its maker, unless an order is there already or makes a cycle.
+fn mend_of<'a>(builds: &'a [Build], kind: Kind, maker: u32) -> Option<&'a Name> {
     match kind {
-        Kind::Race => first_output(graph, maker),
+        Kind::Race => orderable_output(builds, maker),
         Kind::Cycle | Kind::Own => None,
     }
 }
 
-// The races by what edges list in a history, whose manifest was read from these files.
+// The races by what edges list in a history, whose manifest has these edges and was read from these files.
 fn listed_races<'a>(
     alloc: Global,
     history: &'a History,
+    builds: &'a [Build],
     files: &[Name],
     failed: &Failed,
 ) -> Result<Vec<Told<'a>>, AllocError> {
@@ -178,7 +186,7 @@ fn listed_races<'a>(
                 path,
                 basis,
                 evidence: evidence_of(race, stories.get(place), basis, &before),
-                mend: mend_of(history.graph(), race.kind, race.maker),
+                mend: mend_of(builds, race.kind, race.maker),
             })?;
         }
     }
@@ -248,6 +256,7 @@ fn count_untold(untold: &mut Untold, progress: Progress) {
 fn told_failure<'a>(
     alloc: Global,
     graph: &'a Graph,
+    builds: &'a [Build],
     failure: &rev_suspects::Failure,
     suspects: &[rev_suspects::Suspect],
     names: &[Option<&'a Name>],
@@ -270,11 +279,12 @@ fn told_failure<'a>(
                 path: *path,
                 basis: None,
                 evidence: Evidence::Error(suspect.progress),
-                mend: mend_of(graph, Kind::Race, suspect.maker),
+                mend: orderable_output(builds, suspect.maker),
             })?,
             _ if others.len() < most => others.push(Suspect {
                 maker: suspect.maker,
                 progress: suspect.progress,
+                mend: orderable_output(builds, suspect.maker),
             })?,
             _ => count_untold(&mut untold, suspect.progress),
         }
@@ -314,6 +324,7 @@ fn split_of<'b>(
 fn told_failures<'a>(
     alloc: Global,
     graph: &'a Graph,
+    builds: &'a [Build],
     failed: &Failed,
     entries: &'a [Entry],
     races: &mut Vec<Told<'a>>,
@@ -331,7 +342,9 @@ fn told_failures<'a>(
         rest = later;
         let entry = next_entry(entries, &mut places, failure.edge);
         let names = names_in(alloc, graph, &components, entry, of)?;
-        let mut one = told_failure(alloc, graph, failure, of, &names, entry, most, races)?;
+        let mut one = told_failure(
+            alloc, graph, builds, failure, of, &names, entry, most, races,
+        )?;
         if place >= failed.looked {
             one.untold = None;
         }
@@ -340,10 +353,11 @@ fn told_failures<'a>(
     Ok(told)
 }
 
-// Whether a race by a list of before is among those that errors name, each by its user and its maker.
-fn is_named(named: &IndexMap<u64, &Name>, race: &Told<'_>) -> bool {
+// Whether a race by a list of before is among those that errors name, each by its user and its maker. A path in the
+// folder of the build and its name there are one file.
+fn is_named(named: &IndexMap<u64, &Name>, folder: &[u8], race: &Told<'_>) -> bool {
     match (race.evidence, named.get(&pair_key(race.user, race.maker))) {
-        (Evidence::Earlier(_), Some(path)) => **path == *race.path,
+        (Evidence::Earlier(_), Some(path)) => is_one_file(folder, *path, race.path),
         _ => false,
     }
 }
@@ -357,22 +371,26 @@ pub struct Findings<'a> {
     pub failures: Vec<Failure<'a>>,
 }
 
-/// The findings of a history, whose manifest was read from these files, with what its failed commands printed.
+/// The findings of a history, whose manifest has these edges and was read from these files, with what its failed
+/// commands printed.
 pub fn findings_in<'a>(
     alloc: Global,
     history: &'a History,
+    builds: &'a [Build],
     files: &[Name],
     entries: &'a [Entry],
 ) -> Result<Findings<'a>, AllocError> {
     let failed = failed_in(alloc, history, files)?;
     let mut named = Vec::new(alloc);
-    let failures = told_failures(alloc, history.graph(), &failed, entries, &mut named)?;
-    let mut races = listed_races(alloc, history, files, &failed)?;
+    let graph = history.graph();
+    let failures = told_failures(alloc, graph, builds, &failed, entries, &mut named)?;
+    let mut races = listed_races(alloc, history, builds, files, &failed)?;
     let mut paths = IndexMap::new(alloc);
     for race in &named {
         paths.insert(pair_key(race.user, race.maker), race.path)?;
     }
-    races.retain(|race| !is_named(&paths, race));
+    let folder = build_folder(graph);
+    races.retain(|race| !is_named(&paths, folder, race));
     races.extend_from_slice(&named)?;
     Ok(Findings { races, failures })
 }

@@ -10,6 +10,7 @@ mod forms;
 mod found;
 mod hinted;
 mod leaving;
+mod listed_names;
 mod mended;
 mod observed;
 mod page;

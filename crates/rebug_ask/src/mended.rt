@@ -71,7 +71,7 @@ fn mends_of(
 ) -> Result<Vec<Mend>, AllocError> {
     let mut all = Vec::new(alloc);
     for race in races {
-        if race.mend.is_some() {
+        if race.kind == Kind::Race {
             add_mend(sources, race.maker, race.user, &mut all)?;
         }
     }

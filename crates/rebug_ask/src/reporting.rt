@@ -56,7 +56,7 @@ fn report_with<'a>(
 ) -> Result<Report<'a>, AllocError> {
     let Unjudged { plain, collectors } = judged;
     let Findings { races, failures } = found;
-    let races = listed_left(alloc, basis.sight, races)?;
+    let races = listed_left(alloc, desk.history().graph(), basis.sight, races)?;
     let plain = not_whole(alloc, basis.sight, &plain)?;
     let collectors = not_whole(alloc, basis.sight, &collectors)?;
     Ok(Report {
@@ -90,7 +90,8 @@ pub fn report_of<'a>(
     basis: &Basis<'a>,
 ) -> Result<Report<'a>, AllocError> {
     let history = desk.history();
-    let found = findings_in(alloc, history, basis.files, basis.entries)?;
+    let builds = basis.sources.builds;
+    let found = findings_in(alloc, history, builds, basis.files, basis.entries)?;
     let judged = not_judged(alloc, history)?;
     report_with(alloc, desk, basis, found, judged)
 }

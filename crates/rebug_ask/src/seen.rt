@@ -4,6 +4,8 @@ ghost use Rattle.std.specs.List.{AllByRecursion};
 ghost use Rattle.rev_observed.specs.Joins.{edge_of};
 ghost use Rattle.rev_observed.specs.Observations.{outputs_of};
 
+use crate::found::orderable_output;
+use crate::listed_names::note_listed;
 use crate::observed::{FilterTexts, Observed, hidden_by, observed_in};
 use rev_conflicts::{Conflict, Place, conflicts};
 use rev_conflicts_text::{
@@ -279,14 +281,15 @@ pub fn sight_in(
 /// [`AllocError`] only where an allocation was refused.
 pub fn listed_left<'a>(
     alloc: Global,
+    graph: &Graph,
     sight: Option<&Sight>,
     races: Vec<Told<'a>>,
 ) -> Result<Vec<Told<'a>>, AllocError> {
     match sight {
         Some(sight) => {
             let paths = sight.observed.observation.paths();
-            let races = races_left(alloc, &races, paths, &sight.conflicts)?;
-            races_left(alloc, &races, paths, &sight.unfiltered)
+            let races = races_left(alloc, graph, &races, paths, &sight.conflicts)?;
+            races_left(alloc, graph, &races, paths, &sight.unfiltered)
         }
         None => Ok(races),
     }
@@ -310,13 +313,15 @@ fn stories_of(
     stories(alloc, history, &races)
 }
 
-/// The findings by an observation, without the races of a report that errors name; nothing without an observation.
+/// The findings by an observation of a history, whose manifest has these edges, without the races of a report that
+/// errors name; nothing without an observation.
 ///
 /// # Errors
 /// [`AllocError`] only where an allocation was refused.
 pub fn seen_findings<'a>(
     alloc: Global,
     history: &'a History,
+    builds: &'a [Build],
     sight: Option<&'a Sight>,
     races: &[Told<'_>],
 ) -> Result<Vec<Finding<'a>>, AllocError> {
@@ -325,7 +330,8 @@ pub fn seen_findings<'a>(
     };
     let observation = &sight.observed.observation;
     let conflicts = conflicts_left(alloc, &sight.conflicts, observation.paths(), races)?;
-    let mut findings = conflict_findings_in(alloc, history, observation, &conflicts)?;
+    let mut findings = conflict_findings_in(alloc, history, builds, observation, &conflicts)?;
+    note_listed(alloc, history, &mut findings)?;
     add_undeclared(
         history.graph(),
         observation,
@@ -342,8 +348,8 @@ pub fn seen_findings<'a>(
     Ok(findings)
 }
 
-// What happened with two edges, by the runs that ended well. It is not told where the user ran and did not end well, since
-// no such run is there.
+// What happened with two edges, by the runs that ended well. There is no such run where the user ran and did not end
+// well.
 fn story_told(story: Option<Story>, user_began: bool) -> Option<Story> {
     match story {
         Some(story) if story.user.is_none() && user_began => None,
@@ -351,13 +357,15 @@ fn story_told(story: Option<Story>, user_began: bool) -> Option<Story> {
     }
 }
 
-/// Conflicts of commands of a history, as findings. What happened is left out where the user failed.
+/// Conflicts of commands of a history, whose manifest has these edges, as findings. What happened is left out where the
+/// user failed. The output that a user is to wait for is the one that a patch has.
 ///
 /// # Errors
 /// [`AllocError`] only where an allocation was refused.
 pub fn conflict_findings_in<'a>(
     alloc: Global,
     history: &'a History,
+    builds: &'a [Build],
     observation: &'a Observation,
     conflicts: &[Conflict],
 ) -> Result<Vec<Finding<'a>>, AllocError> {
@@ -368,6 +376,7 @@ pub fn conflict_findings_in<'a>(
     for finding in findings.iter_mut() {
         let user_began = began.get(finding.user as usize).copied().unwrap_or(false);
         finding.story = story_told(finding.story, user_began);
+        finding.output = orderable_output(builds, finding.maker);
     }
     Ok(findings)
 }

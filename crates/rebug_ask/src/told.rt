@@ -171,7 +171,8 @@ fn found_answer<'a>(
 ) -> Result<Answer, RecordingFault> {
     let sources = &basis.sources;
     let mut report = report_of(alloc, desk, basis)?;
-    let findings = seen_findings(alloc, desk.history(), basis.sight, &report.races)?;
+    let history = desk.history();
+    let findings = seen_findings(alloc, history, sources.builds, basis.sight, &report.races)?;
     report.left_out.hidden = hidden_places(basis.sight);
     let findings = leave_out(alloc, choice, sources, findings, &mut report)?;
     count_findings(basis.sight, &findings, &mut report);

@@ -163,47 +163,103 @@ fn common_front(one: &[u8], other: &[u8]) -> usize {
     pairs.take_while(|(a, b)| **a == **b).count()
 }
 
-// How many bytes two texts have in common at their ends.
-fn common_back(one: &[u8], other: &[u8]) -> usize {
-    let pairs = one.iter().rev().zip(other.iter().rev());
-    pairs.take_while(|(a, b)| **a == **b).count()
+// What of a text is left behind so many bytes.
+fn behind(text: &[u8], count: usize) -> &[u8] {
+    text.get(count..).unwrap_or(b"")
 }
 
-// Whether a word may be meant by another: the other is three bytes or more of its beginning, or differs from it in one
-// byte, or in two bytes beside each other.
-fn is_near(one: &[u8], other: &[u8]) -> bool {
-    if other.len() >= 3 && one.starts_with(other) {
-        return true;
+// Whether two texts begin with the same two bytes in the other order.
+fn are_swapped(one: &[u8], other: &[u8]) -> bool {
+    match (one, other) {
+        ([a, b, ..], [c, d, ..]) => *a == *d && *b == *c,
+        _ => false,
     }
-    let same = common_front(one, other).saturating_add(common_back(one, other));
-    let (short, long) = (one.len().min(other.len()), one.len().max(other.len()));
-    long <= short.saturating_add(1)
-        && long >= 3
-        && long <= same.saturating_add(if long == short { 2 } else { 1 })
 }
 
-// The word of a table that may have been meant by another one.
+// What of two texts is left where one step parts them behind their common beginning: a byte is too many in the one or in
+// the other, it is another byte, or it changed places with the next one.
+fn after_a_step<'a>(one: &'a [u8], other: &'a [u8]) -> [(&'a [u8], &'a [u8]); 4] {
+    let same = common_front(one, other);
+    let (one, other) = (behind(one, same), behind(other, same));
+    let swapped = if are_swapped(one, other) { 2 } else { 0 };
+    [
+        (behind(one, 1), other),
+        (one, behind(other, 1)),
+        (behind(one, 1), behind(other, 1)),
+        (behind(one, swapped), behind(other, swapped)),
+    ]
+}
+
+// Whether at most one step parts two texts.
+fn is_one_off(one: &[u8], other: &[u8]) -> bool {
+    after_a_step(one, other)
+        .iter()
+        .any(|(one, other)| *one == *other)
+}
+
+// Whether at most two steps part two texts.
+fn is_two_off(one: &[u8], other: &[u8]) -> bool {
+    after_a_step(one, other)
+        .iter()
+        .any(|(one, other)| is_one_off(*one, *other))
+}
+
+// How a word is near to one that was typed.
+#[derive(Clone, Copy)]
+enum Nearness {
+    // It begins with what was typed.
+    Beginning,
+    // One letter parts the two.
+    OneLetter,
+    // Two letters part them.
+    TwoLetters,
+}
+
+// Whether a word is near to one that was typed. At most a third of the typed letters may differ.
+fn is_near(name: &[u8], typed: &[u8], nearness: Nearness) -> bool {
+    match nearness {
+        Nearness::Beginning => typed.len() >= 3 && name.starts_with(typed),
+        Nearness::OneLetter => typed.len() >= 3 && is_one_off(name, typed),
+        Nearness::TwoLetters => typed.len() >= 6 && is_two_off(name, typed),
+    }
+}
+
+// The first word of a table that is near to one that was typed.
 fn near_in(
     table: &[(&'static str, &'static str, &'static str)],
-    word: &[u8],
+    typed: &[u8],
+    nearness: Nearness,
 ) -> Option<&'static str> {
-    let place = table
-        .iter()
-        .position(|(name, _takes, _example)| is_near(name.as_bytes(), word))?;
+    let place = table.iter().position(|(name, _takes, _example)| is_near(
+        name.as_bytes(),
+        typed,
+        nearness,
+    ))?;
     let (name, _takes, _example) = table.get(place)?;
     Some(*name)
 }
 
-// The word that may have been meant by another one.
-fn near_word(word: &[u8]) -> Option<&'static str> {
-    match near_in(&WORDS, word) {
+// The first word of all that is near to one that was typed.
+fn near_by(typed: &[u8], nearness: Nearness) -> Option<&'static str> {
+    match near_in(&WORDS, typed, nearness) {
         Some(near) => Some(near),
-        None => match near_in(&MORE_WORDS, word) {
+        None => match near_in(&MORE_WORDS, typed, nearness) {
             Some(near) => Some(near),
-            None => match near_in(&LAST_WORDS, word) {
+            None => match near_in(&LAST_WORDS, typed, nearness) {
                 Some(near) => Some(near),
-                None => near_in(&SHORT_WORDS, word),
+                None => near_in(&SHORT_WORDS, typed, nearness),
             },
+        },
+    }
+}
+
+// The word that may have been meant by one that was typed, the nearest one (docs/USE.md, "Misspelt words").
+fn near_word(typed: &[u8]) -> Option<&'static str> {
+    match near_by(typed, Nearness::Beginning) {
+        Some(near) => Some(near),
+        None => match near_by(typed, Nearness::OneLetter) {
+            Some(near) => Some(near),
+            None => near_by(typed, Nearness::TwoLetters),
         },
     }
 }
@@ -272,6 +328,15 @@ pub(crate) fn push_help(text: &mut Vec<u8>, question: &Question) -> Result<(), A
         | Request::Output
         | Request::Order
         | Request::Rest => text.extend_from_slice(HELP),
+    }
+}
+
+/// The word that may have been meant by the first one of a line that asks nothing, where that is no word.
+pub fn meant_word(texts: &[Vec<u8>]) -> Option<&'static str> {
+    let typed = texts.first()?;
+    match entry_of(typed) {
+        Some(_entry) => None,
+        None => near_word(typed),
     }
 }
 

@@ -54,14 +54,18 @@ pub fn opening_json(
     line_of(alloc, object)
 }
 
-/// The object of a line that asks nothing, for these reasons.
+/// The object of a line that asks nothing, for these reasons, and the word that may have been meant.
 ///
 /// # Errors
 /// [`AllocError`] only where an allocation was refused.
-pub fn fault_json(alloc: Global, words: &[u8]) -> Result<Vec<u8>, AllocError> {
+pub fn fault_json(alloc: Global, words: &[u8], meant: Option<&str>) -> Result<Vec<u8>, AllocError> {
     let mut object = Object::of_kind(alloc, "no question")?;
     let words = text_value(alloc, words.trim_ascii())?;
     object.put(alloc, "words", words)?;
+    match meant {
+        Some(meant) => object.put_text(alloc, "meant", meant)?,
+        None => object.put(alloc, "meant", Value::Null)?,
+    }
     line_of(alloc, object)
 }
 

@@ -31,7 +31,7 @@ mod values;
 mod words;
 
 pub use each::{Many, each_json, each_words, objects_json};
-pub use help::not_asked_words;
+pub use help::{meant_word, not_asked_words};
 pub use json::{answer_json, fault_json, opening_json};
 pub use screen::screen_of;
 pub use told::Told;

@@ -85,6 +85,10 @@ unlisted_head path =
 abbrev pub unlisted_line : Edge → ℕ → List ℕ
 unlisted_line user number = codes "  read by " ++ placed user ++ codes " [" ++ decimal number ++ codes "]\n"
 
+-- `    list: has this file as /work/build/gen/version.h`
+abbrev pub listed_line : List ℕ → List ℕ
+listed_line path = codes "    list: has this file as " ++ shown path ++ codes "\n"
+
 -- `    mend: build.ninja:9: build gen.stamp | extra.h: ...`
 abbrev pub declare_line : Edge → List ℕ → List ℕ
 declare_line maker path =

@@ -42,8 +42,10 @@ pub struct Finding<'a> {
     pub change: Change,
     /// What happened with the two edges in this recording. It is None where their order does not matter.
     pub story: Option<Story>,
-    /// The maker's first output.
+    /// The first output of the maker that can be written on a build line.
     pub output: Option<&'a Name>,
+    /// The other name that the user's list has for the file, where an output of the maker stands for it.
+    pub listed: Option<&'a Name>,
 }
 
 impl<'a> Finding<'a> {
@@ -92,7 +94,12 @@ impl<'a> Finding<'a> {
     pub fn maker_output(&self, sources: &Sources<'a>) -> &'a [u8] {
         match self.kind {
             Kind::Unlisted => b"",
-            _ => sources.output(self.maker),
+            Kind::Race
+            | Kind::Cycle
+            | Kind::Clash
+            | Kind::Unstable
+            | Kind::Undeclared
+            | Kind::Anothers => sources.output(self.maker),
         }
     }
 
@@ -100,7 +107,7 @@ impl<'a> Finding<'a> {
     pub fn place(&self, sources: &Sources<'a>) -> Edge<'a> {
         match self.kind {
             Kind::Undeclared | Kind::Anothers | Kind::Unstable => self.maker_in(sources),
-            _ => self.user_in(sources),
+            Kind::Race | Kind::Cycle | Kind::Clash | Kind::Unlisted => self.user_in(sources),
         }
     }
 
@@ -122,7 +129,7 @@ impl<'a> Finding<'a> {
         match self.kind {
             Kind::Race => self.change == Change::Undeclared,
             Kind::Undeclared => true,
-            _ => false,
+            Kind::Cycle | Kind::Clash | Kind::Unstable | Kind::Anothers | Kind::Unlisted => false,
         }
     }
 
@@ -132,7 +139,8 @@ impl<'a> Finding<'a> {
     }
 
     /// What the user's line is to name after `||`. It is the path where the maker's line is to name the path, and else
-    /// an output of the maker. It is None where no order mends the finding.
+    /// an output of the maker. It is None where no order mends the finding, and where none of these outputs can be
+    /// written on a build line.
     pub fn order(&self) -> Option<&'a Name> {
         if !self.is_mended_by_order() {
             return None;

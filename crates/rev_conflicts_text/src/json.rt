@@ -22,6 +22,7 @@ struct FindingObject<'a> {
     declare: Option<Shown<'a>>,
     list: Option<Shown<'a>>,
     mend: Option<Shown<'a>>,
+    listed_as: Option<Shown<'a>>,
 }
 
 // A clash of two commands at a file.
@@ -144,6 +145,7 @@ fn push_finding<'a>(
         declare: named_if(finding.is_to_be_declared(), finding.shown()),
         list: named_if(finding.is_to_be_listed(), finding.shown()),
         mend: shown_if(finding.order()),
+        listed_as: shown_if(finding.listed),
     };
     push_object(alloc, text, kind_word(finding.kind), &object)
 }

@@ -6,6 +6,7 @@ mod certified;
 mod finding;
 mod json;
 mod lines;
+mod other_names;
 mod told;
 mod words;
 
@@ -14,6 +15,7 @@ pub use certified::{Certified, NOT_CERTAIN};
 pub use finding::{Finding, Kind};
 pub use json::findings_json;
 pub use lines::kind_word;
+pub use other_names::{build_folder, is_one_file, name_within};
 pub use told::{
     add_undeclared, add_unlisted, conflict_findings, conflicts_left, pair_of, races_left, seen_in,
 };

@@ -1,6 +1,6 @@
 //! The lines of findings.
 ghost use Rattle.std.specs.Prelude.{◌≡◌, Some};
-ghost use Rattle.rev_conflicts_text.specs.Lines.{before_maker, behind_maker, build_words, declare_line, head_line, kind_word, list_line, listed_words, race_ends, unlisted_head, unlisted_line, user_begins, user_ends, user_line};
+ghost use Rattle.rev_conflicts_text.specs.Lines.{before_maker, behind_maker, build_words, declare_line, head_line, kind_word, list_line, listed_line, listed_words, race_ends, unlisted_head, unlisted_line, user_begins, user_ends, user_line};
 
 use crate::finding::Kind;
 use rev_conflicts::{Change, Look};
@@ -53,6 +53,10 @@ pub(crate) struct ListLine<'a> {
     pub(crate) user: Edge<'a>,
     pub(crate) path: Shown<'a>,
 }
+
+/// The line of another name that the user's list has for the file.
+#[derive(Clone, Copy)]
+pub(crate) struct ListedLine<'a>(pub(crate) Shown<'a>);
 
 // The build line of an edge, up to its outputs.
 #[derive(Clone, Copy)]
@@ -214,6 +218,15 @@ impl fmt::Display for UnlistedLine<'_> {
     fn fmt<W: fmt::Write>(&self, f: &mut fmt::Formatter<W>) -> fmt::Result {
         let (user, number) = (self.user, self.number);
         write!(f, "  read by {user} [{number}]\n")
+    }
+}
+
+impl fmt::Display for ListedLine<'_> {
+    ghost output = { λ l. Some (listed_line l.0.0.now) };
+
+    fn fmt<W: fmt::Write>(&self, f: &mut fmt::Formatter<W>) -> fmt::Result {
+        let path = self.0;
+        write!(f, "    list: has this file as {path}\n")
     }
 }
 

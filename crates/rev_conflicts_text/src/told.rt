@@ -1,5 +1,6 @@
 //! The findings of an observation, and the races by lists that are left beside them.
 use crate::finding::{Finding, Kind};
+use crate::other_names::{build_folder, name_within};
 use rev_conflicts::{Change, Conflict, ConflictKind, Look, Place};
 use rev_graph::Graph;
 use rev_observed::{Command, Observation};
@@ -60,24 +61,44 @@ impl Spots {
             None => false,
         }
     }
+
+    // Whether the spot of a race is one of them, by its path or by the name of its file in the folder of the build.
+    fn has_file(
+        &self,
+        alloc: Global,
+        paths: &Paths,
+        folder: &[u8],
+        race: &Told<'_>,
+    ) -> Result<bool, AllocError> {
+        if self.has(paths, race.maker, race.user, race.path) {
+            return Ok(true);
+        }
+        match name_within(alloc, folder, race.path)? {
+            Some(name) => Ok(self.has(paths, race.maker, race.user, &name)),
+            None => Ok(false),
+        }
+    }
 }
 
 /// The races that are left beside conflicts. A race is left where no conflict is about its two edges and its file, and
-/// where the error of a failed command names it.
+/// where the error of a failed command names it. A path in the folder of the build ([`build_folder`]) and its name there
+/// are one file.
 ///
 /// # Errors
 /// [`AllocError`] only where an allocation was refused.
 pub fn races_left<'a>(
     alloc: Global,
+    graph: &Graph,
     races: &[Told<'a>],
     paths: &Paths,
     conflicts: &[Conflict],
 ) -> Result<Vec<Told<'a>>, AllocError> {
+    let folder = build_folder(graph);
     let spots = Spots::new(alloc, conflicts)?;
     let mut left = Vec::new(alloc);
     for race in races {
         let is_named = matches!(race.evidence, Evidence::Error(_));
-        if is_named || !spots.has(paths, race.maker, race.user, race.path) {
+        if is_named || !spots.has_file(alloc, paths, folder, race)? {
             left.push(*race)?;
         }
     }
@@ -187,6 +208,7 @@ pub fn conflict_findings<'a>(
                 change,
                 story: stories.get(place).copied(),
                 output: first_output(graph, conflict.maker),
+                listed: None,
             })?;
         }
     }
@@ -223,6 +245,7 @@ pub fn add_undeclared<'a>(
                 change,
                 story: None,
                 output: first_output(graph, file.maker),
+                listed: None,
             })?;
         }
     }
@@ -275,6 +298,7 @@ pub fn add_unlisted<'a>(
                 change: Change::Output,
                 story: None,
                 output: first_output(graph, reading.user),
+                listed: None,
             })?;
         }
     }
@@ -311,6 +335,6 @@ pub fn pair_of(findings: &[Finding<'_>], number: u64) -> Option<(u32, u32)> {
     let finding = findings.get(place as usize)?;
     match finding.kind {
         Kind::Race | Kind::Cycle | Kind::Clash => Some((finding.user, finding.maker)),
-        _ => None,
+        Kind::Unstable | Kind::Undeclared | Kind::Anothers | Kind::Unlisted => None,
     }
 }

@@ -1,8 +1,10 @@
 //! Findings in words.
 use crate::finding::{Finding, Kind};
-use crate::lines::{DeclareLine, HeadLine, ListLine, UnlistedHead, UnlistedLine, UserLine};
+use crate::lines::{
+    DeclareLine, HeadLine, ListLine, ListedLine, UnlistedHead, UnlistedLine, UserLine,
+};
 use rev_conflicts::Change;
-use rev_races_text::{HereLine, MendLine, More, Shown, Sources};
+use rev_races_text::{HereLine, MendLine, More, NO_MEND, Shown, Sources};
 use std::alloc::{AllocError, Global};
 
 // How many users of a maker the words have, unless they have all.
@@ -35,6 +37,7 @@ fn push_mend<'a>(
         return write!(text, "{}", MendLine { user, output });
     }
     match finding.kind {
+        Kind::Race => text.push_str(NO_MEND),
         Kind::Clash => text.push_str("    mend: another path for one of the two\n"),
         Kind::Unstable | Kind::Anothers => {
             text.push_str("    mend: another path for what it writes there\n")
@@ -44,7 +47,7 @@ fn push_mend<'a>(
             let path = finding.shown();
             write!(text, "{}", ListLine { user, path })
         }
-        _ => Ok(()),
+        Kind::Cycle | Kind::Undeclared => Ok(()),
     }
 }
 
@@ -72,6 +75,9 @@ fn push_user<'a>(
     write!(text, "{line}")?;
     if let Some(story) = first.story {
         write!(text, "{}", HereLine(story))?;
+    }
+    if let Some(listed) = first.listed {
+        write!(text, "{}", ListedLine(Shown(listed.as_bytes())))?;
     }
     push_mend(text, sources, first)
 }

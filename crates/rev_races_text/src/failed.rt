@@ -6,6 +6,7 @@ ghost use Rattle.rev_races_text.specs.Status.{is_whole};
 use crate::counts::Counted;
 use crate::edges::Edge;
 use crate::names::{NameIf, Text};
+use rev_paths::Name;
 use rev_suspects::Progress;
 use serde::Serialize;
 use std::alloc::{AllocError, Global};
@@ -38,7 +39,7 @@ pub struct Failure<'a> {
     /// How many suspects its error names. The report has them among its races.
     pub named: usize,
     /// The first of the other suspects.
-    pub others: Vec<Suspect>,
+    pub others: Vec<Suspect<'a>>,
     /// How many more there are. It is None where nobody looked for suspects.
     pub untold: Option<Untold>,
 }
@@ -63,11 +64,14 @@ pub struct Printed<'a> {
 
 /// A command that had not settled when a failed command began. Neither of the two waits for the other.
 #[derive(Clone, Copy)]
-pub struct Suspect {
+pub struct Suspect<'a> {
     /// Its edge.
     pub maker: u32,
     /// How far it was.
     pub progress: Progress,
+    /// Its output that is to be added to the order-only inputs of the failed command. It is None where none can be
+    /// written on a build line.
+    pub mend: Option<&'a Name>,
 }
 
 // The line of a command that failed.

@@ -205,7 +205,7 @@ fn push_suspect<'a>(
     text: &mut Vec<u8>,
     sources: &Sources<'a>,
     failure: &Failure<'a>,
-    suspect: &Suspect,
+    suspect: &Suspect<'a>,
     number: u64,
 ) -> Result<(), AllocError> {
     let maker = sources.edge(suspect.maker);
@@ -217,7 +217,7 @@ fn push_suspect<'a>(
         user: sources.edge(failure.edge),
         here: Some(progress_word(suspect.progress)),
         basis: None,
-        mend: maker.output,
+        mend: shown_if(suspect.mend),
     };
     push_object(alloc, text, "suspect", &race)
 }

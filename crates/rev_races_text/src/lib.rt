@@ -22,7 +22,7 @@ pub use json::{happened_word, push_object};
 pub use left_out::LeftOut;
 pub use names::{NameIf, Shown, Text, Written, WrittenIf};
 pub use others::{Change, Clash, ClashLine, Hint, push_clash};
-pub use race::{Evidence, ListedBefore, MendLine, More, Through, Told};
+pub use race::{Evidence, ListedBefore, MendLine, More, NO_MEND, Through, Told};
 pub use report::{Report, SOMETHING, UNKNOWN};
 pub use rev_baseline::Id;
 pub use rev_clashes::SideFile;

@@ -48,7 +48,8 @@ pub struct Told<'a> {
     pub basis: Option<Basis>,
     /// What this recording shows of it.
     pub evidence: Evidence,
-    /// The output that is to be added to the user's order-only inputs, where that mends it.
+    /// The output that is to be added to the user's order-only inputs. It is None where no order mends the race, and
+    /// where no output of the maker can be written on a build line.
     pub mend: Option<&'a Name>,
 }
 
@@ -97,6 +98,9 @@ pub struct MendLine<'a> {
     /// The input.
     pub output: Shown<'a>,
 }
+
+/// The line of a race that an order mends, where no output of the maker can be written on a build line.
+pub const NO_MEND: &str = "    mend: no output of the maker can be written on a build line\n";
 
 /// How many are left out, between two texts. It is empty where that number is 0.
 #[derive(Clone, Copy)]

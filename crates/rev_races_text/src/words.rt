@@ -3,7 +3,7 @@ use crate::counts::{Counted, NotJudged, Tally};
 use crate::edges::{Edge, Sources};
 use crate::failed::{FailedLine, Failure, Numbered, PrintedLine};
 use crate::names::{Shown, Text};
-use crate::race::{EvidenceLine, MakerLine, MendLine, More, Told, UserLine};
+use crate::race::{EvidenceLine, MakerLine, MendLine, More, NO_MEND, Told, UserLine};
 use crate::report::Report;
 use rev_races::Kind;
 use rev_suspects::Progress;
@@ -63,12 +63,13 @@ fn push_user<'a>(
     write!(text, "{line}")?;
     let evidence = first.evidence;
     write!(text, "{}", EvidenceLine { evidence, path })?;
-    match first.mend {
-        Some(mend) => {
+    match (first.mend, first.kind) {
+        (Some(mend), _) => {
             let output = Shown(mend.as_bytes());
             write!(text, "{}", MendLine { user, output })
         }
-        None => Ok(()),
+        (None, Kind::Race) => text.push_str(NO_MEND),
+        (None, Kind::Cycle | Kind::Own) => Ok(()),
     }
 }
 
