@@ -8,6 +8,8 @@
 #[cfg(test)]
 mod filters;
 #[cfg(test)]
+mod observed;
+#[cfg(test)]
 mod seen;
 #[cfg(test)]
 mod unlisted;
