@@ -14,8 +14,8 @@ const MOST: usize = 3;
 
 // The last part of a path.
 fn last_part(path: &[u8]) -> &[u8] {
-    match path.rsplit(|byte| *byte == b'/').next() {
-        Some(last) => last,
+    match path.iter().rposition(|byte| *byte == b'/') {
+        Some(slash) => path.get(slash.saturating_add(1)..).unwrap_or(path),
         None => path,
     }
 }
@@ -135,7 +135,8 @@ pub(crate) fn push_no_output(
     push_meant(text, alloc, told, path)
 }
 
-// Whether a path is nearer to one that was typed than another one is, or as near and shorter. Nearest is the path itself.
+// Whether a path is nearer to one that was typed than another one is, or as near and shorter. The path itself is the
+// nearest.
 fn is_nearer(path: &[u8], other: &[u8], typed: &[u8]) -> bool {
     if path == typed || other == typed {
         return path == typed;
@@ -164,8 +165,8 @@ fn take_in<'a>(near: &mut Vec<&'a Name>, name: &'a Name, typed: &[u8]) -> Result
     Ok(())
 }
 
-// The paths that are near to one that was typed, whose last part is `last`. `has_same` says whether theirs are that one:
-// else theirs begin with it.
+// The paths that are near to one that was typed, whose last part is `last`. `has_same` says whether theirs are that
+// one: else theirs begin with it.
 #[derive(Drop)]
 struct Near<'a, 'b> {
     paths: Vec<&'a Name>,
@@ -216,7 +217,7 @@ fn take_name<'a>(near: &mut Near<'a, '_>, name: &'a Name) -> Result<(), AllocErr
     Ok(())
 }
 
-// The same of some paths.
+// Takes in those of some paths that are near to the one that was typed.
 fn take_all<'a>(near: &mut Near<'a, '_>, names: &'a [Name]) -> Result<(), AllocError> {
     for name in names {
         take_name(near, name)?;
@@ -224,7 +225,7 @@ fn take_all<'a>(near: &mut Near<'a, '_>, names: &'a [Name]) -> Result<(), AllocE
     Ok(())
 }
 
-// The same of the paths of an edge: those of its build line.
+// Takes in those of the paths of an edge's build line.
 fn take_line<'a>(near: &mut Near<'a, '_>, build: &'a Build) -> Result<(), AllocError> {
     take_all(near, build.explicit())?;
     take_all(near, build.implicit())?;
@@ -234,7 +235,7 @@ fn take_line<'a>(near: &mut Near<'a, '_>, build: &'a Build) -> Result<(), AllocE
     take_all(near, build.implicit_outs())
 }
 
-// The same of the paths of all edges: those of their build lines and those that they list.
+// Takes in those of the paths that edges have on their build lines, or list.
 fn take_edges<'a>(
     near: &mut Near<'a, '_>,
     told: Told<'a>,
@@ -249,7 +250,7 @@ fn take_edges<'a>(
     Ok(())
 }
 
-// The same of the paths that commands were seen to look at or to change.
+// Takes in those of the paths that commands were seen to look at or to change.
 fn take_observed<'a>(
     near: &mut Near<'a, '_>,
     told: Told<'a>,
@@ -263,7 +264,7 @@ fn take_observed<'a>(
     Ok(())
 }
 
-// The same of all paths.
+// Takes in those of the paths of edges, and of those that commands were seen to look at or to change.
 fn take_paths<'a>(near: &mut Near<'a, '_>, told: Told<'a>) -> Result<(), AllocError> {
     take_edges(near, told, told.session.builds)?;
     if let Some(observation) = told.session.observation {
@@ -272,10 +273,10 @@ fn take_paths<'a>(near: &mut Near<'a, '_>, told: Told<'a>) -> Result<(), AllocEr
     Ok(())
 }
 
-/// The paths that may have been meant by one, up to three: of those that edges name, list or make, or that commands were
-/// seen to look at, those with the same last part; where there is none, those whose last part begins with it. The path
-/// itself comes first, then those that are it behind some folders, or without some, then the others; of paths that are as
-/// near the shortest. Each place of a path is looked at once.
+/// The paths that may have been meant by one, up to three. They are among those that edges name, list or make, and
+/// those that commands were seen to look at. They have the same last part. Where no path has it, theirs begins with it.
+/// The path itself comes first, then those that are it behind some folders, or without some. Of paths that are as near
+/// the shortest comes first. Each place of a path is looked at once.
 ///
 /// # Errors
 /// [`AllocError`] only where an allocation was refused.
@@ -321,8 +322,8 @@ pub(crate) fn push_meant(
     push_near(text, &meant(alloc, told, path)?)
 }
 
-/// Adds the paths that may have been meant by one; nothing where an edge names, lists or makes that one, or a command was
-/// seen to look at it.
+/// Adds the paths that may have been meant by one; nothing where an edge names, lists or makes that one, or a command
+/// was seen to look at it.
 pub(crate) fn push_near_paths(
     text: &mut Vec<u8>,
     alloc: Global,
