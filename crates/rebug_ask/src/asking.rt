@@ -7,7 +7,7 @@ use crate::observed::{Observed, observed_in, read_observed};
 use crate::times::{KnownTimes, LabelTime, label_times};
 use crate::told::{leave, manifest_of, races_in, refuse, trace_of, write};
 use rev_answers::{
-    Many, Told, answer_json, answer_words, each_json, each_words, fault_json, meant_word,
+    Context, Many, answer_json, answer_words, each_json, each_words, fault_json, meant_word,
     not_asked_words, objects_json, opening_json, opening_words, screen_of,
 };
 use rev_desk::Desk;
@@ -111,7 +111,7 @@ fn told(
 // What an answer is in words, or as an object.
 fn answer_text(
     alloc: Global,
-    told: Told<'_>,
+    told: Context<'_>,
     answer: &Answer,
     json: bool,
 ) -> Result<Vec<u8>, AllocError> {
@@ -180,7 +180,7 @@ fn written_for(
         ..*session
     };
     let reply = answer_to(alloc, &session, desk, question)?;
-    let told = Told {
+    let told = Context {
         session: &session,
         desk,
         question,

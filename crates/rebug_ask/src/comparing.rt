@@ -2,7 +2,7 @@
 use crate::files::{Recording, place_of, read_recording};
 use crate::told::{leave, manifest_of, refuse, say, trace_of, write};
 use rev_answers::screen_of;
-use rev_asking::Asked;
+use rev_asking::Request;
 use rev_compared_text::{Form, Side, comparison};
 use rev_desk::Desk;
 use rev_graph::GraphFault;
@@ -44,7 +44,7 @@ fn side_of<'a>(
 }
 
 // The form that is asked for.
-fn form_of(asked: &Asked<'_>) -> Form {
+fn form_of(asked: &Request<'_>) -> Form {
     if asked.json {
         Form::Json
     } else if asked.all {
@@ -86,7 +86,7 @@ fn refuse_one<'a, R: Eprint + AllocGlobal>(
 /// As [`read_recording`] where a recording is not read; [`ProgramFault::Memory`] where memory was refused.
 pub fn compare<'a, R: Files + Print + Eprint + AllocGlobal>(
     rt: &R,
-    asked: &Asked<'a>,
+    asked: &Request<'a>,
 ) -> Result<u8, ProgramFault<'a>> {
     let alloc = rt.alloc();
     let other = asked.other.unwrap_or("");

@@ -1,7 +1,7 @@
 //! The forms of an answer that continuous integration reads.
 use rev_conflicts_text::{Certified, Finding, kind_word, numbered_words};
 use rev_formats::{Item, baseline, github, junit, sarif};
-use rev_races_text::{Clash, Edge, Report, SideFile, Sources, Told, race_words};
+use rev_races_text::{Clash, Edge, RaceFinding, Report, SideFile, Sources, race_words};
 use std::alloc::{AllocError, Global};
 
 /// A form that has an item for each finding.
@@ -127,7 +127,7 @@ fn race_word(kind: rev_races_text::Kind) -> &'static str {
 fn push_races<'a>(
     alloc: Global,
     sources: &Sources<'a>,
-    races: &[Told<'a>],
+    races: &[RaceFinding<'a>],
     first: u64,
     items: &mut Vec<Item<'a>>,
 ) -> Result<(), AllocError> {

@@ -15,8 +15,8 @@ use rev_paths::Name;
 use rev_printed::Entry;
 use rev_races::{Race, listed, path_of, races, stories};
 use rev_races_text::{
-    Basis, Change, Clash, Edge, Evidence, Failure, Kind, ListedBefore, Printed, Progress, Run,
-    Shown, Sources, Story, Suspect, Told, Untold,
+    Basis, Change, Clash, Edge, Evidence, Failure, Kind, ListedBefore, Printed, Progress,
+    RaceFinding, Remainder, Run, Shown, Sources, Story, Suspect,
 };
 use rev_runs::runs;
 use rev_suspects::{bases, failures, suspects};
@@ -170,7 +170,7 @@ fn listed_races<'a>(
     builds: &'a [Build],
     files: &[Name],
     failed: &Failed,
-) -> Result<Vec<Told<'a>>, AllocError> {
+) -> Result<Vec<RaceFinding<'a>>, AllocError> {
     let races = races(alloc, history, files)?;
     let stories = stories(alloc, history, &races)?;
     let bases = bases(alloc, history)?;
@@ -179,7 +179,7 @@ fn listed_races<'a>(
     for (place, race) in races.iter().enumerate() {
         if let Some(path) = path_of(history, race) {
             let basis = basis_at(&bases, race.user);
-            told.push(Told {
+            told.push(RaceFinding {
                 kind: race.kind,
                 maker: race.maker,
                 user: race.user,
@@ -245,7 +245,7 @@ fn names_in<'a>(
 }
 
 // Counts a suspect that is not told.
-fn count_untold(untold: &mut Untold, progress: Progress) {
+fn count_untold(untold: &mut Remainder, progress: Progress) {
     match progress {
         Progress::Running => untold.running = u64::saturating_add(untold.running, 1),
         Progress::ToRun => untold.to_run = u64::saturating_add(untold.to_run, 1),
@@ -262,17 +262,17 @@ fn told_failure<'a>(
     names: &[Option<&'a Name>],
     entry: Option<&'a Entry>,
     most: usize,
-    races: &mut Vec<Told<'a>>,
+    races: &mut Vec<RaceFinding<'a>>,
 ) -> Result<Failure<'a>, AllocError> {
     let before = races.len();
     let mut others = Vec::new(alloc);
-    let mut untold = Untold {
+    let mut untold = Remainder {
         running: 0,
         to_run: 0,
     };
     for (place, suspect) in suspects.iter().enumerate() {
         match names.get(place) {
-            Some(Some(path)) => races.push(Told {
+            Some(Some(path)) => races.push(RaceFinding {
                 kind: Kind::Race,
                 maker: suspect.maker,
                 user: failure.edge,
@@ -327,7 +327,7 @@ fn told_failures<'a>(
     builds: &'a [Build],
     failed: &Failed,
     entries: &'a [Entry],
-    races: &mut Vec<Told<'a>>,
+    races: &mut Vec<RaceFinding<'a>>,
 ) -> Result<Vec<Failure<'a>>, AllocError> {
     let mut told = Vec::new(alloc);
     if failed.runs.is_empty() {
@@ -355,7 +355,7 @@ fn told_failures<'a>(
 
 // Whether a race by a list of before is among those that errors name, each by its user and its maker. A path in the
 // folder of the build and its name there are one file.
-fn is_named(named: &IndexMap<u64, &Name>, folder: &[u8], race: &Told<'_>) -> bool {
+fn is_named(named: &IndexMap<u64, &Name>, folder: &[u8], race: &RaceFinding<'_>) -> bool {
     match (race.evidence, named.get(&pair_key(race.user, race.maker))) {
         (Evidence::Earlier(_), Some(path)) => is_one_file(folder, *path, race.path),
         _ => false,
@@ -366,7 +366,7 @@ fn is_named(named: &IndexMap<u64, &Name>, folder: &[u8], race: &Told<'_>) -> boo
 #[derive(Drop)]
 pub struct Findings<'a> {
     /// The races by lists, and then those that errors name. One that is both stands here once, as the error names it.
-    pub races: Vec<Told<'a>>,
+    pub races: Vec<RaceFinding<'a>>,
     /// The commands that failed.
     pub failures: Vec<Failure<'a>>,
 }

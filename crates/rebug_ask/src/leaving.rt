@@ -4,7 +4,7 @@ use indexmap::IndexSet;
 use rev_baseline::{Baseline, Fault, ReadFault};
 use rev_conflicts_text::{Finding, Way};
 use rev_filters::{Filters, is_hidden};
-use rev_races_text::{Clash, Evidence, Id, LeftOut, Sources, Told};
+use rev_races_text::{Clash, Evidence, Id, LeftOut, RaceFinding, Sources};
 use rev_recording::{ObservedFault, RecordingFault};
 use std::alloc::{AllocError, Global};
 
@@ -72,7 +72,7 @@ fn baseline_of(alloc: Global, text: &[u8], writes: bool) -> Result<Baseline, Rec
 }
 
 // Whether the error of a failed command names a race.
-fn is_named(race: &Told<'_>) -> bool {
+fn is_named(race: &RaceFinding<'_>) -> bool {
     matches!(race.evidence, Evidence::Error(_))
 }
 
@@ -164,8 +164,8 @@ impl Leaving {
     fn unhidden<'a>(
         &mut self,
         alloc: Global,
-        races: &[Told<'a>],
-    ) -> Result<Vec<Told<'a>>, AllocError> {
+        races: &[RaceFinding<'a>],
+    ) -> Result<Vec<RaceFinding<'a>>, AllocError> {
         let mut told = Vec::new(alloc);
         let mut paths = IndexSet::new(alloc);
         for race in races {
@@ -185,7 +185,7 @@ impl Leaving {
         &mut self,
         alloc: Global,
         sources: &Sources<'_>,
-        race: &Told<'_>,
+        race: &RaceFinding<'_>,
     ) -> Result<bool, AllocError> {
         if is_named(race) || !self.has_baseline() {
             return Ok(true);
@@ -202,8 +202,8 @@ impl Leaving {
         &mut self,
         alloc: Global,
         sources: &Sources<'a>,
-        races: Vec<Told<'a>>,
-    ) -> Result<Vec<Told<'a>>, AllocError> {
+        races: Vec<RaceFinding<'a>>,
+    ) -> Result<Vec<RaceFinding<'a>>, AllocError> {
         if !self.can_leave_races() {
             return Ok(races);
         }

@@ -27,7 +27,7 @@ use asking::{Manner, ask};
 use comparing::compare;
 use forms::Form;
 use picturing::picture;
-use rev_asking::{Asked, Word, read_words};
+use rev_asking::{Request, Word, read_words};
 use rev_fields::wide_number;
 use rev_program::{ProgramFault, USAGE, explain, fail, words};
 use std::io::IsTerminal;
@@ -37,7 +37,7 @@ use timelining::timelined;
 use told::{How, OfRaces, Question, say, tell};
 
 // The form of the answer of `races` or `certify`, or a sentence that says why that is not asked well.
-fn form_of(asked: &Asked<'_>) -> Result<Form, &'static str> {
+fn form_of(asked: &Request<'_>) -> Result<Form, &'static str> {
     let Some(name) = asked.format else {
         return Ok(if asked.json {
             Form::Json
@@ -58,7 +58,7 @@ fn form_of(asked: &Asked<'_>) -> Result<Form, &'static str> {
 }
 
 // What is asked of races, or a sentence that says why that is not asked well.
-fn asked_of_races(asked: &Asked<'_>) -> Result<OfRaces, &'static str> {
+fn asked_of_races(asked: &Request<'_>) -> Result<OfRaces, &'static str> {
     let form = form_of(asked)?;
     let is_other = asked.mend || asked.witness.is_some() || asked.provoke.is_some();
     if is_other && !matches!(form, Form::Words | Form::AllWords) {
@@ -91,7 +91,7 @@ fn asked_of_races(asked: &Asked<'_>) -> Result<OfRaces, &'static str> {
 // status.
 fn tell_how<'a, R: Files + Print + Eprint + AllocGlobal>(
     rt: &R,
-    asked: &Asked<'a>,
+    asked: &Request<'a>,
     how: Result<How, &'static str>,
 ) -> Result<u8, ProgramFault<'a>> {
     match how {
@@ -115,7 +115,7 @@ fn tell_how<'a, R: Files + Print + Eprint + AllocGlobal>(
 // Answers what is asked, and gives the status.
 fn answer<'a, R: Files + Input + Print + Eprint + AllocGlobal>(
     rt: &R,
-    asked: Asked<'a>,
+    asked: Request<'a>,
     is_terminal: bool,
 ) -> Result<u8, ProgramFault<'a>> {
     match asked.word {

@@ -13,7 +13,7 @@ use rev_patch::{Author, Change, author_of};
 use rev_patched::{Order, patch_for, writable_output};
 use rev_paths::Name;
 use rev_races::{Search, no_search, search_for};
-use rev_races_text::{Clash, Kind, Sources, Told, push_clash, push_edge, push_placed};
+use rev_races_text::{Clash, Kind, RaceFinding, Sources, push_clash, push_edge, push_placed};
 use rev_shown::push_shown;
 use rev_waits::steps;
 use std::alloc::{AllocError, Global};
@@ -66,7 +66,7 @@ fn add_mend(
 fn mends_of(
     alloc: Global,
     sources: &Sources<'_>,
-    races: &[Told<'_>],
+    races: &[RaceFinding<'_>],
     findings: &[Finding<'_>],
 ) -> Result<Vec<Mend>, AllocError> {
     let mut all = Vec::new(alloc);
@@ -339,7 +339,7 @@ fn push_hints(
 fn push_others(
     text: &mut Vec<u8>,
     sources: &Sources<'_>,
-    races: &[Told<'_>],
+    races: &[RaceFinding<'_>],
 ) -> Result<(), AllocError> {
     for race in races {
         if race.kind != Kind::Race {
@@ -433,7 +433,7 @@ pub fn mend_text(
     manifest: &Manifest,
     graph: &Graph,
     sources: &Sources<'_>,
-    races: &[Told<'_>],
+    races: &[RaceFinding<'_>],
     clashes: &[Clash],
     findings: &[Finding<'_>],
 ) -> Result<Vec<u8>, AllocError> {

@@ -6,7 +6,7 @@ use crate::observed::{Observed, hidden_in, observed_in, read_filters, read_obser
 use crate::page::{HEAD, TAIL};
 use crate::times::times_in;
 use crate::told::{command_count, leave, manifest_of, names_of, refuse, say, trace_of, write};
-use rev_asking::Asked;
+use rev_asking::Request;
 use rev_bars::{Drawing, push_drawing};
 use rev_conflicts::{Conflict, conflicts};
 use rev_desk::Desk;
@@ -335,7 +335,7 @@ fn picture_of_bytes(alloc: Global, bytes: Bytes<'_>, wish: Wish) -> Result<Made,
 }
 
 // What is wished for, or a sentence where it is not understood.
-fn wish_of(asked: &Asked<'_>) -> Result<Wish, &'static str> {
+fn wish_of(asked: &Request<'_>) -> Result<Wish, &'static str> {
     let event = match asked.event {
         None => None,
         Some(text) => match number(text.as_bytes()) {
@@ -396,7 +396,7 @@ pub fn say_lines<R: Eprint + AllocGlobal>(rt: &R, lines: &[u8]) {
 // Writes the picture of a recording as it is wished for, and gives the program's status.
 fn picture_wished<'a, R: Files + Print + Eprint + AllocGlobal>(
     rt: &R,
-    asked: &Asked<'a>,
+    asked: &Request<'a>,
     wish: Wish,
 ) -> Result<u8, ProgramFault<'a>> {
     let files = read_drawn(rt, asked.recording)?;
@@ -417,7 +417,7 @@ fn picture_wished<'a, R: Files + Print + Eprint + AllocGlobal>(
 /// Writes the picture of a recording, and gives the program's status.
 pub fn picture<'a, R: Files + Print + Eprint + AllocGlobal>(
     rt: &R,
-    asked: &Asked<'a>,
+    asked: &Request<'a>,
 ) -> Result<u8, ProgramFault<'a>> {
     match wish_of(asked) {
         Ok(wish) => picture_wished(rt, asked, wish),

@@ -17,7 +17,7 @@ use rev_manifest::Build;
 use rev_observed::Observation;
 use rev_paths::Name;
 use rev_races::{Kind, Race, finished_edges, started_edges, stories};
-use rev_races_text::{Report, Story, Told};
+use rev_races_text::{RaceFinding, Report, Story};
 use rev_recording::RecordingFault;
 use rev_undeclared::{Undeclared, undeclared_files};
 use rev_unlisted::{Unlisted, unlisted_files};
@@ -283,8 +283,8 @@ pub fn listed_left<'a>(
     alloc: Global,
     graph: &Graph,
     sight: Option<&Sight>,
-    races: Vec<Told<'a>>,
-) -> Result<Vec<Told<'a>>, AllocError> {
+    races: Vec<RaceFinding<'a>>,
+) -> Result<Vec<RaceFinding<'a>>, AllocError> {
     match sight {
         Some(sight) => {
             let paths = sight.observed.observation.paths();
@@ -323,7 +323,7 @@ pub fn seen_findings<'a>(
     history: &'a History,
     builds: &'a [Build],
     sight: Option<&'a Sight>,
-    races: &[Told<'_>],
+    races: &[RaceFinding<'_>],
 ) -> Result<Vec<Finding<'a>>, AllocError> {
     let Some(sight) = sight else {
         return Ok(Vec::new(alloc));

@@ -7,7 +7,7 @@ use crate::picturing::{
 };
 use crate::times::times_in;
 use crate::told::{command_count, leave, manifest_of, names_of, refuse, say, trace_of};
-use rev_asking::Asked;
+use rev_asking::Request;
 use rev_cells::Cells;
 use rev_conflicts::Conflict;
 use rev_desk::Desk;
@@ -210,7 +210,7 @@ fn timeline_of_bytes(alloc: Global, name: &[u8], bytes: Bytes<'_>) -> Result<Mad
 // Writes the timeline of a recording, and gives the program's status.
 fn timelined_in<'a, R: Files + Print + Eprint + AllocGlobal>(
     rt: &R,
-    asked: &Asked<'a>,
+    asked: &Request<'a>,
 ) -> Result<u8, ProgramFault<'a>> {
     let files = read_drawn(rt, asked.recording)?;
     match timeline_of_bytes(rt.alloc(), asked.recording.as_bytes(), files.lent()) {
@@ -236,7 +236,7 @@ fn timelined_in<'a, R: Files + Print + Eprint + AllocGlobal>(
 /// As [`read_recording`] where the recording is not read; [`ProgramFault::Out`] where the file is not written.
 pub fn timelined<'a, R: Files + Print + Eprint + AllocGlobal>(
     rt: &R,
-    asked: &Asked<'a>,
+    asked: &Request<'a>,
 ) -> Result<u8, ProgramFault<'a>> {
     if let Some(out) = asked.out {
         if !out.ends_with(".json") {

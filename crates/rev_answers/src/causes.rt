@@ -1,7 +1,7 @@
 //! What events rest on, in words.
 use crate::events::{is_kept, push_numbered};
 use crate::observed::{push_looks, push_observed_needs};
-use crate::told::{Told, history_of};
+use crate::told::{Context, history_of};
 use rev_cells::Cell;
 use rev_graph::Graph;
 use rev_history::History;
@@ -69,7 +69,7 @@ fn push_if_nothing(text: &mut Vec<u8>, is_nothing: bool) -> Result<(), AllocErro
 // Adds what an event rests on by its cells, and by what its command was seen to look at.
 fn push_all_needs(
     text: &mut Vec<u8>,
-    told: Told<'_>,
+    told: Context<'_>,
     needs: &Needs,
     head: &[u8],
 ) -> Result<(), AllocError> {
@@ -91,7 +91,7 @@ fn push_all_needs(
 /// Adds what an event rests on.
 pub(crate) fn push_needs(
     text: &mut Vec<u8>,
-    told: Told<'_>,
+    told: Context<'_>,
     needs: &Needs,
 ) -> Result<(), AllocError> {
     match needs.reach {

@@ -1,6 +1,6 @@
 //! What Ninja shows while a command runs, by the build statement and its rule.
 use crate::statements::{from_line, rule_of};
-use crate::told::Told;
+use crate::told::Context;
 use rev_manifest::Build;
 use rev_paths::Name;
 use std::alloc::{AllocError, Global};
@@ -238,7 +238,7 @@ fn push_value(text: &mut Vec<u8>, scope: Scope<'_>, value: &[u8]) -> Result<(), 
 /// [`AllocError`] only where an allocation was refused.
 pub(crate) fn description_of(
     alloc: Global,
-    told: Told<'_>,
+    told: Context<'_>,
     build: &Build,
 ) -> Result<Vec<u8>, AllocError> {
     let mut text = Vec::new(alloc);

@@ -5,7 +5,7 @@ use crate::events::push_visible;
 use crate::runs::push_span;
 use crate::statements::{build_of, listed, push_placed, rule_of};
 use crate::times::push_took;
-use crate::told::{Told, history_of, path_of};
+use crate::told::{Context, history_of, path_of};
 use rev_fields::push_number;
 use rev_manifest::Build;
 use rev_observed::{Observation, PathRange};
@@ -34,7 +34,7 @@ fn mark(marks: &mut [bool], observation: &Observation, names: &[Name]) {
 // The marks of the paths of an observation that an edge's build line or its list has.
 fn named_marks(
     alloc: Global,
-    told: Told<'_>,
+    told: Context<'_>,
     observation: &Observation,
     build: &Build,
     edge: u32,
@@ -52,7 +52,7 @@ fn named_marks(
 // Adds the paths of a range that have no mark.
 fn add_unmarked(
     names: &mut Vec<Name>,
-    told: Told<'_>,
+    told: Context<'_>,
     range: PathRange,
     marks: &[bool],
 ) -> Result<(), AllocError> {
@@ -73,7 +73,7 @@ fn add_unmarked(
 // The paths of ranges that have no mark.
 fn unmarked(
     alloc: Global,
-    told: Told<'_>,
+    told: Context<'_>,
     ranges: &[PathRange],
     marks: &[bool],
 ) -> Result<Vec<Name>, AllocError> {
@@ -91,7 +91,7 @@ fn unmarked(
 /// [`AllocError`] only where an allocation was refused.
 pub(crate) fn also_read(
     alloc: Global,
-    told: Told<'_>,
+    told: Context<'_>,
     build: &Build,
     edge: u32,
 ) -> Result<Option<Vec<Name>>, AllocError> {
@@ -199,7 +199,7 @@ fn push_flags(text: &mut Vec<u8>, build: &Build) -> Result<(), AllocError> {
 }
 
 // Adds the pool of an edge, if it has one.
-fn push_pool(text: &mut Vec<u8>, told: Told<'_>, build: &Build) -> Result<(), AllocError> {
+fn push_pool(text: &mut Vec<u8>, told: Context<'_>, build: &Build) -> Result<(), AllocError> {
     let Some(pool) = build.pool() else {
         return Ok(());
     };
@@ -217,7 +217,7 @@ fn push_pool(text: &mut Vec<u8>, told: Told<'_>, build: &Build) -> Result<(), Al
 // Adds who waits for an edge.
 fn push_users(
     text: &mut Vec<u8>,
-    told: Told<'_>,
+    told: Context<'_>,
     users: &[u32],
     all: bool,
 ) -> Result<(), AllocError> {
@@ -236,7 +236,7 @@ fn push_users(
 }
 
 // Adds the last run of an edge's command.
-fn push_run(text: &mut Vec<u8>, told: Told<'_>, found: &EdgeFound) -> Result<(), AllocError> {
+fn push_run(text: &mut Vec<u8>, told: Context<'_>, found: &EdgeFound) -> Result<(), AllocError> {
     let Some(run) = found.run else {
         return text.extend_from_slice(b"  it did not run so far\n");
     };
@@ -250,7 +250,7 @@ fn push_run(text: &mut Vec<u8>, told: Told<'_>, found: &EdgeFound) -> Result<(),
 // Adds the first line: the edge, its place, and its rule.
 fn push_head(
     text: &mut Vec<u8>,
-    told: Told<'_>,
+    told: Context<'_>,
     build: &Build,
     edge: u32,
 ) -> Result<(), AllocError> {
@@ -267,7 +267,7 @@ fn push_head(
 fn push_read(
     text: &mut Vec<u8>,
     alloc: Global,
-    told: Told<'_>,
+    told: Context<'_>,
     build: &Build,
     edge: u32,
     all: bool,
@@ -283,7 +283,7 @@ fn push_read(
 pub(crate) fn push_edge_found(
     text: &mut Vec<u8>,
     alloc: Global,
-    told: Told<'_>,
+    told: Context<'_>,
     found: &EdgeFound,
     all: bool,
 ) -> Result<(), AllocError> {

@@ -5,7 +5,7 @@ use crate::observed::{LISTED, deed_words};
 use crate::reasons::push_reason;
 use crate::statements::{build_of, is_phony, listed, push_placed};
 use crate::times::push_milliseconds;
-use crate::told::{Told, history_of};
+use crate::told::{Context, history_of};
 use rev_fields::push_number;
 use rev_graph::Graph;
 use rev_paths::Name;
@@ -48,7 +48,7 @@ fn place_words(place: Place) -> &'static [u8] {
 // Adds what an edge has to do with a path.
 fn push_reading(
     text: &mut Vec<u8>,
-    told: Told<'_>,
+    told: Context<'_>,
     reading: &Reading,
     kind: Option<Kind>,
 ) -> Result<(), AllocError> {
@@ -94,7 +94,7 @@ fn unnamed<'a>(
 }
 
 // Adds a command that was seen to look at a path which neither its line nor its list has.
-fn push_unnamed(text: &mut Vec<u8>, told: Told<'_>, deed: &Deed) -> Result<(), AllocError> {
+fn push_unnamed(text: &mut Vec<u8>, told: Context<'_>, deed: &Deed) -> Result<(), AllocError> {
     push_placed(text, told, deed.edge)?;
     text.extend_from_slice(b": its command")?;
     text.extend_from_slice(deed_words(deed.kind))?;
@@ -105,7 +105,7 @@ fn push_unnamed(text: &mut Vec<u8>, told: Told<'_>, deed: &Deed) -> Result<(), A
 fn push_unread(
     text: &mut Vec<u8>,
     alloc: Global,
-    told: Told<'_>,
+    told: Context<'_>,
     path: &Name,
 ) -> Result<(), AllocError> {
     text.extend_from_slice(b"nothing reads ")?;
@@ -119,7 +119,7 @@ fn push_unread(
 fn push_reads(
     text: &mut Vec<u8>,
     alloc: Global,
-    told: Told<'_>,
+    told: Context<'_>,
     path: &Name,
     readings: &[Reading],
     deeds: Option<&Vec<Deed>>,
@@ -152,7 +152,7 @@ fn push_reads(
 fn push_no_maker(
     text: &mut Vec<u8>,
     alloc: Global,
-    told: Told<'_>,
+    told: Context<'_>,
     path: &Name,
     is_changed: bool,
 ) -> Result<(), AllocError> {
@@ -174,7 +174,7 @@ fn push_no_maker(
 fn push_producer(
     text: &mut Vec<u8>,
     alloc: Global,
-    told: Told<'_>,
+    told: Context<'_>,
     path: &Name,
     producer: Option<u32>,
     is_changed: bool,
@@ -192,7 +192,7 @@ fn push_producer(
 fn push_makes(
     text: &mut Vec<u8>,
     alloc: Global,
-    told: Told<'_>,
+    told: Context<'_>,
     path: &Name,
     producer: Option<u32>,
     deeds: Option<&Vec<Deed>>,
@@ -212,7 +212,7 @@ fn push_makes(
 }
 
 // Adds edges, a line each.
-fn push_edges(text: &mut Vec<u8>, told: Told<'_>, edges: &[u32]) -> Result<(), AllocError> {
+fn push_edges(text: &mut Vec<u8>, told: Context<'_>, edges: &[u32]) -> Result<(), AllocError> {
     for edge in edges {
         push_placed(text, told, *edge)?;
         text.extend_from_slice(if is_phony(told, *edge) {
@@ -240,7 +240,7 @@ fn first_marked<'a>(graph: &Graph, marks: &[bool], names: &'a [Name]) -> Option<
 }
 
 /// The first input of an edge that an edge with a mark makes: of its build line, and then of its list.
-pub(crate) fn marked_input<'a>(told: Told<'a>, marks: &[bool], edge: u32) -> Option<&'a Name> {
+pub(crate) fn marked_input<'a>(told: Context<'a>, marks: &[bool], edge: u32) -> Option<&'a Name> {
     let graph = history_of(told).graph();
     let build = build_of(told, edge)?;
     if let Some(name) = first_marked(graph, marks, build.explicit()) {
@@ -266,7 +266,7 @@ fn push_behind(text: &mut Vec<u8>, input: Option<&Name>) -> Result<(), AllocErro
 // Adds why an edge would be to do.
 fn push_rebuilt(
     text: &mut Vec<u8>,
-    told: Told<'_>,
+    told: Context<'_>,
     marks: &[bool],
     rebuilt: &Rebuilt,
 ) -> Result<(), AllocError> {
@@ -302,7 +302,7 @@ pub(crate) fn rebuilt_marks(
 // Those with commands of the edges that would be to do.
 fn with_commands<'a>(
     alloc: Global,
-    told: Told<'_>,
+    told: Context<'_>,
     rebuilds: &'a [Rebuilt],
 ) -> Result<Vec<&'a Rebuilt>, AllocError> {
     let mut commands = Vec::new(alloc);
@@ -318,7 +318,7 @@ fn with_commands<'a>(
 fn push_rebuilds(
     text: &mut Vec<u8>,
     alloc: Global,
-    told: Told<'_>,
+    told: Context<'_>,
     rebuilds: &[Rebuilt],
 ) -> Result<(), AllocError> {
     let marks = rebuilt_marks(alloc, history_of(told).graph(), rebuilds)?;
@@ -340,7 +340,7 @@ fn push_rebuilds(
 }
 
 // Adds a run with its times, as `58 ms, from 316 to 374: main.o (build.ninja:19)`.
-fn push_timed(text: &mut Vec<u8>, told: Told<'_>, timed: &Timed) -> Result<(), AllocError> {
+fn push_timed(text: &mut Vec<u8>, told: Context<'_>, timed: &Timed) -> Result<(), AllocError> {
     text.extend_from_slice(b"  ")?;
     push_milliseconds(text, timed.took())?;
     text.extend_from_slice(b", from ")?;
@@ -352,7 +352,7 @@ fn push_timed(text: &mut Vec<u8>, told: Told<'_>, timed: &Timed) -> Result<(), A
 }
 
 // Adds the runs that took most time.
-fn push_slowest(text: &mut Vec<u8>, told: Told<'_>, runs: &[Timed]) -> Result<(), AllocError> {
+fn push_slowest(text: &mut Vec<u8>, told: Context<'_>, runs: &[Timed]) -> Result<(), AllocError> {
     for timed in runs {
         push_timed(text, told, timed)?;
         text.push(b'\n')?;
@@ -375,7 +375,7 @@ fn push_gap(text: &mut Vec<u8>, timed: &Timed, next: Option<&Timed>) -> Result<(
 }
 
 // Adds the chain of commands that the end of a build waited for, from the last one.
-fn push_critical(text: &mut Vec<u8>, told: Told<'_>, chain: &Chain) -> Result<(), AllocError> {
+fn push_critical(text: &mut Vec<u8>, told: Context<'_>, chain: &Chain) -> Result<(), AllocError> {
     if chain.links.is_empty() {
         return text.extend_from_slice(b"no command that has times ran since the last plan\n");
     }
@@ -399,7 +399,7 @@ fn push_critical(text: &mut Vec<u8>, told: Told<'_>, chain: &Chain) -> Result<()
 pub(crate) fn push_found(
     text: &mut Vec<u8>,
     alloc: Global,
-    told: Told<'_>,
+    told: Context<'_>,
     found: &Found,
     all: bool,
 ) -> Result<(), AllocError> {

@@ -7,7 +7,7 @@ use crate::object::Object;
 use crate::seen::kind_word;
 use crate::statements::{build_of, file_name, is_phony, listed, rule_of};
 use crate::times::took;
-use crate::told::{Told, history_of};
+use crate::told::{Context, history_of};
 use crate::values::{View, because_value, names_value, put_edge, put_meant, run_value, text_value};
 use rev_manifest::Build;
 use rev_paths::Name;
@@ -50,7 +50,7 @@ fn put_paths(
 fn put_placed(
     object: &mut Object,
     alloc: Global,
-    told: Told<'_>,
+    told: Context<'_>,
     edge: u32,
 ) -> Result<(), AllocError> {
     put_edge(object, alloc, "output", history_of(told).graph(), edge)?;
@@ -63,14 +63,14 @@ fn put_placed(
 }
 
 // An edge by its first output and the place of its build statement.
-fn placed(alloc: Global, told: Told<'_>, edge: u32) -> Result<Object, AllocError> {
+fn placed(alloc: Global, told: Context<'_>, edge: u32) -> Result<Object, AllocError> {
     let mut object = Object::new(alloc);
     put_placed(&mut object, alloc, told, edge)?;
     Ok(object)
 }
 
 // Edges.
-fn edges_value(alloc: Global, told: Told<'_>, edges: &[u32]) -> Result<Value, AllocError> {
+fn edges_value(alloc: Global, told: Context<'_>, edges: &[u32]) -> Result<Value, AllocError> {
     let mut values = Vec::new(alloc);
     for edge in edges {
         values.push(placed(alloc, told, *edge)?.value())?;
@@ -104,7 +104,7 @@ fn put_line(object: &mut Object, alloc: Global, build: &Build) -> Result<(), All
 fn put_pool(
     object: &mut Object,
     alloc: Global,
-    told: Told<'_>,
+    told: Context<'_>,
     build: &Build,
 ) -> Result<(), AllocError> {
     let pool = match build.pool() {
@@ -124,7 +124,7 @@ fn put_pool(
 fn put_command(
     object: &mut Object,
     alloc: Global,
-    told: Told<'_>,
+    told: Context<'_>,
     build: &Build,
 ) -> Result<(), AllocError> {
     let rule = shown_value(alloc, rule_of(told, build))?;
@@ -147,7 +147,7 @@ fn put_command(
 fn put_read(
     object: &mut Object,
     alloc: Global,
-    told: Told<'_>,
+    told: Context<'_>,
     build: &Build,
     edge: u32,
 ) -> Result<(), AllocError> {
@@ -160,7 +160,7 @@ fn put_read(
 }
 
 // An edge.
-fn edge(alloc: Global, told: Told<'_>, found: &EdgeFound) -> Result<Object, AllocError> {
+fn edge(alloc: Global, told: Context<'_>, found: &EdgeFound) -> Result<Object, AllocError> {
     let mut object = Object::of_kind(alloc, "edge")?;
     put_placed(&mut object, alloc, told, found.edge)?;
     if let Some(build) = build_of(told, found.edge) {
@@ -201,7 +201,7 @@ fn word_or_null(alloc: Global, word: Option<&str>) -> Result<Value, AllocError> 
 // What an edge has to do with a path.
 fn reading_value(
     alloc: Global,
-    told: Told<'_>,
+    told: Context<'_>,
     reading: &Reading,
     kind: Option<Kind>,
 ) -> Result<Value, AllocError> {
@@ -215,7 +215,7 @@ fn reading_value(
 }
 
 // An edge whose command was seen to do something.
-fn deed_value(alloc: Global, told: Told<'_>, deed: &Deed) -> Result<Value, AllocError> {
+fn deed_value(alloc: Global, told: Context<'_>, deed: &Deed) -> Result<Value, AllocError> {
     let mut object = placed(alloc, told, deed.edge)?;
     object.put(alloc, "place", Value::Null)?;
     object.put_flag(alloc, "listed", false)?;
@@ -226,7 +226,7 @@ fn deed_value(alloc: Global, told: Told<'_>, deed: &Deed) -> Result<Value, Alloc
 // Which edges have a path as what they read: those by what is written, and then those that were only seen to.
 fn readings_value(
     alloc: Global,
-    told: Told<'_>,
+    told: Context<'_>,
     readings: &[Reading],
     deeds: &[Deed],
 ) -> Result<Value, AllocError> {
@@ -277,7 +277,7 @@ fn path_object(
 // Which edges have a path as what they read.
 fn reads(
     alloc: Global,
-    told: Told<'_>,
+    told: Context<'_>,
     path: &Name,
     readings: &[Reading],
     deeds: Option<&Vec<Deed>>,
@@ -293,7 +293,7 @@ fn reads(
 // Which edge has a path as an output, and who was seen to change it.
 fn makes(
     alloc: Global,
-    told: Told<'_>,
+    told: Context<'_>,
     path: &Name,
     producer: Option<u32>,
     deeds: Option<&Vec<Deed>>,
@@ -315,7 +315,7 @@ fn makes(
 }
 
 // Edges, and which of them are phony.
-fn edges(alloc: Global, told: Told<'_>, edges: &[u32]) -> Result<Object, AllocError> {
+fn edges(alloc: Global, told: Context<'_>, edges: &[u32]) -> Result<Object, AllocError> {
     let mut object = Object::of_kind(alloc, "edges")?;
     let mut values = Vec::new(alloc);
     for edge in edges {
@@ -338,7 +338,7 @@ fn name_or_null(alloc: Global, name: Option<&Name>) -> Result<Value, AllocError>
 // An edge that would be to do: its first reason, or else the input that is to be made before it.
 fn rebuilt_value(
     alloc: Global,
-    told: Told<'_>,
+    told: Context<'_>,
     marks: &[bool],
     rebuilt: &Rebuilt,
 ) -> Result<Value, AllocError> {
@@ -357,7 +357,7 @@ fn rebuilt_value(
 }
 
 // The paths that no edge names, with what may have been meant.
-fn unknown_value(alloc: Global, told: Told<'_>) -> Result<Value, AllocError> {
+fn unknown_value(alloc: Global, told: Context<'_>) -> Result<Value, AllocError> {
     let mut values = Vec::new(alloc);
     let unknown = unknown_paths(alloc, told)?;
     for (path, near) in &unknown {
@@ -372,7 +372,7 @@ fn unknown_value(alloc: Global, told: Told<'_>) -> Result<Value, AllocError> {
 }
 
 // What would be to do if files were touched.
-fn rebuilds(alloc: Global, told: Told<'_>, all: &[Rebuilt]) -> Result<Object, AllocError> {
+fn rebuilds(alloc: Global, told: Context<'_>, all: &[Rebuilt]) -> Result<Object, AllocError> {
     let mut object = Object::of_kind(alloc, "rebuilds")?;
     let marks = rebuilt_marks(alloc, history_of(told).graph(), all)?;
     let mut values = Vec::new(alloc);
@@ -386,7 +386,7 @@ fn rebuilds(alloc: Global, told: Told<'_>, all: &[Rebuilt]) -> Result<Object, Al
 }
 
 // A run with its times.
-fn timed_value(alloc: Global, told: Told<'_>, timed: &Timed) -> Result<Value, AllocError> {
+fn timed_value(alloc: Global, told: Context<'_>, timed: &Timed) -> Result<Value, AllocError> {
     let mut object = placed(alloc, told, timed.edge)?;
     object.put_number(alloc, "began", u64::from(timed.began))?;
     object.put_number(alloc, "ended", u64::from(timed.ended))?;
@@ -399,7 +399,7 @@ fn timed_value(alloc: Global, told: Told<'_>, timed: &Timed) -> Result<Value, Al
 // Runs with their times.
 fn runs_object(
     alloc: Global,
-    told: Told<'_>,
+    told: Context<'_>,
     kind: &str,
     runs: &[Timed],
     is_whole: bool,
@@ -415,7 +415,7 @@ fn runs_object(
 }
 
 // The chain of commands that the end of a build waited for.
-fn critical(alloc: Global, told: Told<'_>, chain: &Chain) -> Result<Object, AllocError> {
+fn critical(alloc: Global, told: Context<'_>, chain: &Chain) -> Result<Object, AllocError> {
     runs_object(alloc, told, "critical", &chain.links, chain.next.is_none())
 }
 
@@ -425,7 +425,7 @@ fn critical(alloc: Global, told: Told<'_>, chain: &Chain) -> Result<Object, Allo
 /// [`AllocError`] only where an allocation was refused.
 pub(crate) fn found_object(
     alloc: Global,
-    told: Told<'_>,
+    told: Context<'_>,
     found: &Found,
 ) -> Result<Object, AllocError> {
     match found {

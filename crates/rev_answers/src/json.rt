@@ -10,7 +10,7 @@ use crate::refusals::{
     FULL, Obstacle, Subject, cell_between, obstacle_of, push_full, push_refusal, subject_of,
 };
 use crate::seen::{looks_value, readers, users_value, writers};
-use crate::told::Told;
+use crate::told::Context;
 use crate::values::{
     View, because_value, lines_value, links_value, names_value, put_edge, put_event, put_events,
     put_name, put_through, run_value, runs_value, text_value,
@@ -80,14 +80,14 @@ fn lines(alloc: Global, text: &[u8]) -> Result<Object, AllocError> {
 }
 
 // What `help` tells.
-fn help(alloc: Global, told: Told<'_>) -> Result<Object, AllocError> {
+fn help(alloc: Global, told: Context<'_>) -> Result<Object, AllocError> {
     let mut text = Vec::new(alloc);
     push_help(&mut text, told.question)?;
     lines(alloc, &text)
 }
 
 // A path that is no output.
-fn no_output(alloc: Global, told: Told<'_>, path: &Name) -> Result<Object, AllocError> {
+fn no_output(alloc: Global, told: Context<'_>, path: &Name) -> Result<Object, AllocError> {
     let mut object = Object::of_kind(alloc, "no output")?;
     put_name(&mut object, alloc, "path", Some(path))?;
     let near = meant(alloc, told, path)?;
@@ -125,7 +125,7 @@ fn events(
 }
 
 // What an event rests on.
-fn needs(alloc: Global, told: Told<'_>, needs: &Needs) -> Result<Object, AllocError> {
+fn needs(alloc: Global, told: Context<'_>, needs: &Needs) -> Result<Object, AllocError> {
     let view = View::of(told);
     let mut object = Object::of_kind(alloc, "needs")?;
     put_event(&mut object, alloc, "event", view, Some(needs.number))?;
@@ -250,7 +250,7 @@ fn why(
 fn put_obstacle(
     object: &mut Object,
     alloc: Global,
-    told: Told<'_>,
+    told: Context<'_>,
     obstacle: Obstacle<'_>,
     subject: Subject<'_>,
 ) -> Result<(), AllocError> {
@@ -267,7 +267,7 @@ fn put_obstacle(
 // A refusal.
 fn refused(
     alloc: Global,
-    told: Told<'_>,
+    told: Context<'_>,
     refusal: Refusal,
     subject: Subject<'_>,
 ) -> Result<Object, AllocError> {
@@ -328,7 +328,7 @@ fn carried_out(
 // What the desk replied to a command.
 fn replied(
     alloc: Global,
-    told: Told<'_>,
+    told: Context<'_>,
     reply: Option<Reply>,
     number: Option<u32>,
     subject: Subject<'_>,
@@ -344,7 +344,7 @@ fn replied(
 }
 
 // A command of the recording, and what came of it.
-fn step_value(alloc: Global, told: Told<'_>, step: Step) -> Result<Value, AllocError> {
+fn step_value(alloc: Global, told: Context<'_>, step: Step) -> Result<Value, AllocError> {
     let Some(turn) = told.session.turns.get(step.at) else {
         return Ok(Value::Null);
     };
@@ -360,7 +360,7 @@ fn step_value(alloc: Global, told: Told<'_>, step: Step) -> Result<Value, AllocE
 }
 
 // A command of the recording, where there is one.
-fn step_or_null(alloc: Global, told: Told<'_>, step: Option<Step>) -> Result<Value, AllocError> {
+fn step_or_null(alloc: Global, told: Context<'_>, step: Option<Step>) -> Result<Value, AllocError> {
     match step {
         Some(step) => step_value(alloc, told, step),
         None => Ok(Value::Null),
@@ -370,7 +370,7 @@ fn step_or_null(alloc: Global, told: Told<'_>, step: Option<Step>) -> Result<Val
 // An undo that was carried out, and who was seen to look at what was undone.
 fn undone(
     alloc: Global,
-    told: Told<'_>,
+    told: Context<'_>,
     reply: Reply,
     number: u32,
     users: &[User],
@@ -385,7 +385,7 @@ fn undone(
 // What came of `run`.
 fn tally_object(
     alloc: Global,
-    told: Told<'_>,
+    told: Context<'_>,
     tally: Tally,
     paused: bool,
 ) -> Result<Object, AllocError> {
@@ -402,7 +402,7 @@ fn tally_object(
 // Commands of the recording.
 fn steps_object(
     alloc: Global,
-    told: Told<'_>,
+    told: Context<'_>,
     steps: &[Step],
     ended: bool,
     paused: bool,
@@ -419,7 +419,7 @@ fn steps_object(
 }
 
 // An answer as an object.
-fn answer_object(alloc: Global, told: Told<'_>, answer: &Answer) -> Result<Object, AllocError> {
+fn answer_object(alloc: Global, told: Context<'_>, answer: &Answer) -> Result<Object, AllocError> {
     let view = View::of(told);
     match answer {
         Answer::Nothing => Object::of_kind(alloc, "nothing"),
@@ -456,7 +456,11 @@ fn answer_object(alloc: Global, told: Told<'_>, answer: &Answer) -> Result<Objec
 ///
 /// # Errors
 /// [`AllocError`] only where an allocation was refused.
-pub fn answer_json(alloc: Global, told: Told<'_>, answer: &Answer) -> Result<Vec<u8>, AllocError> {
+pub fn answer_json(
+    alloc: Global,
+    told: Context<'_>,
+    answer: &Answer,
+) -> Result<Vec<u8>, AllocError> {
     let object = answer_object(alloc, told, answer)?;
     line_of(alloc, object)
 }

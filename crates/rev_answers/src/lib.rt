@@ -34,5 +34,5 @@ pub use each::{Many, each_json, each_words, objects_json};
 pub use help::{meant_word, not_asked_words};
 pub use json::{answer_json, fault_json, opening_json};
 pub use screen::screen_of;
-pub use told::Told;
+pub use told::Context;
 pub use words::{answer_words, opening_words};

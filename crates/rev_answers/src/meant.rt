@@ -1,7 +1,7 @@
 //! What was meant by a path that is not there: no edge makes it, or none names it.
 use crate::request::{Request, request_of};
 use crate::statements::listed;
-use crate::told::{Told, history_of, path_of};
+use crate::told::{Context, history_of, path_of};
 use rev_manifest::Build;
 use rev_observed::Observation;
 use rev_paths::Name;
@@ -82,7 +82,7 @@ fn add_outputs<'a>(
 /// or without one, then those with the same last part, and then those whose last part begins with it.
 pub(crate) fn meant<'a>(
     alloc: Global,
-    told: Told<'a>,
+    told: Context<'a>,
     path: &Name,
 ) -> Result<Vec<&'a Name>, AllocError> {
     let mut near = Vec::new(alloc);
@@ -103,12 +103,12 @@ fn takes_no_pattern(question: &Question) -> &'static [u8] {
 }
 
 /// Whether a path that is no output is a pattern, where a question takes none.
-pub(crate) fn is_pattern(told: Told<'_>, path: &Name) -> bool {
+pub(crate) fn is_pattern(told: Context<'_>, path: &Name) -> bool {
     path.as_bytes().contains(&b'*') && !takes_no_pattern(told.question).is_empty()
 }
 
 // Adds that a question takes no pattern, and what names the outputs that match.
-fn push_pattern(text: &mut Vec<u8>, told: Told<'_>, path: &Name) -> Result<(), AllocError> {
+fn push_pattern(text: &mut Vec<u8>, told: Context<'_>, path: &Name) -> Result<(), AllocError> {
     text.extend_from_slice(takes_no_pattern(told.question))?;
     text.extend_from_slice(b"; `who ")?;
     push_shown(text, path.as_bytes())?;
@@ -120,7 +120,7 @@ fn push_pattern(text: &mut Vec<u8>, told: Told<'_>, path: &Name) -> Result<(), A
 pub(crate) fn push_no_output(
     text: &mut Vec<u8>,
     alloc: Global,
-    told: Told<'_>,
+    told: Context<'_>,
     path: &Name,
 ) -> Result<(), AllocError> {
     push_shown(text, path.as_bytes())?;
@@ -238,7 +238,7 @@ fn take_line<'a>(near: &mut Near<'a, '_>, build: &'a Build) -> Result<(), AllocE
 // Takes in those of the paths that edges have on their build lines, or list.
 fn take_edges<'a>(
     near: &mut Near<'a, '_>,
-    told: Told<'a>,
+    told: Context<'a>,
     builds: &'a [Build],
 ) -> Result<(), AllocError> {
     for (edge, build) in builds.iter().enumerate() {
@@ -253,7 +253,7 @@ fn take_edges<'a>(
 // Takes in those of the paths that commands were seen to look at or to change.
 fn take_observed<'a>(
     near: &mut Near<'a, '_>,
-    told: Told<'a>,
+    told: Context<'a>,
     observation: &Observation,
 ) -> Result<(), AllocError> {
     for path in 0..observation.paths().len() {
@@ -265,7 +265,7 @@ fn take_observed<'a>(
 }
 
 // Takes in those of the paths of edges, and of those that commands were seen to look at or to change.
-fn take_paths<'a>(near: &mut Near<'a, '_>, told: Told<'a>) -> Result<(), AllocError> {
+fn take_paths<'a>(near: &mut Near<'a, '_>, told: Context<'a>) -> Result<(), AllocError> {
     take_edges(near, told, told.session.builds)?;
     if let Some(observation) = told.session.observation {
         take_observed(near, told, observation)?;
@@ -282,7 +282,7 @@ fn take_paths<'a>(near: &mut Near<'a, '_>, told: Told<'a>) -> Result<(), AllocEr
 /// [`AllocError`] only where an allocation was refused.
 pub(crate) fn near_paths<'a>(
     alloc: Global,
-    told: Told<'a>,
+    told: Context<'a>,
     path: &Name,
 ) -> Result<Vec<&'a Name>, AllocError> {
     let mut near = Near::new(alloc, path.as_bytes());
@@ -316,7 +316,7 @@ pub(crate) fn push_near(text: &mut Vec<u8>, near: &[&Name]) -> Result<(), AllocE
 pub(crate) fn push_meant(
     text: &mut Vec<u8>,
     alloc: Global,
-    told: Told<'_>,
+    told: Context<'_>,
     path: &Name,
 ) -> Result<(), AllocError> {
     push_near(text, &meant(alloc, told, path)?)
@@ -327,7 +327,7 @@ pub(crate) fn push_meant(
 pub(crate) fn push_near_paths(
     text: &mut Vec<u8>,
     alloc: Global,
-    told: Told<'_>,
+    told: Context<'_>,
     path: &Name,
 ) -> Result<(), AllocError> {
     let near = near_paths(alloc, told, path)?;
@@ -338,7 +338,7 @@ pub(crate) fn push_near_paths(
 }
 
 // The paths that are asked about by `rebuilds`.
-fn touched<'a>(told: Told<'a>) -> &'a [Name] {
+fn touched<'a>(told: Context<'a>) -> &'a [Name] {
     match request_of(told.question) {
         Request::Rebuilds(paths) => paths,
         Request::Help(_)
@@ -357,7 +357,7 @@ fn touched<'a>(told: Told<'a>) -> &'a [Name] {
 /// [`AllocError`] only where an allocation was refused.
 pub(crate) fn unknown_paths<'a>(
     alloc: Global,
-    told: Told<'a>,
+    told: Context<'a>,
 ) -> Result<Vec<(&'a Name, Vec<&'a Name>)>, AllocError> {
     let mut unknown = Vec::new(alloc);
     for path in touched(told).iter().take(MOST) {
@@ -375,7 +375,7 @@ pub(crate) fn unknown_paths<'a>(
 pub(crate) fn push_unknown_paths(
     text: &mut Vec<u8>,
     alloc: Global,
-    told: Told<'_>,
+    told: Context<'_>,
 ) -> Result<(), AllocError> {
     let unknown = unknown_paths(alloc, told)?;
     for (path, near) in &unknown {

@@ -3,7 +3,7 @@ use crate::edges::push_edge;
 use crate::events::{is_kept, push_numbered};
 use crate::meant::push_near_paths;
 use crate::runs::push_span;
-use crate::told::{Told, history_of, path_of};
+use crate::told::{Context, history_of, path_of};
 use rev_fields::push_number;
 use rev_history::History;
 use rev_paths::Name;
@@ -47,7 +47,7 @@ fn look_word(look: Kind) -> &'static [u8] {
 /// Adds what an event rests on by what its command was seen to look at, a line each.
 pub(crate) fn push_looks(
     text: &mut Vec<u8>,
-    told: Told<'_>,
+    told: Context<'_>,
     looks: &[Need],
 ) -> Result<(), AllocError> {
     for need in looks {
@@ -67,7 +67,7 @@ pub(crate) fn push_looks(
 /// Adds what an event rests on by what was observed alone.
 pub(crate) fn push_observed_needs(
     text: &mut Vec<u8>,
-    told: Told<'_>,
+    told: Context<'_>,
     number: u32,
     looks: Option<&Vec<Need>>,
 ) -> Result<(), AllocError> {
@@ -117,7 +117,7 @@ fn push_deed(text: &mut Vec<u8>, history: &History, deed: &Deed) -> Result<(), A
 fn push_none(
     text: &mut Vec<u8>,
     alloc: Global,
-    told: Told<'_>,
+    told: Context<'_>,
     path: &Name,
     words: &[u8],
 ) -> Result<(), AllocError> {
@@ -131,7 +131,7 @@ fn push_none(
 fn push_deeds(
     text: &mut Vec<u8>,
     alloc: Global,
-    told: Told<'_>,
+    told: Context<'_>,
     path: &Name,
     deeds: &[Deed],
     none: &[u8],
@@ -149,7 +149,7 @@ fn push_deeds(
 fn push_namings(
     text: &mut Vec<u8>,
     alloc: Global,
-    told: Told<'_>,
+    told: Context<'_>,
     path: &Name,
     namings: &[Naming],
 ) -> Result<(), AllocError> {
@@ -170,7 +170,7 @@ fn push_namings(
 fn push_declared(
     text: &mut Vec<u8>,
     alloc: Global,
-    told: Told<'_>,
+    told: Context<'_>,
     path: &Name,
     edge: Option<u32>,
 ) -> Result<(), AllocError> {
@@ -202,7 +202,7 @@ fn looked_words(look: Kind) -> &'static [u8] {
 // Adds who looks at what an event left, as `undo 11: main.o (12) read version.h of it, which its line does not name`.
 fn push_user(
     text: &mut Vec<u8>,
-    told: Told<'_>,
+    told: Context<'_>,
     number: u32,
     user: &User,
 ) -> Result<(), AllocError> {
@@ -228,7 +228,7 @@ fn push_user(
 /// Adds who was seen to look at what an event left, the first ones a line each, and how many more there are.
 pub(crate) fn push_users(
     text: &mut Vec<u8>,
-    told: Told<'_>,
+    told: Context<'_>,
     number: u32,
     users: &[User],
 ) -> Result<(), AllocError> {
@@ -254,7 +254,7 @@ pub(crate) fn push_users(
 pub(crate) fn push_readers(
     text: &mut Vec<u8>,
     alloc: Global,
-    told: Told<'_>,
+    told: Context<'_>,
     path: &Name,
     readers: &Readers,
 ) -> Result<(), AllocError> {
@@ -277,7 +277,7 @@ pub(crate) fn push_readers(
 pub(crate) fn push_writers(
     text: &mut Vec<u8>,
     alloc: Global,
-    told: Told<'_>,
+    told: Context<'_>,
     path: &Name,
     writers: &Writers,
 ) -> Result<(), AllocError> {

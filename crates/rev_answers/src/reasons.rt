@@ -2,7 +2,7 @@
 use crate::edges::push_edge;
 use crate::events::push_numbered;
 use crate::runs::push_span;
-use crate::told::{Told, history_of};
+use crate::told::{Context, history_of};
 use crate::words::push_not_run;
 use rev_dirty::Reason;
 use rev_graph::Graph;
@@ -106,7 +106,7 @@ fn push_way(text: &mut Vec<u8>, graph: &Graph, way: &Way) -> Result<(), AllocErr
 /// Adds why an edge runs, or ran.
 pub(crate) fn push_why(
     text: &mut Vec<u8>,
-    told: Told<'_>,
+    told: Context<'_>,
     path: &Name,
     run: Option<Span>,
     plan: Option<u32>,

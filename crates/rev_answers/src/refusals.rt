@@ -3,7 +3,7 @@ use crate::causes::push_through;
 use crate::edges::push_edge;
 use crate::events::{push_command_words, push_numbered};
 use crate::meant::push_meant;
-use crate::told::{Told, history_of};
+use crate::told::{Context, history_of};
 use rev_cells::Cell;
 use rev_commands::{Command, Which};
 use rev_events::{Event, Refusal};
@@ -27,7 +27,7 @@ pub(crate) enum Subject<'a> {
 }
 
 // What the command with this name of an event is about.
-fn subject_named<'a>(told: Told<'_>, which: Which, command: &'a Command) -> Subject<'a> {
+fn subject_named<'a>(told: Context<'_>, which: Which, command: &'a Command) -> Subject<'a> {
     match told.desk.named(which) {
         Some(number) => Subject::Event(number),
         None => Subject::Command(command),
@@ -35,7 +35,7 @@ fn subject_named<'a>(told: Told<'_>, which: Which, command: &'a Command) -> Subj
 }
 
 /// What a command is about.
-pub(crate) fn subject_of<'a>(told: Told<'_>, command: &'a Command) -> Subject<'a> {
+pub(crate) fn subject_of<'a>(told: Context<'_>, command: &'a Command) -> Subject<'a> {
     match command {
         Command::Undo(which) | Command::Redo(which) | Command::Cone(which) => {
             subject_named(told, *which, command)
@@ -49,7 +49,7 @@ pub(crate) fn subject_of<'a>(told: Told<'_>, command: &'a Command) -> Subject<'a
 }
 
 // The event that a subject is about.
-fn event_of<'a>(told: Told<'a>, subject: Subject<'a>) -> Option<&'a Event> {
+fn event_of<'a>(told: Context<'a>, subject: Subject<'a>) -> Option<&'a Event> {
     match subject {
         Subject::Event(number) => history_of(told).event(number),
         Subject::Command(Command::Event(event)) => Some(event),
@@ -89,13 +89,13 @@ fn push_colon(text: &mut Vec<u8>, number: u64) -> Result<(), AllocError> {
 }
 
 // The edge that an event names.
-fn edge_of(told: Told<'_>, event: Option<&Event>) -> Option<u32> {
+fn edge_of(told: Context<'_>, event: Option<&Event>) -> Option<u32> {
     let out = out_of(event?)?;
     history_of(told).graph().producer(out)
 }
 
 // The input of an event's edge at a position.
-fn input_of<'a>(told: Told<'a>, event: Option<&Event>, position: u64) -> Option<&'a Name> {
+fn input_of<'a>(told: Context<'a>, event: Option<&Event>, position: u64) -> Option<&'a Name> {
     let history = history_of(told);
     let edge = edge_of(told, event)?;
     input_at(history.graph(), history.cells(), edge, position)
@@ -110,14 +110,14 @@ fn target_of<'a>(event: Option<&'a Event>, position: u64) -> Option<&'a Name> {
 }
 
 // Adds an edge behind a colon.
-fn push_named_edge(text: &mut Vec<u8>, told: Told<'_>, edge: u32) -> Result<(), AllocError> {
+fn push_named_edge(text: &mut Vec<u8>, told: Context<'_>, edge: u32) -> Result<(), AllocError> {
     push_path(text, first_output(history_of(told).graph(), edge))
 }
 
 // Adds the later event that is in the way, and how it rests on the one that is asked about.
 fn push_later(
     text: &mut Vec<u8>,
-    told: Told<'_>,
+    told: Context<'_>,
     subject: Subject<'_>,
     later: u32,
 ) -> Result<(), AllocError> {
@@ -157,7 +157,7 @@ fn refusal_now(code: u16, first: Option<u64>) -> Option<Refusal> {
 fn push_details(
     text: &mut Vec<u8>,
     alloc: Global,
-    told: Told<'_>,
+    told: Context<'_>,
     refusal: Refusal,
     subject: Subject<'_>,
 ) -> Result<(), AllocError> {
@@ -179,7 +179,7 @@ fn push_details(
 fn push_named(
     text: &mut Vec<u8>,
     alloc: Global,
-    told: Told<'_>,
+    told: Context<'_>,
     refusal: Refusal,
     subject: Subject<'_>,
 ) -> Result<(), AllocError> {
@@ -243,7 +243,7 @@ fn edge_obstacle<'a>(edge: u32) -> Obstacle<'a> {
 
 /// The cell through which a later event that stands in the way rests on the one that is asked about, if one is named.
 pub(crate) fn cell_between<'a>(
-    told: Told<'a>,
+    told: Context<'a>,
     subject: Subject<'_>,
     later: Option<u32>,
 ) -> Option<&'a Cell> {
@@ -263,7 +263,11 @@ fn path_obstacle<'a>(path: Option<&'a Name>) -> Obstacle<'a> {
 }
 
 // What a refusal names that is not a redo's.
-fn named_obstacle<'a>(told: Told<'a>, refusal: Refusal, event: Option<&'a Event>) -> Obstacle<'a> {
+fn named_obstacle<'a>(
+    told: Context<'a>,
+    refusal: Refusal,
+    event: Option<&'a Event>,
+) -> Obstacle<'a> {
     let history = history_of(told);
     match refusal {
         Refusal::StillRunning(edge)
@@ -293,7 +297,7 @@ fn named_obstacle<'a>(told: Told<'a>, refusal: Refusal, event: Option<&'a Event>
 
 /// What stands in the way where something is refused; of a redo what stands in the way of its event.
 pub(crate) fn obstacle_of<'a>(
-    told: Told<'a>,
+    told: Context<'a>,
     refusal: Refusal,
     subject: Subject<'a>,
 ) -> Obstacle<'a> {
@@ -315,7 +319,7 @@ pub(crate) fn obstacle_of<'a>(
 fn push_unknown(
     text: &mut Vec<u8>,
     alloc: Global,
-    told: Told<'_>,
+    told: Context<'_>,
     path: Option<&Name>,
 ) -> Result<(), AllocError> {
     push_path(text, path)?;
@@ -418,7 +422,7 @@ fn push_general(text: &mut Vec<u8>, next: &str, between: &[u8]) -> Result<(), Al
 fn push_subject(
     text: &mut Vec<u8>,
     alloc: Global,
-    told: Told<'_>,
+    told: Context<'_>,
     subject: Subject<'_>,
 ) -> Result<(), AllocError> {
     match subject {
@@ -434,7 +438,7 @@ fn push_subject(
 pub(crate) fn push_refusal(
     text: &mut Vec<u8>,
     alloc: Global,
-    told: Told<'_>,
+    told: Context<'_>,
     refusal: Refusal,
     subject: Subject<'_>,
     between: &[u8],

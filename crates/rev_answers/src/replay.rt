@@ -1,7 +1,7 @@
 //! The recording replayed, in words.
 use crate::events::{push_command_words, push_count, push_numbered};
 use crate::refusals::{NEXT_LINE, push_full, push_refusal, subject_of};
-use crate::told::{Told, history_of};
+use crate::told::{Context, history_of};
 use rev_commands::Command;
 use rev_desk::Reply;
 use rev_fields::push_number;
@@ -14,7 +14,7 @@ const PAUSE: &[u8] = b"a break stands here: `continue` goes on\n";
 fn push_done(
     text: &mut Vec<u8>,
     alloc: Global,
-    told: Told<'_>,
+    told: Context<'_>,
     command: &Command,
     number: Option<u32>,
 ) -> Result<(), AllocError> {
@@ -30,7 +30,7 @@ fn push_done(
 pub(crate) fn push_step(
     text: &mut Vec<u8>,
     alloc: Global,
-    told: Told<'_>,
+    told: Context<'_>,
     step: Step,
 ) -> Result<(), AllocError> {
     let history = history_of(told);
@@ -56,7 +56,7 @@ pub(crate) fn push_step(
 pub(crate) fn push_tally(
     text: &mut Vec<u8>,
     alloc: Global,
-    told: Told<'_>,
+    told: Context<'_>,
     tally: Tally,
     paused: bool,
 ) -> Result<(), AllocError> {
@@ -97,7 +97,7 @@ fn push_running(text: &mut Vec<u8>, running: u64) -> Result<(), AllocError> {
 pub(crate) fn push_steps(
     text: &mut Vec<u8>,
     alloc: Global,
-    told: Told<'_>,
+    told: Context<'_>,
     steps: &[Step],
     ended: bool,
     paused: bool,

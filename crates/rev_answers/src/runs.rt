@@ -1,7 +1,7 @@
 //! When commands ran, in words.
 use crate::events::push_numbered;
 use crate::times::push_took;
-use crate::told::{Told, history_of};
+use crate::told::{Context, history_of};
 use crate::words::push_not_run;
 use rev_history::History;
 use rev_paths::Name;
@@ -27,7 +27,7 @@ pub(crate) fn push_span(
 /// Adds which commands ran while another did.
 pub(crate) fn push_with(
     text: &mut Vec<u8>,
-    told: Told<'_>,
+    told: Context<'_>,
     path: &Name,
     run: Option<Span>,
     others: &[Span],

@@ -1,6 +1,6 @@
 //! What commands were seen to do, as JSON.
 use crate::object::Object;
-use crate::told::{Told, path_of};
+use crate::told::{Context, path_of};
 use crate::values::{View, put_edge, put_event, put_meant, put_name, run_value};
 use rev_paths::Name;
 use rev_prompt::{Deed, Kind, Naming, Need, Readers, Site, User, Writers};
@@ -25,7 +25,7 @@ pub(crate) fn kind_word(kind: Kind) -> &'static str {
 // An event, and a look at a path that has to do with it.
 fn look_value(
     alloc: Global,
-    told: Told<'_>,
+    told: Context<'_>,
     number: u32,
     path: u64,
     look: Kind,
@@ -40,7 +40,7 @@ fn look_value(
 /// Who was seen to look at what an event left.
 pub(crate) fn users_value(
     alloc: Global,
-    told: Told<'_>,
+    told: Context<'_>,
     users: &[User],
 ) -> Result<Value, AllocError> {
     let mut values = Vec::new(alloc);
@@ -53,7 +53,7 @@ pub(crate) fn users_value(
 /// What an event rests on by what its command was seen to look at; null where nothing was observed.
 pub(crate) fn looks_value(
     alloc: Global,
-    told: Told<'_>,
+    told: Context<'_>,
     looks: Option<&Vec<Need>>,
 ) -> Result<Value, AllocError> {
     let Some(looks) = looks else {
@@ -131,7 +131,7 @@ fn declared_values(
 // Edges that have to do with a path, on what that rests, and what may have been meant where there is none.
 fn path_object(
     alloc: Global,
-    told: Told<'_>,
+    told: Context<'_>,
     kind: &str,
     path: &Name,
     by: &str,
@@ -148,7 +148,7 @@ fn path_object(
 /// Which commands read a path.
 pub(crate) fn readers(
     alloc: Global,
-    told: Told<'_>,
+    told: Context<'_>,
     path: &Name,
     readers: &Readers,
 ) -> Result<Object, AllocError> {
@@ -167,7 +167,7 @@ pub(crate) fn readers(
 /// Which commands write a path.
 pub(crate) fn writers(
     alloc: Global,
-    told: Told<'_>,
+    told: Context<'_>,
     path: &Name,
     writers: &Writers,
 ) -> Result<Object, AllocError> {

@@ -1,6 +1,6 @@
 //! Where the build statement of an edge stands, which rule it names, and what its command listed.
 use crate::edges::push_edge;
-use crate::told::{Told, history_of};
+use crate::told::{Context, history_of};
 use rev_dirty::listed_inputs;
 use rev_fields::push_number;
 use rev_manifest::Build;
@@ -10,12 +10,12 @@ use rev_shown::push_shown;
 use std::alloc::AllocError;
 
 /// The build of an edge.
-pub(crate) fn build_of<'a>(told: Told<'a>, edge: u32) -> Option<&'a Build> {
+pub(crate) fn build_of<'a>(told: Context<'a>, edge: u32) -> Option<&'a Build> {
     told.session.builds.get(edge as usize)
 }
 
 /// Whether an edge is phony.
-pub(crate) fn is_phony(told: Told<'_>, edge: u32) -> bool {
+pub(crate) fn is_phony(told: Context<'_>, edge: u32) -> bool {
     match build_of(told, edge) {
         Some(build) => build.phony(),
         None => false,
@@ -23,7 +23,7 @@ pub(crate) fn is_phony(told: Told<'_>, edge: u32) -> bool {
 }
 
 /// The list of what an edge's command read, as the deps log has it.
-pub(crate) fn listed<'a>(told: Told<'a>, edge: u32) -> &'a [Name] {
+pub(crate) fn listed<'a>(told: Context<'a>, edge: u32) -> &'a [Name] {
     let history = history_of(told);
     if edge < history.graph().edges() {
         listed_inputs(history.graph(), history.cells(), edge)
@@ -33,7 +33,7 @@ pub(crate) fn listed<'a>(told: Told<'a>, edge: u32) -> &'a [Name] {
 }
 
 /// The name of the file of a build statement.
-pub(crate) fn file_name<'a>(told: Told<'a>, build: &Build) -> Option<&'a [u8]> {
+pub(crate) fn file_name<'a>(told: Context<'a>, build: &Build) -> Option<&'a [u8]> {
     match told.session.files.get(build.file() as usize) {
         Some((name, _)) => Some(name.as_slice()),
         None => None,
@@ -41,7 +41,11 @@ pub(crate) fn file_name<'a>(told: Told<'a>, build: &Build) -> Option<&'a [u8]> {
 }
 
 /// Adds an edge and the place of its build statement, as `main.o (build.ninja:19)`.
-pub(crate) fn push_placed(text: &mut Vec<u8>, told: Told<'_>, edge: u32) -> Result<(), AllocError> {
+pub(crate) fn push_placed(
+    text: &mut Vec<u8>,
+    told: Context<'_>,
+    edge: u32,
+) -> Result<(), AllocError> {
     push_edge(text, history_of(told).graph(), edge)?;
     let Some(build) = build_of(told, edge) else {
         return Ok(());
@@ -71,7 +75,7 @@ pub(crate) fn from_line(bytes: &[u8], line: u64) -> &[u8] {
 }
 
 /// The name of the rule of an edge, as its build statement has it.
-pub(crate) fn rule_of<'a>(told: Told<'a>, build: &Build) -> Option<&'a [u8]> {
+pub(crate) fn rule_of<'a>(told: Context<'a>, build: &Build) -> Option<&'a [u8]> {
     let (_, bytes) = told.session.files.get(build.file() as usize)?;
     Some(rule_in(from_line(bytes, build.line())))
 }

@@ -6,7 +6,7 @@ use rev_prompt::{Question, Session};
 
 /// What words and JSON of an answer are made from, beside the answer.
 #[derive(Clone, Copy)]
-pub struct Told<'a> {
+pub struct Context<'a> {
     /// The session.
     pub session: &'a Session<'a>,
     /// The desk, as the answer left it.
@@ -16,12 +16,12 @@ pub struct Told<'a> {
 }
 
 /// The history of the desk.
-pub(crate) fn history_of<'a>(told: Told<'a>) -> &'a History {
+pub(crate) fn history_of<'a>(told: Context<'a>) -> &'a History {
     told.desk.history()
 }
 
 /// The path of a number, of those that were observed.
-pub(crate) fn path_of<'a>(told: Told<'a>, path: u64) -> Option<&'a Name> {
+pub(crate) fn path_of<'a>(told: Context<'a>, path: u64) -> Option<&'a Name> {
     let paths = told.session.observation?.paths();
     if path >= paths.len() {
         return None;

@@ -4,7 +4,7 @@ use crate::edges::push_edge;
 use crate::events::{is_kept, push_words};
 use crate::meant::{is_among, near_paths};
 use crate::object::Object;
-use crate::told::{Told, history_of};
+use crate::told::{Context, history_of};
 use rev_cells::Cell;
 use rev_events::Event;
 use rev_graph::Graph;
@@ -25,7 +25,7 @@ pub(crate) struct View<'a> {
 
 impl<'a> View<'a> {
     /// That of a desk and a session.
-    pub(crate) fn of(told: Told<'a>) -> View<'a> {
+    pub(crate) fn of(told: Context<'a>) -> View<'a> {
         View {
             history: history_of(told),
             times: told.session.times,
@@ -351,7 +351,7 @@ pub(crate) fn names_value(alloc: Global, names: &[&Name]) -> Result<Value, Alloc
 pub(crate) fn put_meant(
     object: &mut Object,
     alloc: Global,
-    told: Told<'_>,
+    told: Context<'_>,
     path: &Name,
     is_found: bool,
 ) -> Result<(), AllocError> {

@@ -16,7 +16,7 @@ use crate::replay::{push_steps, push_tally};
 use crate::request::{Request, request_of};
 use crate::runs::push_with;
 use crate::times::push_at;
-use crate::told::{Told, history_of};
+use crate::told::{Context, history_of};
 use rev_desk::Reply;
 use rev_fields::push_number;
 use rev_history::History;
@@ -75,7 +75,7 @@ fn push_lines(text: &mut Vec<u8>, lines: &[u8]) -> Result<(), AllocError> {
 fn push_no_output_line(
     text: &mut Vec<u8>,
     alloc: Global,
-    told: Told<'_>,
+    told: Context<'_>,
     path: &Name,
 ) -> Result<(), AllocError> {
     push_no_output(text, alloc, told, path)?;
@@ -92,7 +92,7 @@ fn push_none_kept(text: &mut Vec<u8>, path: &Name) -> Result<(), AllocError> {
 }
 
 // The events that touch no folder in which outputs lie.
-fn but_folders(alloc: Global, told: Told<'_>, numbers: &[u32]) -> Result<Vec<u32>, AllocError> {
+fn but_folders(alloc: Global, told: Context<'_>, numbers: &[u32]) -> Result<Vec<u32>, AllocError> {
     let outputs = sorted_outputs(alloc, told.session.builds)?;
     let mut others = Vec::new(alloc);
     for number in numbers {
@@ -120,7 +120,7 @@ fn push_folders(text: &mut Vec<u8>, count: usize) -> Result<(), AllocError> {
 fn push_kept(
     text: &mut Vec<u8>,
     alloc: Global,
-    told: Told<'_>,
+    told: Context<'_>,
     numbers: &[u32],
 ) -> Result<(), AllocError> {
     let history = history_of(told);
@@ -141,7 +141,7 @@ fn push_kept(
 /// Adds that an edge did not run: a phony one has no command.
 pub(crate) fn push_not_run(
     text: &mut Vec<u8>,
-    told: Told<'_>,
+    told: Context<'_>,
     path: &Name,
 ) -> Result<(), AllocError> {
     push_shown(text, path.as_bytes())?;
@@ -155,7 +155,7 @@ pub(crate) fn push_not_run(
 }
 
 // Adds an event, and when it happened, in a line.
-fn push_one(text: &mut Vec<u8>, told: Told<'_>, number: u32) -> Result<(), AllocError> {
+fn push_one(text: &mut Vec<u8>, told: Context<'_>, number: u32) -> Result<(), AllocError> {
     push_numbered(text, history_of(told), number)?;
     push_at(text, told, number)?;
     text.push(b'\n')?;
@@ -165,7 +165,7 @@ fn push_one(text: &mut Vec<u8>, told: Told<'_>, number: u32) -> Result<(), Alloc
 // Adds the events of an edge.
 fn push_who(
     text: &mut Vec<u8>,
-    told: Told<'_>,
+    told: Context<'_>,
     path: &Name,
     numbers: &[u32],
 ) -> Result<(), AllocError> {
@@ -212,7 +212,7 @@ fn push_without(
 }
 
 /// What was refused, of a question and the event that it names.
-pub(crate) fn subject_asked<'a>(told: Told<'a>, number: Option<u32>) -> Subject<'a> {
+pub(crate) fn subject_asked<'a>(told: Context<'a>, number: Option<u32>) -> Subject<'a> {
     if let Some(number) = number {
         return Subject::Event(number);
     }
@@ -248,7 +248,7 @@ fn push_accepted(
 fn push_said(
     text: &mut Vec<u8>,
     alloc: Global,
-    told: Told<'_>,
+    told: Context<'_>,
     reply: Option<Reply>,
     number: Option<u32>,
 ) -> Result<(), AllocError> {
@@ -277,7 +277,7 @@ fn push_said(
 fn push_undone(
     text: &mut Vec<u8>,
     alloc: Global,
-    told: Told<'_>,
+    told: Context<'_>,
     reply: Reply,
     number: u32,
     users: &[User],
@@ -295,7 +295,7 @@ fn is_all(question: &Question) -> bool {
 fn push_answer(
     text: &mut Vec<u8>,
     alloc: Global,
-    told: Told<'_>,
+    told: Context<'_>,
     answer: &Answer,
 ) -> Result<(), AllocError> {
     let history = history_of(told);
@@ -335,7 +335,11 @@ fn push_answer(
 ///
 /// # Errors
 /// [`AllocError`] only where an allocation was refused.
-pub fn answer_words(alloc: Global, told: Told<'_>, answer: &Answer) -> Result<Vec<u8>, AllocError> {
+pub fn answer_words(
+    alloc: Global,
+    told: Context<'_>,
+    answer: &Answer,
+) -> Result<Vec<u8>, AllocError> {
     let mut text = Vec::new(alloc);
     push_answer(&mut text, alloc, told, answer)?;
     Ok(text)

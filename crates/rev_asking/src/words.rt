@@ -28,7 +28,7 @@ pub enum Word {
 
 /// What the words of a command line ask for.
 #[derive(Clone, Copy, Debug, PartialEq, Eq)]
-pub struct Asked<'a> {
+pub struct Request<'a> {
     /// What is asked.
     pub word: Word,
     /// The recorder's folder, or its manifest.
@@ -66,7 +66,7 @@ pub struct Asked<'a> {
 /// # Errors
 /// As `clap` has it: no word, or one that the command line has not, a recording that is missing, a wish for help or for
 /// the version; or the system refused memory.
-pub fn read_words<'a>(alloc: Global, words: &'a [String]) -> Result<Asked<'a>, Error>
+pub fn read_words<'a>(alloc: Global, words: &'a [String]) -> Result<Request<'a>, Error>
     ensures word { IfOk result (λ a. a.word ≡ word_named (given_name (map string_bytes words.entry.now))) }
     ensures recording { IfOk result (λ a. a.recording.now
         ≡ unwrap_or (value_in (map string_bytes words.entry.now) (codes "RECORDING")) []) }
@@ -116,7 +116,7 @@ fn matches_of<'a>(alloc: Global, words: &'a [String]) -> Result<ArgMatches<'a>, 
 }
 
 // What is asked by a word of this name, to which this was given.
-fn asked_of<'a>(name: &str, given: &ArgMatches<'a>) -> Asked<'a>
+fn asked_of<'a>(name: &str, given: &ArgMatches<'a>) -> Request<'a>
     ensures word { result.word ≡ word_named name.now }
     ensures recording { result.recording.now ≡ unwrap_or (first_value (found_of given.now) (codes "RECORDING")) [] }
     ensures other { option_map (λ s. s.now) result.other ≡ first_value (found_of given.now) (codes "OTHER") }
@@ -133,7 +133,7 @@ fn asked_of<'a>(name: &str, given: &ArgMatches<'a>) -> Asked<'a>
     ensures baseline { option_map (λ s. s.now) result.baseline ≡ first_value (found_of given.now) (codes "baseline") }
     ensures write_baseline { option_map (λ s. s.now) result.write_baseline ≡ first_value (found_of given.now) (codes "write-baseline") }
 {
-    Asked {
+    Request {
         word: word_named(name),
         recording: recording_of(given),
         other: given.get_str("OTHER"),
@@ -153,7 +153,7 @@ fn asked_of<'a>(name: &str, given: &ArgMatches<'a>) -> Asked<'a>
 }
 
 // What is asked by no word.
-fn nothing_asked<'a>() -> Asked<'a>
+fn nothing_asked<'a>() -> Request<'a>
     ensures word { result.word ≡ word_named [] }
     ensures recording { result.recording.now ≡ [] }
     ensures other { option_map (λ s. s.now) result.other ≡ None }
@@ -170,7 +170,7 @@ fn nothing_asked<'a>() -> Asked<'a>
     ensures baseline { result.baseline ≡ None }
     ensures write_baseline { result.write_baseline ≡ None }
 {
-    Asked {
+    Request {
         word: Word::Races,
         recording: "",
         other: None,

@@ -5,7 +5,7 @@ use rev_conflicts::{Change, Conflict, ConflictKind, Look, Place};
 use rev_graph::Graph;
 use rev_observed::{Command, Observation};
 use rev_paths::{Name, Paths};
-use rev_races_text::{Evidence, Seen, Story, Told};
+use rev_races_text::{Evidence, RaceFinding, Seen, Story};
 use rev_shown::first_output;
 use rev_undeclared::{Undeclared, UndeclaredKind};
 use rev_unlisted::{Cover, Unlisted};
@@ -68,7 +68,7 @@ impl Spots {
         alloc: Global,
         paths: &Paths,
         folder: &[u8],
-        race: &Told<'_>,
+        race: &RaceFinding<'_>,
     ) -> Result<bool, AllocError> {
         if self.has(paths, race.maker, race.user, race.path) {
             return Ok(true);
@@ -89,10 +89,10 @@ impl Spots {
 pub fn races_left<'a>(
     alloc: Global,
     graph: &Graph,
-    races: &[Told<'a>],
+    races: &[RaceFinding<'a>],
     paths: &Paths,
     conflicts: &[Conflict],
-) -> Result<Vec<Told<'a>>, AllocError> {
+) -> Result<Vec<RaceFinding<'a>>, AllocError> {
     let folder = build_folder(graph);
     let spots = Spots::new(alloc, conflicts)?;
     let mut left = Vec::new(alloc);
@@ -106,7 +106,11 @@ pub fn races_left<'a>(
 }
 
 // The spots of races that errors name.
-fn named_spots(alloc: Global, races: &[Told<'_>], paths: &Paths) -> Result<Spots, AllocError> {
+fn named_spots(
+    alloc: Global,
+    races: &[RaceFinding<'_>],
+    paths: &Paths,
+) -> Result<Spots, AllocError> {
     let mut spots = Vec::new(alloc);
     for race in races {
         if let Evidence::Error(_) = race.evidence {
@@ -128,7 +132,7 @@ pub fn conflicts_left(
     alloc: Global,
     conflicts: &[Conflict],
     paths: &Paths,
-    races: &[Told<'_>],
+    races: &[RaceFinding<'_>],
 ) -> Result<Vec<Conflict>, AllocError> {
     let spots = named_spots(alloc, races, paths)?;
     let mut left = Vec::new(alloc);

@@ -41,12 +41,12 @@ pub struct Failure<'a> {
     /// The first of the other suspects.
     pub others: Vec<Suspect<'a>>,
     /// How many more there are. It is None where nobody looked for suspects.
-    pub untold: Option<Untold>,
+    pub untold: Option<Remainder>,
 }
 
 /// How many suspects the report counts and does not name.
 #[derive(Clone, Copy)]
-pub struct Untold {
+pub struct Remainder {
     /// Those that ran when the failed command began.
     pub running: u64,
     /// Those that were still to run.

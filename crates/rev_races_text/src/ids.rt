@@ -1,7 +1,7 @@
 //! Stable names of findings.
 use crate::edges::Sources;
 use crate::others::Clash;
-use crate::race::Told;
+use crate::race::RaceFinding;
 use rev_baseline::Id;
 use rev_clashes::SideFile;
 use rev_races::Kind;
@@ -45,7 +45,7 @@ impl<'a> Sources<'a> {
     }
 
     /// The stable name of a race, a cycle or an own path.
-    pub fn race_id(&self, told: &Told<'_>) -> Id {
+    pub fn race_id(&self, told: &RaceFinding<'_>) -> Id {
         self.id(
             kind_word(told.kind),
             told.path.as_bytes(),

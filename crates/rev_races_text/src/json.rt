@@ -3,7 +3,7 @@ use crate::edges::{Edge, Sources};
 use crate::failed::{Failure, Suspect};
 use crate::names::{Shown, Text};
 use crate::others::{Change, Clash};
-use crate::race::{Evidence, Told};
+use crate::race::{Evidence, RaceFinding};
 use crate::report::Report;
 use rev_baseline::Id;
 use rev_clashes::SideFile;
@@ -157,7 +157,7 @@ fn here_word(evidence: Evidence) -> Option<&'static str> {
 }
 
 // The word of what a race rests on: the list of the user, or its error.
-fn basis_word(told: &Told<'_>) -> Option<&'static str> {
+fn basis_word(told: &RaceFinding<'_>) -> Option<&'static str> {
     if let Evidence::Error(_) = told.evidence {
         return Some("error");
     }
@@ -182,7 +182,7 @@ fn push_race<'a>(
     alloc: Global,
     text: &mut Vec<u8>,
     sources: &Sources<'a>,
-    told: &Told<'a>,
+    told: &RaceFinding<'a>,
     number: u64,
 ) -> Result<(), AllocError> {
     let race = RaceObject {
@@ -241,7 +241,7 @@ fn push_failure<'a>(
 }
 
 // The word of a race: a suspect where an error names the path.
-fn race_word<'a>(told: &Told<'a>) -> &'static str {
+fn race_word<'a>(told: &RaceFinding<'a>) -> &'static str {
     match told.evidence {
         Evidence::Error(_) => "suspect",
         _ => kind_word(told.kind),

@@ -16,13 +16,13 @@ mod words;
 
 pub use counts::{Counted, Seen, Tally};
 pub use edges::{Edge, LineIf, Sources, push_edge, push_placed};
-pub use failed::{Failure, Printed, Replayed, Suspect, Untold};
+pub use failed::{Failure, Printed, Remainder, Replayed, Suspect};
 pub use here::HereLine;
 pub use json::{happened_word, push_object};
 pub use left_out::LeftOut;
 pub use names::{NameIf, Shown, Text, Written, WrittenIf};
 pub use others::{Change, Clash, ClashLine, Hint, push_clash};
-pub use race::{Evidence, ListedBefore, MendLine, More, NO_MEND, Through, Told};
+pub use race::{Evidence, ListedBefore, MendLine, More, NO_MEND, RaceFinding, Through};
 pub use report::{Report, SOMETHING, UNKNOWN};
 pub use rev_baseline::Id;
 pub use rev_clashes::SideFile;

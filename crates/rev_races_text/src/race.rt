@@ -35,7 +35,7 @@ pub enum Evidence {
 
 /// A race as answers have it. Edges stand by their numbers.
 #[derive(Clone, Copy)]
-pub struct Told<'a> {
+pub struct RaceFinding<'a> {
     /// What it is.
     pub kind: Kind,
     /// The edge that makes the path.
@@ -115,7 +115,7 @@ pub struct More {
 
 impl<'a> Sources<'a> {
     /// The edge that makes the path of a race, with the run that the answer is about.
-    pub fn maker(&self, told: &Told<'_>) -> Edge<'a> {
+    pub fn maker(&self, told: &RaceFinding<'_>) -> Edge<'a> {
         match told.evidence {
             Evidence::Story(story) => self.edge_in(told.maker, story.maker),
             _ => self.edge(told.maker),
@@ -123,7 +123,7 @@ impl<'a> Sources<'a> {
     }
 
     /// The edge that uses the path, with the run that the answer is about.
-    pub fn user(&self, told: &Told<'_>) -> Edge<'a> {
+    pub fn user(&self, told: &RaceFinding<'_>) -> Edge<'a> {
         match told.evidence {
             Evidence::Story(story) => self.edge_in(told.user, story.user),
             _ => self.edge(told.user),

@@ -6,7 +6,7 @@ use crate::counts::{Seen, Tally};
 use crate::failed::{Failure, Replayed};
 use crate::left_out::LeftOut;
 use crate::others::{Change, Clash, Hint};
-use crate::race::{Evidence, Told};
+use crate::race::{Evidence, RaceFinding};
 use rev_races::Kind;
 
 /// The exit status where something was found.
@@ -28,7 +28,7 @@ pub struct Report<'a> {
     pub failures: Vec<Failure<'a>>,
     /// The races by lists, in the order of their makers, and of one maker in that of their users; and then those by the
     /// errors of the commands that failed, in their order.
-    pub races: Vec<Told<'a>>,
+    pub races: Vec<RaceFinding<'a>>,
     /// The clashes.
     pub clashes: Vec<Clash>,
     /// How many commands ran.
@@ -46,7 +46,7 @@ pub struct Report<'a> {
 }
 
 // The edges of a race or a suspect, as user and maker; none of a command that lists its own output.
-fn pair_of(told: &Told<'_>) -> Option<(u32, u32)> {
+fn pair_of(told: &RaceFinding<'_>) -> Option<(u32, u32)> {
     match told.evidence {
         Evidence::Own => None,
         _ => Some((told.user, told.maker)),
@@ -100,7 +100,7 @@ impl<'a> Report<'a> {
     }
 
     /// The races by lists, and those by the errors of commands.
-    pub(crate) fn parts(&self) -> (&[Told<'a>], &[Told<'a>]) {
+    pub(crate) fn parts(&self) -> (&[RaceFinding<'a>], &[RaceFinding<'a>]) {
         let mut named = 0usize;
         for failure in &self.failures {
             named = usize::saturating_add(named, failure.named);

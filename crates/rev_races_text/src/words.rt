@@ -3,7 +3,7 @@ use crate::counts::{Counted, NotJudged, Tally};
 use crate::edges::{Edge, Sources};
 use crate::failed::{FailedLine, Failure, Numbered, PrintedLine};
 use crate::names::{Shown, Text};
-use crate::race::{EvidenceLine, MakerLine, MendLine, More, NO_MEND, Told, UserLine};
+use crate::race::{EvidenceLine, MakerLine, MendLine, More, NO_MEND, RaceFinding, UserLine};
 use crate::report::Report;
 use rev_races::Kind;
 use rev_suspects::Progress;
@@ -44,7 +44,7 @@ fn push_user<'a>(
     text: &mut String,
     sources: &Sources<'a>,
     told: Shown<'a>,
-    races: &[Told<'a>],
+    races: &[RaceFinding<'a>],
     number: u64,
 ) -> Result<(), AllocError> {
     let Some(first) = races.first() else {
@@ -77,7 +77,7 @@ fn push_user<'a>(
 fn push_maker<'a>(
     text: &mut String,
     sources: &Sources<'a>,
-    told: &Told<'a>,
+    told: &RaceFinding<'a>,
 ) -> Result<(), AllocError> {
     let line = MakerLine {
         kind: told.kind,
@@ -93,7 +93,7 @@ fn push_kind<'a>(
     text: &mut String,
     sources: &Sources<'a>,
     kind: Kind,
-    races: &[Told<'a>],
+    races: &[RaceFinding<'a>],
     number: u64,
     most: usize,
 ) -> Result<(), AllocError> {
@@ -127,7 +127,7 @@ fn push_kind<'a>(
 pub fn race_words<'a>(
     alloc: Global,
     sources: &Sources<'a>,
-    told: &Told<'a>,
+    told: &RaceFinding<'a>,
     number: u64,
 ) -> Result<String, AllocError> {
     let mut text = String::new(alloc);
@@ -141,7 +141,7 @@ pub fn race_words<'a>(
 fn push_races<'a>(
     text: &mut String,
     sources: &Sources<'a>,
-    races: &[Told<'a>],
+    races: &[RaceFinding<'a>],
     first: u64,
     most: usize,
 ) -> Result<(), AllocError> {
@@ -265,7 +265,7 @@ fn push_failure<'a>(
     text: &mut String,
     sources: &Sources<'a>,
     failure: &Failure<'a>,
-    named: &[Told<'a>],
+    named: &[RaceFinding<'a>],
     numbers: (u64, u64),
     all: bool,
 ) -> Result<(), AllocError> {
