@@ -10,17 +10,17 @@ use std::alloc::{AllocError, Global};
 
 /// The paths that a command is said to have read: as they were listed, or as its depfile has them.
 #[derive(Drop)]
-pub(crate) enum Listed<'a> {
+pub(crate) enum PathList<'a> {
     Shared(&'a [Name]),
     Read(Vec<Name>),
 }
 
-impl Listed<'_> {
+impl PathList<'_> {
     /// The paths.
     pub(crate) fn as_slice(&self) -> &[Name] {
         match self {
-            Listed::Shared(paths) => *paths,
-            Listed::Read(paths) => paths.as_slice(),
+            PathList::Shared(paths) => *paths,
+            PathList::Read(paths) => paths.as_slice(),
         }
     }
 }
@@ -61,21 +61,21 @@ pub(crate) fn listed<'a>(
     side: Side<'a>,
     edge: u32,
     last: &Last,
-) -> Result<Listed<'a>, AllocError> {
+) -> Result<PathList<'a>, AllocError> {
     match end_of(side.history, last.ended) {
         Some(
             Event::Finish {
                 listing: Listing::Paths(paths),
                 ..
             },
-        ) => Ok(Listed::Shared(paths.as_slice())),
+        ) => Ok(PathList::Shared(paths.as_slice())),
         Some(
             Event::Finish {
                 listing: Listing::Depfile(text),
                 ..
             },
-        ) => Ok(Listed::Read(read_of(alloc, side, edge, text.as_slice())?)),
-        _ => Ok(Listed::Shared(&[])),
+        ) => Ok(PathList::Read(read_of(alloc, side, edge, text.as_slice())?)),
+        _ => Ok(PathList::Shared(&[])),
     }
 }
 
