@@ -21,7 +21,7 @@ PATHS = (".", "gen.h", "a.c", "a.o", "b.c", "b.o", "log", "all", "build.ninja")
 
 # What commands were seen to do, with the names of paths in place of their numbers, and what is told: the kind, what
 # the user does and what the maker did, the place, and the outputs of the maker and of the user.
-ROWS = (
+ROWS: tuple[tuple[str, list[str]], ...] = (
     # Each look at what another leaves is a race.
     ("edge gen.h; writes gen.h; edge a.o; reads gen.h a.c; writes a.o", ["race read output gen.h gen.h a.o"]),
     ("edge gen.h; writes gen.h; edge a.o; reads a.c; misses gen.h; writes a.o", ["race miss output gen.h gen.h a.o"]),
