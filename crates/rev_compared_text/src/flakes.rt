@@ -1,6 +1,6 @@
 //! Commands that failed on one day and passed on the other, and what had finished before them on the good day alone.
 use crate::facts::Differing;
-use crate::reads::{listed, makes_one, set_of};
+use crate::reads::{listed, makes_one, set_of_paths};
 use crate::side::Day;
 use rev_compared::{
     Ending, Last, Moment, finished_alone, last_at, last_runs_before, made_earlier, twin_at,
@@ -183,7 +183,7 @@ pub(crate) fn makers_of<'a>(
     let good = days.good;
     let edges = edges_of(alloc, days, pasts, flake)?;
     let paths = listed(alloc, good.side, flake.good_edge, &flake.good)?;
-    let reads = set_of(alloc, &[paths.as_slice()])?;
+    let reads = set_of_paths(alloc, paths.as_slice())?;
     let mut makers = Vec::new(alloc);
     for edge in &edges {
         makers.push(Maker {

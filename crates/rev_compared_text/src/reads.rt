@@ -96,6 +96,14 @@ pub(crate) fn set_of(alloc: Global, lists: &[&[Name]]) -> Result<IndexMap<Name, 
     Ok(set)
 }
 
+/// Some paths, to look one up.
+pub(crate) fn set_of_paths(
+    alloc: Global,
+    paths: &[Name],
+) -> Result<IndexMap<Name, ()>, AllocError> {
+    set_of(alloc, &[paths])
+}
+
 /// Adds the paths that are not among some.
 pub(crate) fn add_others<'a>(
     alone: &mut Vec<Shown<'a>>,
@@ -116,7 +124,7 @@ pub(crate) fn beside<'a>(
     paths: &'a [Name],
     others: &[Name],
 ) -> Result<Vec<Shown<'a>>, AllocError> {
-    let set = set_of(alloc, &[others])?;
+    let set = set_of_paths(alloc, others)?;
     let mut alone = Vec::new(alloc);
     add_others(&mut alone, paths, &set)?;
     Ok(alone)
