@@ -5,7 +5,7 @@ use crate::files::{Place, Recording, place_of, read_recording, read_times};
 use crate::forms::Form;
 use crate::observed::{Observed, observed_in, read_observed};
 use crate::times::{KnownTimes, LabelTime, label_times};
-use crate::told::{leave, manifest_of, races_in, refuse, trace_of, write};
+use crate::told::{EndedDesk, leave, manifest_of, races_in, refuse, trace_of, write};
 use rev_answers::{
     Context, Many, answer_json, answer_words, each_json, each_words, fault_json, meant_word,
     not_asked_words, objects_json, opening_json, opening_words, screen_of,
@@ -15,8 +15,8 @@ use rev_manifest::Manifest;
 use rev_observed::Observation;
 use rev_program::ProgramFault;
 use rev_prompt::{
-    Answer, LineFault, Question, Session, Several, answer_to, has_answer, only_asks, outputs_meant,
-    question_of, texts_of,
+    Answer, LineFault, Question, Session, Several, answer_to, asked_each, has_answer, only_asks,
+    outputs_meant, question_of, texts_of,
 };
 use rev_recording::{RecordingFault, open};
 use rev_script::turns_of;
@@ -166,6 +166,29 @@ fn cut(
     screen_of(alloc, &text, only_asks(question))
 }
 
+// What is written for the answer to a question.
+fn written_for_answer(
+    alloc: Global,
+    session: &Session<'_>,
+    desk: &Desk,
+    question: &Question,
+    answer: &Answer,
+    style: Style<'_>,
+) -> Result<Vec<u8>, AllocError> {
+    let times = Vec::from_slice(alloc, style.times)?;
+    let session = Session {
+        times: &times,
+        ..*session
+    };
+    let told = Context {
+        session: &session,
+        desk,
+        question,
+    };
+    let text = answer_text(alloc, told, answer, style.json)?;
+    cut(alloc, text, question, style)
+}
+
 // What is written for a question.
 fn written_for(
     alloc: Global,
@@ -180,14 +203,8 @@ fn written_for(
         ..*session
     };
     let reply = answer_to(alloc, &session, desk, question)?;
-    let told = Context {
-        session: &session,
-        desk,
-        question,
-    };
-    let text = answer_text(alloc, told, &reply.answer, style.json)?;
     Ok(Answered {
-        text: cut(alloc, text, question, style)?,
+        text: written_for_answer(alloc, &session, desk, question, &reply.answer, style)?,
         taken: reply.taken,
         repeats: matches!(question, Question::Next(_)),
         is_answer: has_answer(&reply.answer),
@@ -210,11 +227,47 @@ fn line_about(
     Ok(line)
 }
 
+// The questions of a line about each of the first so many of some outputs.
+fn questions_about(
+    alloc: Global,
+    texts: &[Vec<u8>],
+    several: &Several,
+    most: usize,
+) -> Result<Vec<Question>, AllocError> {
+    let mut questions = Vec::new(alloc);
+    for output in several.outputs.iter().take(most) {
+        let line = line_about(alloc, texts, several.place, output)?;
+        match question_of(alloc, &line) {
+            Ok(question) => questions.push(question)?,
+            Err(rev_fields::LineFault::Memory) => return Err(AllocError),
+            // The longest names have no room for the `./` before them, by which a name like a number is typed.
+            Err(_) => {}
+        }
+    }
+    Ok(questions)
+}
+
+// What is written for the answers to questions that only ask.
+fn written_for_answers(
+    alloc: Global,
+    session: &Session<'_>,
+    desk: &Desk,
+    questions: &[Question],
+    answers: &[Answer],
+    style: Style<'_>,
+) -> Result<Vec<Vec<u8>>, AllocError> {
+    let mut written = Vec::new(alloc);
+    for (question, answer) in questions.iter().zip(answers.iter()) {
+        written.push(written_for_answer(alloc, session, desk, question, answer, style)?)?;
+    }
+    Ok(written)
+}
+
 // The answers to one question about each of the first outputs of some.
 fn answers_for_each(
     alloc: Global,
     session: &Session<'_>,
-    desk: &mut Desk,
+    desk: &Desk,
     texts: &[Vec<u8>],
     several: &Several,
     style: Style<'_>,
@@ -224,13 +277,14 @@ fn answers_for_each(
     } else {
         MOST_OUTPUTS
     };
-    let mut answers = Vec::new(alloc);
-    for output in several.outputs.iter().take(most) {
-        let line = line_about(alloc, texts, several.place, output)?;
-        let answered = written_for_words(alloc, session, desk, &line, style)?;
-        answers.push(Vec::from_slice(alloc, &answered.text)?)?;
-    }
-    Ok(answers)
+    let times = Vec::from_slice(alloc, style.times)?;
+    let session = Session {
+        times: &times,
+        ..*session
+    };
+    let questions = questions_about(alloc, texts, several, most)?;
+    let answers = asked_each(alloc, &session, desk, &questions)?;
+    written_for_answers(alloc, &session, desk, &questions, &answers, style)
 }
 
 // The answers about some outputs in words, up to a screen, or as an object.
@@ -362,11 +416,31 @@ fn races_text(alloc: Global, text: &[u8], all: bool, json: bool) -> Result<Vec<u
     screen_of(alloc, text, true)
 }
 
-// What is written where the races of the recording are asked.
+// The desk of a session, where it stands as the recording leaves it: each of its commands was said, and nothing else. A
+// command that is typed makes an entry of the journal, whatever comes of it.
+fn ended_desk<'a, 'b>(
+    session: &Session<'_>,
+    scene: Scene<'_, 'a>,
+    desk: &'b Desk,
+) -> Option<EndedDesk<'a, 'b>> {
+    let commands = session.turns.len();
+    if session.taken != commands || desk.journal().len() != commands {
+        return None;
+    }
+    Some(EndedDesk {
+        manifest: scene.manifest,
+        desk,
+        commands: commands as u64,
+    })
+}
+
+// What is written where the races of the recording are asked. They are those of the session's desk, where nothing was
+// typed, and else those of a replay.
 fn written_for_races<R: Files + AllocGlobal>(
     rt: &R,
     session: &Session<'_>,
-    beside: Beside<'_>,
+    scene: Scene<'_, '_>,
+    desk: &Desk,
     all: bool,
     style: Style<'_>,
 ) -> Result<Answered, Ended> {
@@ -377,7 +451,9 @@ fn written_for_races<R: Files + AllocGlobal>(
     } else {
         Form::Words
     };
-    match races_in(rt, beside.recording, beside.place, beside.read, form) {
+    let beside = scene.beside;
+    let ended = ended_desk(session, scene, desk);
+    match races_in(rt, beside.recording, beside.place, beside.read, ended, form) {
         Ok(Some(text)) => Ok(Answered {
             text: races_text(rt.alloc(), &text, all, style.json)?,
             taken: session.taken,
@@ -396,13 +472,13 @@ fn written_for_texts<R: Files + AllocGlobal>(
     rt: &R,
     session: &Session<'_>,
     desk: &mut Desk,
-    beside: Beside<'_>,
+    scene: Scene<'_, '_>,
     texts: &[Vec<u8>],
     style: Style<'_>,
 ) -> Result<Answered, Ended> {
     let (asked, all) = before_all(texts);
     match races_asked(rt.alloc(), asked)? {
-        Some(of_all) => written_for_races(rt, session, beside, all || of_all, style),
+        Some(of_all) => written_for_races(rt, session, scene, desk, all || of_all, style),
         None => Ok(reply_to_words(rt.alloc(), session, desk, texts, style)?),
     }
 }
@@ -412,12 +488,12 @@ fn reply_to<R: Files + AllocGlobal>(
     rt: &R,
     session: &Session<'_>,
     desk: &mut Desk,
-    beside: Beside<'_>,
+    scene: Scene<'_, '_>,
     line: &[u8],
     style: Style<'_>,
 ) -> Result<Answered, Ended> {
     match texts_of(rt.alloc(), line) {
-        Ok(texts) => written_for_texts(rt, session, desk, beside, &texts, style),
+        Ok(texts) => written_for_texts(rt, session, desk, scene, &texts, style),
         Err(LineFault::Memory) => Err(Ended::from(AllocError)),
         Err(LineFault::OpenQuote) => Ok(told(
             rt.alloc(),
@@ -485,11 +561,11 @@ fn answer_line<R: Files + Print + AllocGlobal>(
     rt: &R,
     session: &mut Session<'_>,
     desk: &mut Desk,
-    beside: Beside<'_>,
+    scene: Scene<'_, '_>,
     line: &[u8],
     style: Style<'_>,
 ) -> Result<Option<Since>, Ended> {
-    let reply = reply_to(rt, session, desk, beside, line, style)?;
+    let reply = reply_to(rt, session, desk, scene, line, style)?;
     session.taken = reply.taken;
     put(rt, &reply.text)?;
     if reply.ends {
@@ -525,13 +601,13 @@ fn take_turn<R: Files + Input + Print + AllocGlobal>(
     rt: &R,
     session: &mut Session<'_>,
     desk: &mut Desk,
-    beside: Beside<'_>,
+    scene: Scene<'_, '_>,
     style: Style<'_>,
 ) -> Result<Turn, Ended> {
     let mut line = String::new(rt.alloc());
     match read_typed(rt, &mut line) {
         Typed::Line => {
-            let since = answer_line(rt, session, desk, beside, line.trim().as_bytes(), style)?;
+            let since = answer_line(rt, session, desk, scene, line.trim().as_bytes(), style)?;
             Ok(turn_of(since))
         }
         Typed::End => Ok(Turn::End),
@@ -559,13 +635,13 @@ fn converse<R: Files + Input + Print + AllocGlobal>(
     session: &mut Session<'_>,
     desk: &mut Desk,
     manner: Manner,
-    beside: Beside<'_>,
+    scene: Scene<'_, '_>,
 ) -> Result<u8, Ended> {
     let mut since = Since {
         repeats: false,
         is_answer: true,
     };
-    let mut known = KnownTimes::new(rt.alloc(), desk, beside.times)?;
+    let mut known = KnownTimes::new(rt.alloc(), desk, scene.beside.times)?;
     for _ in 0..u64::MAX {
         if manner.prompts {
             put(rt, PROMPT)?;
@@ -576,12 +652,12 @@ fn converse<R: Files + Input + Print + AllocGlobal>(
             repeats: since.repeats && !manner.json,
             all: false,
         };
-        match take_turn(rt, session, desk, beside, style)? {
+        match take_turn(rt, session, desk, scene, style)? {
             Turn::Answered(next) => since = next,
             Turn::Quit => return Ok(0),
             Turn::End => break,
         }
-        known.renew(rt.alloc(), desk, beside.times)?;
+        known.renew(rt.alloc(), desk, scene.beside.times)?;
     }
     Ok(if since.is_answer { 0 } else { NO_ANSWER })
 }
@@ -621,6 +697,13 @@ struct Beside<'a> {
     times: &'a [LabelTime],
 }
 
+// The same, with the manifest of the files.
+#[derive(Clone, Copy)]
+struct Scene<'a, 'b> {
+    beside: Beside<'a>,
+    manifest: &'b Manifest,
+}
+
 // Tells what the recording has, and answers lines about it.
 fn asked<R: Files + Input + Print + AllocGlobal>(
     rt: &R,
@@ -651,7 +734,7 @@ fn asked<R: Files + Input + Print + AllocGlobal>(
     };
     let edges = desk.history().graph().edges();
     put_opening(rt, turns.len(), edges, lanes, manner.json)?;
-    converse(rt, &mut session, desk, manner, beside)
+    converse(rt, &mut session, desk, manner, Scene { beside, manifest })
 }
 
 // What the bytes of a file say of the commands of a desk's graph, if there is one.

@@ -324,6 +324,41 @@ fn certificate_written(
     certified(alloc, desk, grounds, inquiry.observed.unwrap_or(b""))
 }
 
+/// The desk of a recording after its last command, with the manifest and the count of its commands.
+#[derive(Clone, Copy)]
+pub struct EndedDesk<'a, 'b> {
+    /// The manifest.
+    pub manifest: &'a Manifest,
+    /// The desk.
+    pub desk: &'b Desk,
+    /// How many commands the recording has.
+    pub commands: u64,
+}
+
+// The answer about the races of a recording that was replayed.
+fn races_answer(
+    alloc: Global,
+    inquiry: Inquiry<'_>,
+    asked: OfRaces,
+    ended: EndedDesk<'_, '_>,
+) -> Result<Answer, RecordingFault> {
+    let EndedDesk {
+        manifest,
+        desk,
+        commands,
+    } = ended;
+    let sight = sight_of(alloc, inquiry, manifest, desk.history())?;
+    answer_of(
+        alloc,
+        inquiry,
+        asked,
+        manifest,
+        desk,
+        sight.as_ref(),
+        commands,
+    )
+}
+
 // The answer about a trace, by the desk of its recording.
 fn answer_from(
     alloc: Global,
@@ -344,16 +379,12 @@ fn answer_from(
             Ok(Answer::Written(written))
         }
         How::Races(asked) => {
-            let sight = sight_of(alloc, inquiry, manifest, desk.history())?;
-            answer_of(
-                alloc,
-                inquiry,
-                asked,
+            let ended = EndedDesk {
                 manifest,
                 desk,
-                sight.as_ref(),
                 commands,
-            )
+            };
+            races_answer(alloc, inquiry, asked, ended)
         }
     }
 }
@@ -536,8 +567,21 @@ fn races_inquiry<'a>(read: &'a Recording, beside: &'a Sidecars, form: Form) -> I
     }
 }
 
-/// What `races` tells of a recording whose manifest and trace were read, in a form. `None` where a file beside them
-/// cannot be read.
+// The answer about a recording: by a desk that was replayed, where there is one.
+fn answer_by(
+    alloc: Global,
+    inquiry: Inquiry<'_>,
+    form: Form,
+    ended: Option<EndedDesk<'_, '_>>,
+) -> Result<Answer, RecordingFault> {
+    match ended {
+        Some(ended) => races_answer(alloc, inquiry, OfRaces::All(form), ended),
+        None => answer_about(alloc, inquiry),
+    }
+}
+
+/// What `races` tells of a recording whose manifest and trace were read, in a form: by a desk that was replayed, where
+/// there is one, and else by a replay. `None` where a file beside them cannot be read.
 ///
 /// # Errors
 /// The fault of the recording, where it has one; [`RecordingFault::Memory`] only where memory was refused.
@@ -546,6 +590,7 @@ pub fn races_in<R: Files + AllocGlobal>(
     recording: &str,
     place: Place<'_>,
     read: &Recording,
+    ended: Option<EndedDesk<'_, '_>>,
     form: Form,
 ) -> Result<Option<Vec<u8>>, RecordingFault> {
     let beside = match read_sidecars(rt, recording, place) {
@@ -553,7 +598,7 @@ pub fn races_in<R: Files + AllocGlobal>(
         Err(ProgramFault::Memory) => return Err(RecordingFault::Memory),
         Err(_) => return Ok(None),
     };
-    match answer_about(rt.alloc(), races_inquiry(read, &beside, form))? {
+    match answer_by(rt.alloc(), races_inquiry(read, &beside, form), form, ended)? {
         Answer::Written(written) => Ok(Some(Vec::from_slice(rt.alloc(), &written.text)?)),
         Answer::NotUnderstood(sentence) => Ok(Some(Vec::from_slice(
             rt.alloc(),
