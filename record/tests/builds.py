@@ -70,6 +70,14 @@ def wait_for(path):
     wait_until(path.exists, f"{path} did not come")
 
 
+def until_gone(path):
+    """Words of a shell that wait until a file is gone, for a command that is interrupted.
+
+    They sleep shortly: dash loses an interrupt that comes while it starts a program, until that program has ended.
+    """
+    return f"while test -e {path}; do sleep 0.1; done"
+
+
 def read_terminal(descriptor):
     """What comes next at the outer end of a pseudo terminal; nothing where nobody can write any more.
 
@@ -258,7 +266,8 @@ def cmake_chain():
     it.record("repaired")
     it.write("src/version.in", "#define VERSION 2\n")
     it.record("generated_header_changed")
-    slow = 'add_custom_target(slow ALL COMMAND touch ${CMAKE_BINARY_DIR}/begun && sleep 900)\n'
+    it.write("src/slow.sh", f"touch begun; {until_gone('begun')}\n")
+    slow = "add_custom_target(slow ALL COMMAND sh ${CMAKE_SOURCE_DIR}/slow.sh)\n"
     it.write("src/CMakeLists.txt", CMAKE_LISTS + slow)
     subprocess.run(["cmake", out], check=True, capture_output=True)
     it.write("src/w1.c", "int w1(void) { return 7; }\n")
@@ -269,7 +278,7 @@ def cmake_chain():
 
 # Edges of every kind, with commands of the shell alone.
 
-SHELL_MANIFEST = """# edges of every kind
+SHELL_MANIFEST = f"""# edges of every kind
 where = sub
 builddir = $where/kept
 pool two
@@ -290,7 +299,7 @@ rule list
   depfile = $out.d
   deps = gcc
 rule slow
-  command = touch begun; sleep $seconds; cat $in > $out
+  command = touch begun; sleep $seconds; {until_gone('held')}; cat $in > $out
 rule answer
   command = cat $out.rsp > $out
   rspfile = $out.rsp
@@ -346,8 +355,10 @@ def shell_chain():
     it.record("source_named_with_a_caret", "s2^")
     it.record("nothing_to_do", "o/listed")
     (it.build / "begun").unlink()
-    it.write("sub/less.ninja", "build o/slow: slow s2\n  seconds = 900\nbuild o/behind: copy o/slow\n")
+    it.write("held", "")
+    it.write("sub/less.ninja", "build o/slow: slow s2\n  seconds = 0.1\nbuild o/behind: copy o/slow\n")
     it.record("interrupted_while_slow", "o/behind", "o/p1", "o/p3", interrupt_when="begun")
+    (it.build / "held").unlink()
     it.write("sub/less.ninja", "build o/slow: slow s2\n  seconds = 0.2\nbuild o/behind: copy o/slow\n")
     it.record("resumed", "o/behind", "o/p3")
 

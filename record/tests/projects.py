@@ -15,7 +15,7 @@ from builds import Chain
 
 STEPS = ("clean", "header_touched", "broken", "mended", "interrupted", "resumed")
 QUICK = "printf '#define STEP 1\\n' >\"$1\"\n"
-SLOW = "touch \"$(dirname \"$1\")/begun\"; sleep 900\n"
+SLOW = 'begun="$(dirname "$1")/begun"; touch "$begun"; ' + builds.until_gone('"$begun"') + "\n"
 
 
 class Project(Chain):

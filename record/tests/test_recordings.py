@@ -126,16 +126,21 @@ class Commands(unittest.TestCase):
         self.assertEqual(places, sorted(places))
 
 
-AT_A_TERMINAL = """rule slow
-  command = touch begun$n; sleep 900; touch $out
+AT_A_TERMINAL = f"""rule slow
+  command = touch begun$n; {builds.until_gone("begun$n")}; touch $out
 rule shown
-  command = touch begun$n; sleep 900; touch $out
+  command = touch begun$n; {builds.until_gone("begun$n")}; touch $out
   pool = console
 build a: slow
   n = 1
 build b: shown
   n = 2
 """
+
+
+def shown_command(number, output):
+    """The command of an edge of it, as Ninja shows it."""
+    return f"touch begun{number}; {builds.until_gone(f'begun{number}')}; touch {output}".encode()
 
 
 class Terminals(unittest.TestCase):
@@ -157,7 +162,7 @@ class Terminals(unittest.TestCase):
         end.daemon = True
         end.start()
         shown = b""
-        while b"touch begun2; sleep 900; touch b" not in shown:
+        while shown_command(2, "b") not in shown:
             data = read_terminal(terminal)
             self.assertTrue(data, shown)
             shown += data
@@ -180,7 +185,7 @@ class Terminals(unittest.TestCase):
             status, shown = self.run_at_a_terminal(folder, b"\x03")
             trace = (folder / "recorded/trace").read_text()
         self.assertIn(status, builds.STATUSES_OF_INTERRUPT)
-        self.assertIn(b"[0/2] touch begun1; sleep 900; touch a\x1b[K", shown)
+        self.assertIn(b"[0/2] " + shown_command(1, "a") + b"\x1b[K", shown)
         self.assertNotIn(b"\x1e", shown)
         self.assertTrue(trace.endswith("interrupt\nabort a 0\nabort b 0\n"), trace)
 

@@ -23,8 +23,7 @@ TOUCH = "rule touch\n  command = touch $out\n"
 ONE = TOUCH + "build o: touch s\n"
 # The recorder reads what the edge left as its depfile, and waits for a writer.
 WAITING = "rule wait\n  command = test -p o.d || mkfifo o.d; touch $out\n  depfile = o.d\nbuild o: wait s\n"
-# It sleeps shortly: dash loses an interrupt that comes while it starts a program, until that program has ended.
-SLOW = ("rule slow\n  command = echo $$$$ > pid; touch begun; while test -e begun; do sleep 0.1; done; touch $out\n"
+SLOW = (f"rule slow\n  command = echo $$$$ > pid; touch begun; {builds.until_gone('begun')}; touch $out\n"
         "build o: slow s\n")
 
 
