@@ -59,9 +59,9 @@ struct InvertedObject<'a> {
     second: EventsObject<'a>,
 }
 
-// An edge whose runs differ.
+// An edge whose runs differ. What it read may stand in lists that are made for the comparison.
 #[derive(Drop, Serialize)]
-struct RunObject<'a> {
+struct RunObject<'a, 'b> {
     a: Edge<'a>,
     b: Edge<'a>,
     status: bool,
@@ -71,8 +71,8 @@ struct RunObject<'a> {
     b_status: &'static str,
     a_outputs: Vec<Shown<'a>>,
     b_outputs: Vec<Shown<'a>>,
-    a_reads: Vec<Shown<'a>>,
-    b_reads: Vec<Shown<'a>>,
+    a_reads: Vec<Shown<'b>>,
+    b_reads: Vec<Shown<'b>>,
 }
 
 // An edge whose statements differ.
