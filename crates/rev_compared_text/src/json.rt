@@ -2,7 +2,7 @@
 use crate::changes::{flags_that_differ, inputs_alone, outputs_alone};
 use crate::facts::{Changed, Differing, Facts, Inverted, alone_in, counts};
 use crate::flakes::{Days, Flake, Maker, Pasts, failed_in_one, failed_in_other, makers_of};
-use crate::reads::{beside, listed, there_alone};
+use crate::reads::{PathList, beside, listed, there_alone};
 use crate::side::{Day, ending_word, event_name};
 use rev_races_text::{Edge, Shown, Text, push_object};
 use serde::Serialize;
@@ -59,9 +59,9 @@ struct InvertedObject<'a> {
     second: EventsObject<'a>,
 }
 
-// An edge whose runs differ. What it read may stand in lists that are made for the comparison.
+// An edge whose runs differ.
 #[derive(Drop, Serialize)]
-struct RunObject<'a, 'b> {
+struct RunObject<'a> {
     a: Edge<'a>,
     b: Edge<'a>,
     status: bool,
@@ -71,8 +71,8 @@ struct RunObject<'a, 'b> {
     b_status: &'static str,
     a_outputs: Vec<Shown<'a>>,
     b_outputs: Vec<Shown<'a>>,
-    a_reads: Vec<Shown<'b>>,
-    b_reads: Vec<Shown<'b>>,
+    a_reads: Vec<String>,
+    b_reads: Vec<String>,
 }
 
 // An edge whose statements differ.
@@ -214,6 +214,21 @@ fn push_other_inverted<'a>(
     push_object(alloc, text, "inverted", &object)
 }
 
+// The paths that one of two lists has alone. They are texts, since a list that was read of a depfile is gone before the
+// object that has them is written.
+fn reads_alone(
+    alloc: Global,
+    here: &PathList<'_>,
+    there: &PathList<'_>,
+) -> Result<Vec<String>, AllocError> {
+    let paths = beside(alloc, here.as_slice(), there.as_slice())?;
+    let mut texts = Vec::new(alloc);
+    for path in &paths {
+        texts.push(format!(in alloc; "{path}")?)?;
+    }
+    Ok(texts)
+}
+
 fn push_difference<'a>(
     alloc: Global,
     text: &mut Vec<u8>,
@@ -225,8 +240,8 @@ fn push_difference<'a>(
     let there = listed(alloc, other, d.twin, &d.other)?;
     let a_outputs = there_alone(alloc, one, d.edge, &d.last, other, &d.other)?;
     let b_outputs = there_alone(alloc, other, d.twin, &d.other, one, &d.last)?;
-    let a_reads = beside(alloc, here.as_slice(), there.as_slice())?;
-    let b_reads = beside(alloc, there.as_slice(), here.as_slice())?;
+    let a_reads = reads_alone(alloc, &here, &there)?;
+    let b_reads = reads_alone(alloc, &there, &here)?;
     let object = RunObject {
         a: both.a.edge(d.edge),
         b: both.b.edge(d.twin),
