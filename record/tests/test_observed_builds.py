@@ -2,7 +2,6 @@
 files of an earlier recording stay."""
 
 import os
-import pathlib
 import re
 import subprocess
 import sys

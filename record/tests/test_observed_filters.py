@@ -9,7 +9,7 @@ import tempfile
 import unittest
 
 import builds
-from observing import Room, read_observed, refusal
+from observing import Room, refusal
 from recorder.observed.filters import MOST_BYTES, default_filters
 
 ALWAYS = [b"/dev", b"/proc", b"/sys", b"__pycache__", b"*.pyc", b"*.pyc.*"]

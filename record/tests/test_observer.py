@@ -14,7 +14,7 @@ from io import BytesIO
 
 import builds
 from observed_calls import NO_SUCH_CALL, Log, built, observed, whole
-from recorder.observed.calls import CURRENT, NOT_ASKED, Call, Kind
+from recorder.observed.calls import CURRENT, NOT_ASKED, Kind
 from recorder.observed.own import SOURCE, NotBuilt, Own, _built
 from recorder.observed.own_records import Records
 

@@ -17,7 +17,6 @@ import unittest
 
 import builds
 from builds import missing_tools, read_terminal, unescaped
-from versions import NINJA
 
 MANIFEST = """rule run
   command = sh $out.sh $out
