@@ -22,11 +22,11 @@ stays-marked marks place n within marked = elim (cases_eq n place) [
 
 -- THE MARKS OF PATHS SO FAR
 pub record AreMarked (paths : List (List ℕ)) (before marks : List Bool) (count : ℕ) : Type 0 where
-  pub size : length marks ≡ 65536
+  pub size : length marks ≡ 1048573
   pub kept : (n : ℕ) → is_marked before n ≡ true → is_marked marks n ≡ true
   pub marked : (place : ℕ) → place < count → is_marked marks (ending (get_or paths place [])) ≡ true
 
-pub none-marked : (paths : List (List ℕ)) (marks : List Bool) → length marks ≡ 65536 → AreMarked paths marks marks 0
+pub none-marked : (paths : List (List ℕ)) (marks : List Bool) → length marks ≡ 1048573 → AreMarked paths marks marks 0
 none-marked paths marks size = record {
   size = size;
   kept = λ n marked. marked;
@@ -34,7 +34,7 @@ none-marked paths marks size = record {
 }
 
 pub one-marked : (paths : List (List ℕ)) (before marks more : List Bool) (count : ℕ) (path : List ℕ) → count < length paths
-    → path ≡ get_or paths count path → length more ≡ 65536
+    → path ≡ get_or paths count path → length more ≡ 1048573
     → ((n : ℕ) → is_marked marks n ≡ true → is_marked more n ≡ true) → is_marked more (ending path) ≡ true
     → AreMarked paths before marks count → AreMarked paths before more (count + 1)
 one-marked paths before marks more count path within is size kept marked are = record {
@@ -56,16 +56,16 @@ contained-marked paths before marks count path all are (place, within, at) =
 
 -- THE MARKS OF EDGES SO FAR
 pub record AreEndingsBefore (builds : List BuildValue) (marks : List Bool) (edge : ℕ) : Type 0 where
-  pub size : length marks ≡ 65536
+  pub size : length marks ≡ 1048573
   pub each : (earlier : ℕ) (path : List ℕ) → earlier < edge → Contains (outputs_of (build_at builds earlier)) path
       → is_marked marks (ending path) ≡ true
 
-pub no-endings : (builds : List BuildValue) (marks : List Bool) → length marks ≡ 65536 → AreEndingsBefore builds marks 0
+pub no-endings : (builds : List BuildValue) (marks : List Bool) → length marks ≡ 1048573 → AreEndingsBefore builds marks 0
 no-endings builds marks size = record { size = size; each = λ earlier path less is. absurd (omega (arith, less)) }
 
 -- the outputs of one edge more: the explicit ones and then the implicit ones
 pub edge-endings : (builds : List BuildValue) (marks some all : List Bool) (edge : ℕ) (explicit implicit : List (List ℕ))
-    → outputs_of (build_at builds edge) ≡ explicit ++ implicit → length all ≡ 65536
+    → outputs_of (build_at builds edge) ≡ explicit ++ implicit → length all ≡ 1048573
     → ((n : ℕ) → is_marked marks n ≡ true → is_marked some n ≡ true)
     → ((n : ℕ) → is_marked some n ≡ true → is_marked all n ≡ true)
     → ((path : List ℕ) → Contains explicit path → is_marked some (ending path) ≡ true)
