@@ -112,7 +112,10 @@ class Logs(Recorded):
         self.assertEqual(self.events("start"), [f"start {it}" for it in "abc"] if since((1, 12)) else [])
 
     def test_a_log_of_each_other_ninja(self):
-        for other in builds.other_ninjas():
+        others = builds.other_ninjas()
+        if not others:
+            self.skipTest("there is one Ninja on this machine")
+        for other in others:
             with self.subTest(other=other):
                 self.write(FLAGS % "-O1")
                 self.ninja("-t", "clean")

@@ -173,8 +173,9 @@ class OfRealBuilds(unittest.TestCase):
 
     def test_with_lanes_the_number_counts_the_lines(self):
         self.record("--lanes", jobs=4)
-        events = self.events()
-        for name, it in read_output(self.room / "recorded").items():
+        events, found = self.events(), read_output(self.room / "recorded")
+        self.assertEqual(set(found), {"bad", "loud", "silent", "names.txt", "inner", "last"})
+        for name, it in found.items():
             self.assertEqual(events[it[1] - 1].split(b" ")[:2], [b"fail", name.encode()])
 
     def test_the_user_sees_what_ninja_shows(self):

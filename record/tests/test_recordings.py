@@ -107,8 +107,11 @@ class Commands(unittest.TestCase):
             self.assertLess(max(taken), 4)
 
     def test_no_two_edges_hold_one_job(self):
-        for chain, (_, tools, names) in CHAINS.items():
-            for name in names if not missing_tools(*tools) else ():
+        chains = [(chain, names) for chain, (_, tools, names) in CHAINS.items() if not missing_tools(*tools)]
+        if not chains:
+            self.skipTest("not on this machine: ninja")
+        for chain, names in chains:
+            for name in names:
                 held = {}
                 for line in self.lines(chain, name):
                     word, *rest = line.split(b" ")
