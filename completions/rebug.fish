@@ -60,7 +60,7 @@ complete -c rebug -n '__fish_seen_subcommand_from provoke' -l all -d 'Try each r
 complete -c rebug -n '__fish_seen_subcommand_from provoke' -l stale -d 'Leave the maker'\''s old files in place and have it run again, as in an incremental build; else they are taken away, as in a clean one'
 complete -c rebug -n '__fish_seen_subcommand_from provoke' -l in-place -d 'Work in the folders themselves, where this system refuses a copy: what stands there is moved aside, and moved back at the end'
 complete -c rebug -n '__fish_seen_subcommand_from provoke' -l rebug -x -d 'The program to ask, in place of the launcher'
-complete -c rebug -n __fish_use_subcommand -l try -d 'Answers in a minute or two from an unproved build; nothing is proved or kept'
+complete -c rebug -n __fish_use_subcommand -l try -d 'Answers in a few minutes from an unproved build; nothing is proved or kept'
 complete -c rebug -n __fish_use_subcommand -l manifest -r -d 'The build'\''s manifest as Ninja reads it: rules, pools and build lines'
 complete -c rebug -n __fish_use_subcommand -l trace -r -d 'The recorded build: the files and logs before it, then what happened, a line each'
 complete -c rebug -n __fish_use_subcommand -l script -r -d 'What to do with it: run the trace, undo, redo, ask why'

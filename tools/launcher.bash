@@ -54,11 +54,14 @@ sum_of_sources() {
 
 noted() { sed -n "s/^$1 //p" "$note" 2>/dev/null; }
 
+# Whether the note is of the program that is there, so that it was proved.
+is_noted() { [ -n "$(noted program)" ] && [ "$(noted program)" = "$(sha256sum <"$program" | cut -d ' ' -f 1)" ]; }
+
 # How the program that is there stands to the sources: `missing`, `older`, `same`, or `unknown` (no note is of this
-# program, since the kit built it without this script, and no source has changed since).
+# program, as where ./test had the kit build it, and no source has changed since).
 state_of_program() {
   [ -x "$program" ] || { echo missing; return; }
-  if [ -n "$(noted program)" ] && [ "$(noted program)" = "$(sha256sum <"$program" | cut -d ' ' -f 1)" ]; then
+  if is_noted; then
     if [ "$(noted sources)" = "$sources" ]; then echo same; else echo older; fi
   elif [ -n "$(source_files -newer "$program" -print -quit)" ]; then
     echo older
@@ -71,9 +74,9 @@ state_of_program() {
 explain() {
   explain_words ./rebug
   cat <<EOF
-./rebug                 the first example; on a fresh clone answered at once from an unproved build, and then proved
-./rebug WORD..          the program with these words, once it is proved and built (half an hour or more the first time)
-./rebug --try [WORD..]  the same from an unproved build, in a minute or two; nothing is proved, and no program is kept
+./rebug                 the first example; on a fresh clone an unproved build answers first, and then it is proved
+./rebug WORD..          the program with these words, once it is proved and built (about an hour the first time)
+./rebug --try [WORD..]  the same from an unproved build, in a few minutes; nothing is proved or kept
 EOF
 }
 
@@ -81,9 +84,12 @@ EOF
 say_state() {
   case $state in
     missing) say "not proved: there is no program yet; ./rebug proves and builds it" ;;
-    older) say "proved, but older than the sources that are here; ./rebug proves these" ;;
+    older)
+      if is_noted; then local how="proved, but"; else local how="not noted as proved, and"; fi
+      say "$how older than the sources that are here; ./rebug proves these"
+      ;;
     same) say "proved, and of the sources that are here ($(noted kit))" ;;
-    unknown) say "proved by a run of the kit other than this script's; no source that is here is newer" ;;
+    unknown) say "not noted as proved: another run than this script's built it; no source that is here is newer" ;;
   esac
 }
 
@@ -183,7 +189,7 @@ run_example() {
     try_words "${words[@]}"
     ended=$?
   else
-    say "the program is not yet proved; its answer from an unproved build comes first (a minute or two)"
+    say "the program is not yet proved; its answer from an unproved build comes first (a few minutes)"
     try_words "${words[@]}"
     prove -- "${words[@]}"
     ended=$?
@@ -224,8 +230,8 @@ answer_without_program() {
   if [ "$name" != rebug_ask ]; then return; fi
   say "no program is built here yet, and no installed rebug is on the PATH (docs/INSTALL.md tells how to get one)"
   if command -v rt >/dev/null 2>&1; then
-    say "an answer in a minute or two, from an unproved build: ./rebug --try ${1-} .."
-    say "./rebug alone proves and builds the programs, which takes half an hour or more"
+    say "an answer in a few minutes, from an unproved build: ./rebug --try ${1-} .."
+    say "./rebug alone proves and builds the programs, which takes about an hour"
   else
     say "to build one: $no_kit"
   fi
@@ -245,6 +251,6 @@ answer_in_checkout() {
     exit
   fi
   if [ "$state" = missing ]; then answer_without_program "$@"; fi
-  say "to see an answer in a minute or two, from an unproved build, give --try before the words"
+  say "to see an answer in a few minutes, from an unproved build, give --try before the words"
   prove exec -- "$@"
 }
