@@ -1,4 +1,5 @@
 pub mod LastLemmas
 pub mod Lists
+pub mod Nearest
 pub mod Prints
 pub mod SoughtLemmas

@@ -1,21 +1,21 @@
--- The first inverted pair, sought number by number.
-use Rattle.std.proofs.Common.{◌≡◌, ℕ, zero, suc, ◌<◌, ◌≤◌, ◌+◌, Bool, true, false, cond, List, [], ◌∷◌, drop, length, get_or, Option, None, Some, refl, sym, ap, subst, ◌∙◌, ◌&&◌, add-one, drop-cons, le-ltb, ltb-true, ltb-false, arith}
+-- The first inverted pair, sought by leaps.
+use Rattle.std.proofs.Common.{◌≡◌, ℕ, zero, suc, ◌<◌, ◌≤◌, ◌+◌, ◌-◌, Bool, true, false, cond, List, [], ◌∷◌, drop, length, get_or, Option, None, Some, inl, inr, refl, sym, ap, subst, ◌∙◌, ◌&&◌, add-one, drop-cons, le-ltb, lt-ltb, ltb-false, ltb-true, arith}
 use Rattle.std.specs.Prelude.{nat_lt}
 use Rattle.std.specs.List.{AllByRecursion}
 use Rattle.rev_history.specs.Named.{CellPrints}
-use Rattle.rev_causal.specs.AccessLists.{lesser}
 use Rattle.rev_causal.specs.Chosen.{IsRising, chosen, under}
 use Rattle.rev_causal.specs.History as causal
 use Rattle.rev_causal.specs.Store.{Footprint, conflict}
 use Rattle.rev_causal.proofs.Chosen.{chosen-rises}
+use Rattle.rev_causal.proofs.Runs.{either}
 use Rattle.rev_cells.specs.declared.cell.Cell.{Cell}
 use Rattle.rev_cells.specs.Keys.{cell_cmp}
-use Rattle.rev_order.specs.Lowest.{lowest_place, is_lower}
 use Rattle.rev_order.specs.Overtaken.{overtakes, place_at}
 use Rattle.rev_order.specs.Pairs.{inverted_pair, partner_of}
 use Rattle.rev_order.proofs.Matching.{chosen-next}
 use Rattle.rev_order.proofs.Pairs.{inverted_pair_more, paired_by}
-use Rattle.rev_compared.specs.Inverted.{is_dependent}
+use Rattle.rev_compared.specs.Inverted.{IsLeap, is_dependent}
+use Rattle.rev_compared.proofs.Prints.{All-get}
 
 -- THE PARTNER OF ONE NUMBER
 and-none : (b : Bool) → (b && false) ≡ false
@@ -61,33 +61,60 @@ partner-found places es ks i n f b within is in-it =
     partner-at places es ks i n f within
     ∙ ap (λ c. cond c (Some (get_or ks i 0)) (partner_of (conflict cell_cmp) places (chosen es (drop (i + 1) ks)) n f)) (sym is ∙ in-it)
 
-not-lower : (a p : ℕ) (o : Option ℕ) → is_lower (lesser (Some a) o) p ≡ false → (nat_lt a p ≡ false) × (is_lower o p ≡ false)
-not-lower a p None h = (h, refl)
-not-lower a p (Some b) h = by (nat_lt b a) refl
-  where
-    by : (c : Bool) → nat_lt b a ≡ c → (nat_lt a p ≡ false) × (nat_lt b p ≡ false)
-    by true e =
-        let low : nat_lt b p ≡ false = sym (ap (λ c. is_lower (cond c (Some b) (Some a)) p) e) ∙ h in
-        let le : p ≤ b = ltb-false b p low in
-        let lt : b < a = ltb-true b a e in
-        (le-ltb a p (omega (arith, le, lt)), low)
-    by false e =
-        let low : nat_lt a p ≡ false = sym (ap (λ c. is_lower (cond c (Some b) (Some a)) p) e) ∙ h in
-        let le : p ≤ a = ltb-false a p low in
-        let more : a ≤ b = ltb-false b a e in
-        (low, le-ltb b p (omega (arith, le, more)))
+-- a number is not the partner where it does not stand before that one there
+pub not-overtaking : (places : List ℕ) (n k : ℕ) (b : Bool) → place_at places n ≤ place_at places k → (overtakes places n k && b) ≡ false
+not-overtaking places n k b le =
+    ap (λ c. (nat_lt n k && c) && b) (le-ltb (place_at places k) (place_at places n) le) ∙ none-and (nat_lt n k) b
 
--- none of some numbers is, where none stands before that one there
-pub partner-none : (places : List ℕ) (es : CellPrints) (ks : List ℕ) (n : ℕ) (f : Footprint Cell)
-    → is_lower (lowest_place places ks) (place_at places n) ≡ false → partner_of (conflict cell_cmp) places (chosen es ks) n f ≡ None
-partner-none places es [] n f low = refl
-partner-none places es (k ∷ ks) n f low =
-    let parts : (nat_lt (place_at places k) (place_at places n) ≡ false) × (is_lower (lowest_place places ks) (place_at places n) ≡ false) =
-    not-lower (place_at places k) (place_at places n) (lowest_place places ks) low in
-    partner-first places es k ks n f
-    ∙ ap (λ b. cond ((nat_lt n k && b) && is_dependent f (causal.event_at k es)) (Some k) (partner_of (conflict cell_cmp) places (chosen es ks) n f)) parts.0
-    ∙ ap (λ b. cond b (Some k) (partner_of (conflict cell_cmp) places (chosen es ks) n f)) (none-and (nat_lt n k) (is_dependent f (causal.event_at k es)))
-    ∙ partner-none places es ks n f parts.1
+-- or does not depend on it
+pub not-dependent : (a b : Bool) → b ≡ false → (a && b) ≡ false
+not-dependent a b out = ap (λ c. a && c) out ∙ and-none a
+
+-- and is it where both hold
+pub overtaking-dependent : (places : List ℕ) (n k : ℕ) (b : Bool) → n < k → place_at places k < place_at places n → b ≡ true
+    → (overtakes places n k && b) ≡ true
+overtaking-dependent places n k b behind before depends =
+    ap (λ a. (a && nat_lt (place_at places k) (place_at places n)) && b) (lt-ltb n k behind)
+    ∙ ap (λ c. c && b) (lt-ltb (place_at places k) (place_at places n) before) ∙ depends
+
+-- none of the numbers from a place on, and before another, is the partner
+pub partner-beyond : (places : List ℕ) (es : CellPrints) (ks : List ℕ) (i k d n : ℕ) (f : Footprint Cell) → i + d ≡ k → k ≤ length ks
+    → ((j : ℕ) → i ≤ j → j < k → (overtakes places n (get_or ks j 0) && is_dependent f (causal.event_at (get_or ks j 0) es)) ≡ false)
+    → partner_of (conflict cell_cmp) places (chosen es (drop i ks)) n f ≡ partner_of (conflict cell_cmp) places (chosen es (drop k ks)) n f
+partner-beyond places es ks i k zero n f to within out =
+    let is : i ≡ k = omega (arith, to) in
+    ap (λ j. partner_of (conflict cell_cmp) places (chosen es (drop j ks)) n f) is
+partner-beyond places es ks i k (suc d) n f to within out =
+    let next : (i + 1) + d ≡ k = omega (arith, to) in
+    partner-passed places es ks i n f (overtakes places n (get_or ks i 0) && is_dependent f (causal.event_at (get_or ks i 0) es))
+    (omega (arith, to, within)) refl (out i (omega arith) (omega (arith, to)))
+    ∙ partner-beyond places es ks (i + 1) k d n f next within (λ j le lt. out j (omega (arith, le)) lt)
+
+pub partner-between : (places : List ℕ) (es : CellPrints) (ks : List ℕ) (i k n : ℕ) (f : Footprint Cell) → i ≤ k → k ≤ length ks
+    → ((j : ℕ) → i ≤ j → j < k → (overtakes places n (get_or ks j 0) && is_dependent f (causal.event_at (get_or ks j 0) es)) ≡ false)
+    → partner_of (conflict cell_cmp) places (chosen es (drop i ks)) n f ≡ partner_of (conflict cell_cmp) places (chosen es (drop k ks)) n f
+partner-between places es ks i k n f le within out =
+    partner-beyond places es ks i k (k - i) n f (omega (arith, le)) within out
+
+-- a leap passes none that stands before that one there
+pub leap-passes : (places : List ℕ) (ks : List ℕ) (i k : ℕ) (p : ℕ) → IsLeap places ks i k → p ≤ place_at places (get_or ks i 0)
+    → (j : ℕ) → i ≤ j → j < k → p ≤ place_at places (get_or ks j 0)
+leap-passes places ks i k p leap le j from to = elim (either (nat_lt i j)) [
+  | inl t ↦
+      let more : place_at places (get_or ks i 0) ≤ place_at places (get_or ks j 0) = leap.between j (ltb-true i j t) to in
+      omega (arith, le, more)
+  | inr t ↦
+      let less : j ≤ i = ltb-false i j t in
+      let is : i ≡ j = omega (arith, from, less) in
+      subst (λ x. p ≤ place_at places (get_or ks x 0)) is le
+]
+
+-- numbers that rise
+pub rising-strict : (ks : List ℕ) → IsRising ks → (i j : ℕ) → i < j → j < length ks → get_or ks i 0 < get_or ks j 0
+rising-strict [] rising i j lt within = absurd (omega (arith, within))
+rising-strict (k ∷ ks) rising i zero lt within = absurd (omega (arith, lt))
+rising-strict (k ∷ ks) rising zero (suc j) lt within = All-get (λ y. k < y) j 0 ks rising.0 (omega (arith, within))
+rising-strict (k ∷ ks) rising (suc i) (suc j) lt within = rising-strict ks rising.1 i j (omega (arith, lt)) (omega (arith, within))
 
 -- THE PAIR
 pub rising-drop : (i : ℕ) (ks : List ℕ) → IsRising ks → IsRising (drop i ks)

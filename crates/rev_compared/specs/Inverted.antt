@@ -1,12 +1,12 @@
 -- The first pair of dependent events that stand the other way round in another history.
-use Rattle.std.specs.Prelude.{◌≡◌, ℕ, ◌+◌, ◌≤◌, Bool, false, ◌&&◌, List, drop, filter, length, map, Option, Some, None, is_some, slice_index_or, unwrap_or}
+use Rattle.std.specs.Prelude.{◌≡◌, ℕ, ◌<◌, ◌≤◌, Bool, false, ◌&&◌, List, filter, get_or, length, map, Option, Some, None, is_some, slice_index_or, unwrap_or}
 use Rattle.rev_causal.specs.Chosen.{chosen}
 use Rattle.rev_causal.specs.Store.{Footprint, conflict}
 use Rattle.rev_cells.specs.declared.cell.Cell.{Cell}
 use Rattle.rev_cells.specs.Keys.{cell_cmp}
 use Rattle.rev_history.specs.Along.{prints_along}
 use Rattle.rev_history.specs.Timeline.{Timeline}
-use Rattle.rev_order.specs.Lowest.{lowest_place}
+use Rattle.rev_order.specs.Overtaken.{place_at}
 use Rattle.rev_order.specs.Pairs.{inverted_pair}
 use Rattle.rev_runs.specs.Runs.{is_kept}
 
@@ -33,7 +33,13 @@ abbrev pub is_dependent : Footprint Cell → Option (Footprint Cell) → Bool
 is_dependent f None = false
 is_dependent f (Some g) = conflict cell_cmp f g
 
--- from each place of some numbers on the lowest place of theirs there; behind the last there is none
-pub record AreLowest (places numbers : List ℕ) (lowest : List (Option ℕ)) : Type 0 where
-  pub size : length lowest ≡ length numbers + 1
-  pub at : (i : ℕ) → i ≤ length numbers → slice_index_or lowest i None ≡ lowest_place places (drop i numbers)
+-- the leap of a place of some numbers: no number between the two stands before that one there
+pub record IsLeap (places numbers : List ℕ) (i k : ℕ) : Type 0 where
+  pub behind : i < k
+  pub within : k ≤ length numbers
+  pub between : (j : ℕ) → i < j → j < k → place_at places (get_or numbers i 0) ≤ place_at places (get_or numbers j 0)
+
+-- the leaps of the places from one on
+pub record AreLeaps (places numbers : List ℕ) (least : ℕ) (leaps : List ℕ) : Type 0 where
+  pub size : length leaps ≡ length numbers
+  pub at : (i : ℕ) → least ≤ i → i < length numbers → IsLeap places numbers i (get_or leaps i 0)

@@ -10,7 +10,7 @@ ghost use Rattle.rev_order.specs.Pairs.{inverted_pair};
 ghost use Rattle.rev_compared.specs.Inverted.{first_inverted_of, is_compared as is_compared_of, places_of as places_by};
 
 use crate::alone::{add_where, twin_at};
-use crate::sought::{lowest_places, pair_near};
+use crate::sought::{leaps_of, pair_near};
 use rev_history::History;
 use rev_runs::is_kept;
 use std::alloc::{AllocError, Global};
@@ -50,8 +50,8 @@ fn places_of(alloc: Global, matched: &[Option<u32>]) -> Result<Vec<u32>, AllocEr
     Ok(places)
 }
 
-// The first inverted pair of some numbers: sought among near ones first, since two recordings of a build mostly have
-// one there, and then by lists.
+// The first inverted pair of some numbers: sought by leaps first, since these meet no event that cannot be in it where
+// few events changed their places, and then by lists.
 fn pair_in(
     alloc: Global,
     history: &History,
@@ -63,8 +63,8 @@ fn pair_in(
     ensures { IfOk result (λ pair. pair ≡ inverted_pair (conflict cell_cmp) places.now
         (chosen (prints_along history.now.timeline) numbers.now)) }
 {
-    let lowest = lowest_places(alloc, places, numbers)?;
-    match pair_near(history, places, numbers, &lowest) {
+    let leaps = leaps_of(alloc, places, numbers)?;
+    match pair_near(history, places, numbers, &leaps) {
         Ok(pair) => Ok(pair),
         Err(at) => {
             let found = history.inverted_pair(places, &numbers[at..])?;

@@ -1,5 +1,5 @@
-//! The first inverted pair, sought among the events that are near to each other.
-ghost use Rattle.std.specs.Prelude.{◌≡◌, ◌&&◌, ◌+◌, ◌<◌, ◌≤◌, ℕ, length, drop, None, Some, IsSome, get_or, if◌then◌else◌, IfErr, IfOk};
+//! The first inverted pair, sought by leaps over the events that cannot make one.
+ghost use Rattle.std.specs.Prelude.{◌≡◌, ◌+◌, ◌<◌, ◌≤◌, ℕ, length, drop, false, true, Some, IsSome, get_or, IfErr, IfOk};
 ghost use Rattle.std.specs.List.{AllByRecursion};
 ghost use Rattle.rev_causal.specs.Chosen.{IsRising as IsRisingNumbers, chosen};
 ghost use Rattle.rev_causal.specs.History.{event_at};
@@ -8,40 +8,54 @@ ghost use Rattle.rev_cells.specs.Keys.{cell_cmp};
 ghost use Rattle.rev_footprint.specs.Value.{FootprintValue, print_of};
 ghost use Rattle.rev_history.specs.Along.{prints_along};
 ghost use Rattle.rev_history.specs.Timeline.{kept_footprint};
-ghost use Rattle.rev_order.specs.Overtaken.{overtakes as overtakes_by};
 ghost use Rattle.rev_order.specs.Pairs.{inverted_pair, partner_of};
-ghost use Rattle.rev_compared.specs.Inverted.{AreLowest, is_dependent as is_dependent_on};
+ghost use Rattle.rev_compared.specs.Inverted.{AreLeaps, IsLeap, is_dependent};
 
-use rev_history::{History, KeptFootprint, conflict};
-use rev_numbers::lesser;
-use rev_order::{is_lower, place_at};
+use rev_history::History;
+use rev_numbers::place_above;
+use rev_order::place_at;
 use std::alloc::{AllocError, Global};
 
-// How many steps the search takes for each event at most: two cells that are compared are a step.
+// How many steps the search takes for each event at most: a cell that is looked up is a step.
 const STEPS: usize = 64;
 
 /// The search took all its steps and found nothing.
 #[derive(Clone, Copy)]
 pub(crate) struct Long;
 
-/// From each place of some numbers on the lowest place of theirs in the other history.
+// The leap of a place, by the leaps behind it.
+fn leap_at(places: &[u32], numbers: &[u32], leaps: &[usize], at: usize) -> usize
+    requires within { at < length numbers.now }
+    requires leaps { AreLeaps places.now numbers.now (at + 1) leaps.now }
+    ensures { IsLeap places.now numbers.now at result }
+{
+    let place = place_at(places, numbers[at]);
+    let mut next = at + 1;
+    while next < numbers.len() && place_at(places, numbers[next]) >= place {
+        next = leaps[next];
+    }
+    next
+}
+
+/// For each place of some numbers its leap: the next place whose number stands before that one in the other history;
+/// the end where there is none. It takes time linear in the numbers.
 ///
 /// # Errors
 /// [`AllocError`] only where an allocation was refused.
-pub(crate) fn lowest_places(
+pub(crate) fn leaps_of(
     alloc: Global,
     places: &[u32],
     numbers: &[u32],
-) -> Result<Vec<Option<u32>>, AllocError>
-    ensures { IfOk result (λ lowest. AreLowest places.now numbers.now lowest.items) }
+) -> Result<Vec<usize>, AllocError>
+    ensures { IfOk result (λ leaps. AreLeaps places.now numbers.now 0 leaps.items) }
 {
-    let mut lowest = vec![in alloc; None; numbers.len() + 1]?;
+    let mut leaps = vec![in alloc; 0; numbers.len()]?;
     let mut at = numbers.len();
     while at > 0 {
         at -= 1;
-        lowest[at] = lesser(Some(place_at(places, numbers[at])), lowest[at + 1]);
+        leaps[at] = leap_at(places, numbers, &leaps, at);
     }
-    Ok(lowest)
+    Ok(leaps)
 }
 
 // Takes some steps, unless fewer are left.
@@ -53,102 +67,76 @@ fn spend(left: &mut usize, steps: usize) -> Result<(), Long> {
     Ok(())
 }
 
-// How many cells are compared where two footprints are: those that one writes with all of the other.
-fn steps_of(one: &KeptFootprint<'_>, other: &KeptFootprint<'_>) -> usize {
-    let there = one.writes().len().saturating_mul(other.reads().len());
-    let back = other.writes().len().saturating_mul(one.reads().len());
-    there.saturating_add(back)
-}
-
-// Whether the event of a number is kept and depends on one with a footprint, or the other way round.
-fn is_dependent(
-    history: &History,
-    footprint: &KeptFootprint<'_>,
-    number: u32,
-    left: &mut usize,
-) -> Result<bool, Long>
-    ensures { IfOk result (λ is. is ≡ is_dependent_on (print_of footprint.now)
-        (event_at number (prints_along history.now.timeline))) }
-{
-    let Some(other) = history.footprint_of(number) else {
-        return Ok(false);
-    };
-    spend(left, steps_of(footprint, &other))?;
-    Ok(conflict(footprint, &other))
-}
-
-// Whether a number overtakes another one, and its event and that one's, which has a footprint, depend on each other.
-fn is_inverted(
-    history: &History,
-    places: &[u32],
-    first: u32,
-    footprint: &KeptFootprint<'_>,
-    number: u32,
-    left: &mut usize,
-) -> Result<bool, Long>
-    ensures { IfOk result (λ is. is ≡ (overtakes_by places.now first number
-        && is_dependent_on (print_of footprint.now) (event_at number (prints_along history.now.timeline)))) }
-{
-    if number <= first || place_at(places, number) >= place_at(places, first) {
-        return Ok(false);
-    }
-    is_dependent(history, footprint, number, left)
-}
-
-// The least of the numbers behind a place that overtakes the one there, and whose event depends on that one's. The
-// numbers are gone through as long as one of those that are left stands before it in the other history.
-fn overtaking(
-    history: &History,
-    places: &[u32],
-    numbers: &[u32],
-    lowest: &[Option<u32>],
-    at: usize,
-    footprint: &KeptFootprint<'_>,
-    left: &mut usize,
-) -> Result<Option<u32>, Long>
-    requires within { at < length numbers.now }
-    requires lowest { AreLowest places.now numbers.now lowest.now }
-    ensures { IfOk result (λ partner. partner ≡ partner_of (conflict_of cell_cmp) places.now
-        (chosen (prints_along history.now.timeline) (drop (at + 1) numbers.now)) (get_or numbers.now at 0)
-        (print_of footprint.now)) }
-{
-    let first = numbers[at];
-    let place = place_at(places, first);
-    for next in at + 1..numbers.len() {
-        if !is_lower(lowest[next], place) {
-            return Ok(None);
+// How many cells are looked up for the event of a number, and one step more.
+fn steps_of(history: &History, number: u32) -> usize {
+    match history.footprint_of(number) {
+        Some(footprint) => {
+            let cells = footprint.reads().len();
+            cells
+                .saturating_add(footprint.writes().len())
+                .saturating_add(1)
         }
-        spend(left, 1)?;
-        if is_inverted(history, places, first, footprint, numbers[next], left)? {
-            return Ok(Some(numbers[next]));
-        }
+        None => 1,
     }
-    Ok(None)
 }
 
-// The same, where that number is kept.
+// A place from which on the first number may be whose event depends on that of another one, by the access lists. It is
+// the place from which it is sought where the event there depends on that one.
+fn next_dependent(history: &History, numbers: &[u32], first: u32, next: usize) -> usize
+    requires within { next < length numbers.now }
+    requires above { first < get_or numbers.now next 0 }
+    requires rising { IsRisingNumbers numbers.now }
+    requires kept { AllByRecursion (λ n. IsSome (event_at n (prints_along history.now.timeline))) numbers.now }
+    ensures from { next ≤ result }
+    ensures within { result ≤ length numbers.now }
+    ensures between { (f : FootprintValue) → kept_footprint history.now.timeline first ≡ Some f
+        → (j : ℕ) → next ≤ j → j < result
+        → is_dependent (print_of f) (event_at (get_or numbers.now j 0) (prints_along history.now.timeline)) ≡ false }
+    ensures here { (f : FootprintValue) → kept_footprint history.now.timeline first ≡ Some f → result ≡ next
+        → is_dependent (print_of f) (event_at (get_or numbers.now next 0) (prints_along history.now.timeline)) ≡ true }
+{
+    let _kept = history.kept();
+    match history.nearest_to(numbers[next] - 1, first) {
+        Some(near) => place_above(numbers, near - 1),
+        None => numbers.len(),
+    }
+}
+
+// The least of the numbers behind a place that overtakes the one there, and whose event depends on that one's. Those
+// that do not overtake it are leapt over, and those that do not depend on it.
 fn partner_near(
     history: &History,
     places: &[u32],
     numbers: &[u32],
-    lowest: &[Option<u32>],
+    leaps: &[usize],
     at: usize,
     left: &mut usize,
 ) -> Result<Option<u32>, Long>
     requires within { at < length numbers.now }
-    requires lowest { AreLowest places.now numbers.now lowest.now }
+    requires rising { IsRisingNumbers numbers.now }
+    requires kept { AllByRecursion (λ n. IsSome (event_at n (prints_along history.now.timeline))) numbers.now }
+    requires leaps { AreLeaps places.now numbers.now 0 leaps.now }
     ensures { IfOk result (λ partner. (f : FootprintValue)
         → kept_footprint history.now.timeline (get_or numbers.now at 0) ≡ Some f
         → partner ≡ partner_of (conflict_of cell_cmp) places.now
         (chosen (prints_along history.now.timeline) (drop (at + 1) numbers.now)) (get_or numbers.now at 0) (print_of f)) }
 {
-    if !is_lower(lowest[at + 1], place_at(places, numbers[at])) {
-        return Ok(None);
+    let first = numbers[at];
+    let place = place_at(places, first);
+    let mut next = leaps[at];
+    while next < numbers.len() {
+        spend(left, steps_of(history, first))?;
+        if place_at(places, numbers[next]) >= place {
+            next = leaps[next];
+        } else {
+            let dependent = next_dependent(history, numbers, first, next);
+            if dependent == next {
+                return Ok(Some(numbers[next]));
+            }
+            next = dependent;
+        }
     }
-    match history.footprint_of(numbers[at]) {
-        Some(footprint) => overtaking(history, places, numbers, lowest, at, &footprint, left),
-        None => Err(Long),
-    }
+    Ok(None)
 }
 
 /// The first inverted pair of some numbers, or, where that takes too many steps, a place before which none of them is
@@ -157,11 +145,11 @@ pub(crate) fn pair_near(
     history: &History,
     places: &[u32],
     numbers: &[u32],
-    lowest: &[Option<u32>],
+    leaps: &[usize],
 ) -> Result<Option<(u32, u32)>, usize>
     requires rising { IsRisingNumbers numbers.now }
     requires kept { AllByRecursion (λ n. IsSome (event_at n (prints_along history.now.timeline))) numbers.now }
-    requires lowest { AreLowest places.now numbers.now lowest.now }
+    requires leaps { AreLeaps places.now numbers.now 0 leaps.now }
     ensures pair { IfOk result (λ pair. pair ≡ inverted_pair (conflict_of cell_cmp) places.now
         (chosen (prints_along history.now.timeline) numbers.now)) }
     ensures within { IfErr result (λ at. at < length numbers.now) }
@@ -171,7 +159,7 @@ pub(crate) fn pair_near(
 {
     let mut left = numbers.len().saturating_mul(STEPS);
     for at in 0..numbers.len() {
-        match partner_near(history, places, numbers, lowest, at, &mut left) {
+        match partner_near(history, places, numbers, leaps, at, &mut left) {
             Ok(Some(second)) => return Ok(Some((numbers[at], second))),
             Ok(None) => {}
             Err(Long) => return Err(at),
