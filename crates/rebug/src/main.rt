@@ -7,6 +7,7 @@ use rev_program::{ProgramFault, ReadFault, Unread, explain, fail, read_named, sa
 use rev_report::{RunMemory, Status, run_serial_in, write_migrated};
 use rev_sentences::{Inputs, sentence};
 use std::alloc::Global;
+use std::borrow::CowSlice;
 use std::io::{BufWriter, Write};
 use std::process::ExitCode;
 use std::rt::Files;
@@ -127,22 +128,30 @@ fn report<'a, R: Files + Print + Eprint + AllocGlobal + Threads + Wait + Sync>(
 ) -> Result<Status, ProgramFault<'a>> {
     let alloc = rt.alloc();
     let files = read_manifest(rt, options)?;
-    let trace = read_lines(rt, options.trace)?;
+    let mut trace = CowSlice::Owned(read_lines(rt, options.trace)?);
     let script = read_lines(rt, options.script)?;
     let Ok(mut writer) = BufWriter::new(alloc, io::writer(rt)) else {
         return Err(ProgramFault::Memory);
     };
     let mut memory = RunMemory::new();
     let ran = if options.workers {
-        run_parallel_in(rt, alloc, &files, &trace, &script, &mut writer, &mut memory)
+        run_parallel_in(
+            rt,
+            alloc,
+            &files,
+            &mut trace,
+            &script,
+            &mut writer,
+            &mut memory,
+        )
     } else {
-        run_serial_in(alloc, &files, &trace, &script, &mut writer, &mut memory)
+        run_serial_in(alloc, &files, &mut trace, &script, &mut writer, &mut memory)
     };
     leave(memory);
     let status = ran?;
     let inputs = Inputs {
         files: &files,
-        trace: (options.trace.as_bytes(), &trace),
+        trace: (options.trace.as_bytes(), trace.as_slice()),
         script: (options.script.as_bytes(), &script),
     };
     end(rt, &mut writer, inputs, status)

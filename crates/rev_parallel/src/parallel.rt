@@ -14,6 +14,7 @@ use rev_script::{
 use rev_trace::Trace;
 use rev_workers::{CloseFault, Gate, Shared, run_workers};
 use std::alloc::{AllocError, Global};
+use std::borrow::CowSlice;
 use std::io::Write;
 use std::marker::Brand;
 use std::sync::Wait;
@@ -182,18 +183,22 @@ fn report_script<R: Threads + Wait + Sync, W: Write>(
     }
 }
 
-// Reports on a trace and a script, where nothing before them has a fault.
+// Reports on a trace and a script, where nothing before them has a fault. The text of the trace is let go once it is
+// read.
 fn report_trace<R: Threads + Wait + Sync, W: Write>(
     rt: &R,
     alloc: Global,
     graph: Graph,
-    trace: &[u8],
+    trace: &mut CowSlice<'_, u8>,
     script: &[u8],
     writer: &mut W,
     memory: &mut RunMemory,
 ) -> Result<Status, RunFault> {
-    match rev_trace::read(alloc, trace) {
-        Ok(trace) => report_script(rt, alloc, graph, trace, script, writer, memory),
+    match rev_trace::read(alloc, trace.as_slice()) {
+        Ok(read) => {
+            *trace = CowSlice::Borrowed(&[]);
+            report_script(rt, alloc, graph, read, script, writer, memory)
+        }
         Err(ReadFault::Numbered(fault)) => report_fault(alloc, b"trace", fault, writer),
         Err(ReadFault::Memory) => Err(RunFault::Memory),
     }
@@ -204,7 +209,7 @@ fn report_edges<R: Threads + Wait + Sync, W: Write>(
     rt: &R,
     alloc: Global,
     manifest: &Manifest,
-    trace: &[u8],
+    trace: &mut CowSlice<'_, u8>,
     script: &[u8],
     writer: &mut W,
     memory: &mut RunMemory,
@@ -216,12 +221,13 @@ fn report_edges<R: Threads + Wait + Sync, W: Write>(
 }
 
 /// Like `run_parallel`, but leaves the desk in `memory`, and the trace where no thread took it, even if the run ends
-/// early. So the caller chooses when they are freed.
+/// early. So the caller chooses when they are freed. It lets the text of the trace go once that is read: then nothing is
+/// left in `trace`. A text with a fault stays there.
 pub fn run_parallel_in<R: Threads + Wait + Sync, W: Write>(
     rt: &R,
     alloc: Global,
     files: &[(Vec<u8>, Vec<u8>)],
-    trace: &[u8],
+    trace: &mut CowSlice<'_, u8>,
     script: &[u8],
     writer: &mut W,
     memory: &mut RunMemory,
@@ -257,7 +263,7 @@ pub fn run_parallel<R: Threads + Wait + Sync, W: Write>(
         rt,
         alloc,
         files,
-        trace,
+        &mut CowSlice::Borrowed(trace),
         script,
         writer,
         &mut RunMemory::new(),

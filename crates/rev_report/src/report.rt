@@ -1,5 +1,6 @@
 //! The report of a run: the text that is written for files, a trace and a script.
-ghost use Rattle.std.specs.Prelude.{◌≡◌, ◌≢◌, ◌<◌, ◌≤◌, ◌+◌, [], ℕ, IfOk, IsSome, OnOk, Option, drop, length};
+ghost use Rattle.std.specs.Prelude.{◌≡◌, ◌≢◌, ◌<◌, ◌≤◌, ◌+◌, [], ℕ, IfOk, IsSome, OnOk, Option, Some, drop, length};
+ghost use Rattle.std.specs.Cow.{cow_slice_items};
 ghost use Rattle.rev_commands.specs.declared.command.Command.{Command};
 ghost use Rattle.rev_report.specs.Report.{after_word, edges_report, kept_text, left_after, named_text, report, script_report, script_text, session_text, trace_report, why_edge, word_text};
 ghost use Rattle.rev_script.specs.Output.{Writes};
@@ -10,7 +11,8 @@ ghost use Rattle.rev_script.specs.Turns.{AreOf, turns};
 ghost use Rattle.rev_desk.specs.Machine.{named, opened_desk};
 ghost use Rattle.rev_history.specs.Timeline.{state_at};
 ghost use Rattle.rev_order_text.specs.Orders.{order_text as order_text_of};
-ghost use Rattle.rev_trace.specs.Traces.{lanes_of};
+ghost use Rattle.rev_fields.specs.declared.faults.TextFault.{TextFault};
+ghost use Rattle.rev_trace.specs.Traces.{lanes_of, trace_fault};
 ghost use Rattle.rev_graph.specs.Graph.{producer_of};
 ghost use Rattle.rev_listing.specs.Logs as logs;
 ghost use Rattle.rev_listing.specs.Marks as marks;
@@ -37,6 +39,7 @@ use rev_script::{
 };
 use rev_trace::Trace;
 use std::alloc::Global;
+use std::borrow::CowSlice;
 use std::io::Write;
 
 // Writes the lines of the kept events.
@@ -309,25 +312,30 @@ fn report_script<W: Write>(
     }
 }
 
-// Reports on a trace and a script, where nothing before them has a fault.
+// Reports on a trace and a script, where nothing before them has a fault. The text of the trace is let go once it is
+// read.
 fn report_trace<W: Write>(
     alloc: Global,
     graph: Graph,
-    trace: &[u8],
+    trace: &mut CowSlice<'_, u8>,
     script: &[u8],
     writer: &mut W,
     memory: &mut RunMemory,
 ) -> Result<Status, RunFault>
     ensures text { Writes result (W.contents writer.old) (W.contents writer.new)
-        (trace_report graph.manifest trace.now script.now).text }
-    ensures status { IfOk result (λ status. status ≡ (trace_report graph.manifest trace.now script.now).status) }
+        (trace_report graph.manifest (cow_slice_items trace.old) script.now).text }
+    ensures status { IfOk result (λ status. status
+        ≡ (trace_report graph.manifest (cow_slice_items trace.old) script.now).status) }
     ensures desk { IfOk result (λ status. status ≡ status_is.Success → IsSome memory.new.desk) }
     ensures trace { IfOk result (λ status. status ≡ status_is.Success → IsSome memory.new.trace) }
+    ensures let_go { IfOk result (λ status. status ≡ status_is.Success → cow_slice_items trace.new ≡ []) }
+    ensures kept { (f : TextFault) → trace_fault (cow_slice_items trace.old) ≡ Some f → trace.new ≡ trace.old }
 {
-    match rev_trace::read(alloc, trace) {
-        Ok(trace) => {
-            let reported = report_script(alloc, graph, &trace, script, writer, memory);
-            memory.trace = Some(trace);
+    match rev_trace::read(alloc, trace.as_slice()) {
+        Ok(read) => {
+            *trace = CowSlice::Borrowed(&[]);
+            let reported = report_script(alloc, graph, &read, script, writer, memory);
+            memory.trace = Some(read);
             reported
         }
         Err(ReadFault::Numbered(fault)) => report_fault(alloc, b"trace", fault, writer),
@@ -339,16 +347,19 @@ fn report_trace<W: Write>(
 fn report_edges<W: Write>(
     alloc: Global,
     manifest: &Manifest,
-    trace: &[u8],
+    trace: &mut CowSlice<'_, u8>,
     script: &[u8],
     writer: &mut W,
     memory: &mut RunMemory,
 ) -> Result<Status, RunFault>
     ensures text { Writes result (W.contents writer.old) (W.contents writer.new)
-        (edges_report manifest.now trace.now script.now).text }
-    ensures status { IfOk result (λ status. status ≡ (edges_report manifest.now trace.now script.now).status) }
+        (edges_report manifest.now (cow_slice_items trace.old) script.now).text }
+    ensures status { IfOk result (λ status. status
+        ≡ (edges_report manifest.now (cow_slice_items trace.old) script.now).status) }
     ensures desk { IfOk result (λ status. status ≡ status_is.Success → IsSome memory.new.desk) }
     ensures trace { IfOk result (λ status. status ≡ status_is.Success → IsSome memory.new.trace) }
+    ensures let_go { IfOk result (λ status. status ≡ status_is.Success → cow_slice_items trace.new ≡ []) }
+    ensures kept { (f : TextFault) → trace_fault (cow_slice_items trace.old) ≡ Some f → trace.new ≡ trace.old }
 {
     match Graph::build(alloc, manifest) {
         Ok(graph) => report_trace(alloc, graph, trace, script, writer, memory),
@@ -356,21 +367,25 @@ fn report_edges<W: Write>(
     }
 }
 
-/// Like `run_serial`, but leaves the trace and the desk in `memory`, even if it ends early.
+/// Like `run_serial`, but leaves the trace and the desk in `memory`, even if it ends early. It lets the text of the
+/// trace go once that is read: then nothing is left in `trace`. A text with a fault stays there.
 pub fn run_serial_in<W: Write>(
     alloc: Global,
     files: &[(Vec<u8>, Vec<u8>)],
-    trace: &[u8],
+    trace: &mut CowSlice<'_, u8>,
     script: &[u8],
     writer: &mut W,
     memory: &mut RunMemory,
 ) -> Result<Status, RunFault>
     ensures text { Writes result (W.contents writer.old) (W.contents writer.new)
-        (report (seen_files files.now) trace.now script.now).text }
-    ensures status { IfOk result (λ status. status ≡ (report (seen_files files.now) trace.now script.now).status) }
+        (report (seen_files files.now) (cow_slice_items trace.old) script.now).text }
+    ensures status { IfOk result (λ status. status
+        ≡ (report (seen_files files.now) (cow_slice_items trace.old) script.now).status) }
     // After a run to its end with no fault both stand there.
     ensures desk { IfOk result (λ status. status ≡ status_is.Success → IsSome memory.new.desk) }
     ensures trace { IfOk result (λ status. status ≡ status_is.Success → IsSome memory.new.trace) }
+    ensures let_go { IfOk result (λ status. status ≡ status_is.Success → cow_slice_items trace.new ≡ []) }
+    ensures kept { (f : TextFault) → trace_fault (cow_slice_items trace.old) ≡ Some f → trace.new ≡ trace.old }
 {
     let manifest = match read(alloc, files) {
         Ok(manifest) => manifest,
@@ -400,5 +415,12 @@ pub fn run_serial<W: Write>(
         (report (seen_files files.now) trace.now script.now).text }
     ensures status { IfOk result (λ status. status ≡ (report (seen_files files.now) trace.now script.now).status) }
 {
-    run_serial_in(alloc, files, trace, script, writer, &mut RunMemory::new())
+    run_serial_in(
+        alloc,
+        files,
+        &mut CowSlice::Borrowed(trace),
+        script,
+        writer,
+        &mut RunMemory::new(),
+    )
 }
