@@ -1,5 +1,5 @@
 -- What happened in a history with the run of a maker and that of a user.
-use Rattle.std.specs.Prelude.{◌≡◌, ◌≤◌, ℕ, nat_lt, Bool, true, false, ◌&&◌, ◌||◌, List, Option, Some, None, length, if◌then◌else◌}
+use Rattle.std.specs.Prelude.{◌≡◌, ◌≤◌, ℕ, nat_lt, Bool, true, false, ◌&&◌, ◌||◌, List, Option, Some, None, IfSome, length, if◌then◌else◌}
 use Rattle.std.specs.List.{list_any}
 use Rattle.rev_events.specs.declared.event.Event.{Event}
 use Rattle.rev_history.specs.Timeline.{Timeline, IsHistory, chosen, cone_numbers, coned, is_among, kept_events}
@@ -77,8 +77,8 @@ pub record ArePlansBy (t : Timeline) (ks plans : List ℕ) : Type 0 where
   pub parts : (a b : ℕ) → list_any (is_between a b) plans
       ≡ list_any (λ (e : ℕ × Event). is_plan e.1 && is_between a b e.0) (chosen t.accepted ks)
 
--- the cones of some events, as marks
+-- the cones of some events, as marks, and those beside jobs and slots where these are there
 pub record AreCones (t : Timeline) (cones : Cones) : Type 0 where
   pub few : length cones.asked.items ≤ 64
   pub all : AreMarks (λ n. cone_numbers n t) cones.asked.items cones.all.entries
-  pub beside : AreMarks (held_beside t) cones.asked.items cones.beside.entries
+  pub beside : IfSome cones.beside (λ marks. AreMarks (held_beside t) cones.asked.items marks.entries)

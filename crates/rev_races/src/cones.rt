@@ -1,6 +1,7 @@
 //! The cones of makers' ends, many at a time.
 ghost use Rattle.std.specs.Prelude.{◌≡◌, ◌<◌, ◌≤◌, ℕ, [], length, slice_get, IfOk, IfSome, OnOk, Some};
-ghost use Rattle.rev_history.specs.Timeline.{Timeline};
+ghost use Rattle.rev_held.specs.Beside.{held_beside};
+ghost use Rattle.rev_history.specs.Timeline.{Timeline, is_among};
 ghost use Rattle.rev_races.specs.Stories.{AreCones, held_by};
 
 use crate::story::Happened;
@@ -9,13 +10,13 @@ use rev_history::History;
 use rev_marks::{MOST, beside_marks, cone_marks, is_marked};
 use std::alloc::{AllocError, Global};
 
-/// The cones of the events `asked`, as marks: `all` by all cells, `beside` by all cells except those of jobs and slots.
-/// `ends` are the events whose cones may be asked for.
+/// The cones of the events `asked`, as marks: `all` by all cells, and `beside`, once it is wanted, by all cells except
+/// those of jobs and slots. `ends` are the events whose cones may be asked for.
 pub(crate) struct Cones {
     pub(crate) ends: Vec<u32>,
     pub(crate) asked: Vec<u32>,
     pub(crate) all: IndexMap<u32, u64>,
-    pub(crate) beside: IndexMap<u32, u64>,
+    pub(crate) beside: Option<IndexMap<u32, u64>>,
 }
 
 // Written, since a derived drop is proved again at each exit of each caller.
@@ -38,7 +39,7 @@ pub(crate) fn no_cones(alloc: Global, ends: Vec<u32>) -> Cones
         ends,
         asked: Vec::new(alloc),
         all: IndexMap::new(alloc),
-        beside: IndexMap::new(alloc),
+        beside: None,
     }
 }
 
@@ -110,22 +111,53 @@ pub(crate) fn cones_for(
     }
     let asked = asked_with(alloc, number, &cones.ends)?;
     cones.all = cone_marks(alloc, history, &asked)?;
-    cones.beside = beside_marks(alloc, history, &asked)?;
+    cones.beside = None;
     cones.asked = asked;
     Ok(0)
 }
 
+// Whether an event is held by that at a place by more than jobs and slots.
+fn is_held_beside(
+    alloc: Global,
+    history: &History,
+    place: usize,
+    number: u32,
+    cones: &mut Cones,
+) -> Result<bool, AllocError>
+    requires cones { AreCones history.now.timeline cones.old }
+    requires place { place < 64 }
+    ensures cones { OnOk result (AreCones history.now.timeline cones.new) }
+    ensures held { IfOk result (λ held. (f : ℕ) → slice_get cones.old.asked.items place ≡ Some f
+        → held ≡ is_among (held_beside history.now.timeline f) number) }
+{
+    if let Some(marks) = &cones.beside {
+        return Ok(is_marked(marks, place, number));
+    }
+    let marks = beside_marks(alloc, history, &cones.asked)?;
+    let held = is_marked(&marks, place, number);
+    cones.beside = Some(marks);
+    Ok(held)
+}
+
 /// How an event is held by that at a place.
-pub(crate) fn held(cones: &Cones, place: usize, number: u32) -> Happened
-    requires { place < 64 }
-    ensures { (t : Timeline) (f : ℕ) → AreCones t cones.now → slice_get cones.now.asked.items place ≡ Some f
-        → result ≡ held_by t f number }
+pub(crate) fn held(
+    alloc: Global,
+    history: &History,
+    place: usize,
+    number: u32,
+    cones: &mut Cones,
+) -> Result<Happened, AllocError>
+    requires cones { AreCones history.now.timeline cones.old }
+    requires place { place < 64 }
+    ensures cones { OnOk result (AreCones history.now.timeline cones.new) }
+    ensures held { IfOk result (λ held. (f : ℕ) → slice_get cones.old.asked.items place ≡ Some f
+        → held ≡ held_by history.now.timeline f number) }
 {
     if !is_marked(&cones.all, place, number) {
-        return Happened::Free;
+        return Ok(Happened::Free);
     }
-    if is_marked(&cones.beside, place, number) {
-        return Happened::HeldRecord;
+    if is_held_beside(alloc, history, place, number, cones)? {
+        return Ok(Happened::HeldRecord);
     }
-    Happened::HeldPlace
+    Ok(Happened::HeldPlace)
 }

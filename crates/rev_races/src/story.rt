@@ -61,7 +61,7 @@ fn after_end(
         return Ok(Happened::AtOnce);
     }
     let place = cones_for(alloc, history, number, cones)?;
-    Ok(held(cones, place, began))
+    held(alloc, history, place, began, cones)
 }
 
 // What happened with two runs that no plan parts.
@@ -229,7 +229,8 @@ fn ends_of(
 
 /// What happened here with the two edges of each race, in the same order.
 ///
-/// The kept events are gone through five times, and twice for each 64 makers that race.
+/// The kept events are gone through five times, and once or twice for each 64 makers that race: a second time where a
+/// user was held.
 ///
 /// # Errors
 /// [`AllocError`] only where an allocation was refused.
