@@ -4,20 +4,18 @@ ghost use Rattle.std.specs.Prelude.{◌≤◌, length};
 use crate::files::{Place, Recording, place_of, read_recording, read_times};
 use crate::forms::Form;
 use crate::observed::{Observed, observed_in, read_observed};
+use crate::replies::{Answered, Style, told, told_with, written_for};
+use crate::several::written_for_each;
 use crate::times::{KnownTimes, LabelTime, label_times};
 use crate::told::{EndedDesk, leave, manifest_of, races_in, refuse, trace_of, write};
 use rev_answers::{
-    Context, Many, answer_json, answer_words, each_json, each_words, fault_json, meant_word,
-    not_asked_words, objects_json, opening_json, opening_words, screen_of,
+    meant_word, not_asked_words, objects_json, opening_json, opening_words, screen_of,
 };
 use rev_desk::Desk;
 use rev_manifest::Manifest;
 use rev_observed::Observation;
 use rev_program::ProgramFault;
-use rev_prompt::{
-    Answer, LineFault, Question, Session, Several, answer_to, asked_each, has_answer, only_asks,
-    outputs_meant, question_of, texts_of,
-};
+use rev_prompt::{LineFault, Question, Session, outputs_meant, question_of, texts_of};
 use rev_recording::{RecordingFault, open};
 use rev_script::turns_of;
 use rev_trace::Trace;
@@ -48,287 +46,6 @@ impl From<AllocError> for Ended {
     fn from(_e: AllocError) -> Ended {
         Ended::Recording(RecordingFault::Memory)
     }
-}
-
-// What is written for a line, how many commands of the recording were said by then, whether an empty line now asks for
-// the next one, whether the line had an answer, and whether this is the end.
-#[derive(Drop)]
-struct Answered {
-    text: Vec<u8>,
-    taken: usize,
-    repeats: bool,
-    is_answer: bool,
-    ends: bool,
-}
-
-// How a line is answered: as JSON or in words, by which times of events, whether an empty line asks for the next command
-// of the recording, and whether all is told and not a screen.
-#[derive(Clone, Copy)]
-struct Style<'a> {
-    json: bool,
-    times: &'a [Option<u32>],
-    repeats: bool,
-    all: bool,
-}
-
-// How many outputs are told of a pattern, or of a phony name.
-const MOST_OUTPUTS: usize = 20;
-
-// What is written for a line that has no answer, behind which an empty line asks for the next command or not.
-fn told_with(
-    alloc: Global,
-    session: &Session<'_>,
-    text: &[u8],
-    meant: Option<&str>,
-    style: Style<'_>,
-    repeats: bool,
-) -> Result<Answered, AllocError> {
-    let text = if style.json {
-        fault_json(alloc, text, meant)?
-    } else {
-        Vec::from_slice(alloc, text)?
-    };
-    Ok(Answered {
-        text,
-        taken: session.taken,
-        repeats,
-        is_answer: false,
-        ends: false,
-    })
-}
-
-// The same, where no word may have been meant.
-fn told(
-    alloc: Global,
-    session: &Session<'_>,
-    text: &[u8],
-    style: Style<'_>,
-    repeats: bool,
-) -> Result<Answered, AllocError> {
-    told_with(alloc, session, text, None, style, repeats)
-}
-
-// What an answer is in words, or as an object.
-fn answer_text(
-    alloc: Global,
-    told: Context<'_>,
-    answer: &Answer,
-    json: bool,
-) -> Result<Vec<u8>, AllocError> {
-    if json {
-        answer_json(alloc, told, answer)
-    } else {
-        answer_words(alloc, told, answer)
-    }
-}
-
-// Whether all of an answer is told: where the question asks for all, and where it is `help` or `next` with a number.
-fn wants_all(question: &Question) -> bool {
-    match question {
-        Question::Query(_, all) | Question::Kept(all) | Question::Races(all) => *all,
-        Question::Help | Question::Next(_) => true,
-        Question::Run
-        | Question::Until(_)
-        | Question::Needs(_, _)
-        | Question::Dependents(_)
-        | Question::WouldCone(_)
-        | Question::Who(_)
-        | Question::Readers(_)
-        | Question::Writers(_)
-        | Question::What(_)
-        | Question::Why(_)
-        | Question::With(_)
-        | Question::Order(_)
-        | Question::Without(_)
-        | Question::Undo(_)
-        | Question::Redo(_)
-        | Question::Cone(_)
-        | Question::Marks(_)
-        | Question::Stamps(_)
-        | Question::Logs(_)
-        | Question::Command(_)
-        | Question::HelpOf(_)
-        | Question::Quit
-        | Question::Nothing => false,
-    }
-}
-
-// An answer as it is written: all of it, or a screen.
-fn cut(
-    alloc: Global,
-    text: Vec<u8>,
-    question: &Question,
-    style: Style<'_>,
-) -> Result<Vec<u8>, AllocError> {
-    if style.json || style.all || wants_all(question) {
-        return Ok(text);
-    }
-    screen_of(alloc, &text, only_asks(question))
-}
-
-// What is written for the answer to a question.
-fn written_for_answer(
-    alloc: Global,
-    session: &Session<'_>,
-    desk: &Desk,
-    question: &Question,
-    answer: &Answer,
-    style: Style<'_>,
-) -> Result<Vec<u8>, AllocError> {
-    let times = Vec::from_slice(alloc, style.times)?;
-    let session = Session {
-        times: &times,
-        ..*session
-    };
-    let told = Context {
-        session: &session,
-        desk,
-        question,
-    };
-    let text = answer_text(alloc, told, answer, style.json)?;
-    cut(alloc, text, question, style)
-}
-
-// What is written for a question.
-fn written_for(
-    alloc: Global,
-    session: &Session<'_>,
-    desk: &mut Desk,
-    question: &Question,
-    style: Style<'_>,
-) -> Result<Answered, AllocError> {
-    let times = Vec::from_slice(alloc, style.times)?;
-    let session = Session {
-        times: &times,
-        ..*session
-    };
-    let reply = answer_to(alloc, &session, desk, question)?;
-    Ok(Answered {
-        text: written_for_answer(alloc, &session, desk, question, &reply.answer, style)?,
-        taken: reply.taken,
-        repeats: matches!(question, Question::Next(_)),
-        is_answer: has_answer(&reply.answer),
-        ends: reply.ends,
-    })
-}
-
-// The texts of a line with an output in place of the text at a place.
-fn line_about(
-    alloc: Global,
-    texts: &[Vec<u8>],
-    place: usize,
-    output: &[u8],
-) -> Result<Vec<Vec<u8>>, AllocError> {
-    let mut line = Vec::new(alloc);
-    for (index, text) in texts.iter().enumerate() {
-        let text: &[u8] = if index == place { output } else { text };
-        line.push(Vec::from_slice(alloc, text)?)?;
-    }
-    Ok(line)
-}
-
-// The questions of a line about each of the first so many of some outputs.
-fn questions_about(
-    alloc: Global,
-    texts: &[Vec<u8>],
-    several: &Several,
-    most: usize,
-) -> Result<Vec<Question>, AllocError> {
-    let mut questions = Vec::new(alloc);
-    for output in several.outputs.iter().take(most) {
-        let line = line_about(alloc, texts, several.place, output)?;
-        match question_of(alloc, &line) {
-            Ok(question) => questions.push(question)?,
-            Err(rev_fields::LineFault::Memory) => return Err(AllocError),
-            // The longest names have no room for the `./` before them, by which a name like a number is typed.
-            Err(_) => {}
-        }
-    }
-    Ok(questions)
-}
-
-// What is written for the answers to questions that only ask.
-fn written_for_answers(
-    alloc: Global,
-    session: &Session<'_>,
-    desk: &Desk,
-    questions: &[Question],
-    answers: &[Answer],
-    style: Style<'_>,
-) -> Result<Vec<Vec<u8>>, AllocError> {
-    let mut written = Vec::new(alloc);
-    for (question, answer) in questions.iter().zip(answers.iter()) {
-        written.push(written_for_answer(alloc, session, desk, question, answer, style)?)?;
-    }
-    Ok(written)
-}
-
-// The answers to one question about each of the first outputs of some.
-fn answers_for_each(
-    alloc: Global,
-    session: &Session<'_>,
-    desk: &Desk,
-    texts: &[Vec<u8>],
-    several: &Several,
-    style: Style<'_>,
-) -> Result<Vec<Vec<u8>>, AllocError> {
-    let most = if style.all {
-        several.outputs.len()
-    } else {
-        MOST_OUTPUTS
-    };
-    let times = Vec::from_slice(alloc, style.times)?;
-    let session = Session {
-        times: &times,
-        ..*session
-    };
-    let questions = questions_about(alloc, texts, several, most)?;
-    let answers = asked_each(alloc, &session, desk, &questions)?;
-    written_for_answers(alloc, &session, desk, &questions, &answers, style)
-}
-
-// The answers about some outputs in words, up to a screen, or as an object.
-fn each_text(
-    alloc: Global,
-    many: Many<'_>,
-    answers: &[Vec<u8>],
-    style: Style<'_>,
-) -> Result<Vec<u8>, AllocError> {
-    if style.json {
-        return each_json(alloc, many, answers);
-    }
-    let text = each_words(alloc, many, answers)?;
-    if style.all {
-        return Ok(text);
-    }
-    screen_of(alloc, &text, true)
-}
-
-// What is written for the same question about each of some outputs.
-fn written_for_each(
-    alloc: Global,
-    session: &Session<'_>,
-    desk: &mut Desk,
-    texts: &[Vec<u8>],
-    several: &Several,
-    style: Style<'_>,
-) -> Result<Answered, AllocError> {
-    let answers = answers_for_each(alloc, session, desk, texts, several, style)?;
-    let many = Many {
-        name: match texts.get(several.place) {
-            Some(name) => name,
-            None => &[],
-        },
-        is_phony: several.is_phony,
-        count: several.outputs.len(),
-    };
-    Ok(Answered {
-        text: each_text(alloc, many, &answers, style)?,
-        taken: session.taken,
-        repeats: false,
-        is_answer: !several.outputs.is_empty(),
-        ends: false,
-    })
 }
 
 // The texts before `--all`, where that stands behind others, and whether it does.
@@ -801,8 +518,8 @@ fn asked_about<R: Files + Input + Print + AllocGlobal>(
     }
 }
 
-/// Answers the lines of the standard input about a recording, up to `quit` or its end, and gives the program's status: 1
-/// where the last line of the input had no answer.
+/// Answers the lines of the standard input about a recording, up to `quit` or its end, and gives the program's status:
+/// 1 where the last line of the input had no answer.
 pub fn ask<'a, R: Files + Input + Print + Eprint + AllocGlobal>(
     rt: &R,
     recording: &'a str,
