@@ -163,21 +163,67 @@ fn mend_of<'a>(builds: &'a [Build], kind: Kind, maker: u32) -> Option<&'a Name> 
     }
 }
 
-// The races by what edges list in a history, whose manifest has these edges and was read from these files.
+// The output that is the name of a path in a folder.
+fn output_within<'a>(outputs: &'a [Name], folder: &[u8], path: &Name) -> Option<&'a Name> {
+    let rest = path.as_bytes().strip_prefix(folder)?;
+    for output in outputs {
+        if output.as_bytes() == rest {
+            return Some(output);
+        }
+    }
+    None
+}
+
+// The path of a race as its maker's first names have it: where the maker has an output that is the name of the path in
+// the folder of the build, that output. So the name of a race does not differ from machine to machine.
+fn path_within<'a>(builds: &'a [Build], folder: &[u8], maker: u32, path: &'a Name) -> &'a Name {
+    if folder.is_empty() {
+        return path;
+    }
+    match builds.get(maker as usize) {
+        Some(build) => output_within(build.explicit_outs(), folder, path).unwrap_or(path),
+        None => path,
+    }
+}
+
+// Notes a path of two edges, and says whether it is noted for the first time.
+fn is_first(
+    alloc: Global,
+    noted: &mut IndexMap<Vec<u8>, ()>,
+    pair: u64,
+    path: &Name,
+) -> Result<bool, AllocError> {
+    let mut key = Vec::from_slice(alloc, path.as_bytes())?;
+    key.extend_from_slice(&pair.to_le_bytes())?;
+    if noted.contains_key(key.as_slice()) {
+        return Ok(false);
+    }
+    noted.insert(key, ())?;
+    Ok(true)
+}
+
+// The races by what edges list in a history, whose manifest has these edges and was read from these files. A list may
+// have both names of a file in the folder of the build: it makes one race.
 fn listed_races<'a>(
     alloc: Global,
     history: &'a History,
     builds: &'a [Build],
     files: &[Name],
     failed: &Failed,
+    folder: &[u8],
 ) -> Result<Vec<RaceFinding<'a>>, AllocError> {
     let races = races(alloc, history, files)?;
     let stories = stories(alloc, history, &races)?;
     let bases = bases(alloc, history)?;
     let before = before_of(alloc, failed)?;
+    let mut noted = IndexMap::new(alloc);
     let mut told = Vec::new(alloc);
     for (place, race) in races.iter().enumerate() {
-        if let Some(path) = path_of(history, race) {
+        if let Some(listed) = path_of(history, race) {
+            let path = path_within(builds, folder, race.maker, listed);
+            if !is_first(alloc, &mut noted, pair_key(race.user, race.maker), path)? {
+                continue;
+            }
             let basis = basis_at(&bases, race.user);
             told.push(RaceFinding {
                 kind: race.kind,
@@ -384,12 +430,13 @@ pub fn findings_in<'a>(
     let mut named = Vec::new(alloc);
     let graph = history.graph();
     let failures = told_failures(alloc, graph, builds, &failed, entries, &mut named)?;
-    let mut races = listed_races(alloc, history, builds, files, &failed)?;
+    let folder = build_folder(graph);
+    let mut races = listed_races(alloc, history, builds, files, &failed, folder)?;
     let mut paths = IndexMap::new(alloc);
-    for race in &named {
+    for race in named.iter_mut() {
+        race.path = path_within(builds, folder, race.maker, race.path);
         paths.insert(pair_key(race.user, race.maker), race.path)?;
     }
-    let folder = build_folder(graph);
     races.retain(|race| !is_named(&paths, folder, race));
     races.extend_from_slice(&named)?;
     Ok(Findings { races, failures })
