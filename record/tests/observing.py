@@ -7,6 +7,7 @@ import shutil
 import subprocess
 import sys
 import tempfile
+import unittest
 from collections.abc import Callable, Iterable, Mapping
 from dataclasses import dataclass, field
 
@@ -118,3 +119,17 @@ class Room:
         observed = out / "observed"
         commands = read_observed(observed) if observed.exists() else {}
         return Build(folder, ran.returncode, os.fsdecode((folder.parent / "said").read_bytes()), commands)
+
+
+class WithRoom:
+    """Cases with a room for builds, for the observer whose word is `observer`. They are skipped where it cannot work."""
+
+    observer = ""
+
+    @classmethod
+    def setUpClass(cls):
+        why = refusal(cls.observer)
+        if why:
+            raise unittest.SkipTest(why)
+        cls.room = Room()
+        cls.addClassCleanup(cls.room.close)

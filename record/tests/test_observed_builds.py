@@ -9,7 +9,7 @@ import unittest
 import unittest.mock
 
 import builds
-from observing import Room, read_observed, refusal
+from observing import Room, WithRoom, read_observed
 from recorder.observed import log_pipe
 from versions import NINJA
 
@@ -37,18 +37,8 @@ build listed: list s2
 """
 
 
-class Cases:
-    """The cases, for the observer whose word is `observer`."""
-
-    observer = ""
-
-    @classmethod
-    def setUpClass(cls):
-        why = refusal(cls.observer)
-        if why:
-            raise unittest.SkipTest(why)
-        cls.room = Room()
-        cls.addClassCleanup(cls.room.close)
+class Cases(WithRoom):
+    """The cases, for each observer."""
 
     def one(self, command, files=None, **options):
         """The footprint of the one command of a build, whose output is `out`."""

@@ -9,25 +9,19 @@ import unittest
 
 import builds
 from observed_calls import NO_SUCH_CALL, built
-from observing import Room, refusal
+from observing import WithRoom
 from versions import NINJA
 
 WITHOUT_COMPILER = builds.missing_tools("cc")
 ONE = "rule c\n  command = {}\nbuild out: c\n"
 
 
-class Cases:
-    """The cases, for the observer whose word is `observer`."""
-
-    observer = ""
+class Cases(WithRoom):
+    """The cases, for each observer."""
 
     @classmethod
     def setUpClass(cls):
-        why = refusal(cls.observer)
-        if why:
-            raise unittest.SkipTest(why)
-        cls.room = Room()
-        cls.addClassCleanup(cls.room.close)
+        super().setUpClass()
         cls.programs = None if WITHOUT_COMPILER else cls.room.path / "programs"
         if cls.programs:
             cls.programs.mkdir()

@@ -5,7 +5,7 @@ import sys
 import unittest
 
 import builds
-from observing import Footprint, Room, refusal
+from observing import Footprint, WithRoom
 from planted import PROJECTS, Project
 
 LEAVES = ("writes", "edits", "deletes", "temps")
@@ -30,16 +30,8 @@ def conflicts(commands: dict[bytes, Footprint]) -> set[tuple[bytes, bytes]]:
     return found
 
 
-class Cases:
-    observer = ""
-
-    @classmethod
-    def setUpClass(cls):
-        why = refusal(cls.observer)
-        if why:
-            raise unittest.SkipTest(why)
-        cls.room = Room()
-        cls.addClassCleanup(cls.room.close)
+class Cases(WithRoom):
+    """The cases, for each observer."""
 
     def hold(self, project: Project, jobs: int):
         if builds.missing_tools(*project.tools):
