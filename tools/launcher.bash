@@ -195,14 +195,16 @@ run_example() {
     ended=$?
     look_at rebug
   fi
-  if [ -n "$is_there" ] && [ -z "$is_try" ]; then
+  if [ -n "$is_try" ]; then
+    say "next, the races of a recorded build. In $top: ./rebug --try races examples/flaky/passed"
+  elif [ -n "$is_there" ]; then
     look_at rebug_ask
     if [ -z "$is_there" ]; then
       say "the second program, which answers words about a recording, is proved next"
       prove || exit
     fi
+    say "next, ask a recorded build. In $top: ./rebug ask examples/flaky/passed"
   fi
-  say "next, ask a recorded build. In $top: ./rebug ask examples/flaky/passed"
   exit "$ended"
 }
 
