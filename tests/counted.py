@@ -3,19 +3,19 @@
 from __future__ import annotations
 
 import unittest
-from collections.abc import Iterable
 
 
-def names(tests: Iterable[unittest.TestCase]) -> set[str]:
+def names(found: list[tuple[unittest.TestCase, str]]) -> set[str]:
     """The names of tests, each once, also where several of its parts are among them."""
-    return {getattr(test, "test_case", test).id() for test in tests}
+    return {getattr(test, "test_case", test).id() for test, _ in found}
 
 
 def count(ran: unittest.TestResult) -> int:
     """Prints what was skipped and why, and as the last line 'N passed, M failed'. The status: 1 where a test failed."""
     for test, reason in ran.skipped:
         print(f"skipped: {test.id()}: {reason}")
-    failed = names(test for test, _ in ran.failures + ran.errors)
-    skipped = names(test for test, _ in ran.skipped) - failed
-    print(f"{max(ran.testsRun - len(failed) - len(skipped), 0)} passed, {len(failed)} failed", flush=True)
+    failed = ran.failures + ran.errors
+    # A class that is skipped or fails as a whole stands for its tests, of which none was begun.
+    begun = [it for it in failed + ran.skipped if isinstance(it[0], unittest.TestCase)]
+    print(f"{ran.testsRun - len(names(begun))} passed, {len(names(failed))} failed", flush=True)
     return 1 if failed else 0
