@@ -19,7 +19,7 @@ class SmallRepository(unittest.TestCase):
     """The repository is `top`. Beside it stand the command rt, and a shell by the prover's name that can do WORK."""
 
     def make(self, crates: dict[str, str], with_edits: Iterable[str], tools: Iterable[str], rt: str) -> None:
-        """Makes it, of crates and what each stands on. Those with edits have one each, whose text stands in the crate."""
+        """Makes it, of crates and what each stands on. Those with edits have one each, of what stands in the crate."""
         self.room = Path(tempfile.mkdtemp(prefix="rebug-small-"))
         self.addCleanup(shutil.rmtree, self.room)
         self.top = self.room / "top"
