@@ -1,17 +1,17 @@
 //! Questions about a recording, a line of standard input each.
 ghost use Rattle.std.specs.Prelude.{◌≤◌, length};
 
-use crate::files::{Place, Recording, place_of, read_recording, read_times};
-use crate::forms::Form;
-use crate::observed::{Observed, observed_in, read_observed};
 use crate::replies::{Answered, Style, told, told_with, written_for};
 use crate::several::written_for_each;
-use crate::times::{KnownTimes, LabelTime, label_times};
 use crate::told::{EndedDesk, leave, manifest_of, races_in, refuse, trace_of, write};
 use rev_answers::{
     meant_word, not_asked_words, objects_json, opening_json, opening_words, screen_of,
 };
 use rev_desk::Desk;
+use rev_folder::{
+    KnownTimes, LabelTime, Observed, Place, Recording, label_times, observed_in, place_of,
+    read_observed, read_recording, read_times,
+};
 use rev_manifest::Manifest;
 use rev_observed::Observation;
 use rev_program::ProgramFault;
@@ -19,6 +19,7 @@ use rev_prompt::{LineFault, Question, Session, outputs_meant, question_of, texts
 use rev_recording::{RecordingFault, open};
 use rev_script::turns_of;
 use rev_trace::Trace;
+use rev_verdicts::Form;
 use std::alloc::{AllocError, Global};
 use std::io::ErrorKind;
 use std::rt::Files;

@@ -1,10 +1,10 @@
 //! Two recordings side by side.
-use crate::files::{Recording, place_of, read_recording};
 use crate::told::{leave, manifest_of, refuse, say, trace_of, write};
 use rev_answers::screen_of;
 use rev_asking::Request;
 use rev_compared_text::{Form, Side, comparison};
 use rev_desk::Desk;
+use rev_folder::{Recording, place_of, read_recording};
 use rev_graph::GraphFault;
 use rev_manifest::Manifest;
 use rev_program::ProgramFault;

@@ -1,37 +1,22 @@
 //! Answers questions about a recorded Ninja build.
 #![tactic(auto)]
 
-mod answering;
 mod asking;
-mod certifying;
 mod comparing;
-mod files;
-mod forms;
-mod found;
-mod hinted;
-mod leaving;
-mod listed_names;
-mod mended;
-mod observed;
 mod page;
 mod picturing;
-mod provoked;
 mod replies;
-mod reporting;
-mod seen;
 mod several;
-mod statements;
 mod timelining;
-mod times;
 mod told;
 
 use asking::{Manner, ask};
 use comparing::compare;
-use forms::Form;
 use picturing::picture;
 use rev_asking::{Request, Word, read_words};
 use rev_fields::wide_number;
 use rev_program::{ProgramFault, USAGE, explain, fail, words};
+use rev_verdicts::Form;
 use std::io::IsTerminal;
 use std::process::ExitCode;
 use std::rt::Files;

@@ -1,16 +1,17 @@
 //! The picture of a recording.
 ghost use Rattle.std.specs.Prelude.{◌≡◌, ◌+◌, ◌≤◌, length};
 
-use crate::files::{Recording, place_of, read_recording, read_times};
-use crate::observed::{Observed, hidden_in, observed_in, read_filters, read_observed};
 use crate::page::{HEAD, TAIL};
-use crate::times::times_in;
 use crate::told::{command_count, leave, manifest_of, names_of, refuse, say, trace_of, write};
 use rev_asking::Request;
 use rev_bars::{Drawing, push_drawing};
 use rev_conflicts::{Conflict, conflicts};
 use rev_desk::Desk;
 use rev_fields::number;
+use rev_folder::{
+    Observed, Recording, hidden_in, observed_in, place_of, read_filters, read_observed,
+    read_recording, read_times, times_in,
+};
 use rev_history::History;
 use rev_manifest::Manifest;
 use rev_paths::Name;

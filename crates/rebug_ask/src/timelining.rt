@@ -1,17 +1,16 @@
 //! The timeline of a recording.
 ghost use Rattle.std.specs.Prelude.{◌≡◌, ◌+◌, ◌≤◌, length};
 
-use crate::files::Recording;
 use crate::picturing::{
     Bytes, Sight, maybe_sight_of, put, races_of_two, read_drawn, replayed_text, say_lines,
 };
-use crate::times::times_in;
 use crate::told::{command_count, leave, manifest_of, names_of, refuse, say, trace_of};
 use rev_asking::Request;
 use rev_cells::Cells;
 use rev_conflicts::Conflict;
 use rev_desk::Desk;
 use rev_events::Event;
+use rev_folder::{Recording, times_in};
 use rev_history::History;
 use rev_manifest::Manifest;
 use rev_program::{ProgramFault, USAGE};

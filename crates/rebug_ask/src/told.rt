@@ -1,22 +1,19 @@
 //! Answers about a recording.
 ghost use Rattle.std.specs.Prelude.{◌≡◌, ◌+◌, ◌≤◌, length, IfOk};
 
-use crate::answering::{Answer, Written, written_with};
-use crate::certifying::{Grounds, certified};
-use crate::files::{Place, Recording, place_of, read_beside, read_names, read_recording};
-use crate::forms::{Form, items_text, report_items};
-use crate::found::{last_runs, witness_of};
-use crate::hinted::names_in;
-use crate::leaving::{Choice, Leaving};
-use crate::mended::mend_text;
-use crate::observed::{FilterTexts, observed_sentence, read_filters, read_observed};
-use crate::provoked::provoke_text;
-use crate::reporting::{Basis, add_hints, replayed_of, report_of};
-use crate::seen::{Sight, count_findings, hidden_places, seen_findings, sight_in};
 use rev_conflicts_text::{Finding, findings_json, findings_words, pair_of};
 use rev_desk::Desk;
+use rev_findings::{
+    Basis, Sight, add_hints, count_findings, hidden_places, last_runs, names_in, replayed_of,
+    report_of, seen_findings, sight_in, witness_of,
+};
+use rev_folder::{
+    FilterTexts, Place, Recording, observed_sentence, place_of, read_beside, read_filters,
+    read_names, read_observed, read_recording,
+};
 use rev_history::History;
 use rev_manifest::Manifest;
+use rev_mends::{mend_text, provoke_text};
 use rev_paths::{Name, PathFault};
 use rev_program::{ProgramFault, ReadFault, USAGE, read_named};
 use rev_races_text::{Report, Sources};
@@ -24,6 +21,10 @@ use rev_recording::{RecordingFault, fault_line, open, replay, replay_text};
 use rev_script::send;
 use rev_sentences::{Inputs, sentence};
 use rev_trace::Trace;
+use rev_verdicts::{
+    Answer, Choice, Form, Grounds, Leaving, Written, certified, items_text, report_items,
+    written_with,
+};
 use std::alloc::{AllocError, Global};
 use std::rt::Files;
 use std::{fs, io, mem};

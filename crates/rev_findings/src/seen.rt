@@ -6,11 +6,11 @@ ghost use Rattle.rev_observed.specs.Observations.{outputs_of};
 
 use crate::found::orderable_output;
 use crate::listed_names::note_listed;
-use crate::observed::{FilterTexts, Observed, hidden_by, observed_in};
 use rev_conflicts::{Conflict, Place, conflicts};
 use rev_conflicts_text::{
     Finding, add_undeclared, add_unlisted, conflict_findings, conflicts_left, races_left, seen_in,
 };
+use rev_folder::{FilterTexts, Observed, hidden_by, observed_in};
 use rev_graph::Graph;
 use rev_history::History;
 use rev_manifest::Build;

@@ -1,9 +1,9 @@
 //! Which findings filters and a baseline leave out of an answer.
-use crate::observed::{FilterTexts, filters_in};
 use indexmap::IndexSet;
 use rev_baseline::{Baseline, Fault, ReadFault};
 use rev_conflicts_text::{Finding, Way};
 use rev_filters::{Filters, is_hidden};
+use rev_folder::{FilterTexts, filters_in};
 use rev_races_text::{Clash, Evidence, Id, LeftOut, RaceFinding, Sources};
 use rev_recording::{ObservedFault, RecordingFault};
 use std::alloc::{AllocError, Global};

@@ -6,17 +6,17 @@ ghost use Rattle.rev_observed.specs.Observations.{outputs_of};
 
 use crate::answering::{Written, written_with};
 use crate::forms::{Form, certified_items, items_text};
-use crate::found::told_clashes;
 use crate::leaving::{Choice, Leaving};
-use crate::observed::{Observed, hidden_by, observed_in};
-use crate::seen::{
-    conflict_findings_in, hidden_count, undeclared_in, unfiltered, unlisted_count, unlisted_in,
-};
 use rev_certified::{Certificate, Marks, certify};
 use rev_conflicts::early_edges;
 use rev_conflicts_text::{Certified, Stale, Way};
 use rev_desk::Desk;
 use rev_events::Event;
+use rev_findings::{
+    conflict_findings_in, hidden_count, told_clashes, undeclared_in, unfiltered, unlisted_count,
+    unlisted_in,
+};
+use rev_folder::{Observed, hidden_by, observed_in};
 use rev_graph::{Graph, edges_among};
 use rev_history::History;
 use rev_observed::Flags;

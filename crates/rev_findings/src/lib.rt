@@ -1,0 +1,16 @@
+//! What is found in a recording that was replayed.
+#![tactic(auto)]
+
+mod found;
+mod hinted;
+mod listed_names;
+mod reporting;
+mod seen;
+
+pub use found::{last_runs, told_clashes, witness_of};
+pub use hinted::names_in;
+pub use reporting::{Basis, add_hints, replayed_of, report_of};
+pub use seen::{
+    Sight, conflict_findings_in, count_findings, hidden_count, hidden_places, seen_findings,
+    sight_in, undeclared_in, unfiltered, unlisted_count, unlisted_in,
+};
