@@ -202,8 +202,82 @@ fn is_first(
     Ok(true)
 }
 
-// The races by what edges list in a history, whose manifest has these edges and was read from these files. A list may
-// have both names of a file in the folder of the build: it makes one race.
+// What is known of races by lists.
+#[derive(Clone, Copy)]
+struct Known<'b> {
+    races: &'b [Race],
+    // Of each race what happened.
+    stories: &'b [Story],
+    // For each edge what its list is of.
+    bases: &'b [Option<Basis>],
+    before: &'b Before,
+}
+
+// The race at a place of those that are known, whose path has this name.
+fn known_race<'a>(
+    builds: &'a [Build],
+    known: Known<'_>,
+    place: usize,
+    race: &Race,
+    path: &'a Name,
+) -> RaceFinding<'a> {
+    let basis = basis_at(known.bases, race.user);
+    RaceFinding {
+        kind: race.kind,
+        maker: race.maker,
+        user: race.user,
+        path,
+        basis,
+        evidence: evidence_of(race, known.stories.get(place), basis, known.before),
+        mend: mend_of(builds, race.kind, race.maker),
+    }
+}
+
+// Adds races that are known of a history. A list may have both names of a file in the folder of the build: it makes one
+// race.
+fn add_known<'a>(
+    alloc: Global,
+    history: &'a History,
+    builds: &'a [Build],
+    known: Known<'_>,
+    folder: &[u8],
+    told: &mut Vec<RaceFinding<'a>>,
+) -> Result<(), AllocError> {
+    let mut noted = IndexMap::new(alloc);
+    for (place, race) in known.races.iter().enumerate() {
+        if let Some(listed) = path_of(history, race) {
+            let path = path_within(builds, folder, race.maker, listed);
+            if is_first(alloc, &mut noted, pair_key(race.user, race.maker), path)? {
+                told.push(known_race(builds, known, place, race, path))?;
+            }
+        }
+    }
+    Ok(())
+}
+
+// Adds the races by what edges list in a history, whose manifest has these edges and was read from these files.
+fn add_listed<'a>(
+    alloc: Global,
+    history: &'a History,
+    builds: &'a [Build],
+    files: &[Name],
+    before: &Before,
+    folder: &[u8],
+    told: &mut Vec<RaceFinding<'a>>,
+) -> Result<(), AllocError> {
+    let races = races(alloc, history, files)?;
+    let stories = stories(alloc, history, &races)?;
+    let bases = bases(alloc, history)?;
+    let known = Known {
+        races: &races,
+        stories: &stories,
+        bases: &bases,
+        before,
+    };
+    add_known(alloc, history, builds, known, folder, told)
+}
+
+// The races by what edges list in a history, beside the commands that failed.
 fn listed_races<'a>(
     alloc: Global,
     history: &'a History,
@@ -212,30 +286,9 @@ fn listed_races<'a>(
     failed: &Failed,
     folder: &[u8],
 ) -> Result<Vec<RaceFinding<'a>>, AllocError> {
-    let races = races(alloc, history, files)?;
-    let stories = stories(alloc, history, &races)?;
-    let bases = bases(alloc, history)?;
     let before = before_of(alloc, failed)?;
-    let mut noted = IndexMap::new(alloc);
     let mut told = Vec::new(alloc);
-    for (place, race) in races.iter().enumerate() {
-        if let Some(listed) = path_of(history, race) {
-            let path = path_within(builds, folder, race.maker, listed);
-            if !is_first(alloc, &mut noted, pair_key(race.user, race.maker), path)? {
-                continue;
-            }
-            let basis = basis_at(&bases, race.user);
-            told.push(RaceFinding {
-                kind: race.kind,
-                maker: race.maker,
-                user: race.user,
-                path,
-                basis,
-                evidence: evidence_of(race, stories.get(place), basis, &before),
-                mend: mend_of(builds, race.kind, race.maker),
-            })?;
-        }
-    }
+    add_listed(alloc, history, builds, files, &before, folder, &mut told)?;
     Ok(told)
 }
 
@@ -298,36 +351,43 @@ fn count_untold(untold: &mut Remainder, progress: Progress) {
     }
 }
 
-// Tells a command that failed, with so many suspects that its error does not name: what it names goes to the races.
-fn told_failure<'a>(
-    alloc: Global,
-    graph: &'a Graph,
-    builds: &'a [Build],
-    failure: &rev_suspects::Failure,
-    suspects: &[rev_suspects::Suspect],
-    names: &[Option<&'a Name>],
+// What a failed command is told by: its run, its suspects, and what it printed.
+#[derive(Clone, Copy)]
+struct Told<'a, 'b> {
+    failure: &'b rev_suspects::Failure,
+    suspects: &'b [rev_suspects::Suspect],
     entry: Option<&'a Entry>,
+    // How many suspects are told that its error does not name.
     most: usize,
+    // Whether suspects were looked for.
+    is_looked: bool,
+}
+
+// Adds the suspects of a command that failed: those that its error names to the races, and the others as far as they
+// are told. Gives what is left of them.
+fn add_suspects<'a>(
+    builds: &'a [Build],
+    told: Told<'a, '_>,
+    names: &[Option<&'a Name>],
     races: &mut Vec<RaceFinding<'a>>,
-) -> Result<Failure<'a>, AllocError> {
-    let before = races.len();
-    let mut others = Vec::new(alloc);
+    others: &mut Vec<Suspect<'a>>,
+) -> Result<Remainder, AllocError> {
     let mut untold = Remainder {
         running: 0,
         to_run: 0,
     };
-    for (place, suspect) in suspects.iter().enumerate() {
+    for (place, suspect) in told.suspects.iter().enumerate() {
         match names.get(place) {
             Some(Some(path)) => races.push(RaceFinding {
                 kind: Kind::Race,
                 maker: suspect.maker,
-                user: failure.edge,
+                user: told.failure.edge,
                 path: *path,
                 basis: None,
                 evidence: Evidence::Error(suspect.progress),
                 mend: orderable_output(builds, suspect.maker),
             })?,
-            _ if others.len() < most => others.push(Suspect {
+            _ if others.len() < told.most => others.push(Suspect {
                 maker: suspect.maker,
                 progress: suspect.progress,
                 mend: orderable_output(builds, suspect.maker),
@@ -335,14 +395,32 @@ fn told_failure<'a>(
             _ => count_untold(&mut untold, suspect.progress),
         }
     }
+    Ok(untold)
+}
+
+// Tells a command that failed. What its error names goes to the races.
+fn told_failure<'a>(
+    alloc: Global,
+    graph: &'a Graph,
+    builds: &'a [Build],
+    components: &LastComponents,
+    told: Told<'a, '_>,
+    races: &mut Vec<RaceFinding<'a>>,
+) -> Result<Failure<'a>, AllocError>
+    requires { AreLastComponents graph.now.manifest.builds components.now }
+{
+    let before = races.len();
+    let names = names_in(alloc, graph, components, told.entry, told.suspects)?;
+    let mut others = Vec::new(alloc);
+    let untold = add_suspects(builds, told, &names, races, &mut others)?;
     Ok(Failure {
-        edge: failure.edge,
-        number: failure.number,
-        command: command_of(graph, failure.edge),
-        printed: entry.map(printed_in),
+        edge: told.failure.edge,
+        number: told.failure.number,
+        command: command_of(graph, told.failure.edge),
+        printed: told.entry.map(printed_in),
         named: races.len().saturating_sub(before),
         others,
-        untold: Some(untold),
+        untold: if told.is_looked { Some(untold) } else { None },
     })
 }
 
@@ -366,6 +444,38 @@ fn split_of<'b>(
     suspects.split_at(count)
 }
 
+// Adds the commands that failed, with what they printed, whose entries stand at these places. What their errors name is
+// added to the races.
+fn add_failures<'a>(
+    alloc: Global,
+    graph: &'a Graph,
+    builds: &'a [Build],
+    components: &LastComponents,
+    failed: &Failed,
+    entries: &'a [Entry],
+    places: &mut IndexMap<u32, Vec<usize>>,
+    races: &mut Vec<RaceFinding<'a>>,
+    failures: &mut Vec<Failure<'a>>,
+) -> Result<(), AllocError>
+    requires { AreLastComponents graph.now.manifest.builds components.now }
+{
+    let most = most_told(graph.edges(), failed.runs.len());
+    let mut rest = failed.suspects.as_slice();
+    for (place, failure) in failed.runs.iter().enumerate() {
+        let (suspects, later) = split_of(failure, rest);
+        rest = later;
+        let told = Told {
+            failure,
+            suspects,
+            entry: next_entry(entries, places, failure.edge),
+            most,
+            is_looked: place < failed.looked,
+        };
+        failures.push(told_failure(alloc, graph, builds, components, told, races)?)?;
+    }
+    Ok(())
+}
+
 // The commands that failed, with what they printed. What their errors name is added to the races.
 fn told_failures<'a>(
     alloc: Global,
@@ -376,25 +486,20 @@ fn told_failures<'a>(
     races: &mut Vec<RaceFinding<'a>>,
 ) -> Result<Vec<Failure<'a>>, AllocError> {
     let mut told = Vec::new(alloc);
-    if failed.runs.is_empty() {
-        return Ok(told);
-    }
-    let components = last_components(alloc, graph)?;
-    let mut places = places_of(alloc, entries)?;
-    let most = most_told(graph.edges(), failed.runs.len());
-    let mut rest = failed.suspects.as_slice();
-    for (place, failure) in failed.runs.iter().enumerate() {
-        let (of, later) = split_of(failure, rest);
-        rest = later;
-        let entry = next_entry(entries, &mut places, failure.edge);
-        let names = names_in(alloc, graph, &components, entry, of)?;
-        let mut one = told_failure(
-            alloc, graph, builds, failure, of, &names, entry, most, races,
+    if !failed.runs.is_empty() {
+        let components = last_components(alloc, graph)?;
+        let mut places = places_of(alloc, entries)?;
+        add_failures(
+            alloc,
+            graph,
+            builds,
+            &components,
+            failed,
+            entries,
+            &mut places,
+            races,
+            &mut told,
         )?;
-        if place >= failed.looked {
-            one.untold = None;
-        }
-        told.push(one)?;
     }
     Ok(told)
 }
@@ -417,6 +522,34 @@ pub struct Findings<'a> {
     pub failures: Vec<Failure<'a>>,
 }
 
+// Gives each race that an error names the path that its maker's first names have. The paths come by user and maker.
+fn paths_within<'a>(
+    alloc: Global,
+    builds: &'a [Build],
+    folder: &[u8],
+    named: &mut [RaceFinding<'a>],
+) -> Result<IndexMap<u64, &'a Name>, AllocError> {
+    let mut paths = IndexMap::new(alloc);
+    for race in named.iter_mut() {
+        race.path = path_within(builds, folder, race.maker, race.path);
+        paths.insert(pair_key(race.user, race.maker), race.path)?;
+    }
+    Ok(paths)
+}
+
+// Adds the races that errors name to those by lists, of which those go that an error names too.
+fn join_named<'a>(
+    alloc: Global,
+    builds: &'a [Build],
+    folder: &[u8],
+    named: &mut [RaceFinding<'a>],
+    races: &mut Vec<RaceFinding<'a>>,
+) -> Result<(), AllocError> {
+    let paths = paths_within(alloc, builds, folder, named)?;
+    races.retain(|race| !is_named(&paths, folder, race));
+    races.extend_from_slice(named)
+}
+
 /// The findings of a history, whose manifest has these edges and was read from these files, with what its failed
 /// commands printed.
 pub fn findings_in<'a>(
@@ -426,19 +559,13 @@ pub fn findings_in<'a>(
     files: &[Name],
     entries: &'a [Entry],
 ) -> Result<Findings<'a>, AllocError> {
+    let graph = history.graph();
+    let folder = build_folder(graph);
     let failed = failed_in(alloc, history, files)?;
     let mut named = Vec::new(alloc);
-    let graph = history.graph();
     let failures = told_failures(alloc, graph, builds, &failed, entries, &mut named)?;
-    let folder = build_folder(graph);
     let mut races = listed_races(alloc, history, builds, files, &failed, folder)?;
-    let mut paths = IndexMap::new(alloc);
-    for race in named.iter_mut() {
-        race.path = path_within(builds, folder, race.maker, race.path);
-        paths.insert(pair_key(race.user, race.maker), race.path)?;
-    }
-    races.retain(|race| !is_named(&paths, folder, race));
-    races.extend_from_slice(&named)?;
+    join_named(alloc, builds, folder, &mut named, &mut races)?;
     Ok(Findings { races, failures })
 }
 

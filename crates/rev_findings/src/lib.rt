@@ -12,5 +12,5 @@ pub use hinted::names_in;
 pub use reporting::{Basis, add_hints, replayed_of, report_of};
 pub use seen::{
     Sight, conflict_findings_in, count_findings, hidden_count, hidden_places, seen_findings,
-    sight_in, undeclared_in, unfiltered, unlisted_count, unlisted_in,
+    sight_in, stale_files, unfiltered, unlisted_count,
 };

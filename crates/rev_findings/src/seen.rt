@@ -152,11 +152,8 @@ pub fn hidden_count(alloc: Global, all: &[Conflict], told: &[Conflict]) -> Resul
     Ok((all.len() as u64).saturating_sub(told.len() as u64))
 }
 
-/// The files that commands leave beside their outputs, without those of conflicts.
-///
-/// # Errors
-/// [`AllocError`] only where an allocation was refused.
-pub fn undeclared_in(
+// The files that commands leave beside their outputs, without those of conflicts.
+fn undeclared_in(
     alloc: Global,
     graph: &Graph,
     sources: (&[Name], &[Build]),
@@ -183,12 +180,9 @@ pub fn undeclared_in(
     )
 }
 
-/// The files that commands read though neither their line nor their list has them, without those that stronger findings
-/// are about. Each has its cover. Commands that did not end well have none.
-///
-/// # Errors
-/// [`AllocError`] where an allocation was refused, or edges and paths together are 2^32 or more.
-pub fn unlisted_in(
+// The files that commands read though neither their line nor their list has them, without those that stronger findings
+// are about. Each has its cover. Commands that did not end well have none.
+fn unlisted_in(
     alloc: Global,
     history: &History,
     sources: (&[Name], &[Build]),
@@ -235,6 +229,40 @@ fn ended_well(
     Ok(files)
 }
 
+/// The files by which a next build can differ from one from nothing: those that commands leave beside their outputs, and
+/// those that commands read though neither their line nor their list has them. Those that stronger findings are about
+/// are left out. Of commands that did not end well there is none of the latter.
+///
+/// # Errors
+/// [`AllocError`] where an allocation was refused, or edges and paths together are 2^32 or more.
+pub fn stale_files(
+    alloc: Global,
+    history: &History,
+    sources: (&[Name], &[Build]),
+    observed: &Observed,
+    hidden: &[bool],
+    conflicts: &[Conflict],
+) -> Result<(Vec<Undeclared>, Vec<Unlisted>), AllocError>
+    requires edges { map Some observed.now.edges.items
+        ≡ map (edge_of history.now.timeline.manifest.builds) (outputs_of observed.now.observation.commands) }
+    requires within { AllByRecursion (λ edge. edge < length history.now.timeline.manifest.builds)
+        observed.now.edges.items }
+    requires hidden { length hidden.now ≡ length observed.now.observation.paths }
+{
+    let graph = history.graph();
+    let undeclared = undeclared_in(alloc, graph, sources, observed, hidden, conflicts)?;
+    let unlisted = unlisted_in(
+        alloc,
+        history,
+        sources,
+        observed,
+        hidden,
+        conflicts,
+        &undeclared,
+    )?;
+    Ok((undeclared, unlisted))
+}
+
 /// What the bytes of the file `observed` say of the commands of a history, without what the filters of other bytes hide.
 /// `sources` has the files that the manifest was read from, and its edges.
 ///
@@ -253,17 +281,10 @@ pub fn sight_in(
     let conflicts = conflicts_of(alloc, graph, sources.0, &observed, &marks)?;
     let unfiltered = unfiltered(alloc, graph, sources.0, &observed, &marks)?;
     let hidden = hidden_count(alloc, &unfiltered, &conflicts)?;
-    let undeclared = undeclared_in(alloc, graph, sources, &observed, &marks, &conflicts)?;
-    let unlisted = unlisted_in(
-        alloc,
-        history,
-        sources,
-        &observed,
-        &marks,
-        &conflicts,
-        &undeclared,
-    )?;
     let whole = whole_edges(alloc, graph.edges(), &observed)?;
+    let (undeclared, unlisted) = stale_files(
+        alloc, history, sources, &observed, &marks, &conflicts,
+    )?;
     Ok(Sight {
         observed,
         conflicts,

@@ -8,13 +8,12 @@ use crate::answering::{Written, written_with};
 use crate::forms::{Form, certified_items, items_text};
 use crate::leaving::{Choice, Leaving};
 use rev_certified::{Certificate, Marks, certify};
-use rev_conflicts::early_edges;
+use rev_conflicts::{Conflict, early_edges};
 use rev_conflicts_text::{Certified, Stale, Way};
 use rev_desk::Desk;
 use rev_events::Event;
 use rev_findings::{
-    conflict_findings_in, hidden_count, told_clashes, undeclared_in, unfiltered, unlisted_count,
-    unlisted_in,
+    conflict_findings_in, hidden_count, stale_files, told_clashes, unfiltered, unlisted_count,
 };
 use rev_folder::{Observed, hidden_by, observed_in};
 use rev_graph::{Graph, edges_among};
@@ -121,27 +120,34 @@ fn flags_by_edge(
     Ok(flags)
 }
 
-// Why commands stand in the way.
+// Why a command stands in the way.
+fn way_of(edge: u32, ended: &[bool], early: &[bool], flags: &[Option<Flags>]) -> Way {
+    if !mark_of(ended, edge) {
+        return Way::Failed;
+    }
+    if mark_of(early, edge) {
+        return Way::Early;
+    }
+    match flags.get(edge as usize) {
+        Some(Some(flags)) => Way::Flagged(*flags),
+        _ => Way::Unseen,
+    }
+}
+
+// Why commands stand in the way, of which some ended well. The manifest was read from these files.
 fn ways_of(
     alloc: Global,
+    graph: &Graph,
+    files: &[Name],
+    observed: &Observed,
     unsure: &[u32],
     ended: &[bool],
-    early: &[bool],
-    flags: &[Option<Flags>],
 ) -> Result<Vec<(u32, Way)>, AllocError> {
+    let early = early_edges(alloc, graph, files)?;
+    let flags = flags_by_edge(alloc, graph.edges(), observed)?;
     let mut ways = Vec::new(alloc);
     for edge in unsure {
-        let way = if !mark_of(ended, *edge) {
-            Way::Failed
-        } else if mark_of(early, *edge) {
-            Way::Early
-        } else {
-            match flags.get(*edge as usize) {
-                Some(Some(flags)) => Way::Flagged(*flags),
-                _ => Way::Unseen,
-            }
-        };
-        ways.push((*edge, way))?;
+        ways.push((*edge, way_of(*edge, ended, &early, &flags)))?;
     }
     Ok(ways)
 }
@@ -168,24 +174,33 @@ fn without_ways(
     Ok(left)
 }
 
-// The certificate of commands that were observed.
+// The certificate of commands that were observed. Marks say of each edge whether its command began, and whether one
+// ended well.
 fn certificate_of(
     alloc: Global,
-    graph: &Graph,
+    history: &History,
     files: &[Name],
     observed: &Observed,
     hidden: &[bool],
-    marks: Marks<'_>,
+    began: &[bool],
+    ended: &[bool],
 ) -> Result<Certificate, AllocError>
     requires edges { map Some observed.now.edges.items
-        ≡ map (edge_of graph.now.manifest.builds) (outputs_of observed.now.observation.commands) }
-    requires within { AllByRecursion (λ edge. edge < length graph.now.manifest.builds) observed.now.edges.items }
+        ≡ map (edge_of history.now.timeline.manifest.builds) (outputs_of observed.now.observation.commands) }
+    requires within { AllByRecursion (λ edge. edge < length history.now.timeline.manifest.builds)
+        observed.now.edges.items }
     requires hidden { length hidden.now ≡ length observed.now.observation.paths }
 {
+    let needed = needed_edges(alloc, history)?;
+    let marks = Marks {
+        needed: &needed,
+        began,
+        ended,
+    };
     let observation = &observed.observation;
     certify(
         alloc,
-        graph,
+        history.graph(),
         files,
         observation,
         &observed.edges,
@@ -281,6 +296,91 @@ fn written<'a>(
     written_with(alloc, grounds.choice, &items, text, told.status())
 }
 
+// What is told of a certificate, as it is written.
+fn written_of<'a>(
+    alloc: Global,
+    history: &'a History,
+    grounds: Grounds<'a>,
+    observed: &'a Observed,
+    found: &Found<'_>,
+) -> Result<Written, RecordingFault> {
+    let (told, clashes) = told_of(alloc, history, grounds, observed, found)?;
+    Ok(written(alloc, grounds, &told, &clashes)?)
+}
+
+// In how many places commands meet that filters hide, beside conflicts that they leave.
+fn hidden_meetings(
+    alloc: Global,
+    graph: &Graph,
+    files: &[Name],
+    observed: &Observed,
+    hidden: &[bool],
+    conflicts: &[Conflict],
+) -> Result<u64, AllocError>
+    requires edges { map Some observed.now.edges.items
+        ≡ map (edge_of graph.now.manifest.builds) (outputs_of observed.now.observation.commands) }
+    requires within { AllByRecursion (λ edge. edge < length graph.now.manifest.builds) observed.now.edges.items }
+    requires hidden { length hidden.now ≡ length observed.now.observation.paths }
+{
+    let all = unfiltered(alloc, graph, files, observed, hidden)?;
+    hidden_count(alloc, &all, conflicts)
+}
+
+// How much a later build may find stale.
+fn stale_of(
+    alloc: Global,
+    history: &History,
+    grounds: Grounds<'_>,
+    observed: &Observed,
+    hidden: &[bool],
+    conflicts: &[Conflict],
+) -> Result<Stale, AllocError>
+    requires edges { map Some observed.now.edges.items
+        ≡ map (edge_of history.now.timeline.manifest.builds) (outputs_of observed.now.observation.commands) }
+    requires within { AllByRecursion (λ edge. edge < length history.now.timeline.manifest.builds)
+        observed.now.edges.items }
+    requires hidden { length hidden.now ≡ length observed.now.observation.paths }
+{
+    let sources = (grounds.files, grounds.sources.builds);
+    let (undeclared, unlisted) = stale_files(alloc, history, sources, observed, hidden, conflicts)?;
+    Ok(Stale {
+        undeclared: undeclared.len() as u64,
+        unlisted: unlisted_count(alloc, history.graph(), observed, &unlisted)?,
+    })
+}
+
+// Whether no schedule of the commands of a history gives any of them other inputs, by what they were seen to do. Marks
+// say of each edge whether its command began, and whether one ended well.
+fn certified_by(
+    alloc: Global,
+    history: &History,
+    grounds: Grounds<'_>,
+    observed: &Observed,
+    hidden: &[bool],
+    began: &[bool],
+    ended: &[bool],
+) -> Result<Written, RecordingFault>
+    requires edges { map Some observed.now.edges.items
+        ≡ map (edge_of history.now.timeline.manifest.builds) (outputs_of observed.now.observation.commands) }
+    requires within { AllByRecursion (λ edge. edge < length history.now.timeline.manifest.builds)
+        observed.now.edges.items }
+    requires hidden { length hidden.now ≡ length observed.now.observation.paths }
+{
+    let graph = history.graph();
+    let files = grounds.files;
+    let certificate = certificate_of(alloc, history, files, observed, hidden, began, ended)?;
+    let conflicts = &certificate.conflicts;
+    let ways = ways_of(alloc, graph, files, observed, &certificate.unsure, ended)?;
+    let found = Found {
+        certificate: &certificate,
+        ways: &ways,
+        commands: count_of(began),
+        hidden: hidden_meetings(alloc, graph, files, observed, hidden, conflicts)?,
+        stale: stale_of(alloc, history, grounds, observed, hidden, conflicts)?,
+    };
+    written_of(alloc, history, grounds, observed, &found)
+}
+
 /// Whether no schedule of the commands of a history gives any of them other inputs, by the bytes of the file `observed`.
 ///
 /// # Errors
@@ -292,47 +392,9 @@ pub fn certified(
     bytes: &[u8],
 ) -> Result<Written, RecordingFault> {
     let history = desk.history();
-    let graph = history.graph();
-    let files = grounds.files;
-    let observed = observed_in(alloc, graph, bytes)?;
+    let observed = observed_in(alloc, history.graph(), bytes)?;
     let hidden = hidden_by(alloc, &observed.observation, grounds.choice.filters)?;
-    let needed = needed_edges(alloc, history)?;
     let began = started_edges(alloc, history)?;
     let ended = finished_edges(alloc, history)?;
-    let marks = Marks {
-        needed: &needed,
-        began: &began,
-        ended: &ended,
-    };
-    let certificate = certificate_of(alloc, graph, files, &observed, &hidden, marks)?;
-    let early = early_edges(alloc, graph, files)?;
-    let flags = flags_by_edge(alloc, graph.edges(), &observed)?;
-    let ways = ways_of(alloc, &certificate.unsure, &ended, &early, &flags)?;
-    let conflicts = &certificate.conflicts;
-    let all = unfiltered(alloc, graph, files, &observed, &hidden)?;
-    let met = hidden_count(alloc, &all, conflicts)?;
-    let sources = (files, grounds.sources.builds);
-    let undeclared = undeclared_in(alloc, graph, sources, &observed, &hidden, conflicts)?;
-    let unlisted = unlisted_in(
-        alloc,
-        history,
-        sources,
-        &observed,
-        &hidden,
-        conflicts,
-        &undeclared,
-    )?;
-    let inputs = unlisted_count(alloc, graph, &observed, &unlisted)?;
-    let found = Found {
-        certificate: &certificate,
-        ways: &ways,
-        commands: count_of(&began),
-        hidden: met,
-        stale: Stale {
-            undeclared: undeclared.len() as u64,
-            unlisted: inputs,
-        },
-    };
-    let (told, clashes) = told_of(alloc, history, grounds, &observed, &found)?;
-    Ok(written(alloc, grounds, &told, &clashes)?)
+    certified_by(alloc, history, grounds, &observed, &hidden, &began, &ended)
 }

@@ -150,6 +150,28 @@ fn push_races<'a>(
     Ok(())
 }
 
+// A clash of side files, with its words.
+fn clash_item<'a>(sources: &Sources<'a>, clash: &Clash, text: String) -> Item<'a> {
+    let line = sources.clash(clash);
+    Item {
+        id: sources.clash_id(clash),
+        kind: match clash.kind {
+            SideFile::Depfile => "depfile clash",
+            SideFile::ResponseFile => "rspfile clash",
+        },
+        is_error: true,
+        path: match line.path {
+            Some(path) => path.0,
+            None => b"",
+        },
+        maker: sources.output(clash.first),
+        user: sources.output(clash.other),
+        file: file_of(line.other),
+        line: line.other.line.unwrap_or(1),
+        text,
+    }
+}
+
 /// Adds clashes of side files.
 ///
 /// # Errors
@@ -162,23 +184,8 @@ pub fn push_clashes<'a>(
 ) -> Result<(), AllocError> {
     for clash in clashes {
         let line = sources.clash(clash);
-        items.push(Item {
-            id: sources.clash_id(clash),
-            kind: match clash.kind {
-                SideFile::Depfile => "depfile clash",
-                SideFile::ResponseFile => "rspfile clash",
-            },
-            is_error: true,
-            path: match line.path {
-                Some(path) => path.0,
-                None => b"",
-            },
-            maker: sources.output(clash.first),
-            user: sources.output(clash.other),
-            file: file_of(line.other),
-            line: line.other.line.unwrap_or(1),
-            text: format!(in alloc; "{line}")?,
-        })?;
+        let text = format!(in alloc; "{line}")?;
+        items.push(clash_item(sources, clash, text))?;
     }
     Ok(())
 }

@@ -76,6 +76,26 @@ fn is_named(race: &RaceFinding<'_>) -> bool {
     matches!(race.evidence, Evidence::Error(_))
 }
 
+// Adds the races of which no filter hides the path, and those that the error of a failed command names. Notes the paths
+// that are hidden.
+fn add_unhidden<'a>(
+    alloc: Global,
+    filters: &[Filters],
+    races: &[RaceFinding<'a>],
+    told: &mut Vec<RaceFinding<'a>>,
+    paths: &mut IndexSet<&'a [u8]>,
+) -> Result<(), AllocError> {
+    for race in races {
+        let path = race.path.as_bytes();
+        if !is_named(race) && is_hidden(alloc, filters, path)? {
+            paths.insert(path)?;
+        } else {
+            told.push(*race)?;
+        }
+    }
+    Ok(())
+}
+
 impl Leaving {
     /// What the texts of a choice leave out. Where a baseline is to be written, which then knows all that is found,
     /// only what is ignored is left out.
@@ -168,14 +188,7 @@ impl Leaving {
     ) -> Result<Vec<RaceFinding<'a>>, AllocError> {
         let mut told = Vec::new(alloc);
         let mut paths = IndexSet::new(alloc);
-        for race in races {
-            let path = race.path.as_bytes();
-            if !is_named(race) && is_hidden(alloc, &self.filters, path)? {
-                paths.insert(path)?;
-            } else {
-                told.push(*race)?;
-            }
-        }
+        add_unhidden(alloc, &self.filters, races, &mut told, &mut paths)?;
         self.hidden = u64::saturating_add(self.hidden, paths.len() as u64);
         Ok(told)
     }
@@ -194,6 +207,22 @@ impl Leaving {
         Ok(!is_left)
     }
 
+    // Of races that no filter hides those that are left.
+    fn told<'a>(
+        &mut self,
+        alloc: Global,
+        sources: &Sources<'a>,
+        races: &[RaceFinding<'a>],
+    ) -> Result<Vec<RaceFinding<'a>>, AllocError> {
+        let mut told = Vec::new(alloc);
+        for race in races {
+            if self.is_told(alloc, sources, race)? {
+                told.push(*race)?;
+            }
+        }
+        Ok(told)
+    }
+
     /// The races that are left. A race that the error of a failed command names is never left out.
     ///
     /// # Errors
@@ -207,13 +236,8 @@ impl Leaving {
         if !self.can_leave_races() {
             return Ok(races);
         }
-        let mut told = Vec::new(alloc);
-        for race in &self.unhidden(alloc, &races)? {
-            if self.is_told(alloc, sources, race)? {
-                told.push(*race)?;
-            }
-        }
-        Ok(told)
+        let unhidden = self.unhidden(alloc, &races)?;
+        self.told(alloc, sources, &unhidden)
     }
 
     /// The clashes of side files that are left.
