@@ -79,6 +79,38 @@ fn refuse_one<'a, R: Eprint + AllocGlobal>(
     }
 }
 
+// Writes what differs between two recordings that were replayed, and gives the program's status.
+fn write_compared<'a, R: Print + AllocGlobal>(
+    rt: &R,
+    form: Form,
+    one: Side<'_>,
+    two: Side<'_>,
+) -> Result<u8, ProgramFault<'a>> {
+    let compared = comparison(rt.alloc(), one, two, form)?;
+    let status = if compared.is_alike { 0 } else { SOMETHING };
+    write(rt, &written(rt.alloc(), compared.text, form)?)?;
+    Ok(status)
+}
+
+// Replays the second recording, and writes what differs between the first one and it.
+fn compare_with<'a, R: Files + Print + Eprint + AllocGlobal>(
+    rt: &R,
+    form: Form,
+    one: Side<'_>,
+    name: &str,
+    read: &Recording,
+) -> Result<u8, ProgramFault<'a>> {
+    let (manifest, desk) = match replayed_in(rt.alloc(), read) {
+        Ok(replayed) => replayed,
+        Err(fault) => {
+            return refuse_one(rt, "the second recording has a fault", read, &fault);
+        }
+    };
+    let status = write_compared(rt, form, one, side_of(name, read, &manifest, &desk));
+    leave(desk);
+    status
+}
+
 /// Writes what differs between two recordings, and gives the program's status: 0 where nothing does, and
 /// [`SOMETHING`] where something does. Of a recording with a fault it says the fault, and gives its status.
 ///
@@ -88,29 +120,17 @@ pub fn compare<'a, R: Files + Print + Eprint + AllocGlobal>(
     rt: &R,
     asked: &Request<'a>,
 ) -> Result<u8, ProgramFault<'a>> {
-    let alloc = rt.alloc();
-    let other = asked.other.unwrap_or("");
-    let read = read_recording(rt, asked.recording, place_of(rt, asked.recording))?;
+    let (recording, other) = (asked.recording, asked.other.unwrap_or(""));
+    let read = read_recording(rt, recording, place_of(rt, recording))?;
     let other_read = read_recording(rt, other, place_of(rt, other))?;
-    let (manifest, desk) = match replayed_in(alloc, &read) {
+    let (manifest, desk) = match replayed_in(rt.alloc(), &read) {
         Ok(replayed) => replayed,
         Err(fault) => {
             return refuse_one(rt, "the first recording has a fault", &read, &fault);
         }
     };
-    let (other_manifest, other_desk) = match replayed_in(alloc, &other_read) {
-        Ok(replayed) => replayed,
-        Err(fault) => {
-            return refuse_one(rt, "the second recording has a fault", &other_read, &fault);
-        }
-    };
-    let one = side_of(asked.recording, &read, &manifest, &desk);
-    let two = side_of(other, &other_read, &other_manifest, &other_desk);
-    let form = form_of(asked);
-    let compared = comparison(alloc, one, two, form)?;
-    let is_alike = compared.is_alike;
-    write(rt, &written(alloc, compared.text, form)?)?;
+    let one = side_of(recording, &read, &manifest, &desk);
+    let status = compare_with(rt, form_of(asked), one, other, &other_read);
     leave(desk);
-    leave(other_desk);
-    Ok(if is_alike { 0 } else { SOMETHING })
+    status
 }

@@ -1,7 +1,7 @@
 //! Answers about a recording.
 ghost use Rattle.std.specs.Prelude.{◌≡◌, ◌+◌, ◌≤◌, length, IfOk};
 
-use rev_conflicts_text::{Finding, findings_json, findings_words, pair_of};
+use rev_conflicts_text::{Finding, pair_of};
 use rev_desk::Desk;
 use rev_findings::{
     Basis, Sight, add_hints, count_findings, hidden_places, last_runs, names_in, replayed_of,
@@ -21,10 +21,7 @@ use rev_recording::{RecordingFault, fault_line, open, replay, replay_text};
 use rev_script::send;
 use rev_sentences::{Inputs, sentence};
 use rev_trace::Trace;
-use rev_verdicts::{
-    Answer, Choice, Form, Grounds, Leaving, Written, certified, items_text, report_items,
-    written_with,
-};
+use rev_verdicts::{Answer, Choice, Form, Grounds, Leaving, Written, certified, written_report};
 use std::alloc::{AllocError, Global};
 use std::rt::Files;
 use std::{fs, io, mem};
@@ -170,68 +167,73 @@ fn found_answer<'a>(
     desk: &'a Desk,
     basis: &Basis<'a>,
 ) -> Result<Answer, RecordingFault> {
-    let sources = &basis.sources;
     let mut report = report_of(alloc, desk, basis)?;
-    let history = desk.history();
-    let findings = seen_findings(alloc, history, sources.builds, basis.sight, &report.races)?;
-    report.left_out.hidden = hidden_places(basis.sight);
-    let findings = leave_out(alloc, choice, sources, findings, &mut report)?;
-    count_findings(basis.sight, &findings, &mut report);
+    let findings = findings_left(alloc, choice, desk, basis, &mut report)?;
+    Ok(answer_with(
+        alloc,
+        choice,
+        asked,
+        manifest,
+        desk,
+        basis,
+        &findings,
+        &mut report,
+    )?)
+}
+
+// The findings by an observation that are left, which the report counts.
+fn findings_left<'a>(
+    alloc: Global,
+    choice: Choice<'_>,
+    desk: &'a Desk,
+    basis: &Basis<'a>,
+    report: &mut Report<'a>,
+) -> Result<Vec<Finding<'a>>, RecordingFault> {
+    let sources = &basis.sources;
+    let (builds, sight) = (sources.builds, basis.sight);
+    let findings = seen_findings(alloc, desk.history(), builds, sight, &report.races)?;
+    report.left_out.hidden = hidden_places(sight);
+    let findings = leave_out(alloc, choice, sources, findings, report)?;
+    count_findings(sight, &findings, report);
+    Ok(findings)
+}
+
+// The answer that is asked for, by the findings and the report.
+fn answer_with<'a>(
+    alloc: Global,
+    choice: Choice<'_>,
+    asked: OfRaces,
+    manifest: &Manifest,
+    desk: &'a Desk,
+    basis: &Basis<'a>,
+    findings: &[Finding<'a>],
+    report: &mut Report<'a>,
+) -> Result<Answer, AllocError> {
+    let sources = &basis.sources;
     match asked {
         OfRaces::Witness(number) | OfRaces::Provoke(number)
-            if is_of_no_order(&findings, &report, number) => {
+            if is_of_no_order(findings, report, number) => {
             Ok(Answer::NotUnderstood(OF_NO_ORDER))
         }
-        OfRaces::Witness(number) => Ok(witness_answer(
-            alloc,
-            desk,
-            pair_with(&findings, &report, number),
-        )?),
+        OfRaces::Witness(number) => {
+            witness_answer(alloc, desk, pair_with(findings, report, number))
+        }
         OfRaces::Provoke(number) => {
-            let pair = pair_with(&findings, &report, number);
-            Ok(provoke_answer(alloc, manifest, desk, sources, pair)?)
+            let pair = pair_with(findings, report, number);
+            provoke_answer(alloc, manifest, desk, sources, pair)
         }
         OfRaces::Mend => {
             let graph = desk.history().graph();
             let (races, clashes) = (&report.races, &report.clashes);
-            let text = mend_text(alloc, manifest, graph, sources, races, clashes, &findings)?;
+            let text = mend_text(alloc, manifest, graph, sources, races, clashes, findings)?;
             Ok(Answer::text(text, report.status()))
         }
         OfRaces::All(form) => {
-            add_hints(alloc, desk, basis, &mut report)?;
-            let written = races_written(alloc, choice, form, sources, &findings, &report)?;
+            add_hints(alloc, desk, basis, report)?;
+            let written = written_report(alloc, choice, form, sources, findings, report)?;
             Ok(Answer::Written(written))
         }
     }
-}
-
-// What is written of races in a form.
-fn races_written<'a>(
-    alloc: Global,
-    choice: Choice<'_>,
-    form: Form,
-    sources: &Sources<'a>,
-    findings: &[Finding<'a>],
-    report: &Report<'a>,
-) -> Result<Written, AllocError> {
-    let items = if form.is_of_items() || choice.writes {
-        report_items(alloc, sources, findings, report)?
-    } else {
-        Vec::new(alloc)
-    };
-    let text = match form {
-        Form::Json => {
-            let observed = findings_json(alloc, sources, findings)?;
-            report.json(alloc, sources, &observed)?
-        }
-        Form::Items(form) => items_text(alloc, form, &items, &report.summary(alloc, sources)?)?,
-        Form::Words | Form::AllWords => {
-            let all = form == Form::AllWords;
-            let observed = findings_words(alloc, sources, findings, all)?;
-            report.words(alloc, sources, &observed, all)?
-        }
-    };
-    written_with(alloc, choice, &items, text, report.status())
 }
 
 // What is said where a schedule or a patch is asked for of a finding that no order of commands changes.
@@ -524,13 +526,24 @@ fn read_printed<'a, R: Files + AllocGlobal>(
     }
 }
 
-// What `races` reads of a recording beside its manifest and its trace.
-#[derive(Drop)]
+// What is read of a recording beside its manifest and its trace.
 struct Sidecars {
     names: Vec<u8>,
     printed: Vec<u8>,
     observed: Option<Vec<u8>>,
     filters: Option<Vec<u8>>,
+}
+
+// Written, since a derived drop is proved again at each exit of each caller.
+impl Drop for Sidecars {
+    fn drop(self) {
+        let Sidecars {
+            names: _names,
+            printed: _printed,
+            observed: _observed,
+            filters: _filters,
+        } = self;
+    }
 }
 
 // Reads what stands beside the manifest and the trace of a recording.
@@ -547,25 +560,37 @@ fn read_sidecars<'a, R: Files + AllocGlobal>(
     })
 }
 
-// What is asked of a recording by `races`, without a baseline.
-fn races_inquiry<'a>(read: &'a Recording, beside: &'a Sidecars, form: Form) -> Inquiry<'a> {
+// What is asked of a recording with the texts by which a question leaves findings out.
+fn inquiry_of<'a>(
+    read: &'a Recording,
+    beside: &'a Sidecars,
+    how: How,
+    filters: Option<&'a [u8]>,
+    baseline: Option<&'a [u8]>,
+    writes: bool,
+) -> Inquiry<'a> {
     let filters = FilterTexts {
         beside: beside.filters.as_deref(),
-        named: None,
-    };
-    let choice = Choice {
-        filters,
-        baseline: None,
-        writes: false,
+        named: filters,
     };
     Inquiry {
         read,
         names: &beside.names,
         printed: &beside.printed,
         observed: beside.observed.as_deref(),
-        choice,
-        how: How::Races(OfRaces::All(form)),
+        choice: Choice {
+            filters,
+            baseline,
+            writes,
+        },
+        how,
     }
+}
+
+// What is asked of a recording by `races`, without a baseline.
+fn races_inquiry<'a>(read: &'a Recording, beside: &'a Sidecars, form: Form) -> Inquiry<'a> {
+    let how = How::Races(OfRaces::All(form));
+    inquiry_of(read, beside, how, None, None, false)
 }
 
 // The answer about a recording: by a desk that was replayed, where there is one.
@@ -608,6 +633,28 @@ pub fn races_in<R: Files + AllocGlobal>(
     }
 }
 
+// Writes what is asked of what was read, and gives the program's status.
+fn tell_of<'a, R: Files + Print + Eprint + AllocGlobal>(
+    rt: &R,
+    question: Question<'a>,
+    read: &Recording,
+    beside: &Sidecars,
+) -> Result<u8, ProgramFault<'a>> {
+    let filters = read_choice(rt, question.filters)?;
+    let baseline = read_choice(rt, question.baseline)?;
+    let writes = question.write_baseline.is_some();
+    let (filters, baseline) = (filters.as_deref(), baseline.as_deref());
+    let inquiry = inquiry_of(read, beside, question.how, filters, baseline, writes);
+    match answer_about(rt.alloc(), inquiry) {
+        Ok(Answer::Written(written)) => put(rt, question, &written),
+        Ok(Answer::NotUnderstood(sentence)) => {
+            say(rt, sentence);
+            Ok(USAGE)
+        }
+        Err(fault) => refuse(rt, read, &fault),
+    }
+}
+
 /// Writes what is asked of a recording to the standard output, and gives the program's status.
 pub fn tell<'a, R: Files + Print + Eprint + AllocGlobal>(
     rt: &R,
@@ -616,36 +663,9 @@ pub fn tell<'a, R: Files + Print + Eprint + AllocGlobal>(
     let recording = question.recording;
     let place = place_of(rt, recording);
     let read = read_recording(rt, recording, place)?;
-    let names = read_names(rt, recording, place)?;
-    let printed = read_printed(rt, recording, place)?;
-    let observed = read_observed(rt, recording, place)?;
-    if observed.is_none() && matches!(question.how, How::Certify(_)) {
+    let beside = read_sidecars(rt, recording, place)?;
+    if beside.observed.is_none() && matches!(question.how, How::Certify(_)) {
         return Err(ProgramFault::NotObserved(recording));
     }
-    let beside = read_filters(rt, recording, place)?;
-    let named = read_choice(rt, question.filters)?;
-    let baseline = read_choice(rt, question.baseline)?;
-    let inquiry = Inquiry {
-        read: &read,
-        names: &names,
-        printed: &printed,
-        observed: observed.as_deref(),
-        choice: Choice {
-            filters: FilterTexts {
-                beside: beside.as_deref(),
-                named: named.as_deref(),
-            },
-            baseline: baseline.as_deref(),
-            writes: question.write_baseline.is_some(),
-        },
-        how: question.how,
-    };
-    match answer_about(rt.alloc(), inquiry) {
-        Ok(Answer::Written(written)) => put(rt, question, &written),
-        Ok(Answer::NotUnderstood(sentence)) => {
-            say(rt, sentence);
-            Ok(USAGE)
-        }
-        Err(fault) => refuse(rt, &read, &fault),
-    }
+    tell_of(rt, question, &read, &beside)
 }

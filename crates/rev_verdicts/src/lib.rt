@@ -5,8 +5,10 @@ mod answering;
 mod certifying;
 mod forms;
 mod leaving;
+mod reported;
 
-pub use answering::{Answer, Written, written_with};
+pub use answering::{Answer, Written};
 pub use certifying::{Grounds, certified};
-pub use forms::{Form, items_text, report_items};
+pub use forms::Form;
 pub use leaving::{Choice, Leaving};
+pub use reported::written_report;
