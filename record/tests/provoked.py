@@ -19,6 +19,8 @@ import builds
 PROVOKE = builds.RECORDER.parent / "rebug-provoke"
 STAND_IN = pathlib.Path(__file__).resolve().parent / "programs/races.py"
 
+NOBODY = 65534
+
 RULES = """rule gen
   command = cat $in > $out
 rule use
@@ -108,6 +110,28 @@ PLANTED = {
 FAINT = {"nothing_of_it_is_used": 0, "other_bytes_each_time": 0, "fails_in_any_order": 3}
 
 
+def python_for_all() -> str | None:
+    """A Python that each user can run; None where there is none."""
+    for it in (sys.executable, "/usr/bin/python3", "/usr/local/bin/python3"):
+        try:
+            done = subprocess.run([it, PROVOKE, "-h"], user=NOBODY, group=NOBODY, extra_groups=[], capture_output=True)
+        except OSError:
+            continue
+        if not done.returncode:
+            return it
+    return None
+
+
+def everything(*tops: pathlib.Path) -> dict[str, tuple]:
+    """All that stands there: its names, with bytes, modes, owners, stamps of change, and inodes."""
+    found = {}
+    for it in (path for top in tops for path in [top, *top.rglob("*")]):
+        status = it.lstat()
+        content = os.readlink(it) if it.is_symlink() else it.read_bytes() if it.is_file() else b""
+        found[str(it)] = (content, status.st_mode, status.st_uid, status.st_gid, status.st_mtime_ns, status.st_ino)
+    return found
+
+
 class Made:
     """A project's folders in a room of its own, built and recorded."""
 
@@ -141,25 +165,20 @@ class Made:
     def ninja(self, *words: str) -> None:
         subprocess.run(["ninja", *words], cwd=self.build, check=True, stdin=subprocess.DEVNULL, capture_output=True)
 
-    def words(self, *more: str, program: object = STAND_IN) -> list[object]:
+    def words(self, *more: str, program: object = STAND_IN, python: str = sys.executable) -> list[object]:
         words = more if more and (more[0].isdigit() or "--all" in more) else ("1", *more)
-        return [sys.executable, PROVOKE, self.build, self.recording, *words, "--rebug", program]
+        return [python, PROVOKE, self.build, self.recording, *words, "--rebug", program]
 
-    def provoke(self, *more: str, program: object = STAND_IN, **how: object) -> tuple[int, str]:
+    def provoke(self, *more: str, program: object = STAND_IN, python: str = sys.executable,
+                **how: object) -> tuple[int, str]:
         """The status, and what was answered and said."""
-        done = subprocess.run(self.words(*more, program=program), stdin=subprocess.DEVNULL, stdout=subprocess.PIPE,
-                              stderr=subprocess.STDOUT, text=True, **how)
+        done = subprocess.run(self.words(*more, program=program, python=python), stdin=subprocess.DEVNULL,
+                              stdout=subprocess.PIPE, stderr=subprocess.STDOUT, text=True, **how)
         return done.returncode, done.stdout
 
     def everything(self) -> dict[str, tuple]:
-        """All that stands in the two folders, with bytes, modes, owners and stamps."""
-        found = {}
-        for top in (self.build, self.source, self.recording, self.elsewhere):
-            for it in [top, *top.rglob("*")]:
-                status = it.lstat()
-                content = os.readlink(it) if it.is_symlink() else it.read_bytes() if it.is_file() else b""
-                found[str(it)] = (content, status.st_mode, status.st_uid, status.st_gid, status.st_mtime_ns)
-        return found
+        """All that stands in the two folders, and in those beside them."""
+        return everything(self.room)
 
     def remove(self) -> None:
         shutil.rmtree(self.room, ignore_errors=True)

@@ -7,7 +7,6 @@ import os
 import pathlib
 import pty
 import random
-import shutil
 import signal
 import subprocess
 import sys
@@ -16,9 +15,10 @@ import time
 import unittest
 
 from builds import LONGEST_SECONDS, missing_tools, read_terminal, wait_until
-from provoked import FAINT, GEN, PLANTED, PROVOKE, STAND_IN, USE, Made, Planted
+from provoked import FAINT, GEN, NOBODY, PLANTED, PROVOKE, STAND_IN, USE, Made, Planted, python_for_all
 from recorder.manifest import Manifest
 from recorder.provoke.copies import Refused, in_copy
+from recorder.provoke.in_place import OWN
 from recorder.provoke.orders import BadPatch, Patch, waits, with_order
 from recorder.provoke.races import NotAsked, Observed, Recording, name_of, shown_name
 from recorder.provoke.words import BadWords, HelpWanted, Options, read_words
@@ -29,7 +29,7 @@ RUNS, MOST_RUNS = 20, 200
 FAILS_SO = 4
 # The projects that leave files in another folder than those of build and sources.
 ELSEWHERE = ("behind_a_link", "logs_elsewhere", "statement_elsewhere")
-NOBODY = 65534
+OURS = OWN.decode()
 
 
 def why_no_copy():
@@ -355,24 +355,18 @@ class Provoked(unittest.TestCase):
 
     @unittest.skipIf(os.geteuid(), "only root can become nobody")
     def test_as_nobody(self):
-        if not os.access("/proc/self", os.X_OK) or not self.may_nobody_run():
+        python = python_for_all()
+        if python is None:
             self.skipTest("nobody cannot run Python here")
         for more in ([], ["--in-place"]):
             it = self.made("order_only_missing")
             subprocess.run(["chown", "-R", f"{NOBODY}:{NOBODY}", it.room], check=True)
             before = it.everything()
-            status, said = it.provoke(*more, user=NOBODY, group=NOBODY, extra_groups=[])
+            status, said = it.provoke(*more, python=python, user=NOBODY, group=NOBODY, extra_groups=[])
             if "makes no copy" in said:
                 self.skipTest(said)
             self.assertEqual((status, said.splitlines()[-1]), (4, "it fails so"), said)
             self.assertEqual(it.everything(), before)
-
-    def may_nobody_run(self):
-        try:
-            return not subprocess.run([sys.executable, PROVOKE, "-h"], user=NOBODY, group=NOBODY, extra_groups=[],
-                                      capture_output=True).returncode
-        except OSError:
-            return False
 
 
 @unittest.skipIf(LACKING, LACKING)
@@ -433,24 +427,31 @@ class UnderSignals(unittest.TestCase):
 
     def test_what_was_left_by_a_kill_of_all_is_put_back_by_the_next_call(self):
         """Also where the process that puts things back was killed."""
-        it = Made("left", PLANTED["order_only_missing"])
-        self.addCleanup(it.remove)
-        before = it.everything()
-        for aside in (".rebug-aside", ".rebug-moving"):
-            stamp = it.build.stat().st_mtime_ns
-            names = sorted(os.listdir(it.build))
-            (it.build / aside).mkdir()
-            moved = names if aside == ".rebug-aside" else names[:5]
-            self.assertIn("build.ninja", moved)
-            for name in moved:
-                os.rename(it.build / name, it.build / aside / name)
-            if aside == ".rebug-aside":
-                shutil.copytree(it.build / aside, it.build, dirs_exist_ok=True)
-                (it.build / "m.o").write_text("of the copy")
-            os.utime(it.build / aside, ns=(stamp, stamp))
-            status, said = it.provoke(*(["--in-place"] if aside == ".rebug-aside" else []))
-            self.assertEqual(status, 4, said)
+        late = "rule late\n  command = sleep 60; cp $in $out\nbuild w.h: late v.in\n"
+        slow = PLANTED["order_only_missing"].text + late
+        for more in ([], ["--in-place"]):
+            it = Made("left", Planted(slow, ["v.h"], own=["--", "app"]))
+            manifest = (it.build / "build.ninja").read_text()
+            (it.build / "build.ninja").write_text(manifest.replace("build v.h: gen v.in", "build v.h: gen v.in | w.h"))
+            self.addCleanup(it.remove)
+            before = it.everything()
+            process = subprocess.Popen(it.words("--in-place"), stdin=subprocess.DEVNULL, stdout=subprocess.DEVNULL,
+                                       stderr=subprocess.DEVNULL)
+            wait_until(lambda it=it: (it.build / OURS / "working").exists(), "nothing is moved aside", every=0.02)
+            keeper = self.child_of(process.pid)
+            os.kill(keeper, signal.SIGKILL)
+            process.kill()
+            process.wait()
+            self.wait_until_put_back(it)
+            self.assertNotEqual(it.everything(), before)
+            status, said = it.provoke("2", *more)
+            self.assertEqual((status, "there is no race 2" in said), (2, True), said)
             self.assertEqual(it.everything(), before)
+
+    def child_of(self, process):
+        found = [line for line in pathlib.Path(f"/proc/{process}/task/{process}/children").read_text().split()]
+        self.assertEqual(len(found), 1)
+        return int(found[0])
 
     def test_two_do_not_work_in_one_place(self):
         it = Made("two", PLANTED["order_only_missing"])

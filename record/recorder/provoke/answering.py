@@ -11,7 +11,8 @@ from ..files import copies_of_files
 from ..manifest import BadManifest, Edge, Manifest
 from ..observed.naming import source_folders
 from .copies import in_copy
-from .in_place import in_place, put_back_above
+from .in_place import in_place
+from .leaving import may_go
 from .orders import BadPatch, differing, waits, with_order
 from .races import Race, Recording, shown_name
 from .trying import Trial, Tried, tried
@@ -63,8 +64,6 @@ class Provoker:
         self.takes_patches = is_as_recorded and not any(it.startswith(b"outside/") for it in copies)
         self.observed = self.recording.observed()
         self.folders = self._folders()
-        for it in self.folders:
-            put_back_above(it)
 
     def _read(self, files: dict[bytes, bytes]) -> Manifest:
         """The manifest, with these files in place of those that are there."""
@@ -185,15 +184,11 @@ class Provoker:
         self.tell(what)
         trial = self._trial(files, race, self.edge(race.maker), self.edge(race.user))
         work = lambda: tried(trial)
-        return in_place(self.folders, work) if self.options.in_place else in_copy(self.folders, work)
+        return in_place(self.build, self.folders, work) if self.options.in_place else in_copy(self.folders, work)
 
     def _trial(self, files: dict[bytes, bytes], race: Race, maker: Edge, user: Edge) -> Trial:
         is_stale = self.options.stale
-        left = [*user.outputs, *self.observed.left_by(user.name), *self._depfiles()]
-        if not is_stale:
-            left += [race.path, *maker.outputs, *self.observed.left_by(maker.name)]
-        sources = {path for edge in self.manifest.edges for path in edge.inputs} - self.manifest.producer.keys()
-        away = [it for it in dict.fromkeys(left) if it not in sources]
+        away = may_go(self.build, self.manifest, self.observed, [user] if is_stale else [user, maker])
         compared = [it for it in dict.fromkeys([*user.outputs, *self.observed.written_by(user.name)])
                     if it != canonical(user.depfile or b".")]
         changed = {name: it for name, it in files.items() if it != self.contents[name]}
@@ -202,12 +197,8 @@ class Provoker:
         before = tuple(path for path in maker.inputs if path in self.manifest.producer)
         forgotten = tuple(maker.outputs) if is_stale else ()
         return Trial(self.build, tuple(map(os.fsencode, words)), before, user.name, self._read(files), changed,
-                     tuple(away), forgotten, forgotten if maker.generator else (), tuple(compared),
+                     away, forgotten, forgotten if maker.generator else (), tuple(compared),
                      tuple(self.folders))
-
-    def _depfiles(self) -> list[bytes]:
-        """Depfiles that Ninja reads before a build: by them it finds a cycle, as by its deps log."""
-        return [edge.depfile for edge in self.manifest.edges if edge.depfile and not edge.deps]
 
 
 def _there(folder: bytes) -> bytes:

@@ -37,6 +37,31 @@ class Ended(BaseException):
         self.number = number
 
 
+class Shield:
+    """Signals that end the work, kept back while it is up. No call puts it up, so a signal comes before that or is
+    kept."""
+
+    def __init__(self) -> None:
+        self.is_up = False
+        self._kept: list[int] = []
+
+    def take(self, number: int, _: Any) -> None:
+        """Takes a signal, as a handler. Raises Ended where the shield is down."""
+        if not self.is_up:
+            raise Ended(number)
+        self._kept.append(number)
+
+    def lower(self) -> None:
+        """From now on a signal ends the work. Raises Ended where one was kept."""
+        self.is_up = False
+        if self._kept:
+            raise Ended(self._kept.pop())
+
+
+SHIELD = Shield()
+"""That of this process: its handler is to take the signals."""
+
+
 def in_copy(folders: list[bytes], work: Callable[[], Any]) -> Any:
     """Does the work with a copy of each of the folders (real paths, none below another) in its place, and gives what it
     gives. Raises Refused where this system makes no such copy, and what the work raises."""
@@ -47,29 +72,35 @@ def in_copy(folders: list[bytes], work: Callable[[], Any]) -> Any:
     return in_process(in_overlays)
 
 
-def in_process(work: Callable[[], Any], at_end: Callable[[], None] = lambda: None) -> Any:
+def in_process(work: Callable[[], Any], at_end: Callable[[], None] = lambda: None,
+               meanwhile: Callable[[], None] = lambda: None) -> Any:
     """Does the work in a process of its own, and gives what it gives.
 
     When it has ended, or this process has, all that it started is ended too; then `at_end` is done. That is seen to by
-    a process in between, to which processes come whose parent has ended.
+    a process in between, to which processes come whose parent has ended. It does `meanwhile` again and again until the
+    work has ended.
     """
     reader, writer = os.pipe()
     watched, alive = os.pipe()
     sys.stdout.flush()
     sys.stderr.flush()
+    SHIELD.is_up = True
     keeper = os.fork()
     if not keeper:
         os.close(reader)
         os.close(alive)
-        _keep(watched, writer, work, at_end)
-    os.close(writer)
-    os.close(watched)
+        _keep(watched, writer, work, at_end, meanwhile)
     try:
+        os.close(writer)
+        os.close(watched)
+        SHIELD.lower()
         with os.fdopen(reader, "rb") as file:
             told = file.read()
     finally:
+        SHIELD.is_up = True
         os.close(alive)
         os.waitpid(keeper, 0)
+        SHIELD.lower()
     if not told:
         raise RuntimeError("the process that worked was ended")
     is_good, found = pickle.loads(told)
@@ -78,19 +109,21 @@ def in_process(work: Callable[[], Any], at_end: Callable[[], None] = lambda: Non
     return found
 
 
-def _keep(watched: int, writer: int, work: Callable[[], Any], at_end: Callable[[], None]) -> NoReturn:
+def _keep(watched: int, writer: int, work: Callable[[], Any], at_end: Callable[[], None],
+          meanwhile: Callable[[], None]) -> NoReturn:
     """What the process in between does."""
     try:
         os.setsid()
         for number in _SIGNALS:
             signal.signal(number, signal.SIG_IGN)
         _libc().prctl(_TAKE_ORPHANS, 1, 0, 0, 0)
-        worker = os.fork()
+        me, worker = os.getpid(), os.fork()
         if not worker:
-            _work(writer, work)
+            _work(me, writer, work)
         os.close(writer)
         is_alone = False
         while not is_alone and not os.waitpid(worker, os.WNOHANG)[0]:
+            meanwhile()
             is_alone = bool(select.select([watched], [], [], _POLL_SECONDS)[0])
         if is_alone:
             os.kill(worker, signal.SIGTERM)
@@ -101,9 +134,10 @@ def _keep(watched: int, writer: int, work: Callable[[], Any], at_end: Callable[[
         os._exit(0)
 
 
-def _work(writer: int, work: Callable[[], Any]) -> NoReturn:
+def _work(keeper: int, writer: int, work: Callable[[], Any]) -> NoReturn:
     """What the process that works does."""
     try:
+        end_with_parent(keeper)
         for number in _SIGNALS:
             signal.signal(number, _raise)
         try:

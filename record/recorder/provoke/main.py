@@ -4,15 +4,15 @@ from __future__ import annotations
 
 import os
 import signal
-from typing import Any, NoReturn, Sequence
+from typing import Sequence
 
 from .. import words as ninja_words
 from ..installed import launcher
 from ..ninja import NoNinja, found_ninja
 from ..signals import NUMBERS, write_all
 from .answering import NO_ORDERS, REFUSED, STATUSES, UNKNOWN, Answer, Provoker, Unfit
-from .copies import Ended, Refused
-from .in_place import Blocked, put_back_above
+from .copies import SHIELD, Ended, Refused
+from .in_place import Blocked, put_back
 from .races import NotAsked, Race, Recording, shown_name
 from .words import NAME, BadWords, HelpWanted, Options, read_words
 
@@ -48,7 +48,7 @@ def main(words: Sequence[str]) -> int:
     voice = Voice()
     try:
         for number in NUMBERS:
-            signal.signal(number, _end)
+            signal.signal(number, SHIELD.take)
         return _run(read_words(words), voice)
     except HelpWanted as why:
         voice.show(str(why))
@@ -65,7 +65,7 @@ def main(words: Sequence[str]) -> int:
                   f"(--in-place moves what is there aside and back)")
         return 2
     except Blocked as why:
-        voice.say(f"{why}. What stood there is there")
+        voice.say(why)
         return 2
     except Ended as why:
         voice.say(f"ended by {signal.Signals(why.number).name}")
@@ -77,14 +77,10 @@ def main(words: Sequence[str]) -> int:
         voice.clear()
 
 
-def _end(number: int, _: Any) -> NoReturn:
-    raise Ended(number)
-
-
 def _run(options: Options, voice: Voice) -> int:
-    put_back_above(os.path.abspath(os.fsencode(options.build)))
     if not os.path.isdir(options.build):
         raise Unfit(f"{options.build} is no folder")
+    put_back(os.path.realpath(os.fsencode(options.build)))
     if not os.path.exists(options.recording):
         raise Unfit(f"there is no recording at {options.recording}")
     try:

@@ -145,6 +145,7 @@ def _race(it: dict, number: int) -> Race:
 
 
 _FIELD = re.compile(rb"\\(.)")
+_LEAVES = ("writes", "edits", "deletes", "temps")
 _OF_FIELDS = {b"s": b" ", b"t": b"\t", b"n": b"\n", b"r": b"\r", b"\\": b"\\", b"0": b""}
 
 
@@ -165,7 +166,7 @@ class Observed:
                 paths.append(_plain(rest[0]))
             elif word == b"edge" and rest:
                 uses = found.of.setdefault(_plain(rest[0]), {})
-            elif word in (b"reads", b"writes", b"edits", b"temps"):
+            elif word.decode("ascii", "replace") in ("reads", *_LEAVES):
                 uses[word.decode()] = [paths[it] for it in _numbers(rest) if it < len(paths)]
         return found
 
@@ -174,6 +175,12 @@ class Observed:
         uses = self.of.get(output, {})
         others = {*uses.get("reads", ()), *uses.get("edits", ())}
         return [it for it in uses.get("writes", ()) if it not in others]
+
+    def left_alone_by(self, output: bytes) -> list[bytes]:
+        """Of what this command leaves in that way, what no other command leaves, changes or takes away."""
+        others = {path for name, uses in self.of.items() if name != output for kind in _LEAVES
+                  for path in uses.get(kind, ())}
+        return [it for it in self.left_by(output) if it not in others]
 
     def written_by(self, output: bytes) -> list[bytes]:
         """All that this command leaves."""

@@ -6,7 +6,6 @@ from __future__ import annotations
 
 import hashlib
 import os
-import shutil
 import signal
 import stat
 import subprocess
@@ -16,6 +15,7 @@ from ..fields import canonical
 from ..manifest import Manifest
 from ..said import BEGIN, END, Said
 from .copies import end_with_parent
+from .places import Tops
 
 _STATUS = b"[%f/%t] "
 _MOST_SAID = 4096
@@ -25,8 +25,9 @@ _MOST_SAID = 4096
 class Trial:
     """What is to be tried: in `build` Ninja (`words`) is to build `target` by a manifest of which `manifest` is the
     reading, and `files` those of its files that are others (canonical names -> content). `before` is built by the
-    manifest that is there. Then `away` are paths that go, `forgotten` outputs whose commands the build log is to lose,
-    and `old` paths that get the oldest stamp. `compared` are looked at afterwards. `folders` may be changed."""
+    manifest that is there. Then `away` are files that go (a folder stays), `forgotten` outputs whose commands the build
+    log is to lose, and `old` paths that get the oldest stamp. `compared` are looked at afterwards. Nothing is changed
+    but below `folders`, of which copies stand there."""
 
     build: bytes
     words: tuple[bytes, ...]
@@ -63,51 +64,26 @@ def tried(it: Trial) -> Tried:
         if found.status:
             found.is_ready = False
             return found
+    tops = Tops(it.build, it.folders)
     for name, content in it.files.items():
-        _write(it, name, content)
-    for path in it.away:
-        _take_away(it, path)
+        tops.write(name, content)
     logs = it.manifest.log_folder() or b"."
-    _take_away(it, os.path.join(logs, b".ninja_deps"))
-    _forget(it, os.path.join(logs, b".ninja_log"))
+    for path in (*it.away, os.path.join(logs, b".ninja_deps")):
+        tops.take_away(path)
+    _forget(it, tops, os.path.join(logs, b".ninja_log"))
     for path in it.old:
-        if os.path.exists(path) and _may_change(it, path):
-            os.utime(path, (1, 1), follow_symlinks=False)
+        tops.make_old(path)
     found = _run(it, (it.target,))
     found.sums = {path: sum_of(path) for path in it.compared}
     found.is_manifest_kept = all(_read(name) == content for name, content in it.files.items())
     return found
 
 
-def _may_change(it: Trial, path: bytes) -> bool:
-    folder = os.path.realpath(os.path.dirname(os.path.join(it.build, path)))
-    return any(folder == top or folder.startswith(top + b"/") for top in it.folders)
-
-
-def _take_away(it: Trial, path: bytes) -> None:
-    if not os.path.lexists(path) or not _may_change(it, path):
-        return
-    if stat.S_ISDIR(os.lstat(path).st_mode):
-        shutil.rmtree(path)
-    else:
-        os.unlink(path)
-
-
-def _write(it: Trial, path: bytes, content: bytes) -> None:
-    """Writes a file of its own to the path, and through no link. Raises OSError where it may not be changed."""
-    if not _may_change(it, path):
-        raise OSError(f"{os.fsdecode(path)} stands where no copy was made")
-    if os.path.islink(path):
-        os.unlink(path)
-    with open(path, "wb") as file:
-        file.write(content)
-
-
-def _forget(it: Trial, log: bytes) -> None:
+def _forget(it: Trial, tops: Tops, log: bytes) -> None:
     """Takes the entries of outputs out of the build log, so that Ninja runs their commands."""
     content, outputs = _read(log), set(it.forgotten)
     if outputs and content is not None:
-        _write(it, log, b"".join(line for line in content.splitlines(keepends=True) if len(line.split(b"\t")) < 4
+        tops.write(log, b"".join(line for line in content.splitlines(keepends=True) if len(line.split(b"\t")) < 4
                                  or canonical(line.split(b"\t")[3]) not in outputs))
 
 

@@ -1,6 +1,7 @@
 #!/usr/bin/env python3
 """Stands in for a program that answers `races --json RECORDING` and `races --provoke N RECORDING`: by the rule of
-docs/RACES.md, read plainly, over lists of the trace alone."""
+docs/RACES.md, read plainly, over lists of the trace alone. Where the recording has a file `told`, its lines `KIND PATH
+MAKER USER` are the races in place of these: a test writes there what no list of a trace shows."""
 
 import difflib
 import json
@@ -26,7 +27,16 @@ def makers(manifest, path):
     return [it for below in found.inputs for it in makers(manifest, below)]
 
 
+def told(manifest, text):
+    """The races that a test wants to have told."""
+    edge = manifest.producer.__getitem__
+    rows = [it.split(" ") for it in text.splitlines()]
+    return [(kind, path.encode(), edge(maker.encode()), edge(user.encode())) for kind, path, maker, user in rows]
+
+
 def races(manifest, recording):
+    if (recording / "told").exists():
+        return told(manifest, (recording / "told").read_text())
     found, known = [], set()
     for line in (recording / "trace").read_bytes().split(b"\n"):
         fields = line.split(b" ")
