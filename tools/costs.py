@@ -8,7 +8,6 @@ with."""
 import contextlib
 import os
 import subprocess
-from collections.abc import Sequence
 from dataclasses import dataclass
 from pathlib import Path
 
@@ -173,12 +172,17 @@ def by_crate(costs: dict[Work, float], *kinds: str) -> dict[str, float]:
     return found
 
 
-def edits_seconds(proof: float, edits: int, known: Sequence[float] = ()) -> float:
-    """The processor seconds that a crate's edits are thought to take, of which some are known, where its proof takes so
-    many: the proof once more, and then each edit over what that has proved. A single edit is checked from nothing."""
+def edit_seconds(proof: float) -> float:
+    """The processor seconds that an edit is thought to take over what the crate's proof, of so many, has proved."""
+    return LOADING + PART_OF_PROOF * proof
+
+
+def edits_seconds(proof: float, edits: int) -> float:
+    """The processor seconds that a crate's edits are thought to take, where its proof takes so many: the proof once more,
+    and then each edit over what that has proved. A single edit is checked from nothing."""
     if edits <= 1:
         return proof * edits
-    return proof + sum(known) + (edits - len(known)) * (LOADING + PART_OF_PROOF * proof)
+    return proof + edits * edit_seconds(proof)
 
 
 def marks(path: Path = MARKS) -> dict[str, float]:
