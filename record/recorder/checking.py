@@ -4,15 +4,19 @@ from __future__ import annotations
 
 import os
 import shutil
+import stat
 import subprocess
 from typing import Callable, Dict, List, Optional, Tuple
 
 from .folders import whole
-from .replaying import words_of_replay
+from .held import HeldFolder
+from .replaying import names_of_words, words_of_replay
 
 # The recorded commands of each lane: the number of the line, and its text. Those of the script are of no lane.
 Lanes = Dict[Optional[int], List[Tuple[int, bytes]]]
 
+# The words of a manifest's further files stand in `replay` four times: so many bytes are of some hundred thousand files.
+_LONGEST_REPLAY = 1 << 26
 # What a refusal of a recorded command says of the recording, by its number.
 MEANINGS = {
     50: "a second plan came while an edge was running",
@@ -70,6 +74,10 @@ def check(folder: str, program: str | None = None, say: Callable[[str], None] = 
         if words is None:
             say(f"{folder} has no recording: {os.path.join(folder, 'replay')} does not tell one")
             return 3
+        for name in names_of_words(words):
+            if not _is_file(room, name):
+                say(f"{folder} has no recording: {os.path.join(folder, name)} is no file of it")
+                return 3
         # what the launcher says while it builds the program, and what rebug says of a fault, goes through to the user
         done = subprocess.run([found, *words], cwd=room, stdin=subprocess.DEVNULL, stdout=subprocess.PIPE)
         report = done.stdout.split(b"\n")
@@ -83,11 +91,27 @@ def check(folder: str, program: str | None = None, say: Callable[[str], None] = 
 
 
 def _words(folder: str) -> list[str] | None:
+    """The words of the recording's `replay`. Another than a file of the folder, as a pipe or a device, has none, nor has
+    one that is longer than a recorder writes."""
     try:
-        with open(os.path.join(folder, "replay"), encoding="utf-8", errors="surrogateescape") as file:
-            return words_of_replay(file.read())
+        with HeldFolder.at(folder) as held:
+            found = held.status(b"replay")
+            if found is None or not stat.S_ISREG(found.st_mode) or found.st_size > _LONGEST_REPLAY:
+                return None
+            with held.read(b"replay") as file:
+                return words_of_replay(os.fsdecode(file.read(_LONGEST_REPLAY)))
     except OSError:
         return None
+
+
+def _is_file(folder: str, name: str) -> bool:
+    """Whether the folder has a file of this name, and no link on the way to it."""
+    try:
+        with HeldFolder.at(folder) as held:
+            found = held.status(os.fsencode(name))
+    except OSError:
+        return False
+    return found is not None and stat.S_ISREG(found.st_mode)
 
 
 def _found(program: str) -> str | None:

@@ -6,6 +6,8 @@ import re
 
 LONGEST_PATH = 4096
 _PLAIN = re.compile(rb"[A-Za-z0-9_+\-./]+")
+# The controls of seven and of eight bits, and the bytes that Python decodes by surrogates.
+_CONTROLS = re.compile("[\0-\x1f\x7f-\x9f\udc80-\udcff]")
 _TO_ESCAPE = re.compile(rb"[ \t\n\r\\]").search
 # a backslash first, since the others bring one along
 _ESCAPES = ((b"\\", b"\\\\"), (b" ", b"\\s"), (b"\t", b"\\t"), (b"\n", b"\\n"), (b"\r", b"\\r"))
@@ -52,3 +54,9 @@ def line(*parts: bytes | int | str) -> bytes:
 def shown(text: bytes) -> str:
     """Bytes as they are shown to a reader in a sentence."""
     return text.decode("utf-8", "backslashreplace")
+
+
+def printable(text: str) -> str:
+    """A line as a terminal may show it. A name in it may be anything: control characters (also those of eight bits) and
+    bytes that are no UTF-8 are written as `\\xNN`, so that none moves the cursor, begins a line or sets a colour."""
+    return _CONTROLS.sub(lambda found: f"\\x{ord(found[0]) & 0xFF:02x}", text)

@@ -45,7 +45,7 @@ class NotInPlace(Exception):
 def whole(folder: str) -> Iterator[str]:
     """The folder of a recording as it is to be read: a copy of the one that counts, for as long as it is used, where
     the recorder was ended while it moved the files into their places; else the folder itself."""
-    if not os.path.isfile(os.path.join(folder, os.fsdecode(MOVING), os.fsdecode(_REPLAY))):
+    if not _is_moving(folder):
         yield folder
         return
     with tempfile.TemporaryDirectory(prefix="rebug-whole-") as copy:
@@ -57,9 +57,20 @@ def whole(folder: str) -> Iterator[str]:
         yield copy
 
 
+def _is_moving(folder: str) -> bool:
+    """Whether a recorder was ended while it moved the files. What a recorder leaves is no link."""
+    try:
+        with HeldFolder.at(folder) as held:
+            found = held.status(joined(MOVING, _REPLAY))
+    except OSError:  # no folder, or a link on the way
+        return False
+    return found is not None and stat.S_ISREG(found.st_mode)
+
+
 def _left_out(moving: HeldFolder) -> list[bytes]:
     """The files of an earlier recording that the one in `.moving` does not have."""
-    if moving.status(_WITHOUT) is None:
+    found = moving.status(_WITHOUT)
+    if found is None or not stat.S_ISREG(found.st_mode):
         return []
     with moving.read(_WITHOUT) as file:
         noted = file.read(sum(map(len, OPTIONAL)) + len(OPTIONAL)).split(b"\n")

@@ -115,9 +115,10 @@ class HeldFolder:
             return open(os.open(name, flags, 0o666, dir_fd=held.descriptor), "wb", buffering=_BUFFER)
 
     def read(self, path: bytes) -> BinaryIO:
-        """A file to read from."""
+        """A file to read from. A pipe that nobody writes into is not waited for."""
+        flags = os.O_RDONLY | os.O_NOFOLLOW | os.O_NONBLOCK | os.O_CLOEXEC
         with self._parent(path) as (folder, name):
-            return open(os.open(name, os.O_RDONLY | os.O_NOFOLLOW | os.O_CLOEXEC, dir_fd=folder), "rb")
+            return open(os.open(name, flags, dir_fd=folder), "rb")
 
     def move(self, path: bytes, to: HeldFolder, target: bytes) -> None:
         """Moves a file or a folder by one rename. A file in the target's place is replaced, and so is a link."""

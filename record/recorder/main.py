@@ -4,6 +4,7 @@ import os
 
 from .checking import check
 from .depslog import BrokenLog
+from .fields import printable
 from .folders import BadFolder
 from .from_logs import FromLogs
 from .installed import launcher
@@ -16,12 +17,12 @@ from .words import BadWords
 
 def say(text):
     """A sentence for the user, on standard error as long as somebody reads it."""
-    write_all(2, f"rebug-record: {text}\n".encode("utf-8", "surrogateescape"))
+    write_all(2, f"rebug-record: {printable(str(text))}\n".encode())
 
 
 def show(text):
     """A line of an answer, on standard output."""
-    write_all(1, f"{text}\n".encode("utf-8", "surrogateescape"))
+    write_all(1, f"{printable(text)}\n".encode())
 
 
 def _named(why):
@@ -49,7 +50,8 @@ def main(words):
         recorder = FromLogs if asked.from_logs else Session
         return recorder(asked, signals, say, launcher()).run()
     except HelpWanted as why:
-        show(why)
+        for text in str(why).split("\n"):
+            show(text)
         return 0
     except Failure as why:
         say(why)

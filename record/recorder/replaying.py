@@ -24,8 +24,9 @@ if [ -n "${REBUG:-}" ]; then
 fi
 # Where the recorder was ended while it moved a new recording into its place, that one is replayed, from a copy.
 here=$(dirname -- "$0")
-if [ -f "$here/.moving/replay" ]; then sleep 1; fi
-if [ -f "$here/.moving/replay" ]; then REBUG_IS_MOVING=yes exec sh "$here/.moving/replay" "$@"; fi
+is_moving() { [ -f "$here/.moving/replay" ] && ! [ -h "$here/.moving" ]; }
+if is_moving; then sleep 1; fi
+if is_moving; then REBUG_IS_MOVING=yes exec sh "$here/.moving/replay" "$@"; fi
 CDPATH= cd -- "$here" || exit 3
 if [ -n "${REBUG_IS_MOVING:-}" ]; then
     echo "replay: the recorder was ended while it moved this recording into its place: replayed from a copy" >&2
@@ -124,6 +125,11 @@ def words_of_replay(text: str) -> list[str] | None:
     if not all(map(_is_inside, [name, *files])):
         return None
     return [f"--manifest={name}", *_SHAPE, *(["--workers"] if with_lanes else []), "--", *files]
+
+
+def names_of_words(words: list[str]) -> list[str]:
+    """The names of the files that these words have rebug read."""
+    return [words[0].partition("=")[2], "trace", "script", *words[words.index("--") + 1 :]]
 
 
 def _is_inside(name: str) -> bool:

@@ -1,7 +1,8 @@
 """What signals do to a recording.
 
 Before Ninja runs one ends the recorder. While Ninja runs they are Ninja's. After that they are held until the recording
-is written; a second one within two seconds ends the recorder, and the recording that was there stays.
+is written; a second one within two seconds ends the recorder, and the recording that was there stays. Those that come
+while the recorder ends, within two seconds, do nothing more.
 """
 
 from __future__ import annotations
@@ -43,6 +44,7 @@ class Signals:
         self.hand_on: Callable[[int], bool] | None = None
         self.held: list[int] = []
         self.last: float | None = None
+        self.ended: float | None = None
         self.has_run, self.is_switching = False, False
 
     def install(self) -> None:
@@ -58,16 +60,20 @@ class Signals:
                 signal.signal(number, signal.SIG_DFL)
 
     def _came(self, number: int, _: FrameType | None) -> None:
+        now, last = time.monotonic(), self.last
+        if self.ended is not None and now - self.ended <= _SECOND_WITHIN:
+            return  # it is ending: what a hasty user sends besides would end the telling of it
         if self.hand_on and self.hand_on(number):
             return
         if not self.has_run:
+            self.ended = now
             raise Ended(number)
-        now, last = time.monotonic(), self.last
         self.held.append(number)
         self.last = now
         if self.is_switching:
             return
         if last is not None and now - last <= _SECOND_WITHIN:
+            self.ended = now
             raise Ended(number)
         self.say(f"{name_of(number)} is held until the recording is written; a second one within two seconds ends it")
 
