@@ -178,8 +178,8 @@ def edit_seconds(proof: float) -> float:
 
 
 def edits_seconds(proof: float, edits: int) -> float:
-    """The processor seconds that a crate's edits are thought to take, where its proof takes so many: the proof once more,
-    and then each edit over what that has proved. A single edit is checked from nothing."""
+    """The processor seconds that a crate's edits are thought to take, where its proof takes so many: the proof once
+    more, and then each edit over what that has proved. A single edit is checked from nothing."""
     if edits <= 1:
         return proof * edits
     return proof + edits * edit_seconds(proof)

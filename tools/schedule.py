@@ -15,8 +15,8 @@ TOP = Path(__file__).resolve().parent.parent
 # The minutes of the clock that proofs and edits may take in a run of ./test. CI has 180; the parts that follow the
 # proofs have taken ten of them, and the other twenty are for a machine that is slower than thought.
 LIMIT_MINUTES = 150
-# A whole run from nothing took 121 minutes of the clock, where the marks alone give 96 on as many processors: four proofs
-# shared two cores, and the host gave a part of the processors to others (docs/inside/CONTRIBUTING.md).
+# A whole run from nothing took 121 minutes of the clock, where the marks alone give 96 on as many processors: four
+# proofs shared two cores, and the host gave a part of the processors to others (docs/inside/CONTRIBUTING.md).
 SLOWER = 1.27
 # The parts of ./test that need no program have one processor for so long, beside the gate.
 BESIDE_SECONDS = 17 * 60 / SLOWER

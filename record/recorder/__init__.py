@@ -2,6 +2,6 @@
 
 import _signal
 
-# The launcher has an interrupt wait while Python begins, which would end in a traceback there. The scripts have taken it
-# by now.
+# The launcher has an interrupt wait while Python begins, which would end in a traceback there. The scripts have said by
+# now what it does.
 _signal.pthread_sigmask(_signal.SIG_UNBLOCK, {_signal.SIGINT})

@@ -15,7 +15,7 @@ from .replaying import names_of_words, words_of_replay
 # The recorded commands of each lane: the number of the line, and its text. Those of the script are of no lane.
 Lanes = Dict[Optional[int], List[Tuple[int, bytes]]]
 
-# The words of a manifest's further files stand in `replay` four times: so many bytes are of some hundred thousand files.
+# The names of a manifest's files stand in `replay` four times: so many bytes have some hundred thousand files.
 _LONGEST_REPLAY = 1 << 26
 # What a refusal of a recorded command says of the recording, by its number.
 MEANINGS = {
@@ -91,8 +91,8 @@ def check(folder: str, program: str | None = None, say: Callable[[str], None] = 
 
 
 def _words(folder: str) -> list[str] | None:
-    """The words of the recording's `replay`. Another than a file of the folder, as a pipe or a device, has none, nor has
-    one that is longer than a recorder writes."""
+    """The words of the recording's `replay`. A pipe or a device has none, nor has a file that is longer than a recorder
+    writes."""
     try:
         with HeldFolder.at(folder) as held:
             found = held.status(b"replay")

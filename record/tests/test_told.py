@@ -33,8 +33,8 @@ class Told(unittest.TestCase):
         self.out = self.room / "out"
         self.out.mkdir()
         replay = replay_text(["build.ninja"], [b"run", b"run", b"marks", b"logs"], False, "rebug")
-        for name, text in (("build.ninja", "rule r\n  command = r\nbuild a: r\n"), ("trace", TRACE), ("script", "run\n"),
-                           ("replay", replay)):
+        manifest = "rule r\n  command = r\nbuild a: r\n"
+        for name, text in (("build.ninja", manifest), ("trace", TRACE), ("script", "run\n"), ("replay", replay)):
             (self.out / name).write_text(text)
         # It stands for rebug, and answers by the trace that it is given.
         self.rebug = self.room / "rebug"

@@ -1,5 +1,5 @@
-"""The recordings on which tests/growth/run refuses memory, and all that is asked of them. The first program has a script
-with every word, and lanes on threads. The second has its words with every flag, and a prompt with every question."""
+"""The recordings on which tests/growth/run refuses memory, and all that is asked of them. The first program has a
+script with every word, and lanes on threads. The second has its words with every flag, and every question."""
 
 from __future__ import annotations
 
@@ -150,8 +150,8 @@ start stage 3
 finish stage 32
 pass all
 """
-# Two races, a clash, a file that no line names, one that no list has, a command that was not observed whole, and a place
-# that a filter hides.
+# Two races, a clash, a file that no line names, one that no list has, a command that was not observed whole, and a
+# place that a filter hides.
 OBSERVED = """\
 rebug-observed 1
 by ptrace

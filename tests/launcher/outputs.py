@@ -4,6 +4,7 @@ import os
 import stat
 import subprocess
 import threading
+import unittest
 
 from room import Room
 
@@ -116,6 +117,19 @@ class Outputs(Room):
         self.stand_in('echo "given $*"\n')
         os.symlink("drawn", f"{self.folder}/by.svg")
         self.assertEqual(self.call("picture", "recorded", "by.svg").stdout, "given picture recorded by.svg\n")
+
+    @unittest.skipIf(os.geteuid() != 0, "another owner's file needs the superuser")
+    def test_a_file_stays_its_owners(self):
+        self.stand_in(FAKE_TELL)
+        self.write("examples/first/known", "as it was")
+        for owner, group in ((65534, -1), (0, 65534)):
+            os.chown(f"{self.folder}/known", owner, group)
+            ran = self.call("races", "recorded", "--write-baseline", "known")
+            self.assertEqual((ran.stdout, ran.returncode), ("given races recorded --write-baseline known\n", 0))
+            found = os.stat(f"{self.folder}/known")
+            self.assertEqual((found.st_uid, self.text("known")), (owner, "half and whole"))
+        self.assertEqual(found.st_gid, 65534)
+        self.assertEqual(self.made(), ["known"])
 
     def test_pipes_and_devices_are_written_as_they_are(self):
         self.stand_in(FAKE_TELL)
