@@ -113,8 +113,8 @@ class Told(unittest.TestCase):
 
     def test_an_interrupt_as_python_begins_ends_without_a_traceback(self):
         (self.room / "sitecustomize.py").write_text(INTERRUPTING)
-        for word in ("record", "provoke"):
-            ran = subprocess.run([LAUNCHER, word, "--help"], env={**os.environ, "PYTHONPATH": str(self.room)},
+        for words in ([LAUNCHER, "record"], [LAUNCHER, "provoke"], [builds.RECORDER]):
+            ran = subprocess.run([*words, "--help"], env={**os.environ, "PYTHONPATH": str(self.room)},
                                  capture_output=True, text=True, timeout=300)
             self.assertEqual((ran.returncode, ran.stdout, ran.stderr), (-signal.SIGINT, "", ""))
 
