@@ -61,24 +61,29 @@ ROWS: tuple[tuple[str, list[str]], ...] = (
 CONFLICTS = ("race", "cycle", "unstable", "clash")
 
 
-def line_of(said: str) -> str:
-    """A line of the file `observed`."""
+def line_of(said: str, paths: tuple[str, ...]) -> str:
+    """A line of the file `observed`, whose paths are these."""
     kind, *names = said.split(" ")
     if kind == "edge":
         return f"{said}\n"
-    numbers = sorted(PATHS.index(name) for name in names)
+    numbers = sorted(paths.index(name) for name in names)
     return f"{kind} {' '.join(map(str, numbers))}\n"
+
+
+def observed(seen: str, paths: tuple[str, ...]) -> str:
+    """The file `observed` that says these paths, and what commands were seen to do with them."""
+    named = "".join(f"path {path}\n" for path in paths)
+    return f"rebug-observed 1\nby hand\n{named}{''.join(line_of(said, paths) for said in seen.split('; '))}"
 
 
 def write_recording(folder: pathlib.Path, seen: str) -> None:
     """A recording of a build in which all commands ran, and did what was seen."""
     runs = "".join(f"start {output} 0\nfinish {output} 2\n" for output in OUTPUTS)
     stamps = "".join(f"stamp {source} 1\n" for source in SOURCES)
-    paths = "".join(f"path {path}\n" for path in PATHS)
     files = {
         "build.ninja": MANIFEST,
         "trace": f"rebug-trace 1\n{stamps}lane 0\nplan {' '.join(OUTPUTS)}\n{runs}",
-        "observed": f"rebug-observed 1\nby hand\n{paths}{''.join(map(line_of, seen.split('; ')))}",
+        "observed": observed(seen, PATHS),
     }
     folder.mkdir()
     for name, text in files.items():
