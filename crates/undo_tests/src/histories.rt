@@ -1,12 +1,15 @@
-// That the lists of a history find what a look at each kept event finds.
+// That the lists of a history find what a look at each kept event finds, and how often its cells are written.
 use crate::builds::{LINKS, NOTHING, OBJECTS, SOURCES, opened, says};
 use rev_cells::Cell;
 use rev_footprint::Footprint;
 use rev_history::{History, KeptCells, KeptFootprint};
 use std::alloc::{AllocError, Global};
 
-// A manifest, the trace as which a history opens, what is said in it, and how many lines are accepted.
-type Row = (&'static str, &'static str, &'static str, u32);
+// A manifest, the trace as which a history opens, what is said in it, how many lines are accepted, and how often cells
+// are written then. A plan writes the mark of each edge and whether the build is halted. A start writes a mark, a job,
+// and a slot of a pool. A finish writes these, and a stamp and a record of each output. What takes an event back writes
+// the same cells again, and what is refused writes none.
+type Row = (&'static str, &'static str, &'static str, u32, u64);
 
 // Whether the event of a kept number conflicts with a footprint that is lent.
 fn conflicts(history: &History, number: u32, footprint: &KeptFootprint<'_>) -> bool {
@@ -128,17 +131,18 @@ fn agreed(alloc: Global, history: &mut History, lines: &str) -> Result<Option<u3
     Ok(Some(count))
 }
 
-// How many lines of a row are accepted, where lists and looks agree after each.
-fn agreed_on(alloc: Global, row: &Row) -> Result<Option<u32>, AllocError> {
-    let (manifest, records, lines, _) = *row;
+// Whether so many lines of a row are accepted as it says, where lists and looks agree after each, and cells are written
+// as often.
+fn agreed_on(alloc: Global, row: &Row) -> Result<bool, AllocError> {
+    let (manifest, records, lines, count, writes) = *row;
     let mut history = opened(alloc, manifest, records)?;
-    agreed(alloc, &mut history, lines)
+    let found = agreed(alloc, &mut history, lines)?;
+    Ok(found == Some(count) && history.cells().writes() == writes)
 }
 
-// Whether so many are accepted as the row says.
 fn is_agreed_on(alloc: Global, row: &Row) -> bool {
     match agreed_on(alloc, row) {
-        Ok(count) => count == Some(row.3),
+        Ok(agreed) => agreed,
         Err(_) => false,
     }
 }
@@ -148,6 +152,7 @@ const STARTED: Row = (
     SOURCES,
     "plan app; start a.o 0; start b.o 1; finish a.o 100; finish b.o 110; start app 0; undo 4; undo 1; cone 3",
     7,
+    26,
 );
 
 const PLANNED: Row = (
@@ -156,6 +161,7 @@ const PLANNED: Row = (
 stamp a.c 10\nstamp b.c 20\nstamp b.o 110\nstamp app 120\nbuilt b.o 110 cc\\s-c\\sb.c\\s-o\\sb.o\nbuilt app 120 ld\\sa.o\\sb.o\\s-o\\sapp\n",
     "plan app",
     1,
+    4,
 );
 
 const TOUCHED: Row = (
@@ -163,6 +169,7 @@ const TOUCHED: Row = (
     SOURCES,
     "plan app; touch a.c 10; start a.o 0; undo 2",
     3,
+    7,
 );
 
 const OUT_OF_ORDER: Row = (
@@ -170,6 +177,7 @@ const OUT_OF_ORDER: Row = (
     SOURCES,
     "plan app; start a.o 0; start b.o 1; finish a.o 100; finish b.o 110; undo 4; redo 4; undo 5; undo 3; redo 5; redo 3; redo 5; redo 5",
     11,
+    36,
 );
 
 const INTERRUPTED: Row = (
@@ -177,12 +185,14 @@ const INTERRUPTED: Row = (
     SOURCES,
     "plan app; start a.o 0; interrupt; undo 2",
     3,
+    7,
 );
 
 const OVERTAKEN: Row = (
     OBJECTS,
     NOTHING,
     "touch a.c 11; undo 1; touch a.c 12; redo 1; redo 2",
+    3,
     3,
 );
 
@@ -193,6 +203,7 @@ build p q: gen s\nbuild u: cp p\nbuild v: cp q\n",
 stamp s 50\nstamp p 10\nstamp q 10\nstamp u 20\nstamp v 20\nbuilt p 10 gen\nbuilt q 10 gen\nbuilt u 20 cp\\sp\\su\nbuilt v 20 cp\\sq\\sv\n",
     "plan; start p 0; finish q 60,10; start v 0; clean u; clean v; start u 0",
     5,
+    15,
 );
 
 const THROUGH_PHONY: Row = (
@@ -202,6 +213,7 @@ build g.h: gen\nbuild grp: phony || g.h\nbuild x.o: cc x.c || grp\n",
 stamp x.c 5\n",
     "plan x.o; start x.o 1; start g.h 0; start x.o 1; finish g.h 7; start x.o 1; pass grp; start x.o 1",
     5,
+    13,
 );
 
 const RESIZED: Row = (
@@ -209,7 +221,44 @@ const RESIZED: Row = (
     NOTHING,
     "plan; start a 0 0; resize 1 2; start b 1 1; resize 1 1; undo 3; finish b 6; resize 1 1; undo 7; back",
     7,
+    17,
 );
+
+// Undo and a step back write what the event wrote; what is refused writes nothing.
+const WRITTEN: &[Row] = &[
+    ("", NOTHING, "touch a 5; touch b 6", 2, 2),
+    ("", NOTHING, "touch a 5; touch b 6; undo 1", 3, 3),
+    ("", NOTHING, "touch a 5; touch b 6; undo 1; back", 4, 4),
+    ("", NOTHING, "touch a 5; touch a 6; undo 1; redo 2", 2, 2),
+    (
+        OBJECTS,
+        SOURCES,
+        "plan app; start a.o 0; start b.o 1; finish a.o 100; finish b.o 110",
+        5,
+        16,
+    ),
+    (
+        OBJECTS,
+        SOURCES,
+        "plan app; start a.o 0; start b.o 1; finish a.o 100; finish b.o 110; undo 4",
+        6,
+        20,
+    ),
+    (
+        OBJECTS,
+        SOURCES,
+        "plan app; start a.o 0; start b.o 1; finish a.o 100; finish b.o 110; undo 4; undo 5; undo 3; undo 2",
+        9,
+        28,
+    ),
+    (
+        OBJECTS,
+        SOURCES,
+        "plan app; start a.o 0; start b.o 1; finish a.o 100; finish b.o 110; undo 4; undo 5; undo 3; undo 2; back",
+        10,
+        32,
+    ),
+];
 
 const ROWS: &[Row] = &[
     STARTED,
@@ -226,6 +275,13 @@ const ROWS: &[Row] = &[
 #[test]
 fn the_lists_find_what_a_look_at_each_finds(rt: HostRuntime) {
     for row in ROWS {
-        assert!(rt; is_agreed_on(rt.alloc(), row));
+        assert!(rt; is_agreed_on(rt.alloc(), row), "{}", row.2);
+    }
+}
+
+#[test]
+fn writes_are_counted(rt: HostRuntime) {
+    for row in WRITTEN {
+        assert!(rt; is_agreed_on(rt.alloc(), row), "{}", row.2);
     }
 }
