@@ -44,6 +44,8 @@ def write_recording(it: Recording, folder: HeldFolder, with_lanes: bool, program
     with folder.create(b"ninja") as file:
         file.write(b"rebug-ninja 1\n")
         file.writelines(text + b"\n" for text in it.about_ninja)
+        # Without this line the manifest of a recording is build.ninja.
+        file.writelines(line(b"manifest", name) + b"\n" for name in names[:1] if name != b"build.ninja")
     with folder.create(b"output") as file:
         file.write(b"rebug-output 1\n")
         file.writelines(text + b"\n" for text in outputs(it, lanes))

@@ -116,6 +116,10 @@ class Defaults(unittest.TestCase):
         self.environment["CCACHE_DIR"] = f"{self.room}/a *b"
         self.assertEqual(self.of_caches(), ["a *b"])
 
+    def test_logs_of_a_ninja_that_commands_run(self):
+        text = default_filters(b"/b", [], [], self.environment, [b"sub/.ninja_log", b"#s/.ninja_deps", b"l\nm/.ninja_log"])
+        self.assertEqual(patterns(text)[len(ALWAYS) :], [b"sub/.ninja_log"])
+
     def test_the_text_is_never_too_long(self):
         names = ["x" * 250 + "/", "y" * 250 + "/"] * 7
         self.make("b", "".join(names))
@@ -131,6 +135,12 @@ class Defaults(unittest.TestCase):
 SCRIPT = "import sys, module\nopen(sys.argv[1], 'w').write(module.text())\n"
 PYTHON = ("rule py\n  command = env -u PYTHONDONTWRITEBYTECODE python3 script.py $out\n"
           "build one: py script.py\nbuild two: py script.py\n")
+INNER = """rule inner
+  command = ninja -C sub $out.txt && touch $out
+build one: inner
+build two: inner | one
+"""
+IN_SUB = "rule c\n  command = cp $in $out\nbuild one.txt: c in\nbuild two.txt: c one.txt\n"
 CCACHE = ("rule cc\n  command = env -u CCACHE_DISABLE ccache cc -c $in -o $out\n"
           "build one.o: cc one.c\nbuild two.o: cc two.c\n")
 
@@ -160,6 +170,14 @@ class Recorded(unittest.TestCase):
         hidden = self.left_by_both(found)
         self.assertTrue([it for it, is_so in hidden.items() if is_so and b"__pycache__/module" in it], hidden)
         self.assertEqual({it for it, is_so in hidden.items() if not is_so}, {b"one", b"two"})
+
+    def test_the_log_of_a_ninja_that_commands_run(self):
+        found = self.room.build("own", INNER, {"sub/build.ninja": IN_SUB, "sub/in": "in"})
+        hidden = self.left_by_both(found)
+        self.assertEqual(hidden[b"sub/.ninja_log"], True)
+        self.assertEqual({it for it, is_so in hidden.items() if not is_so},
+                         {b"one", b"two", b"sub/one.txt", b"sub/two.txt"})
+        self.assertIn("2 commands run a Ninja that writes sub/.ninja_log: one, two.", found.said)
 
     def test_the_folder_of_ccache(self):
         lacking = builds.missing_tools("ccache", "cc")

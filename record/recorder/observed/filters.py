@@ -36,6 +36,11 @@ _OF_CACHES = """
 # Caches in which commands of this build left files: a file comes out the same, whether it was in the cache or is put
 # there.
 """
+_OF_INNER_NINJAS = """
+# Logs of a Ninja that commands of this build run. Each such Ninja brings its log up to date, whoever runs it.
+"""
+NINJA_LOGS = (b".ninja_log", b".ninja_deps")
+"""The names of the logs of a Ninja, in the folder that it builds in."""
 
 
 @dataclass(frozen=True)
@@ -66,14 +71,18 @@ CACHES = (
 
 
 def default_filters(build: bytes, sources: Iterable[bytes], named: Iterable[bytes],
-                    environment: Mapping[str, str] = os.environ) -> bytes:
+                    environment: Mapping[str, str] = os.environ, logs: Iterable[bytes] = ()) -> bytes:
     """The text of the file. `build` and `sources` are the real folders of the build and of its sources, and `named` the
-    places that `observed` names: a cache in which none of them lies is not named here, since it tells of its user."""
+    places that `observed` names: a cache in which none of them lies is not named here, since it tells of its user. `logs`
+    has the places of logs that a Ninja leaves which a command runs."""
     folders = dict.fromkeys([*_named_by_ccache(environment), *_folders(environment)])
     patterns = [it for it in (_pattern(os.fsencode(name), build, tuple(sources)) for name in folders) if it]
     paths = list(named)
     lines = [it for it in patterns if any(path.startswith(_begin(it)) for path in paths)]
     text = _ALWAYS.encode()
+    inner = [it for it in logs if b"\n" not in it and not it.startswith(b"#")]
+    if inner:
+        text += _OF_INNER_NINJAS.encode() + b"".join(it + b"\n" for it in inner)
     if lines:
         text += _OF_CACHES.encode() + b"".join(it + b"\n" for it in dict.fromkeys(lines))
     return text[:text.rindex(b"\n", 0, MOST_BYTES) + 1] if len(text) > MOST_BYTES else text

@@ -20,9 +20,10 @@ from typing import Any, BinaryIO
 from ..fields import shown
 from ..folders import OPTIONAL
 from ..held import HeldFolder
+from ..other_names import in_order, outputs_in_order
 from .calls import Observer
 from .effects import Build
-from .filters import default_filters
+from .filters import NINJA_LOGS, default_filters
 from .log_pipe import BUFFER, LogPipe
 from .matching import match, text_of
 from .naming import Names, source_folders
@@ -133,14 +134,16 @@ class Observation:
         """Writes the file into the folder of the recording, whose notes and remarks say what is not whole."""
         edges = self.manifest.edges
         pairs, left = match(self.build.commands, edges, recording.runs)
-        outputs = [path for edge in edges for path in edge.outputs]
+        outputs = outputs_in_order(self.manifest)
         sources = source_folders(self.folder, self.manifest)
-        names = Names(self.places, self.folder, sources, after.stamps, outputs)
+        names = Names(self.places, self.folder, sources, in_order(after.stamps), outputs)
+        observed = Observed(pairs, self.places, names)
         with folder.create(OBSERVED) as file:
-            named = Observed(pairs, self.places, names).write(file, self.observer.name)
+            named = observed.write(file, self.observer.name)
+        logs = observed.inner_logs()
         with folder.create(FILTERS) as file:
-            file.write(default_filters(self.folder, sources, named))
-        recording.notes += [*self.notes, *self._notes(pairs, recording.runs)]
+            file.write(default_filters(self.folder, sources, named, logs=logs))
+        recording.notes += [*self.notes, *_of_inner_ninjas(logs), *self._notes(pairs, recording.runs)]
         recording.remarks.append(f"{len(pairs)} commands were observed, with {self.build.processes.count:,} processes; "
                                  f"reading that took {self.seconds:.2f} s of processor time")
         if left:
@@ -166,6 +169,15 @@ class Observation:
                    f"it is observed: {_some(weak)}")
         if self.observer.unread:
             yield f"{self.observer.unread} records of the observer were not understood"
+
+
+def _of_inner_ninjas(logs: dict[bytes, list[Any]]) -> Iterator[str]:
+    """What the user is told of each Ninja that commands of the build run, by its log."""
+    for log, edges in logs.items():
+        if log.endswith(NINJA_LOGS[0]):
+            runs = "1 command runs" if len(edges) == 1 else f"{len(edges)} commands run"
+            yield (f"{runs} a Ninja that writes {shown(log)}: {_some([it.name for it in edges])}. What its commands do is "
+                   f"taken to be done by these, and no finding is about its logs")
 
 
 def _some(names: list[bytes]) -> str:

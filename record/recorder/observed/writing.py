@@ -8,6 +8,7 @@ from collections.abc import Iterable, Iterator
 from typing import Any, BinaryIO
 
 from ..fields import field
+from .filters import NINJA_LOGS
 from .footprints import KINDS
 from .imports import can_be_module
 from .naming import Names
@@ -114,6 +115,16 @@ class Observed:
         file.writelines(b"path " + field(it) + b"\n" for it in paths)
         file.writelines(it + b"\n" for it in body)
         return paths
+
+    def inner_logs(self) -> dict[bytes, list[Any]]:
+        """The logs that a Ninja leaves which a command runs, each with the edges of these commands."""
+        logs = {it for it, path in enumerate(self.places.paths) if path.rpartition(b"/")[2] in NINJA_LOGS} & self._left
+        found: dict[bytes, list[Any]] = {self.names.of(it): [] for it in sorted(logs)}
+        for edge, command in self.pairs if logs else ():
+            sets = command.packed.sets if command.packed is not None else {}
+            for place in logs.intersection(it for kind in _LEAVES for it in sets.get(kind, ())):
+                found[self.names.of(place)].append(edge)
+        return found
 
     def _is_outside(self, kind: str, place: int) -> bool:
         """Whether a place is one of those that are counted and not named."""
