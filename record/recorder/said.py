@@ -40,6 +40,7 @@ MOST_WRITTEN = 65_536
 _MOST_OF_A_PIECE, _LAST_OF_A_PIECE = 4 * 131_072 + MOST_WRITTEN, 65_536
 # Of all pieces together, and what is kept of each behind that.
 _MOST_KEPT, _LEAST_OF_A_PIECE = 64 << 20, 256
+_MOST_SPACES = 4  # in the part of a status line that is before what it shows of the command
 _MOST_CANDIDATES = 3  # a description may have such a line, too
 _MOST_AT_CONSOLE = 1000
 CLEARED = b"\x1b[K"  # what Ninja ends a status line with on a terminal
@@ -119,12 +120,49 @@ class Piece:
         return Written(text, max(0, end - begin - len(text)))
 
 
+class Shown:
+    """The status lines that Ninja shows, from the first to the last."""
+
+    def __init__(self, is_smart: bool) -> None:
+        self.is_smart, self.is_whole, self.count = is_smart, True, 0
+        self._lines: set[bytes] = set()
+        self._texts: set[bytes] = set()
+        self._kept = 0
+
+    def add(self, status: bytes) -> None:
+        """Takes a status line; of one with several the last."""
+        line = status.rstrip(b"\r").removesuffix(CLEARED).rpartition(b"\n")[2]
+        self.count += 1
+        # On a terminal Ninja may have cut the middle out.
+        self.is_whole = self.is_whole and not (self.is_smart and b"..." in line) and self._kept < _MOST_KEPT
+        if self.is_whole and line not in self._lines:
+            self._kept += len(line)
+            self._lines.add(line)
+            self._texts.update(_ends_of(line))
+
+    def lacks(self, edge: Edge) -> bool:
+        """Whether Ninja has shown each command that it ran, and not the one of this edge."""
+        texts = [text.partition(b"\n")[0] for text in texts_of(edge)]
+        if not self.is_whole or not self._lines or not all(texts):
+            return False
+        return self._texts.isdisjoint(texts) and not any(line.endswith(tuple(texts)) for line in self._lines)
+
+
+def _ends_of(line: bytes) -> Iterator[bytes]:
+    """What stands behind the first spaces of a status line: behind one of them begins what it shows of the command."""
+    for _ in range(_MOST_SPACES):
+        line = line.partition(b" ")[2]
+        if not line:
+            return
+        yield line
+
+
 class Said:
     """Takes what Ninja writes as it comes, hands it on without marks, and finds the commands that failed.
 
     After `end` it has what failed in the order in which Ninja showed it, the jobserver that Ninja said it asks, and the
-    reason that Ninja gave for stopping, empty where it gave none. Where `keeps_all`, `pieces` has all that begin with
-    a mark.
+    reason that Ninja gave for stopping, empty where it gave none. `shown` has the status lines of its commands. Where
+    `keeps_all`, `pieces` has all that begin with a mark.
     """
 
     def __init__(self, manifest: Manifest, status_format: bytes, write: Callable[[bytes], None],
@@ -135,6 +173,7 @@ class Said:
         self.pieces: list[Piece] = []
         self.jobserver: bytes | None = None
         self.stopped: bytes = b""
+        self.shown = Shown(is_smart)
         self._kept = 0
         self._held = b""
         self._piece = Piece(-1)
@@ -187,6 +226,8 @@ class Said:
         piece = self._piece
         if piece.time < 0:
             self._look_at_first(piece)
+        else:
+            self.shown.add(_lines_of(piece, self.format_lines + 1)[0])
         if end is None:
             end = piece.size
             if self.is_smart and bytes(piece.tail or piece.head)[-1:] == b"\r":
@@ -256,6 +297,16 @@ class Said:
                     if edge in self._at_console and text.startswith(command, line.end()) and (is_last or begun):
                         found = begin + line.start(), edge, code
         return found
+
+    def of_inner_ninja(self, edges: dict[int, Edge]) -> dict[int, Edge]:
+        """Of the edges in Ninja's log those that another Ninja ran, which this one has not shown. Where Ninja shows its
+        commands, it shows each once, and on a terminal each twice that is not of the console pool: so there are some
+        where fewer were shown."""
+        twice = sum(edge.pool != b"console" for edge in edges.values()) if self.shown.is_smart else 0
+        if len(edges) + twice <= self.shown.count - len(self.failed):
+            return {}
+        found = {number: edge for number, edge in edges.items() if self.shown.lacks(edge)}
+        return found if len(found) < len(edges) else {}
 
     def _edges_with(self, outputs: bytes) -> list[Edge]:
         """The edges with a command whose outputs are this text."""
