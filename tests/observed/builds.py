@@ -23,7 +23,7 @@ class Planted:
     """A build: the lines of its manifest below the rule `sh`, its sources, and what is due of it. `lines` are parts of
     what `races` is to write; `found` is the kind of each finding with what the maker does and how the user looks, where
     it says so; `pair` is whether the first finding is of two commands whose order a schedule can change; `certain` is
-    whether `certify` says so."""
+    whether `certify` says so. `links` has symbolic links that are there before, each with its target."""
 
     build: str
     sources: dict[str, str] = field(default_factory=dict)
@@ -31,6 +31,7 @@ class Planted:
     found: tuple[tuple[str, str | None, str | None], ...] = ()
     pair: bool = True
     certain: bool = False
+    links: dict[str, str] = field(default_factory=dict)
 
 
 BUILDS = {
@@ -144,6 +145,25 @@ build user: sh in || stamp
          "used by user (build.ninja:5) [1]",
          "mend: build.ninja:3: build stamp | extra: ..."),
         (("undeclared", None, "read"),), pair=False, certain=True),
+    "a source that two build lines name by two names": Planted(
+        """build one: sh in | linked/x.h
+  do = cat in x.h > one
+build two: sh x.h
+  do = cat x.h linked/in > two
+build three: sh l.h two | in
+  do = cat l.h in > three
+""",
+        {"in": "x\n", "x.h": "y\n"}, found=(("unlisted", None, "read"),), pair=False, certain=True,
+        lines=("unlisted in: commands read it, though neither their lines nor their lists have it",
+               "read by two (build.ninja:5)"),
+        links={"linked": ".", "l.h": "x.h"}),
+    "a command that always runs": Planted(
+        """build check: sh in
+  do = cat in conf > /dev/null
+build behind: sh check
+  do = cat conf > behind
+""",
+        {"in": "x\n", "conf": "y\n"}, certain=True),
     "another's output": Planted(
         """build lib: sh in
   do = cat in > lib
@@ -268,5 +288,7 @@ def record_planted(it: Planted, room: pathlib.Path) -> pathlib.Path:
     folder = room / "build"
     folder.mkdir()
     write_files(folder, {"build.ninja": RULES + it.build, **it.sources})
+    for name, target in it.links.items():
+        (folder / name).symlink_to(target)
     record(folder, room / "recorded", "-j", "4")
     return room / "recorded"

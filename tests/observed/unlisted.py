@@ -80,7 +80,16 @@ ROWS = (
     Row("build app: cc a.c", "edge app; reads a.c app.d; writes app"),
     Row("build gen.h: c a.c; build app: c a.c", "edge gen.h; writes gen.h; edge app; reads gen.h; writes app"),
     Row("build gen.h: c a.c; build app: c || gen.h", "edge gen.h; writes gen.h log; edge app; reads log; writes app"),
+    # Other names of files (OTHER_NAMES): on the line of the edge, in its list, and on the way to an edge that has the file.
+    Row("build app: c a.c /b/a.h", "edge app; reads a.c a.h; writes app"),
+    Row("build app: cc a.c", "edge app; reads a.c a.h; writes app", listed="a.c /b/a.h"),
+    Row("build a.o: c a.c /b/a.h; build app: c a.o", "edge app; reads a.h a.o; writes app"),
+    # A link counts with the file to which it leads, and the file does not count with a link that leads to it.
+    Row("build app: c a.c lib.a", "edge app; reads a.c lib.a log; writes app"),
+    Row("build app: c a.c log", "edge app; reads a.c lib.a log; writes app", due="lib.a"),
 )
+# Each has the file to which it leads: /b/a.h is a.h by its absolute path, and lib.a is a link to log.
+OTHER_NAMES = {"/b/a.h": "a.h", "lib.a": "log"}
 
 
 def events_of(build: str, listed: str) -> str:
@@ -99,6 +108,7 @@ def write_recording(folder: pathlib.Path, row: Row) -> None:
         "build.ninja": RULES + "\n".join([*builds, ""]),
         "trace": f"rebug-trace 1\nstamp a.c 1\nstamp a.h 1\nlane 0\nplan app\n{events}",
         "observed": observed(row.seen, PATHS),
+        "names": "".join(["rebug-names 1\n", *(f"{other} {own}\n" for other, own in OTHER_NAMES.items())]),
     }
     folder.mkdir()
     for name, text in files.items():

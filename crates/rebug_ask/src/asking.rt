@@ -4,16 +4,19 @@ ghost use Rattle.std.specs.Prelude.{◌≤◌, length};
 use crate::replies::{Answered, Style, told, told_with, written_for};
 use crate::several::written_for_each;
 use crate::told::{EndedDesk, leave, manifest_of, races_in, refuse, trace_of, write};
+use indexmap::IndexMap;
 use rev_answers::{
     meant_word, not_asked_words, objects_json, opening_json, opening_words, screen_of,
 };
 use rev_desk::Desk;
+use rev_findings::names_in;
 use rev_folder::{
     KnownTimes, LabelTime, Observed, Place, Recording, label_times, observed_in, place_of,
-    read_observed, read_recording, read_times,
+    read_names, read_observed, read_recording, read_times,
 };
 use rev_manifest::Manifest;
 use rev_observed::Observation;
+use rev_paths::Name;
 use rev_program::ProgramFault;
 use rev_prompt::{LineFault, Question, Session, outputs_meant, question_of, texts_of};
 use rev_recording::{RecordingFault, open};
@@ -405,7 +408,7 @@ fn parts_of(observed: Option<&Observed>) -> (Option<&Observation>, &[u32]) {
 }
 
 // A recording, and what was read of it: the files of the manifest and the trace, the bytes of what was observed, if it
-// was, and the times of labels.
+// was, the times of labels, and other names of files.
 #[derive(Clone, Copy)]
 struct Beside<'a> {
     recording: &'a str,
@@ -413,6 +416,7 @@ struct Beside<'a> {
     read: &'a Recording,
     observed: Option<&'a [u8]>,
     times: &'a [LabelTime],
+    names: &'a IndexMap<Name, Name>,
 }
 
 // The same, with the manifest of the files.
@@ -449,6 +453,7 @@ fn asked<R: Files + Input + Print + AllocGlobal>(
         times: &[],
         files: &beside.read.files,
         pools: manifest.pools(),
+        names: beside.names,
     };
     let edges = desk.history().graph().edges();
     put_opening(rt, turns.len(), edges, lanes, manner.json)?;
@@ -531,12 +536,14 @@ pub fn ask<'a, R: Files + Input + Print + Eprint + AllocGlobal>(
     let observed = read_observed(rt, recording, place)?;
     let times = read_times(rt, recording, place)?;
     let labels = label_times(rt.alloc(), &times)?;
+    let names = names_in(rt.alloc(), &read_names(rt, recording, place)?)?;
     let beside = Beside {
         recording,
         place,
         read: &read,
         observed: observed.as_deref(),
         times: &labels,
+        names: &names,
     };
     match asked_about(rt, beside, manner) {
         Ok(status) => Ok(status),

@@ -4,8 +4,8 @@ ghost use Rattle.std.specs.Prelude.{◌≡◌, ◌+◌, ◌≤◌, length, IfOk}
 use rev_conflicts_text::{Finding, pair_of};
 use rev_desk::Desk;
 use rev_findings::{
-    Basis, Sight, add_hints, count_findings, hidden_places, last_runs, names_in, replayed_of,
-    report_of, seen_findings, sight_in, witness_of,
+    Basis, Origin, Sight, add_hints, count_findings, hidden_places, last_runs, names_in,
+    output_names, replayed_of, report_of, seen_findings, sight_in, witness_of,
 };
 use rev_folder::{
     FilterTexts, Place, Recording, observed_sentence, place_of, read_beside, read_filters,
@@ -112,6 +112,7 @@ fn answer_of(
     let runs = last_runs(alloc, desk.history())?;
     let entries = rev_printed::read(alloc, desk.history().graph(), inquiry.printed)?;
     let names = names_in(alloc, inquiry.names)?;
+    let names = output_names(alloc, desk.history().graph(), &names)?;
     let basis = Basis {
         sources: Sources {
             builds: manifest.builds(),
@@ -290,13 +291,13 @@ fn sight_of(
     match inquiry.observed {
         Some(bytes) => {
             let files = names_of(alloc, &inquiry.read.files)?;
-            Ok(Some(sight_in(
-                alloc,
-                history,
-                (&files, manifest.builds()),
-                bytes,
-                inquiry.choice.filters,
-            )?))
+            let names = names_in(alloc, inquiry.names)?;
+            let origin = Origin {
+                files: &files,
+                builds: manifest.builds(),
+                names: &names,
+            };
+            Ok(Some(sight_in(alloc, history, origin, bytes, inquiry.choice.filters)?))
         }
         None => Ok(None),
     }
@@ -313,6 +314,7 @@ fn certificate_written(
 ) -> Result<Written, RecordingFault> {
     let files = names_of(alloc, &inquiry.read.files)?;
     let runs = last_runs(alloc, desk.history())?;
+    let names = names_in(alloc, inquiry.names)?;
     let grounds = Grounds {
         sources: Sources {
             builds: manifest.builds(),
@@ -320,6 +322,7 @@ fn certificate_written(
             runs: &runs,
         },
         files: &files,
+        names: &names,
         replayed: replayed_of(desk, &runs, commands),
         form,
         choice: inquiry.choice,

@@ -1,6 +1,7 @@
 //! Hints: paths that a list has, and that were other names of outputs.
 use indexmap::IndexMap;
 use rev_fields::{LineFault, path, read_fields};
+use rev_graph::Graph;
 use rev_hints::{listed_path, name_hints};
 use rev_history::History;
 use rev_paths::Name;
@@ -22,7 +23,7 @@ fn name_of(alloc: Global, text: Option<&Vec<u8>>) -> Result<Option<Name>, AllocE
     }
 }
 
-// Adds what a line says: a path and an output. A line that says something else is left out.
+// Adds what a line says: a path, and the own name of the file to which it leads. A line that says something else is left out.
 fn add_line(
     alloc: Global,
     line: &[u8],
@@ -34,9 +35,9 @@ fn add_line(
         Err(_) => return Ok(()),
     };
     let name = name_of(alloc, texts.first())?;
-    let output = name_of(alloc, texts.get(1))?;
-    if let (Some(name), Some(output)) = (name, output) {
-        names.insert(name, output)?;
+    let own = name_of(alloc, texts.get(1))?;
+    if let (Some(name), Some(own)) = (name, own) {
+        names.insert(name, own)?;
     }
     Ok(())
 }
@@ -51,6 +52,25 @@ pub fn names_in(alloc: Global, text: &[u8]) -> Result<IndexMap<Name, Name>, Allo
         }
     }
     Ok(names)
+}
+
+/// Of other names of files those of outputs, as [`name_hints`] takes them: no edge makes the name, and an edge makes the own
+/// name of the file.
+///
+/// # Errors
+/// [`AllocError`] only where an allocation was refused.
+pub fn output_names(
+    alloc: Global,
+    graph: &Graph,
+    names: &IndexMap<Name, Name>,
+) -> Result<IndexMap<Name, Name>, AllocError> {
+    let mut outputs = IndexMap::new(alloc);
+    for (name, own) in names.iter() {
+        if graph.producer(name).is_none() && graph.producer(own).is_some() {
+            outputs.insert(name.copy()?, own.copy()?)?;
+        }
+    }
+    Ok(outputs)
 }
 
 /// Whether the commands of an edge and of some others were all observed whole.

@@ -6,6 +6,7 @@ ghost use Rattle.rev_observed.specs.Observations.{outputs_of};
 
 use crate::found::orderable_output;
 use crate::listed_names::note_listed;
+use indexmap::IndexMap;
 use rev_conflicts::{Conflict, Place, conflicts};
 use rev_conflicts_text::{
     Finding, add_undeclared, add_unlisted, conflict_findings, conflicts_left, races_left, seen_in,
@@ -20,8 +21,19 @@ use rev_races::{Kind, Race, finished_edges, started_edges, stories};
 use rev_races_text::{RaceFinding, Report, Story};
 use rev_recording::RecordingFault;
 use rev_undeclared::{Undeclared, undeclared_files};
-use rev_unlisted::{Unlisted, unlisted_files};
+use rev_unlisted::{Unlisted, always_run, unlisted_files};
 use std::alloc::{AllocError, Global};
+
+/// What is known of a recording beside its history.
+#[derive(Clone, Copy)]
+pub struct Origin<'a> {
+    /// The names of the files that the manifest was read from.
+    pub files: &'a [Name],
+    /// The edges of the manifest.
+    pub builds: &'a [Build],
+    /// Other names of files, each with the own name of its file.
+    pub names: &'a IndexMap<Name, Name>,
+}
 
 /// What commands were seen to do, and what follows.
 pub struct Sight {
@@ -156,7 +168,7 @@ pub fn hidden_count(alloc: Global, all: &[Conflict], told: &[Conflict]) -> Resul
 fn undeclared_in(
     alloc: Global,
     graph: &Graph,
-    sources: (&[Name], &[Build]),
+    origin: Origin<'_>,
     observed: &Observed,
     hidden: &[bool],
     conflicts: &[Conflict],
@@ -166,13 +178,12 @@ fn undeclared_in(
     requires within { AllByRecursion (λ edge. edge < length graph.now.manifest.builds) observed.now.edges.items }
     requires hidden { length hidden.now ≡ length observed.now.observation.paths }
 {
-    let (files, builds) = sources;
     let observation = &observed.observation;
     undeclared_files(
         alloc,
         graph,
-        files,
-        builds,
+        origin.files,
+        origin.builds,
         observation,
         &observed.edges,
         hidden,
@@ -185,7 +196,7 @@ fn undeclared_in(
 fn unlisted_in(
     alloc: Global,
     history: &History,
-    sources: (&[Name], &[Build]),
+    origin: Origin<'_>,
     observed: &Observed,
     hidden: &[bool],
     conflicts: &[Conflict],
@@ -197,20 +208,40 @@ fn unlisted_in(
         observed.now.edges.items }
     requires hidden { length hidden.now ≡ length observed.now.observation.paths }
 {
-    let (files, builds) = sources;
     let observation = &observed.observation;
     let unlisted = unlisted_files(
         alloc,
         history,
-        files,
-        builds,
+        origin.names,
+        origin.files,
+        origin.builds,
         observation,
         &observed.edges,
         hidden,
         conflicts,
         undeclared,
     )?;
-    ended_well(alloc, history, &unlisted)
+    let unlisted = ended_well(alloc, history, &unlisted)?;
+    that_can_be_stale(alloc, history, unlisted)
+}
+
+// The unlisted files without those of commands that Ninja runs in each build.
+fn that_can_be_stale(
+    alloc: Global,
+    history: &History,
+    unlisted: Vec<Unlisted>,
+) -> Result<Vec<Unlisted>, AllocError> {
+    if unlisted.is_empty() {
+        return Ok(unlisted);
+    }
+    let always = always_run(alloc, history)?;
+    let mut files = Vec::new(alloc);
+    for file in &unlisted {
+        if !always.get(file.user as usize).copied().unwrap_or(false) {
+            files.push(*file)?;
+        }
+    }
+    Ok(files)
 }
 
 // The unlisted files of commands that ended well. One that failed left no list, and Ninja runs it again in any case.
@@ -231,14 +262,14 @@ fn ended_well(
 
 /// The files by which a next build can differ from one from nothing: those that commands leave beside their outputs, and
 /// those that commands read though neither their line nor their list has them. Those that stronger findings are about
-/// are left out. Of commands that did not end well there is none of the latter.
+/// are left out. Of commands that did not end well there is none of the latter, and of those that Ninja runs in each build.
 ///
 /// # Errors
 /// [`AllocError`] where an allocation was refused, or edges and paths together are 2^32 or more.
 pub fn stale_files(
     alloc: Global,
     history: &History,
-    sources: (&[Name], &[Build]),
+    origin: Origin<'_>,
     observed: &Observed,
     hidden: &[bool],
     conflicts: &[Conflict],
@@ -250,11 +281,11 @@ pub fn stale_files(
     requires hidden { length hidden.now ≡ length observed.now.observation.paths }
 {
     let graph = history.graph();
-    let undeclared = undeclared_in(alloc, graph, sources, observed, hidden, conflicts)?;
+    let undeclared = undeclared_in(alloc, graph, origin, observed, hidden, conflicts)?;
     let unlisted = unlisted_in(
         alloc,
         history,
-        sources,
+        origin,
         observed,
         hidden,
         conflicts,
@@ -264,26 +295,25 @@ pub fn stale_files(
 }
 
 /// What the bytes of the file `observed` say of the commands of a history, without what the filters of other bytes hide.
-/// `sources` has the files that the manifest was read from, and its edges.
 ///
 /// # Errors
 /// As [`observed_in`].
 pub fn sight_in(
     alloc: Global,
     history: &History,
-    sources: (&[Name], &[Build]),
+    origin: Origin<'_>,
     bytes: &[u8],
     filters: FilterTexts<'_>,
 ) -> Result<Sight, RecordingFault> {
     let graph = history.graph();
     let observed = observed_in(alloc, graph, bytes)?;
     let marks = hidden_by(alloc, &observed.observation, filters)?;
-    let conflicts = conflicts_of(alloc, graph, sources.0, &observed, &marks)?;
-    let unfiltered = unfiltered(alloc, graph, sources.0, &observed, &marks)?;
+    let conflicts = conflicts_of(alloc, graph, origin.files, &observed, &marks)?;
+    let unfiltered = unfiltered(alloc, graph, origin.files, &observed, &marks)?;
     let hidden = hidden_count(alloc, &unfiltered, &conflicts)?;
     let whole = whole_edges(alloc, graph.edges(), &observed)?;
     let (undeclared, unlisted) = stale_files(
-        alloc, history, sources, &observed, &marks, &conflicts,
+        alloc, history, origin, &observed, &marks, &conflicts,
     )?;
     Ok(Sight {
         observed,

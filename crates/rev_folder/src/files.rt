@@ -1,4 +1,5 @@
 //! The files of a recording, which are read from its folder alone.
+use rev_fields::{LineFault, read_fields};
 use rev_paths::{Name, PathFault};
 use rev_program::{
     ProgramFault, ReadFault, Unread, is_folder, push_visible, read_below, read_short, real_folder,
@@ -11,6 +12,8 @@ use std::rt::Files;
 const MANIFEST_BYTES: usize = 268_435_456;
 // The most bytes of a trace, and of each file beside it.
 const TRACE_BYTES: usize = 1_073_741_824;
+// The name of a manifest for which the recording has no other.
+const MANIFEST: &str = "build.ninja";
 // The most files that a manifest may include.
 const MOST_FILES: usize = 16_384;
 
@@ -32,12 +35,13 @@ impl Drop for Recording {
     }
 }
 
-/// Where a recording is: its folder, as it stands before the name of a file in it, and the name of its manifest.
+/// Where a recording is: its folder, as it stands before the name of a file in it, and the name of its manifest, where the
+/// recording is named by it.
 #[derive(Clone, Copy)]
 pub struct Place<'a> {
     folder: &'a str,
     between: &'a str,
-    manifest: &'a str,
+    manifest: Option<&'a str>,
 }
 
 /// The folder of a recording, which is named by its folder or by its manifest.
@@ -47,19 +51,19 @@ pub fn place_of<'a, R: Files>(rt: &R, recording: &'a str) -> Place<'a> {
         return Place {
             folder: recording,
             between,
-            manifest: "build.ninja",
+            manifest: None,
         };
     }
     match recording.rsplit_once('/') {
         Some((folder, manifest)) => Place {
             folder,
             between: "/",
-            manifest,
+            manifest: Some(manifest),
         },
         None => Place {
             folder: "",
             between: "",
-            manifest: recording,
+            manifest: Some(recording),
         },
     }
 }
@@ -99,8 +103,8 @@ fn read_file<R: Files + AllocGlobal>(
 ///
 /// # Errors
 /// [`ProgramFault::BuildFolder`] where there is a manifest and no trace; [`ProgramFault::Manifest`],
-/// [`ProgramFault::Included`] and [`ProgramFault::Trace`] with the reason where such a file is not read; else
-/// [`ProgramFault::Memory`].
+/// [`ProgramFault::Included`] and [`ProgramFault::Trace`] with the reason where such a file is not read, and
+/// [`ProgramFault::Beside`] where the file `ninja` is not, which names the manifest; else [`ProgramFault::Memory`].
 pub fn read_recording<'a, R: Files + AllocGlobal>(
     rt: &R,
     recording: &'a str,
@@ -121,7 +125,7 @@ fn without_trace<'a, R: Files + AllocGlobal>(
     recording: &'a str,
     place: Place<'_>,
 ) -> Result<ProgramFault<'a>, AllocError> {
-    let path = path_of(rt.alloc(), place, place.manifest)?;
+    let path = path_of(rt.alloc(), place, place.manifest.unwrap_or(MANIFEST))?;
     match rt.metadata(&path) {
         Ok(metadata) if metadata.is_file() => Ok(ProgramFault::BuildFolder(recording)),
         Ok(_) => Ok(ProgramFault::Trace(recording, Unread::Missing)),
@@ -199,11 +203,56 @@ pub fn read_names<'a, R: Files + AllocGlobal>(
     read_or_empty(rt, recording, place, "names")
 }
 
+// The name of the manifest that a line of the file `ninja` gives, if it gives one.
+fn name_in_line(alloc: Global, line: &[u8]) -> Result<Option<String>, AllocError> {
+    let fields = match read_fields(alloc, line) {
+        Ok(fields) => fields,
+        Err(LineFault::Memory) => return Err(AllocError),
+        Err(_) => return Ok(None),
+    };
+    match fields.as_slice() {
+        [word, name] if word.as_slice() == b"manifest".as_slice() => match str::from_utf8(name) {
+            Ok(name) => Ok(Some(String::from_str(alloc, name)?)),
+            Err(_) => Ok(None),
+        },
+        _ => Ok(None),
+    }
+}
+
+// The name of the manifest that the file `ninja` of a recording gives, if it gives one.
+fn name_in(alloc: Global, text: &[u8]) -> Result<Option<String>, AllocError> {
+    for line in text.split(|byte| *byte == b'\n') {
+        if line.starts_with(b"manifest ")
+            && let Some(name) = name_in_line(alloc, line)?
+        {
+            return Ok(Some(name));
+        }
+    }
+    Ok(None)
+}
+
+// The name of the manifest of a recording: by which the recording is named, else which its file `ninja` has.
+fn manifest_name<'a, R: Files + AllocGlobal>(
+    rt: &R,
+    recording: &'a str,
+    place: Place<'_>,
+) -> Result<String, ProgramFault<'a>> {
+    if let Some(name) = place.manifest {
+        return Ok(String::from_str(rt.alloc(), name)?);
+    }
+    let about = read_or_empty(rt, recording, place, "ninja")?;
+    match name_in(rt.alloc(), &about)? {
+        Some(name) => Ok(name),
+        None => Ok(String::from_str(rt.alloc(), MANIFEST)?),
+    }
+}
+
 // A manifest, and where the files that it includes are read from.
 #[derive(Clone, Copy)]
 struct Source<'a, 'b> {
     recording: &'a str,
     place: Place<'b>,
+    manifest: &'b str,
     folder: &'b [u8],
 }
 
@@ -283,7 +332,8 @@ fn read_manifest<'a, R: Files + AllocGlobal>(
         Err(ReadFault::Memory) => return Err(ProgramFault::Memory),
         Err(ReadFault::Unread(why)) => return Err(ProgramFault::Manifest(recording, why)),
     };
-    let path = path_of(rt.alloc(), place, place.manifest)?;
+    let manifest = manifest_name(rt, recording, place)?;
+    let path = path_of(rt.alloc(), place, &manifest)?;
     let bytes = match read_below(rt, &folder, &path, MANIFEST_BYTES) {
         Ok(bytes) => bytes,
         Err(ReadFault::Memory) => return Err(ProgramFault::Memory),
@@ -292,6 +342,7 @@ fn read_manifest<'a, R: Files + AllocGlobal>(
     let source = Source {
         recording,
         place,
+        manifest: &manifest,
         folder: &folder,
     };
     with_included(rt, source, bytes)
@@ -306,15 +357,12 @@ fn with_included<'a, R: Files + AllocGlobal>(
     let alloc = rt.alloc();
     let mut files = Vec::new(alloc);
     let left = MANIFEST_BYTES.saturating_sub(bytes.len());
-    let includes = match Name::new(alloc, source.place.manifest.as_bytes()) {
+    let includes = match Name::new(alloc, source.manifest.as_bytes()) {
         Ok(name) if bytes.len() <= MANIFEST_BYTES => Some(Includes::new(alloc, name, &bytes)?),
         Err(PathFault::Memory) => return Err(ProgramFault::Memory),
         _ => None,
     };
-    files.push((
-        Vec::from_slice(alloc, source.place.manifest.as_bytes())?,
-        bytes,
-    ))?;
+    files.push((Vec::from_slice(alloc, source.manifest.as_bytes())?, bytes))?;
     if let Some(mut includes) = includes {
         add_included(rt, source, &mut includes, &mut files, left)?;
     }

@@ -3,4 +3,4 @@
 
 mod names;
 
-pub use names::{all_names, own_name, push_own_names};
+pub use names::{all_names, names_of_file, own_name, push_own_names};

@@ -1,5 +1,5 @@
 //! Names of one file.
-ghost use Rattle.std.specs.Prelude.{◌≡◌, ◌++◌, bytes_eq, map, option_and_then, slice_get, IfOk, OnOk};
+ghost use Rattle.std.specs.Prelude.{◌≡◌, ◌++◌, ◌∷◌, [], bytes_eq, map, option_and_then, slice_get, IfOk, OnOk};
 ghost use Rattle.std.specs.List.{list_any};
 ghost use Rattle.std.specs.Option.{option_copied, option_to_list};
 ghost use Rattle.rev_places.specs.Names.{all_names_of, other_names_of, other_of, own_name_of, own_names_in, own_of};
@@ -96,6 +96,22 @@ fn push_other_names(
         push_if(found, other_at(names, owns, place))?;
     }
     Ok(())
+}
+
+/// All names of the file to which a path leads: its own name first.
+///
+/// # Errors
+/// As [`all_names`].
+pub fn names_of_file(
+    alloc: Global,
+    names: &IndexMap<Name, Name>,
+    path: &Name,
+) -> Result<Vec<Name>, AllocError>
+    ensures { IfOk result (λ found. found.items ≡ all_names_of names.now.entries (path.now ∷ [])) }
+{
+    let mut paths = Vec::new(alloc);
+    paths.push(path.copy()?)?;
+    all_names(alloc, names, &paths)
 }
 
 /// All names of the files to which some paths lead: their own names, in the order of the paths, and then each other name

@@ -1,5 +1,6 @@
 -- What questions about edges, files and times are answered.
-use Rattle.std.specs.Prelude.{◌≡◌, ℕ, IsPermutation, List, [], map, take, Option, Some, None}
+use Rattle.std.specs.Prelude.{◌≡◌, ℕ, IsPermutation, List, [], ◌∷◌, map, take, Option, Some, None}
+use Rattle.std.specs.List.{filter_map}
 use Rattle.std.specs.Global.{Vec}
 use Rattle.std.specs.Option.{option_map}
 use Rattle.rev_cells.specs.State.{State}
@@ -45,27 +46,38 @@ looks_at t edges path o = map (deed_of t) (readers_of o.paths edges o.commands p
 abbrev pub changes_of : Timeline → List ℕ → List ℕ → ObservationValue → List Deed
 changes_of t edges path o = map (deed_of t) (writers_of o.paths edges o.commands path)
 
--- each edge that has the path behind the rule of its line or lists it, and each command that was seen to look at it
-pub record AreReads (t : Timeline) (o : Option ObservationValue) (edges path name : List ℕ)
-    (readings : List Reading) (deeds : Option (List Deed)) : Type 0 where
+-- the first of some numbers, if there is one
+abbrev pub first_of : List ℕ → Option ℕ
+first_of [] = None
+first_of (n ∷ ns) = Some n
+
+-- each edge that has a name of the file behind the rule of its line or lists one, and each command that was seen to look
+-- at the file under its own name
+pub record AreReads (t : Timeline) (o : Option ObservationValue) (edges path own : List ℕ) (names : List (List ℕ))
+    (name : List ℕ) (readings : List Reading) (deeds : Option (List Deed)) : Type 0 where
   pub path_is : name ≡ path
-  pub named : readings ≡ readings_of t.manifest.builds (state_at t) path
-  pub seen : deeds ≡ option_map (looks_at t edges path) o
+  pub named : readings ≡ readings_of t.manifest.builds (state_at t) names
+  pub seen : deeds ≡ option_map (looks_at t edges own) o
 
-abbrev pub IsReads : Timeline → Option ObservationValue → List ℕ → List ℕ → Found → Type 0
-IsReads t o edges path (found.Reads name readings deeds) = AreReads t o edges path name readings.items (deeds_in deeds)
-IsReads t o edges path _ = ⊥
+abbrev pub IsReads :
+    Timeline → Option ObservationValue → List ℕ → List ℕ → List ℕ → List (List ℕ) → Found → Type 0
+IsReads t o edges path own names (found.Reads name readings deeds) =
+    AreReads t o edges path own names name readings.items (deeds_in deeds)
+IsReads t o edges path own names _ = ⊥
 
--- the edge that has the path as an output, and each command that was seen to change it
-pub record AreMakes (t : Timeline) (o : Option ObservationValue) (edges path name : List ℕ)
-    (producer : Option ℕ) (deeds : Option (List Deed)) : Type 0 where
+-- the edge that has the first of the file's names which an edge has as an output, and each command that was seen to
+-- change the file under its own name
+pub record AreMakes (t : Timeline) (o : Option ObservationValue) (edges path own : List ℕ) (names : List (List ℕ))
+    (name : List ℕ) (producer : Option ℕ) (deeds : Option (List Deed)) : Type 0 where
   pub path_is : name ≡ path
-  pub made : producer ≡ producer_of t.manifest.builds path
-  pub seen : deeds ≡ option_map (changes_of t edges path) o
+  pub made : producer ≡ first_of (filter_map (producer_of t.manifest.builds) names)
+  pub seen : deeds ≡ option_map (changes_of t edges own) o
 
-abbrev pub IsMakes : Timeline → Option ObservationValue → List ℕ → List ℕ → Found → Type 0
-IsMakes t o edges path (found.Makes name producer deeds) = AreMakes t o edges path name producer (deeds_in deeds)
-IsMakes t o edges path _ = ⊥
+abbrev pub IsMakes :
+    Timeline → Option ObservationValue → List ℕ → List ℕ → List ℕ → List (List ℕ) → Found → Type 0
+IsMakes t o edges path own names (found.Makes name producer deeds) =
+    AreMakes t o edges path own names name producer (deeds_in deeds)
+IsMakes t o edges path own names _ = ⊥
 
 -- an edge that would be to do, with what its reason names in a state
 abbrev pub rebuilt_of : List BuildValue → State → Rebuild → Rebuilt

@@ -1,7 +1,9 @@
 //! Questions about edges, files and times.
 ghost use Rattle.std.specs.Prelude.{◌≡◌, IfOk, List, map};
+ghost use Rattle.std.specs.List.{filter_map};
 ghost use Rattle.std.specs.Option.{option_copied, option_map};
-ghost use Rattle.rev_prompt.specs.Found.{IsCritical, IsEdgeFound, IsEdges, IsMakes, IsReads, IsRebuilds, IsRefusal, IsSlowest, begun_at as begun_by, changes_of, deeds_in, last_targets as last_targets_of, looks_at, rebuilt_of as rebuilt_by, refusal_of as refusal_by};
+ghost use Rattle.rev_prompt.specs.Found.{IsCritical, IsEdgeFound, IsEdges, IsMakes, IsReads, IsRebuilds, IsRefusal, IsSlowest, begun_at as begun_by, changes_of, deeds_in, first_of, last_targets as last_targets_of, looks_at, rebuilt_of as rebuilt_by, refusal_of as refusal_by};
+ghost use Rattle.rev_graph.specs.Graph.{producer_of};
 ghost use Rattle.rev_prompt.specs.Past.{plan_before};
 ghost use Rattle.rev_prompt.specs.Reasons.{because as because_of};
 ghost use Rattle.rev_runs.specs.Runs.{runs_of};
@@ -24,6 +26,7 @@ use rev_graph::Graph;
 use rev_history::History;
 use rev_observed::Observation;
 use rev_paths::Name;
+use rev_places::{all_names, names_of_file, own_name};
 use rev_plan::PlanFault;
 use rev_queries::{
     Rebuild, Timed, critical, edges_like, readings, rebuilds, slowest, timed_runs, users,
@@ -68,34 +71,80 @@ fn changes(
     }
 }
 
-/// `reads PATH`: which edges have a path as what they read, and which commands were seen to look at it.
+/// `reads PATH`: which edges have a file as what they read, and which commands were seen to look at it. The file has an
+/// own name, by which it was observed, and names by which edges have it.
 pub(crate) fn reads(
     alloc: Global,
     history: &History,
     observation: Option<&Observation>,
     edges: &[u32],
     path: &Name,
+    own: &Name,
+    names: &[Name],
 ) -> Result<Found, AllocError>
-    ensures { IfOk result (λ found. IsReads history.now.timeline (option_copied observation.entry) edges.now path.now found) }
+    ensures { IfOk result (λ found. IsReads history.now.timeline (option_copied observation.entry) edges.now path.now
+        own.now names.now found) }
 {
-    let readings = readings(alloc, history, path)?;
-    let deeds = looks(alloc, history, observation, edges, path)?;
+    let readings = readings(alloc, history, names)?;
+    let deeds = looks(alloc, history, observation, edges, own)?;
     Ok(Found::Reads(path.copy()?, readings, deeds))
 }
 
-/// `makes PATH`: which edge has a path as an output, and which commands were seen to change it.
+// The edge that has the first of some names which an edge has as an output.
+fn first_producer(graph: &Graph, names: &[Name]) -> Option<u32>
+    ensures { result ≡ first_of (filter_map (producer_of graph.now.manifest.builds) names.now) }
+{
+    for name in names {
+        if let Some(edge) = graph.producer(name) {
+            return Some(edge);
+        }
+    }
+    None
+}
+
+/// `makes PATH`: which edge has a file as an output, and which commands were seen to change it. The names of the file are
+/// as for [`reads`].
 pub(crate) fn makes(
     alloc: Global,
     history: &History,
     observation: Option<&Observation>,
     edges: &[u32],
     path: &Name,
+    own: &Name,
+    names: &[Name],
 ) -> Result<Found, AllocError>
-    ensures { IfOk result (λ found. IsMakes history.now.timeline (option_copied observation.entry) edges.now path.now found) }
+    ensures { IfOk result (λ found. IsMakes history.now.timeline (option_copied observation.entry) edges.now path.now
+        own.now names.now found) }
 {
-    let deeds = changes(alloc, history, observation, edges, path)?;
-    let producer = history.graph().producer(path);
+    let deeds = changes(alloc, history, observation, edges, own)?;
+    let producer = first_producer(history.graph(), names);
     Ok(Found::Makes(path.copy()?, producer, deeds))
+}
+
+// `reads PATH` of a session, by all names of the file.
+fn reads_in(
+    alloc: Global,
+    session: &Session<'_>,
+    history: &History,
+    path: &Name,
+) -> Result<Found, AllocError> {
+    let names = names_of_file(alloc, session.names, path)?;
+    let own = own_name(session.names, path);
+    let (observation, edges) = (session.observation, session.edges);
+    reads(alloc, history, observation, edges, path, own, &names)
+}
+
+// `makes PATH` of a session, by all names of the file.
+fn makes_in(
+    alloc: Global,
+    session: &Session<'_>,
+    history: &History,
+    path: &Name,
+) -> Result<Found, AllocError> {
+    let names = names_of_file(alloc, session.names, path)?;
+    let own = own_name(session.names, path);
+    let (observation, edges) = (session.observation, session.edges);
+    makes(alloc, history, observation, edges, path, own, &names)
 }
 
 // The edge of an event or of an output, or what is answered where there is none.
@@ -272,6 +321,17 @@ pub(crate) fn rebuilds_of(
     rebuilds_for(alloc, history, last_targets(history), paths)
 }
 
+// `rebuilds PATH..` of a session: a file is touched by all of its names.
+fn rebuilds_in(
+    alloc: Global,
+    session: &Session<'_>,
+    history: &History,
+    paths: &[Name],
+) -> Result<Answer, AllocError> {
+    let names = all_names(alloc, session.names, paths)?;
+    rebuilds_of(alloc, history, &names)
+}
+
 // `slowest N`: the runs that took most time.
 fn slowest_of(runs: Vec<Timed>, count: u32) -> Result<Found, AllocError>
     ensures { IfOk result (λ found. IsSlowest runs.items count found) }
@@ -336,10 +396,10 @@ pub(crate) fn queried(
     let history = desk.history();
     let found = match query {
         Query::Edge(name) => return edge(alloc, desk, name),
-        Query::Rebuilds(paths) => return rebuilds_of(alloc, history, paths),
+        Query::Rebuilds(paths) => return rebuilds_in(alloc, session, history, paths),
         Query::Edges(pattern) => edges(alloc, history.graph(), pattern)?,
-        Query::Reads(path) => reads(alloc, history, session.observation, session.edges, path)?,
-        Query::Makes(path) => makes(alloc, history, session.observation, session.edges, path)?,
+        Query::Reads(path) => reads_in(alloc, session, history, path)?,
+        Query::Makes(path) => makes_in(alloc, session, history, path)?,
         Query::Slowest(count) => slowest_in(alloc, session, history, *count)?,
         Query::Critical => critical_in(alloc, session, history)?,
     };

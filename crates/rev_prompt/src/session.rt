@@ -20,11 +20,13 @@ use crate::question::{EventName, Question, Reach};
 use crate::reasons::why;
 use crate::spans::with;
 use crate::users::{readers, writers};
+use indexmap::IndexMap;
 use rev_cells::Opening;
 use rev_commands::{Command, Which};
 use rev_desk::Desk;
 use rev_manifest::Build;
 use rev_observed::Observation;
+use rev_paths::Name;
 use rev_script::Turn;
 use std::alloc::{AllocError, Global};
 
@@ -51,6 +53,8 @@ pub struct Session<'a> {
     pub files: &'a [(Vec<u8>, Vec<u8>)],
     /// The pools of the manifest, each with its depth.
     pub pools: &'a [(Vec<u8>, u32)],
+    /// Other names of files, each with the own name of its file.
+    pub names: &'a IndexMap<Name, Name>,
 }
 
 /// What comes of a question.

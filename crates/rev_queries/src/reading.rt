@@ -3,7 +3,7 @@ ghost use Rattle.std.specs.Prelude.{◌≡◌, ◌<◌, ◌++◌, length, IfOk, 
 ghost use Rattle.std.specs.Option.{option_to_list};
 ghost use Rattle.rev_graph.specs.Graph.{build_at, has_path};
 ghost use Rattle.rev_history.specs.Timeline.{state_at};
-ghost use Rattle.rev_queries.specs.Readings.{is_listed as is_listed_in, place_in as place_by, reading_at as reading_by, reading_of as reading_with, readings_of};
+ghost use Rattle.rev_queries.specs.Readings.{has_any, is_listed as is_listed_in, place_in as place_by, reading_at as reading_by, reading_of as reading_with, readings_of};
 
 use rev_dirty::listed_inputs;
 use rev_graph::Graph;
@@ -11,7 +11,7 @@ use rev_history::History;
 use rev_paths::Name;
 use std::alloc::{AllocError, Global};
 
-/// Where a path stands on the build line of an edge that has it behind its rule.
+/// Where a file stands on the build line of an edge that has a name of it behind its rule.
 #[derive(Clone, Copy, Debug, PartialEq, Eq)]
 pub enum Place {
     /// Before `|` and `||`: as an explicit input.
@@ -24,12 +24,12 @@ pub enum Place {
     Validation,
 }
 
-/// An edge that has a path.
+/// An edge that has a file.
 #[derive(Clone, Copy, Debug, PartialEq, Eq)]
 pub struct Reading {
     /// The edge.
     pub edge: u32,
-    /// Where its build line has the path, of several places the first; none where it has it nowhere.
+    /// Where its build line has the file, of several places the first; none where it has it nowhere.
     pub place: Option<Place>,
     /// Whether the list of what its command read has it.
     pub listed: bool,
@@ -42,35 +42,42 @@ fn is_among(paths: &[Name], path: &Name) -> bool
     paths.iter().any(|one| path == one)
 }
 
-// Where the build line of an edge has a path.
-fn place_in(graph: &Graph, edge: u32, path: &Name) -> Option<Place>
+// Whether one of some names of a file is one of these paths.
+fn is_any_among(paths: &[Name], names: &[Name]) -> bool
+    ensures { result ≡ has_any paths.now names.now }
+{
+    names.iter().any(|name| is_among(paths, name))
+}
+
+// Where the build line of an edge has a file.
+fn place_in(graph: &Graph, edge: u32, names: &[Name]) -> Option<Place>
     requires { edge < length graph.now.manifest.builds }
-    ensures { result ≡ place_by (build_at graph.now.manifest.builds edge) path.now }
+    ensures { result ≡ place_by (build_at graph.now.manifest.builds edge) names.now }
 {
     let inputs = graph.inputs(edge);
-    if is_among(inputs.explicit, path) {
+    if is_any_among(inputs.explicit, names) {
         Some(Place::Explicit)
-    } else if is_among(inputs.implicit, path) {
+    } else if is_any_among(inputs.implicit, names) {
         Some(Place::Implicit)
-    } else if is_among(inputs.order_only, path) {
+    } else if is_any_among(inputs.order_only, names) {
         Some(Place::OrderOnly)
-    } else if is_among(graph.validations(edge), path) {
+    } else if is_any_among(graph.validations(edge), names) {
         Some(Place::Validation)
     } else {
         None
     }
 }
 
-// Whether the list of what an edge's command read has a path.
-fn is_listed(history: &History, edge: u32, path: &Name) -> bool
+// Whether the list of what an edge's command read has a file.
+fn is_listed(history: &History, edge: u32, names: &[Name]) -> bool
     requires { edge < length history.now.timeline.manifest.builds }
     ensures { result ≡ is_listed_in (state_at history.now.timeline)
-        (build_at history.now.timeline.manifest.builds edge) path.now }
+        (build_at history.now.timeline.manifest.builds edge) names.now }
 {
-    is_among(listed_inputs(history.graph(), history.cells(), edge), path)
+    is_any_among(listed_inputs(history.graph(), history.cells(), edge), names)
 }
 
-// What an edge has to do with a path, where it has something to do with it.
+// What an edge has to do with a file, where it has something to do with it.
 fn reading_of(edge: u32, place: Option<Place>, listed: bool) -> Option<Reading>
     ensures { result ≡ reading_with edge place listed }
 {
@@ -86,16 +93,16 @@ fn reading_of(edge: u32, place: Option<Place>, listed: bool) -> Option<Reading>
 }
 
 // The same of an edge by its number.
-fn reading_at(history: &History, edge: u32, path: &Name) -> Option<Reading>
+fn reading_at(history: &History, edge: u32, names: &[Name]) -> Option<Reading>
     requires { edge < length history.now.timeline.manifest.builds }
-    ensures { result ≡ reading_by history.now.timeline.manifest.builds (state_at history.now.timeline) path.now edge }
+    ensures { result ≡ reading_by history.now.timeline.manifest.builds (state_at history.now.timeline) names.now edge }
 {
-    let place = place_in(history.graph(), edge, path);
-    let listed = is_listed(history, edge, path);
+    let place = place_in(history.graph(), edge, names);
+    let listed = is_listed(history, edge, names);
     reading_of(edge, place, listed)
 }
 
-// Adds what an edge has to do with a path, if anything.
+// Adds what an edge has to do with a file, if anything.
 fn add(readings: &mut Vec<Reading>, reading: Option<Reading>) -> Result<(), AllocError>
     ensures { OnOk result (readings.new.items ≡ readings.old.items ++ option_to_list reading) }
 {
@@ -105,18 +112,23 @@ fn add(readings: &mut Vec<Reading>, reading: Option<Reading>) -> Result<(), Allo
     Ok(())
 }
 
-/// Each edge that has a path among the inputs of its build line, or in the list of what its command read, in the order
-/// of the edges. The list is that of the deps log in the present state. Each input of an edge is looked at once.
+/// Each edge that has a file among the inputs of its build line, or in the list of what its command read, in the order
+/// of the edges. `names` has the names of the file: an edge has it where it has one of them. The list is that of the deps
+/// log in the present state. Each input of an edge is looked at once for each name.
 ///
 /// # Errors
 /// [`AllocError`] only where an allocation was refused.
-pub fn readings(alloc: Global, history: &History, path: &Name) -> Result<Vec<Reading>, AllocError>
+pub fn readings(
+    alloc: Global,
+    history: &History,
+    names: &[Name],
+) -> Result<Vec<Reading>, AllocError>
     ensures { IfOk result (λ readings. readings.items ≡ readings_of history.now.timeline.manifest.builds
-        (state_at history.now.timeline) path.now) }
+        (state_at history.now.timeline) names.now) }
 {
     let mut readings = Vec::new(alloc);
     for edge in 0..history.graph().edges() {
-        let reading = reading_at(history, edge, path);
+        let reading = reading_at(history, edge, names);
         add(&mut readings, reading)?;
     }
     Ok(readings)

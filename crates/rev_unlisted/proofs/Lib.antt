@@ -4,3 +4,4 @@ pub mod MakerLemmas
 pub mod MarkLemmas
 pub mod ReadLemmas
 pub mod AnswerLemmas
+pub mod JoinLemmas

@@ -2,3 +2,5 @@ pub mod Follows
 pub mod Unlisted
 pub mod Answer
 pub mod Found
+pub mod Joined
+pub mod Always

@@ -11,14 +11,17 @@ ghost use Rattle.rev_conflicts.specs.Tables.{scene};
 ghost use Rattle.rev_undeclared.specs.Stronger.{is_told};
 ghost use Rattle.rev_unlisted.specs.Answer.{AreUnlisted, IsToldOf, lists_in};
 ghost use Rattle.rev_unlisted.specs.Follows.{follow_lists};
+ghost use Rattle.rev_unlisted.specs.Joined.{joined_in};
 ghost use Rattle.rev_unlisted.specs.Found.{AreFound, AreKeys, AreLedTo, AreNeither, IsFollow, IsKeyAmong, IsKeyBelow, IsKeyIn, names_of};
 
 use crate::covering::{cover, is_neither, led_to, reached};
 use crate::follows::follow_steps;
 use crate::found::Found;
 use crate::input::Unlisted;
+use crate::joining::{extended_lists, joined_lists};
 use crate::making::maker_lists;
 use crate::reading::paths_of_each;
+use indexmap::IndexMap;
 use rev_conflicts::Conflict;
 use rev_graph::Graph;
 use rev_history::History;
@@ -294,8 +297,14 @@ fn list_of<'a>(history: &'a History, edge: u32) -> &'a [Name]
     }
 }
 
-// What each edge lists: nothing where it has no list.
-fn all_lists<'a>(alloc: Global, history: &'a History) -> Result<Vec<&'a [Name]>, AllocError>
+/// What each edge lists: nothing where it has no list.
+///
+/// # Errors
+/// [`AllocError`] only where an allocation was refused.
+pub(crate) fn all_lists<'a>(
+    alloc: Global,
+    history: &'a History,
+) -> Result<Vec<&'a [Name]>, AllocError>
     ensures { IfOk result (λ lists. names_of lists.items ≡ lists_in history.now.timeline) }
 {
     let mut lists = Vec::new(alloc);
@@ -325,7 +334,8 @@ fn stronger(
 /// the edge does not list it. Each finding says whether Ninja runs the command again when the file changes. Each stands
 /// once, in the order of the numbers of the user's edge, of the path, and of the command.
 ///
-/// `history` has the lists: [`rev_races::listed`] gives what an edge lists. `files`, `builds`, `edges` and `hidden` are
+/// `history` has the lists: [`rev_races::listed`] gives what an edge lists. `names` has other names of files, each with the
+/// own name of its file: what counts for an edge by another name counts by the own name too. `files`, `builds`, `edges` and `hidden` are
 /// as for [`rev_undeclared::undeclared_files`]. `conflicts` is the answer of [`rev_conflicts::conflicts`], and
 /// `undeclared` is that of [`rev_undeclared::undeclared_files`]. Where one of these two is about a user and a file,
 /// this answer has nothing about that user and that file.
@@ -338,6 +348,7 @@ fn stronger(
 pub fn unlisted_files(
     alloc: Global,
     history: &History,
+    names: &IndexMap<Name, Name>,
     files: &[Name],
     builds: &[Build],
     observation: &Observation,
@@ -352,7 +363,8 @@ pub fn unlisted_files(
     requires hidden { length hidden.now ≡ length observation.now.paths }
     ensures { IfOk result (λ unlisted. AreUnlisted (scene history.now.timeline.manifest.builds files.now
         observation.now.paths observation.now.commands edges.now hidden.now) builds.now
-        (lists_in history.now.timeline) conflicts.now undeclared.now unlisted.items) }
+        (joined_in history.now.timeline.manifest.builds (lists_in history.now.timeline) names.now.entries)
+        conflicts.now undeclared.now unlisted.items) }
 {
     let graph = history.graph();
     let paths = observation.paths();
@@ -360,9 +372,11 @@ pub fn unlisted_files(
         return Err(AllocError);
     }
     let lists = all_lists(alloc, history)?;
+    let extended = extended_lists(alloc, graph, names, &lists)?;
+    let joined = joined_lists(alloc, &lists, &extended)?;
     let stronger = stronger(alloc, conflicts, undeclared)?;
     let commands = observation.commands();
     found_in(
-        alloc, graph, files, builds, &lists, paths, commands, edges, hidden, &stronger,
+        alloc, graph, files, builds, &joined, paths, commands, edges, hidden, &stronger,
     )
 }

@@ -7,13 +7,15 @@ ghost use Rattle.rev_observed.specs.Observations.{outputs_of};
 use crate::answering::{Written, written_with};
 use crate::forms::{Form, certified_items, items_text};
 use crate::leaving::{Choice, Leaving};
+use indexmap::IndexMap;
 use rev_certified::{Certificate, Marks, certify};
 use rev_conflicts::{Conflict, early_edges};
 use rev_conflicts_text::{Certified, Stale, Way};
 use rev_desk::Desk;
 use rev_events::Event;
 use rev_findings::{
-    conflict_findings_in, hidden_count, stale_files, told_clashes, unfiltered, unlisted_count,
+    Origin, conflict_findings_in, hidden_count, stale_files, told_clashes, unfiltered,
+    unlisted_count,
 };
 use rev_folder::{Observed, hidden_by, observed_in};
 use rev_graph::{Graph, edges_among};
@@ -221,6 +223,8 @@ pub struct Grounds<'a> {
     pub sources: Sources<'a>,
     /// The names of the files that the manifest was read from.
     pub files: &'a [Name],
+    /// Other names of files, each with the own name of its file.
+    pub names: &'a IndexMap<Name, Name>,
     /// How much of the recording counts.
     pub replayed: Replayed,
     /// The form of the answer.
@@ -341,8 +345,12 @@ fn stale_of(
         observed.now.edges.items }
     requires hidden { length hidden.now ≡ length observed.now.observation.paths }
 {
-    let sources = (grounds.files, grounds.sources.builds);
-    let (undeclared, unlisted) = stale_files(alloc, history, sources, observed, hidden, conflicts)?;
+    let origin = Origin {
+        files: grounds.files,
+        builds: grounds.sources.builds,
+        names: grounds.names,
+    };
+    let (undeclared, unlisted) = stale_files(alloc, history, origin, observed, hidden, conflicts)?;
     Ok(Stale {
         undeclared: undeclared.len() as u64,
         unlisted: unlisted_count(alloc, history.graph(), observed, &unlisted)?,

@@ -9,4 +9,4 @@ pub loop-edge-preserved : goal.loop-edge-preserved
 loop-edge-preserved c =
     c.in_ok-add.ensures
     ∙ (λ j. c.loop-edge.invariant j ++ option_to_list (c.reading_at-reading.ensures j))
-    ∙ sym (mapped-next (reading_at c.args.history.now.timeline.manifest.builds (state_at c.args.history.now.timeline) c.args.path.now) c.loop-edge.edge)
+    ∙ sym (mapped-next (reading_at c.args.history.now.timeline.manifest.builds (state_at c.args.history.now.timeline) c.args.names.now) c.loop-edge.edge)
