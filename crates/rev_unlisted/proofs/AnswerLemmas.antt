@@ -1,5 +1,5 @@
 -- What is found is what is to be told.
-use Rattle.std.proofs.Common.{◌≡◌, ℕ, zero, suc, ◌+◌, ◌<◌, ◌^◌, ◌==◌, vec_len, Bool, true, false, List, [], ◌∷◌, ◌++◌, length, get_or, map, take, Option, ◌⊎◌, inl, inr, refl, sym, ap, subst, ◌∙◌, arith, Contains, true≢false, bytes_eq}
+use Rattle.std.proofs.Common.{◌≡◌, ℕ, zero, suc, ◌+◌, ◌<◌, ◌^◌, ◌==◌, vec_len, Bool, true, false, List, [], ◌∷◌, ◌++◌, length, get_or, map, take, ◌⊎◌, inl, inr, refl, sym, ap, subst, ◌∙◌, arith, Contains, true≢false}
 use Rattle.std.specs.Prelude.{All, ◌↔◌, Result, Ok, Err, IfOk}
 use Rattle.std.specs.Global.{Vec}
 use Rattle.std.specs.List.{list_all}
@@ -13,9 +13,7 @@ use Rattle.std.proofs.lemmas.List.Elements.{All-get_or, Contains-get_or}
 use Rattle.rev_manifest.specs.Manifest.{BuildValue}
 use Rattle.rev_ranks.specs.Graph.{Steps, graph_of, successors_of}
 use Rattle.rev_observed.specs.CommandValues.{CommandValue}
-use Rattle.rev_observed.specs.declared.kind.Kind.TheVariants.{Reads}
 use Rattle.rev_conflicts.specs.declared.conflict.Conflict.{Conflict}
-use Rattle.rev_conflicts.specs.Places.{does}
 use Rattle.rev_conflicts.specs.Conflicts.{Scene}
 use Rattle.rev_conflicts.specs.Tables.{SomeBelow}
 use Rattle.rev_undeclared.specs.declared.kind.Undeclared.{Undeclared}

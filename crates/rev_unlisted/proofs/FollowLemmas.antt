@@ -1,22 +1,22 @@
 -- The graph of what makes Ninja run an edge again, edge by edge.
-use Rattle.std.proofs.Common.{◌≡◌, ℕ, zero, suc, ◌+◌, ◌-◌, ◌<◌, ◌≤◌, Bool, true, false, cond, not, ◌&&◌, List, [], ◌∷◌, ◌++◌, length, get_or, slice_get, map, take, Option, Some, None, inl, inr, refl, sym, ap, subst, ◌∙◌, arith, append_assoc, zero-add, length-append, true≢false, Contains, bytes_eq}
+use Rattle.std.proofs.Common.{◌≡◌, ℕ, zero, suc, ◌+◌, ◌-◌, ◌<◌, ◌≤◌, Bool, true, false, cond, not, ◌&&◌, List, [], ◌∷◌, ◌++◌, length, get_or, map, take, Option, Some, None, inl, inr, refl, sym, ap, subst, ◌∙◌, arith, append_assoc, zero-add, length-append, true≢false, Contains}
 use Rattle.std.specs.Prelude.{All, filter, replicate}
-use Rattle.std.specs.List.{cons_option, filter_map, range_with_len, IsDistinct}
+use Rattle.std.specs.List.{cons_option, filter_map, range_with_len}
 use Rattle.std.specs.Global.{Vec}
 use Rattle.std.specs.Option.{option_map}
 use Rattle.std.proofs.Math.Seq.{take-length}
 use Rattle.std.proofs.lemmas.List.{get_or_append_left, get_or-append_right, get_or-map, get_or-replicate, length-map, length-replicate, replicate_more, take_more}
 use Rattle.rev_conflicts.proofs.MeetLemmas.{past-end}
 use Rattle.std.proofs.lemmas.Bool.{cases_lt}
-use Rattle.std.proofs.lemmas.Option.{slice_get-get_or, slice_get_within}
-use Rattle.std.proofs.lemmas.List.Elements.{Contains-append_cases, Contains-append_right, Contains-get_or, filter-append, filter_map-append}
+use Rattle.std.proofs.lemmas.Option.{slice_get_within}
+use Rattle.std.proofs.lemmas.List.Elements.{Contains-append_cases, Contains-get_or, filter-append, filter_map-append}
 use Rattle.std.proofs.lemmas.List.FromFn.{get_or-map-range_with_len, length-map-range_with_len, map-range_with_len_more}
 use Rattle.rev_paths.specs.Paths.{place_of}
 use Rattle.rev_manifest.specs.Manifest.{BuildValue}
-use Rattle.rev_paths.proofs.PlaceLemmas.{name_at-place_of, place_of-name_at}
+use Rattle.rev_paths.proofs.PlaceLemmas.{name_at-place_of}
 use Rattle.rev_graph.specs.Graph.{build_at, producer_of}
 use Rattle.rev_graph.proofs.GraphLemmas.{producer_of-within}
-use Rattle.rev_graph.proofs.StepLemmas.{Source, kept, source}
+use Rattle.rev_graph.proofs.StepLemmas.{Source, source}
 use Rattle.rev_ranks.specs.Graph.{Steps, graph_of, successors_of}
 use Rattle.std.specs.Borrow.{Bor}
 use Rattle.rev_unlisted.specs.Found.{IsFollow, names_of}

@@ -1,5 +1,5 @@
 -- Marks of the paths that count for an edge, name by name.
-use Rattle.std.proofs.Common.{◌≡◌, ℕ, zero, suc, ◌+◌, ◌<◌, List, [], ◌∷◌, ◌++◌, length, get_or, take, set, Option, Some, None, ◌⊎◌, inl, inr, refl, sym, ap, subst, ◌∙◌, arith, Contains, true≢false, bytes_eq}
+use Rattle.std.proofs.Common.{◌≡◌, ℕ, zero, suc, ◌+◌, ◌<◌, List, [], ◌∷◌, ◌++◌, length, get_or, take, set, Option, Some, None, inl, inr, refl, sym, ap, subst, ◌∙◌, arith, Contains, true≢false, bytes_eq}
 use Rattle.std.proofs.lemmas.Bool.{cases_eq}
 use Rattle.std.proofs.lemmas.List.{get_or-set_same, get_or-set_other, length-set, take_more}
 use Rattle.std.proofs.lemmas.List.Elements.{Contains-append_cases, Contains-append_left, Contains-append_right}
@@ -7,7 +7,6 @@ use Rattle.std.proofs.lemmas.Option.{get_or_from_slice_get, slice_get-get_or}
 use Rattle.rev_paths.specs.Paths.{place_of}
 use Rattle.rev_paths.proofs.PlaceLemmas.{name_at-place_of, place_of-name_at}
 use Rattle.std.specs.List.{IsDistinct}
-use Rattle.std.specs.Prelude.{◌↔◌}
 use Rattle.rev_manifest.specs.Manifest.{BuildValue}
 use Rattle.rev_undeclared.specs.Undeclared.{path_at}
 use Rattle.rev_unlisted.specs.Follows.{counted_of}

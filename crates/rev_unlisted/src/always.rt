@@ -72,6 +72,7 @@ pub fn always_run(alloc: Global, history: &History) -> Result<Vec<bool>, AllocEr
         (never_done_in history.now.timeline.manifest.builds (state_at history.now.timeline))) marks.items) }
 {
     let graph = history.graph();
+    let _edges = graph.edges();
     let lists = all_lists(alloc, history)?;
     let none = Paths::new(alloc);
     let steps = follow_steps(alloc, graph, &lists, &none, true)?;

@@ -2,7 +2,7 @@ use Rattle.std.proofs.Common.{◌≡◌, ◌<◌, ℕ, List, get_or, length, Con
 use Rattle.std.specs.List.{range_with_len}
 use Rattle.std.proofs.lemmas.List.FromFn.{get_or-range_with_len, length-range_with_len}
 use Rattle.rev_ranks.specs.Graph.{graph_of}
-use Rattle.rev_ranks.specs.Leads.{IsReachable, IsReachable.behind}
+use Rattle.rev_ranks.specs.Leads.{IsReachable.behind}
 use Rattle.rev_ranks.proofs.SetLemmas.{reachable-complete}
 use Rattle.rev_unlisted.proofs.covering.led_to.Goals as goal
 

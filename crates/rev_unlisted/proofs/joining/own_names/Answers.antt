@@ -1,4 +1,4 @@
-use Rattle.std.proofs.Common.{◌++◌, List, ℕ, ◌∙◌}
+use Rattle.std.proofs.Common.{◌++◌, ◌∙◌}
 use Rattle.rev_places.specs.Names.{own_names_in, own_of}
 use Rattle.rev_unlisted.proofs.JoinLemmas.{three}
 use Rattle.rev_unlisted.proofs.joining.own_names.Goals as goal

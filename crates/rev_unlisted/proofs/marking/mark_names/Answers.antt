@@ -1,4 +1,4 @@
-use Rattle.std.proofs.Common.{◌≡◌, ◌<◌, List, ℕ, length, take, subst, ap, ◌∙◌, arith}
+use Rattle.std.proofs.Common.{◌≡◌, List, ℕ, length, take, subst, ap, ◌∙◌, arith}
 use Rattle.std.proofs.Math.Seq.{take-length}
 use Rattle.rev_unlisted.specs.Found.{IsMarked}
 use Rattle.rev_unlisted.proofs.MarkLemmas.{marked-next, marked-none}
