@@ -105,3 +105,13 @@ listed_words path = codes ": ... | " ++ written path ++ codes ", or a depfile th
 
 abbrev pub list_line : Edge → List ℕ → List ℕ
 list_line user path = build_words user ++ listed_words path
+
+-- `    mend: build.ninja:6: build out.txt: ... | names.h`
+unfoldable pub order_begins : List ℕ → Edge → List ℕ
+order_begins head edge = head ++ name_if edge.file ++ line_if edge.line ++ codes ": build " ++ written_if edge.output
+
+unfoldable pub order_ends : List ℕ → List ℕ → List ℕ → List ℕ
+order_ends sign path end = codes ": ... " ++ sign ++ codes " " ++ written path ++ end ++ codes "\n"
+
+abbrev pub order_line : List ℕ → Edge → List ℕ → List ℕ → List ℕ → List ℕ
+order_line head edge sign path end = order_begins head edge ++ order_ends sign path end

@@ -25,6 +25,36 @@ pub enum Kind {
     Unlisted,
 }
 
+/// The other one of two orders that can both be right: the maker waits for the user.
+#[derive(Clone, Copy)]
+pub struct Reverse<'a> {
+    /// The first output of the user that can be written on a build line.
+    pub output: Option<&'a Name>,
+    /// Whether the user came first in this recording.
+    pub is_here: bool,
+}
+
+/// What is known of how a finding is mended, beside its kind.
+#[derive(Clone, Copy)]
+pub struct Mending<'a> {
+    /// Whether the maker's line can name the path among its outputs: no line names it yet, and no other command leaves
+    /// it.
+    pub is_declared: bool,
+    /// Whether the user's line is to name its input behind a `|`, since no list of the user has the file.
+    pub is_listed: bool,
+    /// The other order, where either can be right.
+    pub reverse: Option<Reverse<'a>>,
+}
+
+impl Mending<'_> {
+    /// Nothing is known yet: the maker's line can name the path, and the user's list has the file.
+    pub const PLAIN: Mending<'static> = Mending {
+        is_declared: true,
+        is_listed: false,
+        reverse: None,
+    };
+}
+
 /// A finding about two edges and a place. Edges stand by their numbers.
 #[derive(Clone, Copy)]
 pub struct Finding<'a> {
@@ -46,6 +76,8 @@ pub struct Finding<'a> {
     pub output: Option<&'a Name>,
     /// The other name that the user's list has for the file, where an output of the maker stands for it.
     pub listed: Option<&'a Name>,
+    /// How it is mended.
+    pub mending: Mending<'a>,
 }
 
 impl<'a> Finding<'a> {
@@ -119,16 +151,23 @@ impl<'a> Finding<'a> {
         )
     }
 
-    /// Whether an order mends it: the user is to wait for the maker.
+    /// Whether an order mends it: the user is to wait for the maker, or, where either order can be right, one of the two
+    /// for the other.
     pub fn is_mended_by_order(&self) -> bool {
-        self.kind == Kind::Race
+        match self.kind {
+            Kind::Race => true,
+            Kind::Clash => self.mending.reverse.is_some(),
+            Kind::Cycle | Kind::Unstable | Kind::Undeclared | Kind::Anothers | Kind::Unlisted => {
+                false
+            }
+        }
     }
 
     /// Whether the maker's line is to name the path among its outputs.
     pub fn is_to_be_declared(&self) -> bool {
         match self.kind {
-            Kind::Race => self.change == Change::Undeclared,
-            Kind::Undeclared => true,
+            Kind::Race => self.change == Change::Undeclared && self.mending.is_declared,
+            Kind::Undeclared => self.mending.is_declared,
             Kind::Cycle | Kind::Clash | Kind::Unstable | Kind::Anothers | Kind::Unlisted => false,
         }
     }
@@ -138,9 +177,9 @@ impl<'a> Finding<'a> {
         self.kind == Kind::Unlisted
     }
 
-    /// What the user's line is to name after `||`. It is the path where the maker's line is to name the path, and else
-    /// an output of the maker. It is None where no order mends the finding, and where none of these outputs can be
-    /// written on a build line.
+    /// What the user's line is to name, so that the user waits for the maker. It is the path where the maker's line is
+    /// to name the path, and else an output of the maker. It is None where no order mends the finding, and where none
+    /// of these outputs can be written on a build line.
     pub fn order(&self) -> Option<&'a Name> {
         if !self.is_mended_by_order() {
             return None;
@@ -149,5 +188,26 @@ impl<'a> Finding<'a> {
             return Some(self.path);
         }
         self.output
+    }
+
+    /// What the user's line is to name behind a `|`: the path of an unlisted input, and what makes it wait where no list
+    /// of the user has the file.
+    pub fn input(&self) -> Option<&'a Name> {
+        if self.is_to_be_listed() {
+            return Some(self.path);
+        }
+        if self.mending.is_listed {
+            self.order()
+        } else {
+            None
+        }
+    }
+
+    /// What the maker's line is to name behind `||` in place of that, where either order can be right.
+    pub fn reverse_order(&self) -> Option<&'a Name> {
+        match self.mending.reverse {
+            Some(reverse) => reverse.output,
+            None => None,
+        }
     }
 }

@@ -22,6 +22,7 @@ struct FindingObject<'a> {
     declare: Option<Shown<'a>>,
     list: Option<Shown<'a>>,
     mend: Option<Shown<'a>>,
+    reverse: Option<Shown<'a>>,
     listed_as: Option<Shown<'a>>,
 }
 
@@ -35,6 +36,8 @@ struct ClashObject<'a> {
     first: Edge<'a>,
     other: Edge<'a>,
     here: Option<&'static str>,
+    mend: Option<Shown<'a>>,
+    reverse: Option<Shown<'a>>,
 }
 
 // The word of a look.
@@ -113,6 +116,8 @@ fn push_clash<'a>(
         first: finding.maker_in(sources),
         other: finding.user_in(sources),
         here: here_of(finding),
+        mend: shown_if(finding.order()),
+        reverse: shown_if(finding.reverse_order()),
     };
     push_object(alloc, text, "clash", &clash)
 }
@@ -143,8 +148,9 @@ fn push_finding<'a>(
         here: here_of(finding),
         basis: "observed",
         declare: named_if(finding.is_to_be_declared(), finding.shown()),
-        list: named_if(finding.is_to_be_listed(), finding.shown()),
+        list: shown_if(finding.input()),
         mend: shown_if(finding.order()),
+        reverse: shown_if(finding.reverse_order()),
         listed_as: shown_if(finding.listed),
     };
     push_object(alloc, text, kind_word(finding.kind), &object)

@@ -12,7 +12,7 @@ mod words;
 
 pub use certificate::{CertainLine, Stale, Way};
 pub use certified::{Certified, NOT_CERTAIN};
-pub use finding::{Finding, Kind};
+pub use finding::{Finding, Kind, Mending, Reverse};
 pub use json::findings_json;
 pub use lines::kind_word;
 pub use other_names::{build_folder, is_one_file, name_within};

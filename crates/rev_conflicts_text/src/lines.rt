@@ -1,6 +1,6 @@
 //! The lines of findings.
 ghost use Rattle.std.specs.Prelude.{◌≡◌, Some};
-ghost use Rattle.rev_conflicts_text.specs.Lines.{before_maker, behind_maker, build_words, declare_line, head_line, kind_word, list_line, listed_line, listed_words, race_ends, unlisted_head, unlisted_line, user_begins, user_ends, user_line};
+ghost use Rattle.rev_conflicts_text.specs.Lines.{before_maker, behind_maker, build_words, declare_line, head_line, kind_word, list_line, listed_line, listed_words, order_begins, order_ends, order_line, race_ends, unlisted_head, unlisted_line, user_begins, user_ends, user_line};
 
 use crate::finding::Kind;
 use rev_conflicts::{Change, Look};
@@ -52,6 +52,60 @@ pub(crate) struct DeclareLine<'a> {
 pub(crate) struct ListLine<'a> {
     pub(crate) user: Edge<'a>,
     pub(crate) path: Shown<'a>,
+}
+
+/// The line of a mend: an edge is to wait for what leaves a path.
+#[derive(Clone, Copy)]
+pub(crate) struct OrderLine<'a> {
+    /// What stands before the build line.
+    pub(crate) head: &'static str,
+    /// The edge that is to wait.
+    pub(crate) edge: Edge<'a>,
+    /// The sign before the path: `|` or `||`.
+    pub(crate) sign: &'static str,
+    /// The path.
+    pub(crate) path: Shown<'a>,
+    /// What stands behind the path.
+    pub(crate) end: &'static str,
+}
+
+// The build line of such a line, up to the outputs.
+#[derive(Clone, Copy)]
+struct OrderBegins<'a> {
+    head: &'static str,
+    edge: Edge<'a>,
+}
+
+impl fmt::Display for OrderBegins<'_> {
+    ghost output = { λ b. Some (order_begins b.head.now b.edge) };
+
+    #[tactic(auto, unfolding(crate::specs::Lines::order_begins))]
+    fn fmt<W: fmt::Write>(&self, f: &mut fmt::Formatter<W>) -> fmt::Result {
+        let head = self.head;
+        let file = NameIf(self.edge.file);
+        let line = LineIf(self.edge.line);
+        let output = WrittenIf(self.edge.output);
+        write!(f, "{head}{file}{line}: build {output}")
+    }
+}
+
+// What the line is to have behind.
+#[derive(Clone, Copy)]
+struct OrderEnds<'a> {
+    sign: &'static str,
+    path: Shown<'a>,
+    end: &'static str,
+}
+
+impl fmt::Display for OrderEnds<'_> {
+    ghost output = { λ e. Some (order_ends e.sign.now e.path.0.now e.end.now) };
+
+    #[tactic(auto, unfolding(crate::specs::Lines::order_ends))]
+    fn fmt<W: fmt::Write>(&self, f: &mut fmt::Formatter<W>) -> fmt::Result {
+        let (sign, end) = (self.sign, self.end);
+        let path = Written(self.path.0);
+        write!(f, ": ... {sign} {path}{end}\n")
+    }
 }
 
 /// The line of another name that the user's list has for the file.
@@ -248,5 +302,22 @@ impl fmt::Display for ListLine<'_> {
     fn fmt<W: fmt::Write>(&self, f: &mut fmt::Formatter<W>) -> fmt::Result {
         let (build, listed) = (BuildWords(self.user), ListedWords(self.path));
         write!(f, "{build}{listed}")
+    }
+}
+
+impl fmt::Display for OrderLine<'_> {
+    ghost output = { λ l. Some (order_line l.head.now l.edge l.sign.now l.path.0.now l.end.now) };
+
+    fn fmt<W: fmt::Write>(&self, f: &mut fmt::Formatter<W>) -> fmt::Result {
+        let begins = OrderBegins {
+            head: self.head,
+            edge: self.edge,
+        };
+        let ends = OrderEnds {
+            sign: self.sign,
+            path: self.path,
+            end: self.end,
+        };
+        write!(f, "{begins}{ends}")
     }
 }

@@ -1,5 +1,5 @@
 //! The findings of an observation, and the races by lists that are left beside them.
-use crate::finding::{Finding, Kind};
+use crate::finding::{Finding, Kind, Mending};
 use crate::other_names::{build_folder, name_within};
 use rev_conflicts::{Change, Conflict, ConflictKind, Look, Place};
 use rev_graph::Graph;
@@ -213,6 +213,7 @@ pub fn conflict_findings<'a>(
                 story: stories.get(place).copied(),
                 output: first_output(graph, conflict.maker),
                 listed: None,
+                mending: Mending::PLAIN,
             })?;
         }
     }
@@ -250,6 +251,7 @@ pub fn add_undeclared<'a>(
                 story: None,
                 output: first_output(graph, file.maker),
                 listed: None,
+                mending: Mending::PLAIN,
             })?;
         }
     }
@@ -303,6 +305,7 @@ pub fn add_unlisted<'a>(
                 story: None,
                 output: first_output(graph, reading.user),
                 listed: None,
+                mending: Mending::PLAIN,
             })?;
         }
     }

@@ -1,10 +1,11 @@
 //! Findings in words.
-use crate::finding::{Finding, Kind};
+use crate::finding::{Finding, Kind, Reverse};
 use crate::lines::{
-    DeclareLine, HeadLine, ListLine, ListedLine, UnlistedHead, UnlistedLine, UserLine,
+    DeclareLine, HeadLine, ListLine, ListedLine, OrderLine, UnlistedHead, UnlistedLine, UserLine,
 };
 use rev_conflicts::Change;
-use rev_races_text::{HereLine, MendLine, More, NO_MEND, Shown, Sources};
+use rev_paths::Name;
+use rev_races_text::{Edge, HereLine, More, NO_MEND, Shown, Sources};
 use std::alloc::{AllocError, Global};
 
 // How many users of a maker the words have, unless they have all.
@@ -20,6 +21,85 @@ fn push_more(text: &mut String, count: usize, most: usize) -> Result<(), AllocEr
     write!(text, "{more}")
 }
 
+// What stands before the first line of a mend, and before each further one.
+const MEND: &str = "    mend: ";
+const OR: &str = "    or: ";
+// What stands behind an order where the other one can be right too.
+const LAST_HERE: &str = " (what it does comes last, as here)";
+const LAST: &str = " (what it does comes last)";
+
+// The sign before what the user's line is to name.
+fn sign_of(finding: &Finding<'_>) -> &'static str {
+    if finding.mending.is_listed { "|" } else { "||" }
+}
+
+// Adds the line by which an edge waits for what leaves a path, where one can be written.
+fn push_order<'a>(
+    text: &mut String,
+    head: &'static str,
+    edge: Edge<'a>,
+    sign: &'static str,
+    path: Option<&'a Name>,
+    end: &'static str,
+) -> Result<(), AllocError> {
+    let Some(path) = path else {
+        return Ok(());
+    };
+    let line = OrderLine {
+        head,
+        edge,
+        sign,
+        path: Shown(path.as_bytes()),
+        end,
+    };
+    write!(text, "{line}")
+}
+
+// Adds two orders that can both be right, that of this recording first.
+fn push_orders<'a>(
+    text: &mut String,
+    sources: &Sources<'a>,
+    finding: &Finding<'a>,
+    reverse: Reverse<'a>,
+    head: &'static str,
+) -> Result<(), AllocError> {
+    let (user, maker) = (finding.user_in(sources), finding.maker_in(sources));
+    let (sign, order) = (sign_of(finding), finding.order());
+    if reverse.is_here {
+        push_order(text, head, maker, "||", reverse.output, LAST_HERE)?;
+        return push_order(text, OR, user, sign, order, LAST);
+    }
+    push_order(text, head, user, sign, order, LAST_HERE)?;
+    push_order(text, OR, maker, "||", reverse.output, LAST)
+}
+
+// Adds what mends a finding that no order does.
+fn push_other_mend<'a>(
+    text: &mut String,
+    sources: &Sources<'a>,
+    finding: &Finding<'a>,
+) -> Result<(), AllocError> {
+    match finding.kind {
+        Kind::Race => text.push_str(NO_MEND),
+        Kind::Clash => text.push_str("    mend: another path for one of the two\n"),
+        Kind::Unstable | Kind::Anothers => {
+            text.push_str("    mend: another path for what it writes there\n")
+        }
+        Kind::Undeclared => {
+            if finding.is_to_be_declared() {
+                return Ok(());
+            }
+            text.push_str("    mend: another path for what it writes there\n")
+        }
+        Kind::Unlisted => {
+            let user = finding.user_in(sources);
+            let path = finding.shown();
+            write!(text, "{}", ListLine { user, path })
+        }
+        Kind::Cycle => Ok(()),
+    }
+}
+
 // Adds what mends a finding.
 fn push_mend<'a>(
     text: &mut String,
@@ -31,24 +111,18 @@ fn push_mend<'a>(
         let path = finding.shown();
         write!(text, "{}", DeclareLine { maker, path })?;
     }
+    if let Some(reverse) = finding.mending.reverse {
+        if finding.kind == Kind::Clash {
+            push_other_mend(text, sources, finding)?;
+            return push_orders(text, sources, finding, reverse, OR);
+        }
+        return push_orders(text, sources, finding, reverse, MEND);
+    }
     if let Some(order) = finding.order() {
         let user = finding.user_in(sources);
-        let output = Shown(order.as_bytes());
-        return write!(text, "{}", MendLine { user, output });
+        return push_order(text, MEND, user, sign_of(finding), Some(order), "");
     }
-    match finding.kind {
-        Kind::Race => text.push_str(NO_MEND),
-        Kind::Clash => text.push_str("    mend: another path for one of the two\n"),
-        Kind::Unstable | Kind::Anothers => {
-            text.push_str("    mend: another path for what it writes there\n")
-        }
-        Kind::Unlisted => {
-            let user = finding.user_in(sources);
-            let path = finding.shown();
-            write!(text, "{}", ListLine { user, path })
-        }
-        Kind::Cycle | Kind::Undeclared => Ok(()),
-    }
+    push_other_mend(text, sources, finding)
 }
 
 // Adds the lines of one user behind a maker's, whose path is `told`: it is in these findings, numbered from `number`.

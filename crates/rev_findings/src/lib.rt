@@ -4,8 +4,10 @@
 mod found;
 mod hinted;
 mod listed_names;
+mod mending;
 mod reporting;
 mod seen;
+mod writers;
 
 pub use found::{last_runs, told_clashes, witness_of};
 pub use hinted::{names_in, output_names};

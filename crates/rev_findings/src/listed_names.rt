@@ -8,8 +8,8 @@ use rev_paths::Name;
 use rev_races::listed;
 use std::alloc::{AllocError, Global};
 
-// A user and a name as one key.
-fn key_of(alloc: Global, user: u32, name: &[u8]) -> Result<Vec<u8>, AllocError> {
+/// A user and a name as one key.
+pub(crate) fn key_of(alloc: Global, user: u32, name: &[u8]) -> Result<Vec<u8>, AllocError> {
     let mut key = Vec::from_slice(alloc, name)?;
     key.extend_from_slice(&user.to_le_bytes())?;
     Ok(key)
@@ -54,8 +54,8 @@ fn add_names<'a>(
     Ok(())
 }
 
-// The paths that the users of findings list in a folder, each by the user and its name there.
-fn names_in<'a>(
+/// The paths that the users of findings list in a folder, each by the user and its name there.
+pub(crate) fn names_in<'a>(
     alloc: Global,
     history: &'a History,
     folder: &[u8],

@@ -6,6 +6,7 @@ ghost use Rattle.rev_observed.specs.Observations.{outputs_of};
 
 use crate::found::orderable_output;
 use crate::listed_names::note_listed;
+use crate::mending::{note_mends, regraded};
 use indexmap::IndexMap;
 use rev_conflicts::{Conflict, Place, conflicts};
 use rev_conflicts_text::{
@@ -15,7 +16,7 @@ use rev_folder::{FilterTexts, Observed, hidden_by, observed_in};
 use rev_graph::Graph;
 use rev_history::History;
 use rev_manifest::Build;
-use rev_observed::Observation;
+use rev_observed::{Kind as Use, Observation, PathRange};
 use rev_paths::Name;
 use rev_races::{Kind, Race, finished_edges, started_edges, stories};
 use rev_races_text::{RaceFinding, Report, Story};
@@ -221,7 +222,8 @@ fn unlisted_in(
         conflicts,
         undeclared,
     )?;
-    let unlisted = ended_well(alloc, history, &unlisted)?;
+    let folders = folder_marks(alloc, observation)?;
+    let unlisted = ended_well(alloc, history, &folders, &unlisted)?;
     that_can_be_stale(alloc, history, unlisted)
 }
 
@@ -244,16 +246,70 @@ fn that_can_be_stale(
     Ok(files)
 }
 
-// The unlisted files of commands that ended well. One that failed left no list, and Ninja runs it again in any case.
+// At how many ranges of numbers each number is the first one, and the last one.
+#[derive(Drop)]
+struct Bounds {
+    firsts: Vec<u64>,
+    lasts: Vec<u64>,
+}
+
+impl Bounds {
+    // Notes ranges.
+    fn note(&mut self, ranges: &[PathRange]) {
+        for range in ranges {
+            count_at(&mut self.firsts, range.first);
+            count_at(&mut self.lasts, range.last);
+        }
+    }
+
+    // For each number whether a range has it.
+    fn marks(&self, alloc: Global) -> Result<Vec<bool>, AllocError> {
+        let mut marks = Vec::new(alloc);
+        let mut open = 0u64;
+        for (first, last) in self.firsts.iter().zip(self.lasts.iter()) {
+            open = u64::saturating_add(open, *first);
+            marks.push(open > 0)?;
+            open = u64::saturating_sub(open, *last);
+        }
+        Ok(marks)
+    }
+}
+
+// Counts one more at a number.
+fn count_at(counts: &mut [u64], number: u32) {
+    if let Some(count) = counts.get_mut(number as usize) {
+        *count = u64::saturating_add(*count, 1);
+    }
+}
+
+// For each path of an observation whether it is a folder: a command listed its entries, or made it as a folder.
+fn folder_marks(alloc: Global, observation: &Observation) -> Result<Vec<bool>, AllocError> {
+    let count = observation.paths().len() as usize;
+    let mut bounds = Bounds {
+        firsts: vec![in alloc; 0; count]?,
+        lasts: vec![in alloc; 0; count]?,
+    };
+    for command in observation.commands() {
+        bounds.note(command.paths(Use::Lists));
+        bounds.note(command.paths(Use::Folders));
+    }
+    bounds.marks(alloc)
+}
+
+// The unlisted files of commands that ended well. One that failed left no list, and Ninja runs it again in any case. A
+// folder is none of them: it has entries and no content, and a build line that names it as an input has Ninja refuse
+// the manifest, or compare the folder's stamp.
 fn ended_well(
     alloc: Global,
     history: &History,
+    folders: &[bool],
     unlisted: &[Unlisted],
 ) -> Result<Vec<Unlisted>, AllocError> {
     let ended = finished_edges(alloc, history)?;
     let mut files = Vec::new(alloc);
     for file in unlisted {
-        if ended.get(file.user as usize).copied().unwrap_or(false) {
+        let is_folder = folders.get(file.path as usize).copied().unwrap_or(false);
+        if !is_folder && ended.get(file.user as usize).copied().unwrap_or(false) {
             files.push(*file)?;
         }
     }
@@ -396,6 +452,7 @@ pub fn seen_findings<'a>(
         &sight.unlisted,
         &mut findings,
     )?;
+    note_mends(alloc, history, builds, observation, &mut findings)?;
     Ok(findings)
 }
 
@@ -420,15 +477,17 @@ pub fn conflict_findings_in<'a>(
     observation: &'a Observation,
     conflicts: &[Conflict],
 ) -> Result<Vec<Finding<'a>>, AllocError> {
-    let stories = stories_of(alloc, history, conflicts)?;
     let graph = history.graph();
-    let mut findings = conflict_findings(alloc, graph, observation, conflicts, &stories)?;
+    let conflicts = regraded(alloc, graph, observation, conflicts)?;
+    let stories = stories_of(alloc, history, &conflicts)?;
+    let mut findings = conflict_findings(alloc, graph, observation, &conflicts, &stories)?;
     let began = started_edges(alloc, history)?;
     for finding in findings.iter_mut() {
         let user_began = began.get(finding.user as usize).copied().unwrap_or(false);
         finding.story = story_told(finding.story, user_began);
         finding.output = orderable_output(builds, finding.maker);
     }
+    note_mends(alloc, history, builds, observation, &mut findings)?;
     Ok(findings)
 }
 

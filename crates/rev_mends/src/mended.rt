@@ -5,12 +5,13 @@ ghost use Rattle.rev_races.specs.Searches.{IsKept};
 ghost use Rattle.rev_ranks.specs.Graph.{graph_of};
 
 use crate::statements::{Statement, patch_name, push_patches, statement_at, statements_of};
+use indexmap::IndexMap;
 use rev_clashes::SideFile;
-use rev_conflicts_text::Finding;
+use rev_conflicts_text::{Finding, Reverse};
 use rev_graph::Graph;
 use rev_manifest::Manifest;
 use rev_patch::{Author, Change, author_of};
-use rev_patched::{Order, patch_for, writable_output};
+use rev_patched::{Amendments, Order, amendments_for, patch_for, writable_output};
 use rev_paths::Name;
 use rev_races::{Search, no_search, search_for};
 use rev_races_text::{Clash, Kind, RaceFinding, Sources, push_clash, push_edge, push_placed};
@@ -21,13 +22,25 @@ use std::alloc::{AllocError, Global};
 // The most mends that are tried one after the other where all of them together make a cycle.
 const MOST_TRIED: usize = 64;
 
-// An order that mends races: the user's build statement by its file and line, a user, and the maker.
+// An order that mends races: the user's build statement by its file and line, a user, and the maker. `is_order_only`
+// says that the order is to stand behind `||`, and not behind `|`.
 #[derive(Clone, Copy, PartialEq, Eq, PartialOrd, Ord)]
 struct Mend {
     file: u64,
     line: u64,
     maker: u32,
+    is_order_only: bool,
     user: u32,
+}
+
+// A path that the build statement of an edge is to have behind a `|`: among its outputs, or among its inputs.
+#[derive(Clone, Copy)]
+struct Naming<'a> {
+    file: u64,
+    line: u64,
+    edge: u32,
+    path: &'a Name,
+    is_output: bool,
 }
 
 // Why a mend is not in the patch.
@@ -48,6 +61,7 @@ fn add_mend(
     sources: &Sources<'_>,
     maker: u32,
     user: u32,
+    is_order_only: bool,
     mends: &mut Vec<Mend>,
 ) -> Result<(), AllocError> {
     match sources.builds.get(user as usize) {
@@ -55,12 +69,27 @@ fn add_mend(
             file: build.file(),
             line: build.line(),
             maker,
+            is_order_only,
             user,
         })?,
         None => {}
     }
     Ok(())
 }
+
+// Adds the mend of a finding. Where either order can be right, it is the one of this recording.
+fn add_finding(
+    sources: &Sources<'_>,
+    finding: &Finding<'_>,
+    mends: &mut Vec<Mend>,
+) -> Result<(), AllocError> {
+    let (maker, user) = (finding.maker, finding.user);
+    match finding.mending.reverse {
+        Some(reverse) if reverse.is_here => add_mend(sources, user, maker, true, mends),
+        _ => add_mend(sources, maker, user, !finding.mending.is_listed, mends),
+    }
+}
+
 
 // The mends of races and of findings, each statement and maker once, by file and line.
 fn mends_of(
@@ -72,19 +101,20 @@ fn mends_of(
     let mut all = Vec::new(alloc);
     for race in races {
         if race.kind == Kind::Race {
-            add_mend(sources, race.maker, race.user, &mut all)?;
+            add_mend(sources, race.maker, race.user, true, &mut all)?;
         }
     }
     for finding in findings {
         if finding.is_mended_by_order() {
-            add_mend(sources, finding.maker, finding.user, &mut all)?;
+            add_finding(sources, finding, &mut all)?;
         }
     }
     all.sort_unstable();
     once(alloc, &all)
 }
 
-// Of the mends of one statement and one maker, which stand beside each other, the first.
+// Of the mends of one statement and one maker, which stand beside each other, the first: one behind a `|`, where there is
+// one.
 fn once(alloc: Global, all: &[Mend]) -> Result<Vec<Mend>, AllocError> {
     let mut mends: Vec<Mend> = Vec::new(alloc);
     for mend in all {
@@ -188,12 +218,15 @@ impl<'a> Patched<'a> {
         }
     }
 
-    // Adds the orders of a mend, one for each edge that its statement makes.
-    fn push_orders(self, orders: &mut Vec<Order<'a>>, mend: Mend) -> Result<(), AllocError> {
-        let Some(path) = self.output(mend.maker) else {
-            return Ok(());
-        };
-        for statement in statement_at(self.statements, mend.file, mend.line) {
+    // Adds a path to each edge that a statement makes.
+    fn push_path(
+        self,
+        orders: &mut Vec<Order<'a>>,
+        file: u64,
+        line: u64,
+        path: &'a Name,
+    ) -> Result<(), AllocError> {
+        for statement in statement_at(self.statements, file, line) {
             orders.push(Order {
                 edge: statement.edge,
                 path,
@@ -202,23 +235,111 @@ impl<'a> Patched<'a> {
         Ok(())
     }
 
-    // The orders of some mends.
-    fn orders(self, alloc: Global, mends: &[Mend]) -> Result<Vec<Order<'a>>, AllocError> {
-        let mut orders = Vec::new(alloc);
-        for mend in mends {
-            self.push_orders(&mut orders, *mend)?;
+    // Adds the order of a mend.
+    fn push_order(
+        self,
+        amendments: &mut Amendments<'a>,
+        mend: Mend,
+    ) -> Result<(), AllocError> {
+        let Some(path) = self.output(mend.maker) else {
+            return Ok(());
+        };
+        if mend.is_order_only {
+            return self.push_path(&mut amendments.orders, mend.file, mend.line, path);
         }
-        Ok(orders)
+        self.push_path(&mut amendments.inputs, mend.file, mend.line, path)
     }
 
-    // The changed lines for some mends; none where with all of them a command waits for itself.
+    // What mends and namings add to edges.
+    fn amendments(
+        self,
+        alloc: Global,
+        mends: &[Mend],
+        namings: &[Naming<'a>],
+    ) -> Result<Amendments<'a>, AllocError> {
+        let mut amendments = Amendments {
+            outputs: Vec::new(alloc),
+            inputs: Vec::new(alloc),
+            orders: Vec::new(alloc),
+        };
+        for naming in namings {
+            let paths = if naming.is_output {
+                &mut amendments.outputs
+            } else {
+                &mut amendments.inputs
+            };
+            self.push_path(paths, naming.file, naming.line, naming.path)?;
+        }
+        for mend in mends {
+            self.push_order(&mut amendments, *mend)?;
+        }
+        Ok(amendments)
+    }
+
+    // The changed lines for some mends and namings; none where with all of them a command waits for itself.
     fn changes(
         self,
         alloc: Global,
         mends: &[Mend],
+        namings: &[Naming<'a>],
     ) -> Result<Option<Vec<Vec<Change>>>, AllocError> {
-        let orders = self.orders(alloc, mends)?;
-        patch_for(alloc, self.sources.files, self.manifest, &orders)
+        let amendments = self.amendments(alloc, mends, namings)?;
+        if amendments.outputs.is_empty() && amendments.inputs.is_empty() {
+            return patch_for(
+                alloc,
+                self.sources.files,
+                self.manifest,
+                &amendments.orders,
+            );
+        }
+        amendments_for(alloc, self.sources.files, self.manifest, &amendments)
+    }
+
+    // Whether the patch can have a naming: `patch` finds its file, and the statement makes no other edge.
+    fn has_naming(self, alloc: Global, naming: Naming<'_>) -> Result<bool, AllocError> {
+        if statement_at(self.statements, naming.file, naming.line).len() != 1 {
+            return Ok(false);
+        }
+        self.is_found(alloc, naming.file)
+    }
+
+    // The namings that the patch can have, each where it can stand beside those before it; adds what the others are.
+    fn named(
+        self,
+        alloc: Global,
+        text: &mut Vec<u8>,
+        namings: &[Naming<'a>],
+    ) -> Result<Vec<Naming<'a>>, AllocError> {
+        let mut taken = Vec::new(alloc);
+        for naming in namings {
+            if self.has_naming(alloc, *naming)? {
+                taken.push(*naming)?;
+            } else {
+                push_naming(text, self.sources, *naming)?;
+            }
+        }
+        if taken.is_empty() || self.changes(alloc, &[], &taken)?.is_some() {
+            return Ok(taken);
+        }
+        self.one_by_one(alloc, text, &taken)
+    }
+
+    // Of namings that a patch cannot have together those that it can have, each beside those before it.
+    fn one_by_one(
+        self,
+        alloc: Global,
+        text: &mut Vec<u8>,
+        namings: &[Naming<'a>],
+    ) -> Result<Vec<Naming<'a>>, AllocError> {
+        let mut taken = Vec::new(alloc);
+        for (number, naming) in namings.iter().enumerate() {
+            taken.push(*naming)?;
+            if number >= MOST_TRIED || self.changes(alloc, &[], &taken)?.is_none() {
+                let _refused = taken.pop();
+                push_naming(text, self.sources, *naming)?;
+            }
+        }
+        Ok(taken)
     }
 
     // Adds why a mend is not in the patch.
@@ -261,11 +382,12 @@ impl<'a> Patched<'a> {
         alloc: Global,
         text: &mut Vec<u8>,
         mends: &[Mend],
+        namings: &[Naming<'a>],
     ) -> Result<Vec<Mend>, AllocError> {
         let mut taken = Vec::new(alloc);
         for mend in mends {
             taken.push(*mend)?;
-            if self.changes(alloc, &taken)?.is_none() {
+            if self.changes(alloc, &taken, namings)?.is_none() {
                 let _refused = taken.pop();
                 self.push_left(text, *mend, Left::Cycle)?;
             }
@@ -274,9 +396,16 @@ impl<'a> Patched<'a> {
     }
 
     // Adds the patch of the files.
-    fn push(self, alloc: Global, text: &mut Vec<u8>, mends: &[Mend]) -> Result<(), AllocError> {
+    fn push(
+        self,
+        alloc: Global,
+        text: &mut Vec<u8>,
+        mends: &[Mend],
+        namings: &[Naming<'a>],
+    ) -> Result<(), AllocError> {
         let mends = self.takable(alloc, text, mends)?;
-        if let Some(changes) = self.changes(alloc, &mends)? {
+        let namings = self.named(alloc, text, namings)?;
+        if let Some(changes) = self.changes(alloc, &mends, &namings)? {
             return push_patches(alloc, text, self.sources.files, &changes);
         }
         if mends.len() > MOST_TRIED {
@@ -284,8 +413,8 @@ impl<'a> Patched<'a> {
                 b"# no patch: with all these orders together a command waits for itself; add some, and ask again\n",
             );
         }
-        let mends = self.together(alloc, text, &mends)?;
-        match self.changes(alloc, &mends)? {
+        let mends = self.together(alloc, text, &mends, &namings)?;
+        match self.changes(alloc, &mends, &namings)? {
             Some(changes) => push_patches(alloc, text, self.sources.files, &changes),
             None => Ok(()),
         }
@@ -353,35 +482,113 @@ fn push_others(
     Ok(())
 }
 
-// Adds what is to be done about findings beside orders.
+// Adds the line that says which path a statement is to name behind a `|`.
+fn push_naming(
+    text: &mut Vec<u8>,
+    sources: &Sources<'_>,
+    naming: Naming<'_>,
+) -> Result<(), AllocError> {
+    text.extend_from_slice(if naming.is_output {
+        b"# behind a | among its outputs, "
+    } else {
+        b"# behind a | among its inputs, "
+    })?;
+    push_placed(text, sources, naming.edge)?;
+    text.extend_from_slice(b" is to name ")?;
+    push_shown(text, naming.path.as_bytes())?;
+    text.extend_from_slice(b"\n")
+}
+
+// Adds the line that says that no order mends a finding.
+fn push_unordered(
+    text: &mut Vec<u8>,
+    sources: &Sources<'_>,
+    finding: &Finding<'_>,
+) -> Result<(), AllocError> {
+    text.extend_from_slice(b"# no order mends that ")?;
+    push_placed(text, sources, finding.user)?;
+    text.extend_from_slice(b" meets ")?;
+    push_edge(text, sources, finding.maker)?;
+    text.extend_from_slice(b" at ")?;
+    push_shown(text, finding.path.as_bytes())?;
+    text.extend_from_slice(b"\n")
+}
+
+// Adds the line that says which order of two the patch has, where the other one can be right too.
+fn push_either(
+    text: &mut Vec<u8>,
+    sources: &Sources<'_>,
+    finding: &Finding<'_>,
+    reverse: Reverse<'_>,
+) -> Result<(), AllocError> {
+    let (last, first) = if reverse.is_here {
+        (finding.maker, finding.user)
+    } else {
+        (finding.user, finding.maker)
+    };
+    text.extend_from_slice(b"# either can come last at ")?;
+    push_shown(text, finding.path.as_bytes())?;
+    text.extend_from_slice(b": as here, ")?;
+    push_placed(text, sources, last)?;
+    text.extend_from_slice(b" waits for ")?;
+    push_placed(text, sources, first)?;
+    text.extend_from_slice(b"; turn it round where the first is to come last\n")
+}
+
+// Adds what is to be done about findings beside orders and namings.
 fn push_findings(
     text: &mut Vec<u8>,
     sources: &Sources<'_>,
     findings: &[Finding<'_>],
 ) -> Result<(), AllocError> {
     for finding in findings {
+        if let Some(reverse) = finding.mending.reverse {
+            push_either(text, sources, finding, reverse)?;
+        }
+        let is_named = finding.is_to_be_listed() || finding.is_to_be_declared();
+        if !is_named && !finding.is_mended_by_order() {
+            push_unordered(text, sources, finding)?;
+        }
+    }
+    Ok(())
+}
+
+// The paths that statements are to name behind a `|` besides orders.
+fn namings_of<'a>(
+    alloc: Global,
+    sources: &Sources<'_>,
+    findings: &[Finding<'a>],
+) -> Result<Vec<Naming<'a>>, AllocError> {
+    let mut namings = Vec::new(alloc);
+    let mut declared = IndexMap::new(alloc);
+    for finding in findings {
         if finding.is_to_be_listed() {
-            text.extend_from_slice(b"# behind a | among its inputs, ")?;
-            push_placed(text, sources, finding.user)?;
-            text.extend_from_slice(b" is to name ")?;
-            push_shown(text, finding.path.as_bytes())?;
-            text.extend_from_slice(b"\n")?;
-        } else if !finding.is_mended_by_order() {
-            text.extend_from_slice(b"# no order mends that ")?;
-            push_placed(text, sources, finding.user)?;
-            text.extend_from_slice(b" meets ")?;
-            push_edge(text, sources, finding.maker)?;
-            text.extend_from_slice(b" at ")?;
-            push_shown(text, finding.path.as_bytes())?;
-            text.extend_from_slice(b"\n")?;
+            push_path(sources, finding.user, finding.path, false, &mut namings)?;
         }
-        if finding.is_to_be_declared() {
-            text.extend_from_slice(b"# behind a | among its outputs, ")?;
-            push_placed(text, sources, finding.maker)?;
-            text.extend_from_slice(b" is to name ")?;
-            push_shown(text, finding.path.as_bytes())?;
-            text.extend_from_slice(b"\n")?;
+        if finding.is_to_be_declared() && !declared.contains_key(finding.path) {
+            declared.insert(finding.path.copy()?, ())?;
+            push_path(sources, finding.maker, finding.path, true, &mut namings)?;
         }
+    }
+    Ok(namings)
+}
+
+// Adds a path that the statement of an edge is to name.
+fn push_path<'a>(
+    sources: &Sources<'_>,
+    edge: u32,
+    path: &'a Name,
+    is_output: bool,
+    namings: &mut Vec<Naming<'a>>,
+) -> Result<(), AllocError> {
+    if let Some(build) = sources.builds.get(edge as usize) {
+        namings.push(Naming {
+            file: build.file(),
+            line: build.line(),
+            edge,
+            path,
+            is_output,
+        })?;
     }
     Ok(())
 }
@@ -410,6 +617,7 @@ fn push_patch(
     graph: &Graph,
     manifest: &Manifest,
     mends: &[Mend],
+    namings: &[Naming<'_>],
 ) -> Result<(), AllocError> {
     let statements = statements_of(alloc, sources.builds)?;
     let patched = Patched {
@@ -418,7 +626,7 @@ fn push_patch(
         graph,
         statements: &statements,
     };
-    patched.push(alloc, text, mends)
+    patched.push(alloc, text, mends, namings)
 }
 
 /// What mends races, where an order does: a patch of the manifest's files, or, where a generator wrote them, the lines
@@ -442,7 +650,8 @@ pub fn mend_text(
     push_others(&mut text, sources, races)?;
     push_clashes(&mut text, sources, clashes)?;
     let mends = mends_of(alloc, sources, races, findings)?;
-    if mends.is_empty() {
+    let namings = namings_of(alloc, sources, findings)?;
+    if mends.is_empty() && namings.is_empty() {
         return Ok(text);
     }
     let author = match sources.files.first() {
@@ -450,8 +659,15 @@ pub fn mend_text(
         None => Author::Hand,
     };
     if author == Author::Hand {
-        push_patch(alloc, &mut text, sources, graph, manifest, &mends)?;
-    } else {
+        push_patch(
+            alloc, &mut text, sources, graph, manifest, &mends, &namings,
+        )?;
+        return Ok(text);
+    }
+    for naming in &namings {
+        push_naming(&mut text, sources, *naming)?;
+    }
+    if !mends.is_empty() {
         push_hints(&mut text, sources, &mends, author)?;
     }
     Ok(text)

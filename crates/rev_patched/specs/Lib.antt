@@ -1,3 +1,4 @@
+pub mod Amended
 pub mod Histories
 pub mod Laws
 pub mod Orders

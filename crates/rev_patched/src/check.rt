@@ -23,8 +23,11 @@ fn is_ordered(
     Ok(same)
 }
 
-// Whether the edges of a manifest make a graph.
-fn is_faultless(alloc: Global, manifest: &Manifest) -> Result<bool, AllocError>
+/// Whether the edges of a manifest make a graph.
+///
+/// # Errors
+/// [`AllocError`] only where an allocation was refused.
+pub(crate) fn is_faultless(alloc: Global, manifest: &Manifest) -> Result<bool, AllocError>
     ensures { IfOk result (λ faultless. IsTrue faultless ↔ IsFaultless manifest.now.builds) }
 {
     match Graph::build(alloc, manifest) {

@@ -124,8 +124,11 @@ fn changes_at(changes: &[Vec<Change>], number: usize) -> Option<&Vec<Change>>
     None
 }
 
-// The files with their lines changed.
-fn patched_files(
+/// The files with their lines changed.
+///
+/// # Errors
+/// [`AllocError`] only where an allocation was refused.
+pub(crate) fn patched_files(
     alloc: Global,
     files: &[(Vec<u8>, Vec<u8>)],
     changes: &[Vec<Change>],

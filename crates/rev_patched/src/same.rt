@@ -18,8 +18,8 @@ fn same_outputs(edge: &Build, other: &Build) -> bool
     edge.explicit_outs() == other.explicit_outs() && edge.implicit_outs() == other.implicit_outs()
 }
 
-// Whether paths are those of one list, and behind them those of another.
-fn are_joined(first: &[Name], second: &[Name], all: &[Name]) -> bool
+/// Whether paths are those of one list, and behind them those of another.
+pub(crate) fn are_joined(first: &[Name], second: &[Name], all: &[Name]) -> bool
     ensures { result ≡ same_paths (first.now ++ second.now) all.now }
 {
     if all.len() < first.len() {
@@ -38,7 +38,8 @@ fn same_inputs(edge: &Build, paths: &[Name], other: &Build) -> bool
         && edge.validations() == other.validations()
 }
 
-fn same_rule(edge: &Build, other: &Build) -> bool
+/// Whether two edges have one rule.
+pub(crate) fn same_rule(edge: &Build, other: &Build) -> bool
     ensures { result ≡ same_rule edge.now other.now }
 {
     edge.phony() == other.phony()
@@ -58,7 +59,8 @@ fn same_number(number: Option<u32>, other: Option<u32>) -> bool
     }
 }
 
-fn same_place(edge: &Build, other: &Build) -> bool
+/// Whether two edges have their other files and their statement at one place, and one pool.
+pub(crate) fn same_place(edge: &Build, other: &Build) -> bool
     ensures { result ≡ same_place edge.now other.now }
 {
     edge.depfile() == other.depfile()
@@ -108,8 +110,8 @@ fn same_edges(
     Ok(same_listed(&lists, edges, others, orders))
 }
 
-// Whether pools have the same names and depths.
-fn same_pools(pools: &[(Vec<u8>, u32)], others: &[(Vec<u8>, u32)]) -> bool
+/// Whether pools have the same names and depths.
+pub(crate) fn same_pools(pools: &[(Vec<u8>, u32)], others: &[(Vec<u8>, u32)]) -> bool
     ensures { result ≡ same_pools_of (seen_pools pools.now) (seen_pools others.now) }
 {
     if pools.len() != others.len() {
@@ -152,8 +154,11 @@ fn push_others(
     Ok(())
 }
 
-// The names that no order has.
-fn without_ordered(
+/// The names that no order has.
+///
+/// # Errors
+/// [`AllocError`] only where an allocation was refused.
+pub(crate) fn without_ordered(
     alloc: Global,
     orders: &[Order<'_>],
     names: &[Name],
