@@ -43,7 +43,7 @@ build user: sh in
 """,
         {"in": "x\n"},
         ("race table made by table (build.ninja:3)", "used by user (build.ninja:5), which does not wait for it [1]",
-         "mend: build.ninja:5: build user: ... || table"),
+         "mend: build.ninja:5: build user: ... | table"),
         (("race", "output", "read"),)),
     "a command asks before the other made it": Planted(
         """build table: sh in
@@ -64,7 +64,7 @@ build user: sh in
         ("race extra: stamp (build.ninja:3) writes it, though no line says so",
          "used by user (build.ninja:5), which does not wait for it [1]",
          "mend: build.ninja:3: build stamp | extra: ...",
-         "mend: build.ninja:5: build user: ... || extra"),
+         "mend: build.ninja:5: build user: ... | extra"),
         (("race", "undeclared", "read"),)),
     "a source that is changed in place": Planted(
         """build stamp: sh

@@ -29,7 +29,7 @@ abbrev pub way_line : Edge → Way → List ℕ
 way_line user why = codes "in the way: " ++ placed user ++ codes " " ++ way_words why ++ codes "\n"
 
 abbrev pub missing_line : Edge → List ℕ
-missing_line user = codes "in the way: " ++ placed user ++ codes " did not run, though the targets need it\n"
+missing_line user = codes "in the way: " ++ placed user ++ codes " did not run: it was up to date, or the build ended before; record from nothing\n"
 
 -- what is assumed of places that filters hide
 abbrev pub hidden_words : ℕ → List ℕ

@@ -173,7 +173,7 @@ impl fmt::Display for MissingLine<'_> {
         let user = self.0;
         write!(
             f,
-            "in the way: {user} did not run, though the targets need it\n"
+            "in the way: {user} did not run: it was up to date, or the build ended before; record from nothing\n"
         )
     }
 }

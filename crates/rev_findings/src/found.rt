@@ -1,7 +1,9 @@
 //! The races, clashes and failed commands of a recording, as answers have them.
 ghost use Rattle.rev_named.specs.Named.{AreLastComponents};
 
+use crate::failing::Watched;
 use crate::hinted::are_whole;
+use crate::seen::Sight;
 use indexmap::IndexMap;
 use rev_clashes::{SideFile, clashes};
 use rev_conflicts_text::{build_folder, is_one_file};
@@ -363,10 +365,43 @@ struct Told<'a, 'b> {
     is_looked: bool,
 }
 
+// The names of suspects without those that an observation clears: a failed command that was seen whole and did not look
+// for a file did not fail for want of it.
+fn without_cleared<'a>(
+    alloc: Global,
+    watched: Option<&Watched<'_>>,
+    user: u32,
+    names: &[Option<&'a Name>],
+) -> Result<Vec<Option<&'a Name>>, AllocError> {
+    let mut left = Vec::new(alloc);
+    for name in names {
+        left.push(match (watched, *name) {
+            (Some(watched), Some(path)) => {
+                if watched.is_cleared(alloc, user, path)? {
+                    None
+                } else {
+                    Some(path)
+                }
+            }
+            (_, name) => name,
+        })?;
+    }
+    Ok(left)
+}
+
+// Whether an observation shows a race of a suspect, which then stands among its findings.
+fn is_shown(watched: Option<&Watched<'_>>, user: u32, maker: u32) -> bool {
+    match watched {
+        Some(watched) => watched.is_told(user, maker),
+        None => false,
+    }
+}
+
 // Adds the suspects of a command that failed: those that its error names to the races, and the others as far as they
-// are told. Gives what is left of them.
+// are told, without those of which an observation shows a race. Gives what is left of them.
 fn add_suspects<'a>(
     builds: &'a [Build],
+    watched: Option<&Watched<'_>>,
     told: Told<'a, '_>,
     names: &[Option<&'a Name>],
     races: &mut Vec<RaceFinding<'a>>,
@@ -387,6 +422,7 @@ fn add_suspects<'a>(
                 evidence: Evidence::Error(suspect.progress),
                 mend: orderable_output(builds, suspect.maker),
             })?,
+            _ if is_shown(watched, told.failure.edge, suspect.maker) => {}
             _ if others.len() < told.most => others.push(Suspect {
                 maker: suspect.maker,
                 progress: suspect.progress,
@@ -404,6 +440,7 @@ fn told_failure<'a>(
     graph: &'a Graph,
     builds: &'a [Build],
     components: &LastComponents,
+    watched: Option<&Watched<'_>>,
     told: Told<'a, '_>,
     races: &mut Vec<RaceFinding<'a>>,
 ) -> Result<Failure<'a>, AllocError>
@@ -411,8 +448,9 @@ fn told_failure<'a>(
 {
     let before = races.len();
     let names = names_in(alloc, graph, components, told.entry, told.suspects)?;
+    let names = without_cleared(alloc, watched, told.failure.edge, &names)?;
     let mut others = Vec::new(alloc);
-    let untold = add_suspects(builds, told, &names, races, &mut others)?;
+    let untold = add_suspects(builds, watched, told, &names, races, &mut others)?;
     Ok(Failure {
         edge: told.failure.edge,
         number: told.failure.number,
@@ -451,6 +489,7 @@ fn add_failures<'a>(
     graph: &'a Graph,
     builds: &'a [Build],
     components: &LastComponents,
+    watched: Option<&Watched<'_>>,
     failed: &Failed,
     entries: &'a [Entry],
     places: &mut IndexMap<u32, Vec<usize>>,
@@ -471,9 +510,22 @@ fn add_failures<'a>(
             most,
             is_looked: place < failed.looked,
         };
-        failures.push(told_failure(alloc, graph, builds, components, told, races)?)?;
+        failures.push(told_failure(
+            alloc, graph, builds, components, watched, told, races,
+        )?)?;
     }
     Ok(())
+}
+
+// What is seen of commands, where there is an observation.
+fn watched_by<'s>(
+    alloc: Global,
+    sight: Option<&'s Sight>,
+) -> Result<Option<Watched<'s>>, AllocError> {
+    match sight {
+        Some(sight) => Ok(Some(Watched::new(alloc, sight)?)),
+        None => Ok(None),
+    }
 }
 
 // The commands that failed, with what they printed. What their errors name is added to the races.
@@ -481,12 +533,14 @@ fn told_failures<'a>(
     alloc: Global,
     graph: &'a Graph,
     builds: &'a [Build],
+    sight: Option<&Sight>,
     failed: &Failed,
     entries: &'a [Entry],
     races: &mut Vec<RaceFinding<'a>>,
 ) -> Result<Vec<Failure<'a>>, AllocError> {
     let mut told = Vec::new(alloc);
     if !failed.runs.is_empty() {
+        let watched = watched_by(alloc, sight)?;
         let components = last_components(alloc, graph)?;
         let mut places = places_of(alloc, entries)?;
         add_failures(
@@ -494,6 +548,7 @@ fn told_failures<'a>(
             graph,
             builds,
             &components,
+            watched.as_ref(),
             failed,
             entries,
             &mut places,
@@ -558,12 +613,13 @@ pub fn findings_in<'a>(
     builds: &'a [Build],
     files: &[Name],
     entries: &'a [Entry],
+    sight: Option<&Sight>,
 ) -> Result<Findings<'a>, AllocError> {
     let graph = history.graph();
     let folder = build_folder(graph);
     let failed = failed_in(alloc, history, files)?;
     let mut named = Vec::new(alloc);
-    let failures = told_failures(alloc, graph, builds, &failed, entries, &mut named)?;
+    let failures = told_failures(alloc, graph, builds, sight, &failed, entries, &mut named)?;
     let mut races = listed_races(alloc, history, builds, files, &failed, folder)?;
     join_named(alloc, builds, folder, &mut named, &mut races)?;
     Ok(Findings { races, failures })

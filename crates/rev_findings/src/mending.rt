@@ -336,8 +336,9 @@ fn is_to_be_listed(
             }
             Ok(!keeps_list(builds, finding.user))
         }
-        Look::Miss => Ok(!keeps_list(builds, finding.user)),
-        Look::Stat | Look::List => Ok(false),
+        // Who found nothing, or listed a folder, reads what is there once it waits.
+        Look::Miss | Look::List => Ok(!keeps_list(builds, finding.user)),
+        Look::Stat => Ok(false),
     }
 }
 

@@ -91,7 +91,14 @@ pub fn report_of<'a>(
 ) -> Result<Report<'a>, AllocError> {
     let history = desk.history();
     let builds = basis.sources.builds;
-    let found = findings_in(alloc, history, builds, basis.files, basis.entries)?;
+    let found = findings_in(
+        alloc,
+        history,
+        builds,
+        basis.files,
+        basis.entries,
+        basis.sight,
+    )?;
     let judged = not_judged(alloc, history)?;
     report_with(alloc, desk, basis, found, judged)
 }

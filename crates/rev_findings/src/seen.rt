@@ -4,6 +4,7 @@ ghost use Rattle.std.specs.List.{AllByRecursion};
 ghost use Rattle.rev_observed.specs.Joins.{edge_of};
 ghost use Rattle.rev_observed.specs.Observations.{outputs_of};
 
+use crate::failing::add_absent;
 use crate::found::orderable_output;
 use crate::listed_names::note_listed;
 use crate::mending::{note_mends, regraded};
@@ -438,6 +439,7 @@ pub fn seen_findings<'a>(
     let observation = &sight.observed.observation;
     let conflicts = conflicts_left(alloc, &sight.conflicts, observation.paths(), races)?;
     let mut findings = conflict_findings_in(alloc, history, builds, observation, &conflicts)?;
+    add_absent(alloc, history, builds, sight, races, &mut findings)?;
     note_listed(alloc, history, &mut findings)?;
     add_undeclared(
         history.graph(),

@@ -2,6 +2,7 @@
 #![tactic(auto)]
 
 mod mended;
+mod minimal;
 mod provoked;
 mod statements;
 

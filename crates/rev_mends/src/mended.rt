@@ -4,6 +4,7 @@ ghost use Rattle.rev_graph.specs.Graph.{successor_lists};
 ghost use Rattle.rev_races.specs.Searches.{IsKept};
 ghost use Rattle.rev_ranks.specs.Graph.{graph_of};
 
+use crate::minimal::minimal;
 use crate::statements::{Statement, patch_name, push_patches, statement_at, statements_of};
 use indexmap::IndexMap;
 use rev_clashes::SideFile;
@@ -22,15 +23,15 @@ use std::alloc::{AllocError, Global};
 // The most mends that are tried one after the other where all of them together make a cycle.
 const MOST_TRIED: usize = 64;
 
-// An order that mends races: the user's build statement by its file and line, a user, and the maker. `is_order_only`
-// says that the order is to stand behind `||`, and not behind `|`.
+/// An order that mends races: the user's build statement by its file and line, a user, and the maker. `is_order_only`
+/// says that the order is to stand behind `||`, and not behind `|`.
 #[derive(Clone, Copy, PartialEq, Eq, PartialOrd, Ord)]
-struct Mend {
-    file: u64,
-    line: u64,
-    maker: u32,
-    is_order_only: bool,
-    user: u32,
+pub(crate) struct Mend {
+    pub(crate) file: u64,
+    pub(crate) line: u64,
+    pub(crate) maker: u32,
+    pub(crate) is_order_only: bool,
+    pub(crate) user: u32,
 }
 
 // A path that the build statement of an edge is to have behind a `|`: among its outputs, or among its inputs.
@@ -650,6 +651,7 @@ pub fn mend_text(
     push_others(&mut text, sources, races)?;
     push_clashes(&mut text, sources, clashes)?;
     let mends = mends_of(alloc, sources, races, findings)?;
+    let mends = minimal(alloc, graph, sources.builds, &mends)?;
     let namings = namings_of(alloc, sources, findings)?;
     if mends.is_empty() && namings.is_empty() {
         return Ok(text);
