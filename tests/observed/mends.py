@@ -153,7 +153,7 @@ build stamp: sh in
   do = sleep 1; cp in logo; touch stamp
 """, {"in": "x\n", "logo": "old\n"},
         ("race logo: clean (build.ninja:3) takes it away", "build stamp: ... || clean (what it does comes last, as here)"),
-        ("build stamp: sh in || clean",)),
+        ("build stamp: sh in || clean",), ("undeclared",)),
     "two commands with one temporary": Mended(
         """build one: sh in
   do = cp in work.tmp; cp work.tmp one; rm work.tmp
@@ -165,9 +165,9 @@ build two: sh in
         ("build two: sh in || one",)),
     "two commands that write one file": Mended(
         """build one: sh in
-  do = cp in both; touch one
+  do = cat in > both; touch one
 build two: sh in
-  do = sleep 1; cp in both; touch two
+  do = sleep 1; cat in > both; touch two
 """, {"in": "x\n"}, (), ("build two: sh in || one",)),
     "a lost order of an archive brings that of its members": Mended(
         """build a.o: sh in

@@ -1,3 +1,4 @@
+pub mod AmendedLemmas
 pub mod FileLemmas
 pub mod OrderLemmas
 pub mod PatchedLemmas

@@ -11,27 +11,27 @@ use Rattle.rev_patched.specs.declared.orders.Order.{Order}
 use Rattle.rev_patched.specs.Orders.{DefaultsStay, IsOrdered, ordered_from, ordered_paths, paths_for, with_inputs}
 use Rattle.rev_patched.specs.Same.{same_defaults, same_edge, same_from, same_inputs, same_manifest, same_number, same_place, same_pool, same_pools}
 
-both : (a b : Bool) → (a && b) ≡ true → (a ≡ true) × (b ≡ true)
+pub both : (a b : Bool) → (a && b) ≡ true → (a ≡ true) × (b ≡ true)
 both true b h = (refl, h)
 both false b h = absurd (true≢false (sym h))
 
-both3 : (a b c : Bool) → (a && b && c) ≡ true → (a ≡ true) × (b ≡ true) × (c ≡ true)
+pub both3 : (a b c : Bool) → (a && b && c) ≡ true → (a ≡ true) × (b ≡ true) × (c ≡ true)
 both3 a b c h = let t = both (a && b) c h in let u = both a b t.0 in (u.0, u.1, t.1)
 
-both4 : (a b c d : Bool) → (a && b && c && d) ≡ true → (a ≡ true) × (b ≡ true) × (c ≡ true) × (d ≡ true)
+pub both4 : (a b c d : Bool) → (a && b && c && d) ≡ true → (a ≡ true) × (b ≡ true) × (c ≡ true) × (d ≡ true)
 both4 a b c d h = let t = both (a && b && c) d h in let u = both3 a b c t.0 in (u.0, u.1, u.2, t.1)
 
-both5 : (a b c d e : Bool) → (a && b && c && d && e) ≡ true → (a ≡ true) × (b ≡ true) × (c ≡ true) × (d ≡ true) × (e ≡ true)
+pub both5 : (a b c d e : Bool) → (a && b && c && d && e) ≡ true → (a ≡ true) × (b ≡ true) × (c ≡ true) × (d ≡ true) × (e ≡ true)
 both5 a b c d e h = let t = both (a && b && c && d) e h in let u = both4 a b c d t.0 in (u.0, u.1, u.2, u.3, t.1)
 
 -- both of two hold
-so : {a b : Bool} → a ≡ true → b ≡ true → (a && b) ≡ true
+pub so : {a b : Bool} → a ≡ true → b ≡ true → (a && b) ≡ true
 so g h = ap₂ (λ x y. x && y) g h
 
-paths_same : (xs ys : List (List ℕ)) → Decides (same_paths xs ys) (xs ≡ ys)
+pub paths_same : (xs ys : List (List ℕ)) → Decides (same_paths xs ys) (xs ≡ ys)
 paths_same xs ys = slice_eq-Decides bytes_eq-Decides xs ys (same_paths xs ys) refl
 
-numbers_same : (o r : Option ℕ) → Decides (same_number o r) (o ≡ r)
+pub numbers_same : (o r : Option ℕ) → Decides (same_number o r) (o ≡ r)
 numbers_same None None = (λ h. refl, λ e. refl)
 numbers_same None (Some q) = (λ h. absurd (true≢false (sym h)), λ e. cc)
 numbers_same (Some p) None = (λ h. absurd (true≢false (sym h)), λ e. cc)
@@ -46,7 +46,7 @@ pool_same p q = (
   λ e. so ((bytes_eq-Decides p.0 q.0).1 (ap (λ x. x.0) e)) (eq-eqb p.1 q.1 (ap (λ x. x.1) e)),
 )
 
-pools_same : (ps qs : List (List ℕ × ℕ)) → Decides (same_pools ps qs) (ps ≡ qs)
+pub pools_same : (ps qs : List (List ℕ × ℕ)) → Decides (same_pools ps qs) (ps ≡ qs)
 pools_same ps qs = slice_eq-Decides pool_same ps qs (same_pools ps qs) refl
 
 module _ (paths : List (List ℕ)) where
@@ -108,7 +108,7 @@ from_told n orders (a ∷ olds) (b ∷ bs) = (
       so (edge_tells (paths_for orders n) a b one) ((from_told (suc n) orders olds bs).1 others),
 )
 
-and-false : (a b : Bool) → false ≡ b → false ≡ (a && b)
+pub and-false : (a b : Bool) → false ≡ b → false ≡ (a && b)
 and-false true b h = h
 and-false false b h = refl
 
@@ -143,7 +143,7 @@ pub joined-else : (xs ys zs front : List (List ℕ)) → front ≡ take (length 
 joined-else xs ys zs front f fits same =
     sym (joined xs ys zs fits ∙ ap (λ t. t && same_paths ys (drop (length xs) zs)) (ap (same_paths xs) (sym f) ∙ same))
 
-either : (a b : Bool) → (a || b) ≡ true → (a ≡ true) ⊎ (b ≡ true)
+pub either : (a b : Bool) → (a || b) ≡ true → (a ≡ true) ⊎ (b ≡ true)
 either true b h = inl refl
 either false b h = inr h
 

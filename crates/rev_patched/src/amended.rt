@@ -137,6 +137,21 @@ fn amends_manifest(
     stays(alloc, outs, ins, ords, old.defaults(), new.defaults())
 }
 
+// Whether a manifest is another one with additions, and nothing else.
+fn is_amendment(
+    alloc: Global,
+    outs: &[Order<'_>],
+    ins: &[Order<'_>],
+    ords: &[Order<'_>],
+    old: &Manifest,
+    new: &Manifest,
+) -> Result<bool, AllocError>
+    ensures { IfOk result (λ amended. IsTrue amended → IsAmended old.now new.now outs.now ins.now ords.now) }
+{
+    let same = amends_manifest(alloc, outs, ins, ords, old, new)?;
+    Ok(same)
+}
+
 // Whether a manifest that was read is another one with additions, and no edge of it waits for itself.
 fn is_sound(
     alloc: Global,
@@ -149,8 +164,7 @@ fn is_sound(
     ensures amended { IfOk result (λ sound. IsTrue sound → IsAmended old.now new.now outs.now ins.now ords.now) }
     ensures faultless { IfOk result (λ sound. IsTrue sound → IsFaultless new.now.builds) }
 {
-    let same = amends_manifest(alloc, outs, ins, ords, old, new)?;
-    if !same {
+    if !is_amendment(alloc, outs, ins, ords, old, new)? {
         return Ok(false);
     }
     is_faultless(alloc, new)
