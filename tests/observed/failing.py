@@ -30,7 +30,7 @@ build all: phony check data.bin
 default all
 """, ("-j2",), ("race data.bin made by data.bin (build.ninja:7)\n",
                 "mend: build.ninja:3: build check: ... || data.bin"),
-        (("race", "data.bin", "data.bin"),), ("also ",)),
+        (("race", "data.bin", "data.bin"),), ("also still to run",)),
     "a maker that failed first": Failing(
         """build made: sh in
   do = echo no made today; exit 1

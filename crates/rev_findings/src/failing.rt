@@ -1,21 +1,16 @@
 //! What an observation shows of commands that failed: makers of what they looked at, and suspects that it clears.
-ghost use Rattle.std.specs.Prelude.{◌≡◌};
-ghost use Rattle.rev_graph.specs.Graph.{successor_lists};
-ghost use Rattle.rev_ranks.specs.Graph.{graph_of};
-
 use crate::found::orderable_output;
 use crate::seen::Sight;
 use indexmap::IndexMap;
 use rev_conflicts::{Change, Look, Place, does, look_at, numbers};
 use rev_conflicts_text::{Finding, Kind, Mending};
-use rev_graph::Graph;
+use rev_graph::{Graph, edges_among};
 use rev_history::History;
 use rev_manifest::Build;
 use rev_observed::{Command, Kind as Use, Observation};
 use rev_paths::Name;
 use rev_races_text::RaceFinding;
 use rev_suspects::failures;
-use rev_waits::{steps, waited_for};
 use std::alloc::{AllocError, Global};
 
 // Of how many failed commands the makers of what they looked at are looked for: each takes a search of the graph.
@@ -105,6 +100,23 @@ impl<'s> Watched<'s> {
     fn command(&self, edge: u32) -> Option<&'s Command> {
         let place = *self.places.get(&edge)?;
         self.sight.observed.observation.commands().get(place)
+    }
+
+    /// The makers of what the command of an edge looked at and nobody left.
+    ///
+    /// # Errors
+    /// [`AllocError`] only where an allocation was refused.
+    pub(crate) fn absent_makers(
+        &self,
+        alloc: Global,
+        graph: &Graph,
+        user: u32,
+    ) -> Result<IndexMap<u32, ()>, AllocError> {
+        let mut makers = IndexMap::new(alloc);
+        for wanted in &wanted_by(alloc, graph, self, user)? {
+            makers.insert(wanted.maker, ())?;
+        }
+        Ok(makers)
     }
 
     /// Whether an observation shows that a user looked at what a maker leaves or takes away.
@@ -219,28 +231,76 @@ fn wanted_by(
     Ok(wanted)
 }
 
-// Whether an edge waits for another one.
-fn is_waiting(
-    alloc: Global,
-    graph: &Graph,
-    steps: &[Vec<u32>],
-    edge: u32,
-    other: u32,
-) -> Result<bool, AllocError>
-    requires { graph_of steps.now ≡ successor_lists graph.now.manifest.builds }
-{
-    if edge >= graph.edges() {
-        return Ok(false);
-    }
-    let waited = waited_for(alloc, graph, steps, edge)?;
-    Ok(waited.get(other as usize).copied().unwrap_or(false))
+// The edges that make inputs of each edge, and against these steps.
+#[derive(Drop)]
+struct Ways {
+    steps: Vec<Vec<u32>>,
+    back: Vec<Vec<u32>>,
 }
 
-// Whether a race of a user and a maker is told already, by its error.
-fn is_named(races: &[RaceFinding<'_>], user: u32, maker: u32) -> bool {
-    races
-        .iter()
-        .any(|race| race.user == user && race.maker == maker)
+impl Ways {
+    // The steps of a graph, in both directions.
+    fn new(alloc: Global, graph: &Graph) -> Result<Ways, AllocError> {
+        let mut steps = Vec::new(alloc);
+        let mut back: Vec<Vec<u32>> = Vec::new(alloc);
+        for edge in 0..graph.edges() {
+            steps.push(edges_among(alloc, graph.producers(edge))?)?;
+            back.push(Vec::new(alloc))?;
+        }
+        for edge in 0..graph.edges() {
+            for producer in &edges_among(alloc, graph.producers(edge))? {
+                if let Some(waiting) = back.get_mut(*producer as usize) {
+                    waiting.push(edge)?;
+                }
+            }
+        }
+        Ok(Ways { steps, back })
+    }
+}
+
+// Marks the edges that are not marked yet, and adds them to those whose steps are still to be followed.
+fn add_open(edges: &[u32], marks: &mut [bool], open: &mut Vec<u32>) -> Result<(), AllocError> {
+    for edge in edges {
+        if let Some(mark) = marks.get_mut(*edge as usize) {
+            if !*mark {
+                *mark = true;
+                open.push(*edge)?;
+            }
+        }
+    }
+    Ok(())
+}
+
+// For each edge whether steps lead to it from another one.
+fn reached(alloc: Global, steps: &[Vec<u32>], from: u32) -> Result<Vec<bool>, AllocError> {
+    let mut marks = vec![in alloc; false; steps.len()]?;
+    let mut open = vec![in alloc; from]?;
+    for _ in 0..usize::saturating_add(steps.len(), 1) {
+        let Some(edge) = open.pop() else {
+            return Ok(marks);
+        };
+        if let Some(next) = steps.get(edge as usize) {
+            add_open(next, &mut marks, &mut open)?;
+        }
+    }
+    Ok(marks)
+}
+
+// Whether a mark stands at an edge.
+fn is_marked(marks: &[bool], edge: u32) -> bool {
+    marks.get(edge as usize).copied().unwrap_or(false)
+}
+
+// The users and makers of races that errors name.
+fn named_pairs(
+    alloc: Global,
+    races: &[RaceFinding<'_>],
+) -> Result<IndexMap<u64, ()>, AllocError> {
+    let mut pairs = IndexMap::new(alloc);
+    for race in races {
+        pairs.insert(pair_key(race.user, race.maker), ())?;
+    }
+    Ok(pairs)
 }
 
 // The finding of a failed command that looked at what its maker did not leave.
@@ -265,32 +325,34 @@ fn finding_of<'a>(
     }
 }
 
-// Adds the findings of one failed command, unless races by errors have them.
+// Adds the findings of one failed command, unless races are told of the same two.
 fn add_findings<'a>(
     alloc: Global,
     graph: &Graph,
     builds: &'a [Build],
-    steps: &[Vec<u32>],
+    ways: &Ways,
     observation: &'a Observation,
     watched: &Watched<'_>,
-    races: &[RaceFinding<'_>],
+    named: &IndexMap<u64, ()>,
     user: u32,
     findings: &mut Vec<Finding<'a>>,
-) -> Result<(), AllocError>
-    requires { graph_of steps.now ≡ successor_lists graph.now.manifest.builds }
-{
+) -> Result<(), AllocError> {
     let wanted = wanted_by(alloc, graph, watched, user)?;
-    if wanted.is_empty() || user >= graph.edges() {
+    if wanted.is_empty() {
         return Ok(());
     }
-    let waited = waited_for(alloc, graph, steps, user)?;
+    let waited = reached(alloc, &ways.steps, user)?;
+    let waiting = reached(alloc, &ways.back, user)?;
     for one in &wanted {
-        let is_settled = waited.get(one.maker as usize).copied().unwrap_or(false);
-        if is_settled || is_named(races, user, one.maker) || one.path >= observation.paths().len() {
+        let is_told = named.contains_key(&pair_key(user, one.maker));
+        if is_told || is_marked(&waited, one.maker) || one.path >= observation.paths().len() {
             continue;
         }
-        let is_back = is_waiting(alloc, graph, steps, one.maker, user)?;
-        let kind = if is_back { Kind::Cycle } else { Kind::Race };
+        let kind = if is_marked(&waiting, one.maker) {
+            Kind::Cycle
+        } else {
+            Kind::Race
+        };
         let path = observation.paths().path(one.path);
         findings.push(finding_of(builds, user, kind, *one, path))?;
     }
@@ -298,7 +360,7 @@ fn add_findings<'a>(
 }
 
 /// Adds what commands that failed looked at though its maker did not leave it: it did not run, or failed too. Where the
-/// maker waits for the command, no order mends that. What errors name stands among the races of a report already.
+/// maker waits for the command, no order mends that. What a report tells of the same two commands stays as it is.
 ///
 /// # Errors
 /// [`AllocError`] only where an allocation was refused.
@@ -315,18 +377,19 @@ pub(crate) fn add_absent<'a>(
         return Ok(());
     }
     let graph = history.graph();
-    let steps = steps(alloc, graph)?;
+    let ways = Ways::new(alloc, graph)?;
     let watched = Watched::new(alloc, sight)?;
+    let named = named_pairs(alloc, races)?;
     let observation = &sight.observed.observation;
     for failure in failed.iter().take(MOST_FAILED) {
         add_findings(
             alloc,
             graph,
             builds,
-            &steps,
+            &ways,
             observation,
             &watched,
-            races,
+            &named,
             failure.edge,
             findings,
         )?;

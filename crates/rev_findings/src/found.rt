@@ -389,8 +389,30 @@ fn without_cleared<'a>(
     Ok(left)
 }
 
-// Whether an observation shows a race of a suspect, which then stands among its findings.
-fn is_shown(watched: Option<&Watched<'_>>, user: u32, maker: u32) -> bool {
+// The makers of what the command of an edge looked at and nobody left, where there is an observation.
+fn absent_makers(
+    alloc: Global,
+    graph: &Graph,
+    watched: Option<&Watched<'_>>,
+    user: u32,
+) -> Result<IndexMap<u32, ()>, AllocError> {
+    match watched {
+        Some(watched) => watched.absent_makers(alloc, graph, user),
+        None => Ok(IndexMap::new(alloc)),
+    }
+}
+
+// Whether an observation shows a race of a suspect, which then stands among its findings. `absent` has the makers of what
+// the failed command looked at and nobody left.
+fn is_shown(
+    watched: Option<&Watched<'_>>,
+    absent: &IndexMap<u32, ()>,
+    user: u32,
+    maker: u32,
+) -> bool {
+    if absent.contains_key(&maker) {
+        return true;
+    }
     match watched {
         Some(watched) => watched.is_told(user, maker),
         None => false,
@@ -402,6 +424,7 @@ fn is_shown(watched: Option<&Watched<'_>>, user: u32, maker: u32) -> bool {
 fn add_suspects<'a>(
     builds: &'a [Build],
     watched: Option<&Watched<'_>>,
+    absent: &IndexMap<u32, ()>,
     told: Told<'a, '_>,
     names: &[Option<&'a Name>],
     races: &mut Vec<RaceFinding<'a>>,
@@ -422,7 +445,7 @@ fn add_suspects<'a>(
                 evidence: Evidence::Error(suspect.progress),
                 mend: orderable_output(builds, suspect.maker),
             })?,
-            _ if is_shown(watched, told.failure.edge, suspect.maker) => {}
+            _ if is_shown(watched, absent, told.failure.edge, suspect.maker) => {}
             _ if others.len() < told.most => others.push(Suspect {
                 maker: suspect.maker,
                 progress: suspect.progress,
@@ -449,8 +472,11 @@ fn told_failure<'a>(
     let before = races.len();
     let names = names_in(alloc, graph, components, told.entry, told.suspects)?;
     let names = without_cleared(alloc, watched, told.failure.edge, &names)?;
+    let absent = absent_makers(alloc, graph, watched, told.failure.edge)?;
     let mut others = Vec::new(alloc);
-    let untold = add_suspects(builds, watched, told, &names, races, &mut others)?;
+    let untold = add_suspects(
+        builds, watched, &absent, told, &names, races, &mut others,
+    )?;
     Ok(Failure {
         edge: told.failure.edge,
         number: told.failure.number,

@@ -403,6 +403,9 @@ pub(crate) fn note_mends<'a>(
     observation: &Observation,
     findings: &mut Vec<Finding<'a>>,
 ) -> Result<(), AllocError> {
+    if findings.is_empty() {
+        return Ok(());
+    }
     let writers = Writers::new(alloc, observation, findings)?;
     let meetings = meetings_of(alloc, history, builds, observation, findings)?;
     for finding in findings.iter_mut() {
