@@ -180,4 +180,11 @@ build app: sh in
   do = until [ -e lib.a ]; do sleep 0.05; done; cat lib.a a.o b.o > app
 """, {"in": "x\n"}, ("race lib.a made by lib.a", "race a.o made by a.o", "race b.o made by b.o"),
         ("build app: sh in | lib.a",)),
+    "who reads what the other one makes waits, though that one lists its folder": Mended(
+        """build out/table: sh in
+  do = ls out; cp in out/table
+build out/user: sh in
+  do = until [ -e out/table ]; do sleep 0.05; done; cat out/table in > out/user
+""", {"in": "x\n", "out/old": "y\n"}, ("mend: build.ninja:5: build out/user: ... | out/table\n",),
+        ("build out/user: sh in | out/table",)),
 }

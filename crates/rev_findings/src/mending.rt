@@ -218,12 +218,23 @@ fn is_user_first(story: Option<Story>) -> bool {
     }
 }
 
+// Whether the user of a finding reads what was not there before its maker made it.
+fn is_needed(finding: &Finding<'_>) -> bool {
+    finding.kind == Kind::Race
+        && finding.look == Look::Read
+        && matches!(finding.change, Change::Output | Change::Undeclared)
+}
+
 // What is known of two commands that meet.
 #[derive(Clone, Copy)]
 struct Meeting {
     // Whether the lesser edge leaves what the greater one looks at, and the other way round.
     is_forward: bool,
     is_backward: bool,
+    // Whether the greater edge reads what only the lesser one makes, so that it cannot come first, and the other way
+    // round.
+    is_forward_needed: bool,
+    is_backward_needed: bool,
     // Whether the manifest does not say which of the two comes first.
     is_open: bool,
     // Whether the lesser edge came first in this recording.
@@ -239,9 +250,12 @@ impl Meeting {
         // Who read what another one took away came first.
         let is_read = finding.change == Change::Delete && finding.look == Look::Read;
         let is_user_first = is_read || is_user_first(finding.story);
+        let is_needed = is_needed(finding);
         Meeting {
             is_forward: is_maker_lesser,
             is_backward: !is_maker_lesser,
+            is_forward_needed: is_needed && is_maker_lesser,
+            is_backward_needed: is_needed && !is_maker_lesser,
             is_open,
             is_lesser_first: is_maker_lesser != is_user_first,
             is_listed,
@@ -253,15 +267,26 @@ impl Meeting {
         Meeting {
             is_forward: self.is_forward || other.is_forward,
             is_backward: self.is_backward || other.is_backward,
+            is_forward_needed: self.is_forward_needed || other.is_forward_needed,
+            is_backward_needed: self.is_backward_needed || other.is_backward_needed,
             is_open: self.is_open || other.is_open,
             is_lesser_first: self.is_lesser_first,
             is_listed: self.is_listed || other.is_listed,
         }
     }
 
-    // Whether either order can be right.
+    // Whether either order can be right, unless one of the two reads what only the other one makes.
     fn has_two_orders(self) -> bool {
         self.is_open || (self.is_forward && self.is_backward)
+    }
+
+    // Whether the lesser edge has to come first, or the greater one, where exactly one of the two reads what only the
+    // other one makes.
+    fn needed_first(self) -> Option<bool> {
+        if self.is_forward_needed == self.is_backward_needed {
+            return None;
+        }
+        Some(self.is_forward_needed)
     }
 }
 
@@ -373,16 +398,31 @@ fn is_declarable(graph: &Graph, writers: &Writers, finding: &Finding<'_>) -> boo
     !graph.known(finding.path) && writers.is_one(finding.path)
 }
 
+// Whether the maker of a finding, whose two commands meet so, comes behind the user in this recording, or has to: none
+// where the maker alone can come first.
+fn is_reversed(finding: &Finding<'_>, meeting: Meeting) -> Option<bool> {
+    let is_maker_lesser = finding.maker < finding.user;
+    if let Some(is_lesser_first) = meeting.needed_first() {
+        return if is_lesser_first == is_maker_lesser {
+            None
+        } else {
+            Some(true)
+        };
+    }
+    if meeting.has_two_orders() {
+        return Some(meeting.is_lesser_first != is_maker_lesser);
+    }
+    None
+}
+
 // How a finding is mended whose two commands meet so.
 fn mending_of<'a>(builds: &'a [Build], finding: &Finding<'a>, meeting: Meeting) -> Mending<'a> {
-    let is_maker_first = meeting.is_lesser_first == (finding.maker < finding.user);
-    let reverse = if meeting.has_two_orders() {
-        Some(Reverse {
+    let reverse = match is_reversed(finding, meeting) {
+        Some(is_here) => Some(Reverse {
             output: orderable_output(builds, finding.user),
-            is_here: !is_maker_first,
-        })
-    } else {
-        None
+            is_here,
+        }),
+        None => None,
     };
     Mending {
         is_declared: finding.mending.is_declared,

@@ -406,7 +406,8 @@ impl<'a> Patched<'a> {
     ) -> Result<(), AllocError> {
         let mends = self.takable(alloc, text, mends)?;
         let namings = self.named(alloc, text, namings)?;
-        if let Some(changes) = self.changes(alloc, &mends, &namings)? {
+        let few = minimal(alloc, self.graph, self.sources.builds, &mends)?;
+        if let Some(changes) = self.changes(alloc, &few, &namings)? {
             return push_patches(alloc, text, self.sources.files, &changes);
         }
         if mends.len() > MOST_TRIED {
@@ -651,7 +652,6 @@ pub fn mend_text(
     push_others(&mut text, sources, races)?;
     push_clashes(&mut text, sources, clashes)?;
     let mends = mends_of(alloc, sources, races, findings)?;
-    let mends = minimal(alloc, graph, sources.builds, &mends)?;
     let namings = namings_of(alloc, sources, findings)?;
     if mends.is_empty() && namings.is_empty() {
         return Ok(text);
@@ -669,8 +669,9 @@ pub fn mend_text(
     for naming in &namings {
         push_naming(&mut text, sources, *naming)?;
     }
-    if !mends.is_empty() {
-        push_hints(&mut text, sources, &mends, author)?;
+    let few = minimal(alloc, graph, sources.builds, &mends)?;
+    if !few.is_empty() {
+        push_hints(&mut text, sources, &few, author)?;
     }
     Ok(text)
 }
