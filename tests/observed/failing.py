@@ -29,14 +29,16 @@ build data.bin: sh first
 build all: phony check data.bin
 default all
 """, ("-j2",), ("race data.bin made by data.bin (build.ninja:7)\n",
-                "mend: build.ninja:3: build check: ... || data.bin"),
-        (("race", "data.bin", "data.bin"),), ("also still to run",)),
+                "mend: build.ninja:3: build check: ... | data.bin"),
+        (("race", "data.bin", "data.bin"),), ("for: data.bin", ", data.bin")),
     "a maker that failed first": Failing(
         """build made: sh in
-  do = echo no made today; exit 1
-build user: sh in
-  do = sleep 1; cat made in > user
-""", ("-j2", "-k0"), ("race made made by made (build.ninja:3)\n", "mend: build.ninja:5: build user: ... | made"),
+  do = echo it was not made; exit 1
+build first: sh in
+  do = sleep 1; cp in first
+build user: sh first
+  do = cat made first > user
+""", ("-j2", "-k0"), ("race made made by made (build.ninja:3)\n", "mend: build.ninja:7: build user: ... | made"),
         (("race", "made", "made"),)),
     "a maker that no built target needs": Failing(
         """build made: sh in

@@ -380,8 +380,10 @@ fn meetings_of(
     let mut meetings: IndexMap<u64, Meeting> = IndexMap::new(alloc);
     for finding in findings {
         if is_of_order(finding) {
-            let is_listed = is_to_be_listed(alloc, history, builds, &lists, finding)?;
-            let meeting = Meeting::of(finding, is_open(observation, &places, finding), is_listed);
+            // Who takes away what it looks at does not use it.
+            let is_open = is_open(observation, &places, finding);
+            let is_listed = !is_open && is_to_be_listed(alloc, history, builds, &lists, finding)?;
+            let meeting = Meeting::of(finding, is_open, is_listed);
             let key = spot_key(finding);
             let meeting = match meetings.get(&key) {
                 Some(known) => Meeting::with(*known, meeting),
