@@ -23,9 +23,11 @@ fn push_more(text: &mut String, count: usize, most: usize) -> Result<(), AllocEr
 
 // What stands before the first line of a mend, and before each further one.
 const MEND: &str = "    mend: ";
+
 const OR: &str = "    or: ";
 // What stands behind an order where the other one can be right too.
 const LAST_HERE: &str = " (what it does comes last, as here)";
+
 const LAST: &str = " (what it does comes last)";
 
 // The sign before what the user's line is to name.

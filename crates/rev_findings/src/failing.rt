@@ -292,10 +292,7 @@ fn is_marked(marks: &[bool], edge: u32) -> bool {
 }
 
 // The users and makers of races that errors name.
-fn named_pairs(
-    alloc: Global,
-    races: &[RaceFinding<'_>],
-) -> Result<IndexMap<u64, ()>, AllocError> {
+fn named_pairs(alloc: Global, races: &[RaceFinding<'_>]) -> Result<IndexMap<u64, ()>, AllocError> {
     let mut pairs = IndexMap::new(alloc);
     for race in races {
         pairs.insert(pair_key(race.user, race.maker), ())?;

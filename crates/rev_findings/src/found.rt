@@ -474,9 +474,7 @@ fn told_failure<'a>(
     let names = without_cleared(alloc, watched, told.failure.edge, &names)?;
     let absent = absent_makers(alloc, graph, watched, told.failure.edge)?;
     let mut others = Vec::new(alloc);
-    let untold = add_suspects(
-        builds, watched, &absent, told, &names, races, &mut others,
-    )?;
+    let untold = add_suspects(builds, watched, &absent, told, &names, races, &mut others)?;
     Ok(Failure {
         edge: told.failure.edge,
         number: told.failure.number,
@@ -536,9 +534,7 @@ fn add_failures<'a>(
             most,
             is_looked: place < failed.looked,
         };
-        failures.push(told_failure(
-            alloc, graph, builds, components, watched, told, races,
-        )?)?;
+        failures.push(told_failure(alloc, graph, builds, components, watched, told, races)?)?;
     }
     Ok(())
 }

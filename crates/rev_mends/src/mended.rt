@@ -91,7 +91,6 @@ fn add_finding(
     }
 }
 
-
 // The mends of races and of findings, each statement and maker once, by file and line.
 fn mends_of(
     alloc: Global,
@@ -237,11 +236,7 @@ impl<'a> Patched<'a> {
     }
 
     // Adds the order of a mend.
-    fn push_order(
-        self,
-        amendments: &mut Amendments<'a>,
-        mend: Mend,
-    ) -> Result<(), AllocError> {
+    fn push_order(self, amendments: &mut Amendments<'a>, mend: Mend) -> Result<(), AllocError> {
         let Some(path) = self.output(mend.maker) else {
             return Ok(());
         };
@@ -286,12 +281,7 @@ impl<'a> Patched<'a> {
     ) -> Result<Option<Vec<Vec<Change>>>, AllocError> {
         let amendments = self.amendments(alloc, mends, namings)?;
         if amendments.outputs.is_empty() && amendments.inputs.is_empty() {
-            return patch_for(
-                alloc,
-                self.sources.files,
-                self.manifest,
-                &amendments.orders,
-            );
+            return patch_for(alloc, self.sources.files, self.manifest, &amendments.orders);
         }
         amendments_for(alloc, self.sources.files, self.manifest, &amendments)
     }
@@ -661,9 +651,7 @@ pub fn mend_text(
         None => Author::Hand,
     };
     if author == Author::Hand {
-        push_patch(
-            alloc, &mut text, sources, graph, manifest, &mends, &namings,
-        )?;
+        push_patch(alloc, &mut text, sources, graph, manifest, &mends, &namings)?;
         return Ok(text);
     }
     for naming in &namings {

@@ -123,9 +123,7 @@ pub(crate) fn minimal(
         return Ok(left);
     }
     let steps = Steps::new(alloc, graph)?;
-    for statement in
-        mends.chunk_by(|one, other| one.file == other.file && one.line == other.line)
-    {
+    for statement in mends.chunk_by(|one, other| one.file == other.file && one.line == other.line) {
         if statement.len() < 2 {
             left.extend_from_slice(statement)?;
         } else {

@@ -69,7 +69,13 @@ fn amends_listed(
         return false;
     }
     for (place, edge) in edges.iter().enumerate() {
-        if !amends_edge(edge, &outputs[place], &inputs[place], &orders[place], &others[place]) {
+        if !amends_edge(
+            edge,
+            &outputs[place],
+            &inputs[place],
+            &orders[place],
+            &others[place],
+        ) {
             return false;
         }
     }
@@ -90,9 +96,7 @@ fn amends_edges(
     let outputs = lists_of(alloc, edges.len(), outs)?;
     let inputs = lists_of(alloc, edges.len(), ins)?;
     let orders = lists_of(alloc, edges.len(), ords)?;
-    Ok(amends_listed(
-        &outputs, &inputs, &orders, edges, others, outs, ins, ords,
-    ))
+    Ok(amends_listed(&outputs, &inputs, &orders, edges, others, outs, ins, ords))
 }
 
 // Whether what is built where nothing is named stays: the same but for the paths that are added as inputs, and for those

@@ -123,13 +123,9 @@ fn push_statement(
     let inputs = paths_at(&lists.inputs, edge);
     let orders = paths_at(&lists.orders, edge);
     let (outs, ins, last) = (spots.outputs, spots.inputs, spots.orders);
-    push_insertion(
-        alloc, insertions, outs.end, b" |", outs.has_sign, outputs,
-    )?;
+    push_insertion(alloc, insertions, outs.end, b" |", outs.has_sign, outputs)?;
     push_insertion(alloc, insertions, ins.end, b" |", ins.has_sign, inputs)?;
-    push_insertion(
-        alloc, insertions, last.end, b" ||", last.has_sign, orders,
-    )
+    push_insertion(alloc, insertions, last.end, b" ||", last.has_sign, orders)
 }
 
 // The statements that something is added to, each with its line and the first of its edges, by their lines.
