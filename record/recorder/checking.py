@@ -126,17 +126,15 @@ def read_commands(folder: str) -> Lanes:
     """The recorded commands: lane -> list of (line number, text); the script's commands are those of lane None."""
     lanes: Lanes = {None: []}
     lane = None
-    with open(os.path.join(folder, "trace"), "rb") as file:
-        for number, text in enumerate(file.read().split(b"\n"), 1):
-            if text.startswith(b"lane "):
-                lane = int(text[5:])
-                lanes.setdefault(lane, [])
-            elif lane is not None and text:
-                lanes[lane].append((number, text))
-    with open(os.path.join(folder, "script"), "rb") as file:
-        words = (b"plan", b"interrupt", b"abort")
-        lanes[None] = [(at, text) for at, text in enumerate(file.read().split(b"\n"), 1)
-                       if text.split(b" ")[0] in words]
+    for number, text in enumerate(read_regular(os.path.join(folder, "trace")).split(b"\n"), 1):
+        if text.startswith(b"lane "):
+            lane = int(text[5:])
+            lanes.setdefault(lane, [])
+        elif lane is not None and text:
+            lanes[lane].append((number, text))
+    words = (b"plan", b"interrupt", b"abort")
+    lanes[None] = [(at, text) for at, text in enumerate(read_regular(os.path.join(folder, "script")).split(b"\n"), 1)
+                   if text.split(b" ")[0] in words]
     return lanes
 
 

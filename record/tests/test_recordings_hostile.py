@@ -3,6 +3,7 @@ changed, and what is not a recorder's is a sentence and status 2 before Ninja ru
 
 import os
 import pathlib
+import resource
 import subprocess
 import sys
 import tempfile
@@ -10,8 +11,10 @@ import time
 import unittest
 
 import builds
-from recorder.folders import BadFolder, NotInPlace, OutFolder
+from recorder.folders import BadFolder, NotInPlace, OutFolder, whole
 from recorder.main import main
+from recorder.regular import LONGEST
+from recorder.replaying import replay_text
 
 NOBODY = 65534
 MANIFEST = "include inc/r.ninja\nrule r\n  command = touch $out\nbuild a: r\n"
@@ -70,6 +73,62 @@ class FromOthers(unittest.TestCase):
             for text in (*said, "Ninja was not run"):
                 self.assertIn(text, line)
             self.assertEqual(picture_of(self.room), before)
+
+
+class ReadFromOthers(FromOthers):
+    """A recording of others that is read: none of its files is waited for or read without an end, and nothing in it is
+    looked up through a link under a name of the recorder's."""
+
+    ENDLESS = (os.mkfifo, lambda it: it.symlink_to("/dev/zero"), lambda it: it.mkdir(),
+               lambda it: os.truncate(os.open(it, os.O_CREAT | os.O_WRONLY), LONGEST + 1))
+
+    def test_what_is_no_file(self):
+        for name in ("replay", "build.ninja", "observed"):
+            for make in self.ENDLESS:
+                recorded = self.room / "recorded"
+                recorded.mkdir()
+                for file in ("replay", "build.ninja", "trace", "script"):
+                    (recorded / file).write_text(replay_text(["build.ninja"], [b"run"], False, "rebug")
+                                                 if file == "replay" else "")
+                (recorded / name).unlink(missing_ok=True)
+                make(recorded / name)
+                for words in (["rebug-record", "--check", recorded, "--rebug", "/bin/false"],
+                              ["rebug-provoke", self.build, recorded, "1", "--rebug", self.program()]):
+                    if name != "replay" and words[0] == "rebug-record":
+                        continue
+                    done = subprocess.run([sys.executable, builds.RECORDER.parent / words[0], *words[1:]],
+                                          stdin=subprocess.DEVNULL, capture_output=True, text=True, timeout=300,
+                                          preexec_fn=few_bytes)
+                    said = (done.stdout + done.stderr).splitlines()
+                    self.assertEqual((done.returncode, f"{recorded}/{name}" in said[-1]), (3, True), said)
+                    self.assertLessEqual(len(said), 2, said)  # that the manifest is another one may stand before
+                subprocess.run(["rm", "-rf", recorded], check=True)
+
+    def program(self):
+        """A program that finds one race."""
+        edge = '{"output": "a", "file": "build.ninja", "line": 3}'
+        path = self.room / "program"
+        path.write_text("#!/bin/sh\ncat <<'END'\n"
+                        f'{{"kind": "race", "path": "a", "maker": {edge}, "user": {edge}, "mend": "a"}}\nEND\nexit 4\n')
+        path.chmod(0o755)
+        return path
+
+    def test_a_link_in_the_place_of_the_folder_that_is_moved(self):
+        (self.home / "replay").write_text("theirs")
+        (self.home / "trace").write_text("theirs")
+        (self.out / ".moving").symlink_to(self.home)
+        with whole(str(self.out)) as read:
+            self.assertEqual(read, str(self.out))
+        (self.home / "replay").write_text("#!/bin/sh\necho theirs is run\n")
+        (self.out / "replay").write_text(replay_text(["build.ninja"], [b"run"], False, "/bin/echo"))
+        done = subprocess.run(["sh", self.out / "replay"], capture_output=True, text=True)
+        self.assertIn("--manifest build.ninja", done.stdout)
+        self.assertNotIn("theirs", done.stdout + done.stderr)
+
+
+def few_bytes():
+    """Less memory than a file without an end would take."""
+    resource.setrlimit(resource.RLIMIT_AS, (1 << 30, 1 << 30))
 
 
 class Leftovers(FromOthers):

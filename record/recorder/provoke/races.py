@@ -8,6 +8,7 @@ import re
 import subprocess
 from dataclasses import dataclass, field
 
+from ..regular import read_regular
 from ..replaying import words_of_replay
 from .orders import BadPatch, Patch
 
@@ -113,27 +114,29 @@ class Recording:
         words, found = self._words(), {}
         names = [words[0].removeprefix("--manifest="), *words[words.index("--") + 1 :]] if words else ["build.ninja"]
         for name in names:
-            try:
-                with open(os.path.join(self.place, name), "rb") as file:
-                    found[os.fsencode(name)] = file.read()
-            except OSError as why:
-                raise NotAsked(f"cannot read {self.place}/{name}: {why.strerror}", 3) from why
+            content = self._content(name)
+            if content is None:
+                raise NotAsked(f"cannot read {self.place}/{name}: it is not there", 3)
+            found[os.fsencode(name)] = content
         return found
 
-    def _words(self) -> list[str]:
+    def _content(self, name: str) -> bytes | None:
+        """The bytes of a file of the recording; None where it is not there. Raises NotAsked."""
         try:
-            with open(os.path.join(self.place, "replay"), encoding="utf-8", errors="surrogateescape") as file:
-                return words_of_replay(file.read()) or []
-        except OSError:
-            return []
+            return read_regular(os.path.join(self.place, name))
+        except FileNotFoundError:
+            return None
+        except OSError as why:
+            raise NotAsked(f"cannot read {self.place}/{name}: {why.strerror}", 3) from why
+
+    def _words(self) -> list[str]:
+        content = self._content("replay")
+        return content and words_of_replay(content.decode("utf-8", "surrogateescape")) or []
 
     def observed(self) -> Observed:
         """What was observed of its commands: nothing where the recording has no such file."""
-        try:
-            with open(os.path.join(self.place, "observed"), "rb") as file:
-                return Observed.read(file.read())
-        except OSError:
-            return Observed()
+        content = self._content("observed")
+        return Observed() if content is None else Observed.read(content)
 
 
 def _race(it: dict, number: int) -> Race:
