@@ -7,7 +7,7 @@ import os
 import struct
 import sys
 from operator import itemgetter
-from typing import Iterable, Sequence, TypeVar, Union
+from typing import Container, Iterable, Sequence, TypeVar, Union
 
 from .fields import LONGEST_PATH, canonical, field, shown
 
@@ -125,6 +125,28 @@ class DepsLog:
             path = path[:-1] if path.endswith(b"\0") else path
         self.paths.append(canonical(path) if len(path) <= LONGEST_PATH else path)
         return True
+
+
+def without_records(content: bytes, outputs: Container[bytes]) -> bytes:
+    """A deps log in which these outputs (canonical) have records that list nothing, and that are older than each output.
+    So Ninja runs their commands, and finds no cycle by what they listed."""
+    version = int.from_bytes(content[len(_HEADER) : len(_HEADER) + 4], "little")
+    if content[: len(_HEADER)] != _HEADER or version not in _KNOWN:
+        return content
+    added, at, number = [], len(_HEADER) + 4, 0
+    while at + 4 <= len(content):
+        size = int.from_bytes(content[at : at + 4], "little")
+        length = size & ~_RECORD
+        body = content[at + 4 : at + 4 + length]
+        if not 0 < length <= _LARGEST or len(body) != length:
+            break
+        if not size & _RECORD:
+            if canonical(body[:-4].rstrip(b"\0")) in outputs:
+                stamp = 8 if version >= 4 else 4
+                added.append(struct.pack("<II", _RECORD | 4 + stamp, number) + bytes(stamp))
+            number += 1
+        at += 4 + length
+    return content[:at] + b"".join(added)
 
 
 def paths_of(listing: Union[Listing, Sequence[bytes]]) -> Sequence[bytes]:

@@ -12,6 +12,7 @@ import shutil
 import subprocess
 import sys
 import tempfile
+import unittest
 from dataclasses import dataclass, field
 
 import builds
@@ -182,3 +183,24 @@ class Made:
 
     def remove(self) -> None:
         shutil.rmtree(self.room, ignore_errors=True)
+
+
+class WithProjects(unittest.TestCase):
+    """Cases with small projects, whose races are those that a test names."""
+
+    def made(self, text: str, first: list[str], told: str = "", **more: object) -> Made:
+        found = Made("project", Planted(text, first, **more))
+        self.addCleanup(found.remove)
+        if told:
+            (found.recording / "told").write_text(told + "\n")
+        return found
+
+    def keeps_all(self, it: Made, due: str, more: list[str], **how: object) -> str:
+        """Provokes the first race, whose answer is due; nothing has changed then. Gives what was said."""
+        before = everything(it.room)
+        status, said = it.provoke(*more, **how)
+        if "makes no copy" in said:
+            self.skipTest(said)
+        self.assertEqual(said.splitlines()[-1:], [due], (status, said))
+        self.assertEqual(everything(it.room), before)
+        return said

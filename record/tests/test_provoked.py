@@ -19,7 +19,7 @@ from provoked import FAINT, GEN, NOBODY, PLANTED, PROVOKE, STAND_IN, USE, Made, 
 from recorder.manifest import Manifest
 from recorder.provoke.copies import Refused, in_copy
 from recorder.provoke.in_place import OWN
-from recorder.provoke.orders import BadPatch, Patch, waits, with_order
+from recorder.provoke.orders import waits, with_order
 from recorder.provoke.races import NotAsked, Observed, Recording, name_of, shown_name
 from recorder.provoke.words import BadWords, HelpWanted, Options, read_words
 
@@ -97,18 +97,6 @@ class Orders(unittest.TestCase):
                 self.assertEqual(got, b"# first\n" + after.encode() + b"z = |@\n")
         self.assertEqual(with_order(b"build a: r b | c", 1, b"x"), b"build a: r b | c || x")
 
-    def test_a_patch_is_applied_or_does_not_fit(self):
-        text = (b"# told\n--- a.ninja\n+++ a.ninja\n@@ -2,3 +2,3 @@\n b\n-c\n+C\n d\n@@ -7 +7,2 @@\n-g\n+G\n+H\n"
-                b"\\ No newline at end of file\n")
-        (patch,) = Patch.read(text)
-        self.assertEqual((patch.name, patch.applied(b"a\nb\nc\nd\ne\nf\ng\n")), (b"a.ninja", b"a\nb\nC\nd\ne\nf\nG\nH"))
-        for other in (b"a\nb\nx\nd\ne\nf\ng\n", b"b\nc\nd\n", b""):
-            with self.assertRaises(BadPatch):
-                patch.applied(other)
-        for bad in (b"", b"# no\n", b"--- a\n+++ a\n", b"--- a\n+++ a\n@@ -1 +1 @@\nx\n"):
-            with self.assertRaises(BadPatch):
-                Patch.read(bad)
-
     def test_who_waits(self):
         text = b"rule r\n  command = r\nbuild a: r |@ d\nbuild b: phony a\nbuild c: r || b\nbuild d: r\n"
         manifest = Manifest(b"build.ninja", lambda _: text)
@@ -126,6 +114,14 @@ class Orders(unittest.TestCase):
         self.assertEqual(found.written_by(b"a b"), [b"a b", b"c", b"d", b"e"])
         self.assertEqual(found.left_by(b"c"), [])
 
+    def test_an_observation_that_names_more_than_it_says(self):
+        """Ten thousand commands that each leave ten thousand files, in a text of 200 kB; and ranges without an end."""
+        lines = [b"rebug-observed 1", b"by test", *(b"path %d" % it for it in range(10_000))]
+        lines += [b"edge e%d\nwrites 0-9999" % it for it in range(10_000)]
+        found = Observed.read(b"\n".join([*lines, b"edge f\nwrites " + b"0-4294967295 " * 100_000]))
+        self.assertEqual(found.left_alone_by([b"e1", b"e2"]), [])
+        self.assertEqual((len(found.written_by(b"f")), len(found.leaving(b"7"))), (10_000, 10_001))
+
 
 class Told(unittest.TestCase):
     """What a program that tells races may write."""
@@ -133,13 +129,12 @@ class Told(unittest.TestCase):
     EDGES = ('"maker": {"output": "v\\\\s.h", "file": "build.ninja", "line": 3}, '
              '"user": {"output": "m.o", "file": "sub/x.ninja", "line": 4}')
 
-    def asked(self, text, status=4, words=()):
+    def asked(self, text, status=4):
         with tempfile.TemporaryDirectory() as folder:
             program = pathlib.Path(folder) / "program"
             program.write_text(f"#!/bin/sh\ncat <<'END'\n{text}\nEND\nexit {status}\n")
             program.chmod(0o755)
-            recording = Recording(str(program), folder)
-            return recording.adverse_patch(*words) if words else recording.races()
+            return Recording(str(program), folder).findings().races
 
     def test_races_of_a_build_that_passed_are_counted(self):
         lines = [f'{{"kind": "{kind}", "path": "v\\\\s.h", {self.EDGES}, "mend": "v\\\\s.h"}}' for kind in
@@ -168,8 +163,6 @@ class Told(unittest.TestCase):
                 self.asked(text, status)
             self.assertEqual((caught.exception.status, due[1] in str(caught.exception)), (due[0], True))
             self.assertEqual(not due[1], not str(caught.exception))  # what rebug has said is not said again
-        with self.assertRaises(NotAsked):
-            self.asked("--- a\n+++ a\nnothing", 0, words=(1,))
 
 
 @unittest.skipIf(LACKING, LACKING)

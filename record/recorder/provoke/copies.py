@@ -121,10 +121,10 @@ def _keep(watched: int, writer: int, work: Callable[[], Any], at_end: Callable[[
         if not worker:
             _work(me, writer, work)
         os.close(writer)
-        is_alone = False
+        is_alone, ends = False, _ends_of(worker)
         while not is_alone and not os.waitpid(worker, os.WNOHANG)[0]:
             meanwhile()
-            is_alone = bool(select.select([watched], [], [], _POLL_SECONDS)[0])
+            is_alone = watched in select.select([watched, *ends], [], [], _POLL_SECONDS)[0]
         if is_alone:
             os.kill(worker, signal.SIGTERM)
             _wait_shortly(worker)
@@ -132,6 +132,14 @@ def _keep(watched: int, writer: int, work: Callable[[], Any], at_end: Callable[[
         at_end()
     finally:
         os._exit(0)
+
+
+def _ends_of(process: int) -> list[int]:
+    """A descriptor that can be read once a process has ended; none where the system has no such thing."""
+    try:
+        return [os.pidfd_open(process)]
+    except (AttributeError, OSError):
+        return []
 
 
 def _work(keeper: int, writer: int, work: Callable[[], Any]) -> NoReturn:

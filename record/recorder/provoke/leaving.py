@@ -2,27 +2,37 @@
 
 from __future__ import annotations
 
+import os
 from typing import Iterable, Sequence
 
 from ..fields import canonical
 from ..manifest import Edge, Manifest
-from .places import Tops
+from .places import real_name
 from .races import Observed
 
 
-def may_go(build: bytes, manifest: Manifest, observed: Observed, commands: Sequence[Edge]) -> tuple[bytes, ...]:
-    """The files that the trial of these commands takes away: their outputs, what each was observed to leave that no
-    other command leaves, and the depfiles in which Ninja would find the order that the trial turns round.
+def may_go(build: bytes, manifest: Manifest, observed: Observed, commands: Sequence[Edge],
+           unlisted: Sequence[Edge] = ()) -> tuple[bytes, ...]:
+    """The files that the trial of these commands takes away: their outputs, and what they were observed to leave and no
+    other command leaves. Depfiles of the edges in `unlisted` are among them: Ninja would find the order there that the
+    trial turns round.
 
     No source is among them, no file of the manifest, and no output of another command, by whatever name. What they name
     may be no file: folders stay, too (`Place.take_away`).
     """
-    tops = Tops(build, ())
+    folders: dict[bytes, bytes] = {}
+
+    def realpath(folder: bytes) -> bytes:
+        if folder not in folders:
+            folders[folder] = os.path.realpath(folder)
+        return folders[folder]
+
+    real = lambda path: real_name(os.path.join(build, path), realpath)
     own = {path for edge in commands for path in edge.outputs}
-    kept = {tops.real(it) for it in _kept(manifest, own)}
-    alone = [path for edge in commands for path in observed.left_alone_by(edge.name)]
-    left = [*own, *_other_names(manifest, commands), *alone, *_depfiles(manifest)]
-    return tuple(it for it in dict.fromkeys(left) if it != b"." and tops.real(it) not in kept)
+    kept = set(map(real, _kept(manifest, own)))
+    alone = observed.left_alone_by([it.name for it in commands])
+    left = [*own, *_other_names(manifest, commands), *alone, *_depfiles(manifest, unlisted)]
+    return tuple(it for it in dict.fromkeys(left) if it != b"." and real(it) not in kept)
 
 
 def _kept(manifest: Manifest, own: set[bytes]) -> Iterable[bytes]:
@@ -52,9 +62,25 @@ def _other_names(manifest: Manifest, commands: Sequence[Edge]) -> list[bytes]:
     return found
 
 
-def _depfiles(manifest: Manifest) -> list[bytes]:
-    """Depfiles that Ninja reads before a build: by them it finds a cycle, as by its deps log. That of the manifest
-    stays, since without it Ninja would have the manifest made anew."""
+def _depfiles(manifest: Manifest, edges: Sequence[Edge]) -> list[bytes]:
+    """The depfiles of these edges that stay there after a build. That of the manifest stays, since without it Ninja
+    would have the manifest made anew."""
     files = {canonical(name) for name, _, _ in manifest.files}
-    return [canonical(edge.depfile) for edge in manifest.edges if edge.depfile and not edge.deps
+    return [canonical(edge.depfile) for edge in edges if edge.depfile and not edge.deps
             and not files & set(edge.outputs)]
+
+
+def run_anew(manifest: Manifest, observed: Observed, path: bytes, commands: Sequence[Edge]) -> list[Edge]:
+    """The other commands that have to run again for a trial at a path: those that leave the path, and each whose output
+    one of all these changes. What stands there is the work of all of them, so it is right only once each has done its
+    part again."""
+    own = {it.number for it in commands}
+    todo = [*commands, *(manifest.producer[it] for it in observed.leaving(path) if it in manifest.producer)]
+    found = {it.number: it for it in todo if not it.phony}
+    while todo:
+        for changed in observed.changed_by(todo.pop().name):
+            edge = manifest.producer.get(canonical(changed))
+            if edge is not None and not edge.phony and edge.number not in found:
+                found[edge.number] = edge
+                todo.append(edge)
+    return [it for it in found.values() if it.number not in own]

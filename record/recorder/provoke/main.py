@@ -4,6 +4,7 @@ from __future__ import annotations
 
 import os
 import signal
+from collections import Counter
 from typing import Sequence
 
 from .. import words as ninja_words
@@ -13,13 +14,13 @@ from ..signals import NUMBERS, write_all
 from .answering import NO_ORDERS, REFUSED, STATUSES, UNKNOWN, Answer, Provoker, Unfit
 from .copies import SHIELD, Ended, Refused
 from .in_place import Blocked, put_back
-from .races import NotAsked, Race, Recording, shown_name
+from .races import Findings, NotAsked, Other, Race, Recording, shown_name
 from .words import NAME, BadWords, HelpWanted, Options, read_words
 
 
 class Voice:
     """What is written: answers to standard output, sentences to standard error, and there, where it is a terminal, a
-    line that tells what is done now."""
+    line that says what is done now, and once a second how far it is."""
 
     def __init__(self) -> None:
         self.is_shown, self.at, self.race = os.isatty(2), False, ""
@@ -32,11 +33,12 @@ class Voice:
         self.clear()
         write_all(2, f"{NAME}: {text}\n".encode("utf-8", "surrogateescape"))
 
-    def tell(self, what: str) -> None:
+    def tell(self, what: str, far: str) -> None:
         if self.is_shown:
             self.clear()
             self.at = True
-            write_all(2, f"{self.race}: {what.split(' (')[0]} ..".encode("utf-8", "surrogateescape"))
+            text = f"{self.race}: {what.split(' (')[0]} .. {far}".rstrip()
+            write_all(2, text.encode("utf-8", "surrogateescape"))
 
     def clear(self) -> None:
         if self.at:
@@ -88,27 +90,38 @@ def _run(options: Options, voice: Voice) -> int:
     except ninja_words.BadWords as why:
         raise Unfit(f"{why} (behind --)") from why
     recording = Recording(options.rebug or launcher(), options.recording)
-    races = recording.races()
-    chosen = [it for it in races if it.number == options.number or options.number is None and it.is_told]
-    if options.number is not None and not chosen:
-        raise Unfit(f"there is no race {options.number}: the recording has {len(races)}")
-    provoker = Provoker(options, recording, found_ninja().program, voice.say, voice.tell)
-    if options.number is not None and chosen[0].kind in NO_ORDERS:
-        raise Unfit(f"race {options.number} is no matter of order: {NO_ORDERS[chosen[0].kind]}")
+    found = recording.findings()
+    chosen = [it for it in found.races if it.number == options.number or options.number is None and it.is_told]
+    if options.number is not None:
+        _look_at_number(options.number, chosen, found)
+    provoker = Provoker(options, recording, found.races, found_ninja().program, voice.say, voice.tell)
     answers = []
     for count, race in enumerate(chosen, 1):
         voice.race = f"{NAME}: race {count} of {len(chosen)}"
         try:
             answer = provoker.answer(race)
-        except (NotAsked, Unfit) as why:
-            if options.number is not None or isinstance(why, NotAsked) and why.status != 2:
+        except Unfit as why:
+            if options.number is not None:
                 raise
-            answer = Answer(UNKNOWN, [str(why) or "rebug writes no patch for this race"])
+            answer = Answer(UNKNOWN, [str(why)])
         answers.append(answer)
         _show(race, answer, voice, options.number is None)
     if options.number is None:
         _show_table(chosen, answers, voice)
+        _show_others(found.others, voice)
     return max((STATUSES[it.text] for it in answers), default=0)
+
+
+def _look_at_number(number: int, chosen: list[Race], found: Findings) -> None:
+    """Whether there is an order to be tried for this number. Raises Unfit."""
+    for it in found.others:
+        if it.number == number:
+            raise Unfit(f"{number} is no matter of order ({it.kind} {shown_name(it.path)}): no order of the commands "
+                        f"changes it")
+    if not chosen:
+        raise Unfit(f"there is no race {number}: the recording has {found.count}")
+    if chosen[0].kind in NO_ORDERS:
+        raise Unfit(f"race {number} is no matter of order: {NO_ORDERS[chosen[0].kind]}")
 
 
 def _show(race: Race, answer: Answer, voice: Voice, with_number: bool) -> None:
@@ -116,7 +129,8 @@ def _show(race: Race, answer: Answer, voice: Voice, with_number: bool) -> None:
     for line in answer.lines:
         voice.show("  " + line)
     if answer.text == REFUSED:
-        voice.show("it is mended: the user waits for the maker, so it cannot come in front")
+        voice.show("it is mended: " + ("one of the two waits for the other, so there is one order" if race.is_clash else
+                                       "the user waits for the maker, so it cannot come in front"))
     else:
         voice.show(answer.text)
 
@@ -128,7 +142,16 @@ def _show_table(races: list[Race], answers: list[Answer], voice: Voice) -> None:
     voice.show("")
     widest = max(len(it.text) for it in answers)
     for race, answer in zip(races, answers):
-        voice.show(f"{race.number:>4}  {answer.text:<{widest}}  {shown_name(race.path)} by {shown_name(race.maker)}, "
-                   f"used by {shown_name(race.user)}")
+        maker, user = shown_name(race.maker), shown_name(race.user)
+        by = f"by {maker} and by {user}" if race.is_clash else f"by {maker}, used by {user}"
+        voice.show(f"{race.number:>4}  {answer.text:<{widest}}  {shown_name(race.path)} {by}")
     good = sum(STATUSES[it.text] == 4 for it in answers)
     voice.show(f"{good} of {len(races)} races were made to happen")
+
+
+def _show_others(others: list[Other], voice: Voice) -> None:
+    """Says which findings were not tried, since no order changes them."""
+    counts = Counter(it.kind for it in others)
+    if counts:
+        kinds = ", ".join(f"{count} {kind}" for kind, count in sorted(counts.items()))
+        voice.show(f"not tried, since no order of the commands changes them: {kinds}")

@@ -13,7 +13,7 @@ import errno
 import os
 import stat
 from dataclasses import dataclass
-from typing import Iterable, Iterator
+from typing import Callable, Iterable, Iterator
 
 from ..held import HeldFolder, joined
 
@@ -67,8 +67,7 @@ class Tops:
 
     def real(self, path: bytes) -> bytes:
         """The one absolute name of what stands at a path: links on the way are followed, the last part is not."""
-        folder, name = os.path.split(os.path.join(self.build, path))
-        return joined(os.path.realpath(folder), name) if name not in (b"", b".", b"..") else os.path.realpath(folder)
+        return real_name(os.path.join(self.build, path), os.path.realpath)
 
     @contextlib.contextmanager
     def place(self, path: bytes) -> Iterator[Place | None]:
@@ -99,6 +98,15 @@ class Tops:
         with self.place(path) as it:
             if it is not None:
                 it.make_old()
+
+
+def real_name(path: bytes, realpath: Callable[[bytes], bytes]) -> bytes:
+    """The one absolute name of what stands at an absolute path; the other function gives that of a folder."""
+    folder, name = os.path.split(path)
+    if name in (b"", b".", b".."):
+        return realpath(path)
+    folder = realpath(folder)
+    return (b"" if folder == b"/" else folder) + b"/" + name
 
 
 def _below(top: bytes, folder: bytes) -> HeldFolder | None:

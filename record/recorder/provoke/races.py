@@ -2,18 +2,20 @@
 
 from __future__ import annotations
 
+import itertools
 import json
 import os
 import re
 import subprocess
 from dataclasses import dataclass, field
+from typing import Any, Collection
 
 from ..regular import read_regular
 from ..replaying import words_of_replay
-from .orders import BadPatch, Patch
 
 _ESCAPED = re.compile(rb"\\(s|t|n|r|\\|x[0-9a-f]{2})")
 _LETTERS = {b"s": b" ", b"t": b"\t", b"n": b"\n", b"r": b"\r", b"\\": b"\\"}
+CLASH = "clash"
 _KINDS = ("race", "cycle", "own")
 _ANSWERED = (0, 4, 5)  # the statuses of `races` with an answer
 
@@ -28,9 +30,9 @@ class NotAsked(Exception):
 
 @dataclass(frozen=True)
 class Race:
-    """A race by its number: its kind, the path, the first outputs of maker and user, where their statements stand, and
-    the output of the maker that mends it behind `||` of the user's (None where no order does). It is not told where it
-    is a suspect of a failed build that no error names."""
+    """A race by its number, or a clash: its kind, the path, the first outputs of maker and user (of a clash, of the two
+    that leave it), where their statements stand, and the path that mends it behind `||` of the user's, if one does. It
+    is not told where it is a suspect of a failed build that no error names."""
 
     number: int
     kind: str
@@ -39,13 +41,42 @@ class Race:
     user: bytes
     maker_place: str
     user_place: str
-    mend: bytes | None
+    mend: bytes | None = None
     is_told: bool = True
+
+    @property
+    def is_clash(self) -> bool:
+        """Whether both leave the path."""
+        return self.kind == CLASH
 
     def told(self) -> str:
         """What it is, in a line."""
-        return (f"{self.kind} {shown_name(self.path)} made by {shown_name(self.maker)} ({self.maker_place}), used by "
-                f"{shown_name(self.user)} ({self.user_place})")
+        ends = [f"{shown_name(name)} ({place})" for name, place in ((self.maker, self.maker_place),
+                                                                     (self.user, self.user_place))]
+        between = "{} writes it, and so does {}" if self.is_clash else "made by {}, used by {}"
+        return f"{self.kind} {shown_name(self.path)}{':' * self.is_clash} {between.format(*ends)}"
+
+
+@dataclass(frozen=True)
+class Other:
+    """A finding that no order of the commands changes: its number, kind and path."""
+
+    number: int
+    kind: str
+    path: bytes
+
+
+@dataclass
+class Findings:
+    """What `races` finds: races and clashes, and other findings that have a number."""
+
+    races: list[Race] = field(default_factory=list)
+    others: list[Other] = field(default_factory=list)
+
+    @property
+    def count(self) -> int:
+        """How many there are."""
+        return len(self.races) + len(self.others)
 
 
 def shown_name(name: bytes) -> str:
@@ -69,25 +100,17 @@ class Recording:
             folder = os.path.dirname(folder) or "."
         self.place = folder
 
-    def races(self) -> list[Race]:
+    def findings(self) -> Findings:
         """All of them, by rising numbers. Raises NotAsked."""
-        found: list[Race] = []
+        found = Findings()
         for line in self._asked("--json").splitlines():
             try:
                 it = json.loads(line)
-            except ValueError as why:
-                raise NotAsked(f"{self.program} tells races in a way that is not understood: {why}", 3) from why
-            if isinstance(it, dict) and (it.get("kind") in _KINDS or "number" in it) and "maker" in it and "user" in it:
-                found.append(_race(it, it.get("number", len(found) + 1)))
+                if isinstance(it, dict):
+                    _take(it, found)
+            except (ValueError, KeyError, TypeError, AttributeError, RecursionError) as why:
+                raise NotAsked(f"{self.program} answers in a way that is not understood: {why}", 3) from why
         return found
-
-    def adverse_patch(self, number: int) -> list[Patch]:
-        """The patch that has the user of this race run in front of its maker. Raises NotAsked."""
-        text = self._asked("--provoke", str(number))
-        try:
-            return Patch.read(text)
-        except BadPatch as why:
-            raise NotAsked(f"{self.program} wrote a patch that is not understood: {why}", 3) from why
 
     def _asked(self, *words: str) -> bytes:
         try:
@@ -139,65 +162,106 @@ class Recording:
         return Observed() if content is None else Observed.read(content)
 
 
-def _race(it: dict, number: int) -> Race:
-    place = lambda edge: f"{edge.get('file')}:{edge.get('line')}"
-    mend = it.get("mend")
-    return Race(number, str(it["kind"]), name_of(it.get("path") or it["maker"]["output"]),
-                name_of(it["maker"]["output"]), name_of(it["user"]["output"]), place(it["maker"]), place(it["user"]),
-                name_of(mend) if isinstance(mend, str) else None, it["kind"] in _KINDS or bool(it.get("path")))
+def _take(it: dict[str, Any], found: Findings) -> None:
+    """Takes an object of the answer: a race, a clash of a file, another finding with a number, or what has none."""
+    kind = str(it.get("kind"))
+    ends: list[Any] = [it.get(name) for name in (("first", "other") if kind == CLASH else ("maker", "user"))]
+    if "number" not in it and kind not in _KINDS:
+        return
+    number = int(it.get("number", found.count + 1))
+    path = it.get("path")
+    if kind in (*_KINDS, CLASH, "suspect") and all(isinstance(end, dict) for end in ends):
+        names = [name_of(end["output"]) for end in ends]
+        places = [f"{end.get('file')}:{end.get('line')}" for end in ends]
+        mend = it.get("mend")
+        found.races.append(Race(number, kind, name_of(path) if path else names[0], names[0], names[1], places[0],
+                                places[1], name_of(mend) if mend else None, kind != "suspect" or bool(path)))
+    else:
+        found.others.append(Other(number, kind, name_of(path or "")))
 
 
 _FIELD = re.compile(rb"\\(.)")
+_NUMBER = re.compile(rb"[0-9]{1,10}")
 _LEAVES = ("writes", "edits", "deletes", "temps")
 _OF_FIELDS = {b"s": b" ", b"t": b"\t", b"n": b"\n", b"r": b"\r", b"\\": b"\\", b"0": b""}
 
 
+Ranges = list[tuple[int, int]]
+
+
 @dataclass
 class Observed:
-    """What commands were observed to do, by the first output of their edge: kind -> paths."""
+    """What commands were observed to do: the paths, and by the first output of their edge kind -> ranges of numbers of
+    paths. The ranges stay as they are written: all that they name can be far more than the text."""
 
-    of: dict[bytes, dict[str, list[bytes]]] = field(default_factory=dict)
+    paths: list[bytes] = field(default_factory=list)
+    of: dict[bytes, dict[str, Ranges]] = field(default_factory=dict)
 
     @staticmethod
     def read(text: bytes) -> Observed:
         """The observation of this text. Lines that are not understood are left out."""
-        found, paths = Observed(), []
-        uses: dict[str, list[bytes]] = {}
+        found = Observed()
+        uses: dict[str, Ranges] = {}
         for line in text.split(b"\n"):
             word, *rest = line.split(b" ")
             if word == b"path" and rest:
-                paths.append(_plain(rest[0]))
+                found.paths.append(_plain(rest[0]))
             elif word == b"edge" and rest:
                 uses = found.of.setdefault(_plain(rest[0]), {})
             elif word.decode("ascii", "replace") in ("reads", *_LEAVES):
-                uses[word.decode()] = [paths[it] for it in _numbers(rest) if it < len(paths)]
+                uses[word.decode()] = _ranges(rest, len(found.paths))
         return found
+
+    def _numbers(self, output: bytes, kind: str) -> list[int]:
+        ranges = self.of.get(output, {}).get(kind, ())
+        return [number for first, last in ranges for number in range(first, last + 1)]
 
     def left_by(self, output: bytes) -> list[bytes]:
         """What this command leaves and neither reads nor changes in place: what is not there before it ran."""
-        uses = self.of.get(output, {})
-        others = {*uses.get("reads", ()), *uses.get("edits", ())}
-        return [it for it in uses.get("writes", ()) if it not in others]
+        others = {*self._numbers(output, "reads"), *self._numbers(output, "edits")}
+        return [self.paths[it] for it in self._numbers(output, "writes") if it not in others]
 
-    def left_alone_by(self, output: bytes) -> list[bytes]:
-        """Of what this command leaves in that way, what no other command leaves, changes or takes away."""
-        others = {path for name, uses in self.of.items() if name != output for kind in _LEAVES
-                  for path in uses.get(kind, ())}
-        return [it for it in self.left_by(output) if it not in others]
+    def left_alone_by(self, outputs: Collection[bytes]) -> list[bytes]:
+        """Of what these commands leave in that way, what no other command leaves, changes or takes away."""
+        steps = [0] * (len(self.paths) + 1)
+        for name, uses in self.of.items():
+            for first, last in (it for kind in _LEAVES for it in uses.get(kind, ()) if name not in outputs):
+                steps[first] += 1
+                steps[last + 1] -= 1
+        others = {path for path, count in zip(self.paths, itertools.accumulate(steps)) if count}
+        return [path for name in outputs for path in self.left_by(name) if path not in others]
 
     def written_by(self, output: bytes) -> list[bytes]:
         """All that this command leaves."""
-        return self.of.get(output, {}).get("writes", [])
+        return [self.paths[it] for it in self._numbers(output, "writes")]
+
+    def changed_by(self, output: bytes) -> list[bytes]:
+        """All that this command leaves, changes or takes away."""
+        return [self.paths[it] for kind in ("writes", "deletes") for it in self._numbers(output, kind)]
+
+    def leaving(self, path: bytes) -> list[bytes]:
+        """The commands that leave this path, by their first outputs."""
+        if path not in self.paths:
+            return []
+        number = self.paths.index(path)
+        return [name for name, uses in self.of.items()
+                if any(first <= number <= last for first, last in uses.get("writes", ()))]
 
 
 def _plain(text: bytes) -> bytes:
     return _FIELD.sub(lambda it: _OF_FIELDS.get(it[1], it[1]), text)
 
 
-def _numbers(ranges: list[bytes]) -> list[int]:
-    found: list[int] = []
-    for it in ranges:
+def _ranges(words: list[bytes], count: int) -> Ranges:
+    """Ranges that rise, of numbers below the count."""
+    found: Ranges = []
+    least = 0
+    for it in words:
         first, _, last = it.partition(b"-")
-        if first.isdigit() and (not last or last.isdigit()):
-            found += range(int(first), min(int(last or first), int(first) + 1_000_000) + 1)
+        if not _NUMBER.fullmatch(first) or last and not _NUMBER.fullmatch(last) or least >= count:
+            continue
+        begin, end = max(int(first), least), min(int(last or first), count - 1)
+        if begin <= end:
+            found.append((begin, end))
+            least = end + 1
     return found

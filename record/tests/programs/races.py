@@ -1,9 +1,8 @@
 #!/usr/bin/env python3
-"""Stands in for a program that answers `races --json RECORDING` and `races --provoke N RECORDING`: by the rule of
-docs/RACES.md, read plainly, over lists of the trace alone. Where the recording has a file `told`, its lines `KIND PATH
-MAKER USER` are the races in place of these: a test writes there what no list of a trace shows."""
+"""Stands in for a program that answers `races --json RECORDING`: by the rule of docs/RACES.md, read plainly, over lists
+of the trace alone. Where the recording has a file `told`, its lines `KIND PATH MAKER USER` are the findings in place of
+these: a test writes there what no list of a trace shows."""
 
-import difflib
 import json
 import pathlib
 import sys
@@ -15,7 +14,7 @@ sys.path[:0] = [str(top), str(top / "tests")]
 from builds import unescaped  # noqa: E402
 from recorder.fields import canonical  # noqa: E402
 from recorder.manifest import Manifest  # noqa: E402
-from recorder.provoke.orders import waits, with_order  # noqa: E402
+from recorder.provoke.orders import waits  # noqa: E402
 from recorder.provoke.races import shown_name  # noqa: E402
 
 
@@ -57,24 +56,22 @@ def edge_told(edge):
     return {"output": shown_name(edge.name), "file": shown_name(edge.file), "line": edge.line}
 
 
+def object_told(number, kind, path, maker, user):
+    """The object of a finding. The maker of an unlisted file is null, and the two of a clash have other names."""
+    mend = shown_name(path if path in maker.outputs else maker.name) if kind == "race" else None
+    ends = dict(zip(("first", "other") if kind == "clash" else ("maker", "user"), map(edge_told, (maker, user))))
+    if kind == "unlisted":
+        ends["maker"] = None
+    return {"kind": kind, "number": number, "path": shown_name(path), "mend": mend, "here": None, **ends}
+
+
 def main(words):
     recording = pathlib.Path(words[-1])
     manifest = Manifest(b"build.ninja", lambda name: (recording / name.decode()).read_bytes())
     found = races(manifest, recording)
-    if "--json" in words:
-        for kind, path, maker, user in found:
-            mend = shown_name(path if path in maker.outputs else maker.name) if kind == "race" else None
-            print(json.dumps({"kind": kind, "path": shown_name(path), "mend": mend, "here": None,
-                              "maker": edge_told(maker), "user": edge_told(user)}))
-        return 4 if found else 0
-    _, _, maker, user = found[int(words[words.index("--provoke") + 1]) - 1]
-    before = next(content for name, content, _ in manifest.files if name == maker.file)
-    after = with_order(before, maker.line, user.name)
-    name = canonical(maker.file).decode()
-    lines = (it.decode("latin-1").splitlines(keepends=True) for it in (before, after))
-    text = "".join(difflib.unified_diff(*lines, name, name)).encode("latin-1")
-    sys.stdout.buffer.write(text.replace(b"--- %b \n" % name.encode(), b"--- %b\n" % name.encode()))
-    return 4
+    for number, (kind, path, maker, user) in enumerate(found, 1):
+        print(json.dumps(object_told(number, kind, path, maker, user)))
+    return 4 if found else 0
 
 
 if __name__ == "__main__":
