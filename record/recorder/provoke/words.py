@@ -10,16 +10,16 @@ NAME = "rebug provoke"
 _USAGE = """%(prog)s BUILD_DIR RECORDING N [--stale] [--in-place] [-- NINJA_WORDS...]
        %(prog)s BUILD_DIR RECORDING --all [--stale] [--in-place] [-- NINJA_WORDS...]"""
 _ABOUT = """Makes a race happen: builds the user's output with the user in front of the maker, and then with the order
-that mends it, in a copy of BUILD_DIR and of the source folder that is thrown away. RECORDING is of a build in
-BUILD_DIR."""
+that mends it, in a copy of BUILD_DIR and of the source folder that is thrown away. Of a clash it tries both orders.
+RECORDING is of a build in BUILD_DIR."""
 _MORE = """What stands behind -- goes to Ninja: -v, -j N, ...
 
 exit status:
-  4  it fails so, or it gives other bytes so
-  0  no difference was seen, or the user waits for the maker, so that it cannot come in front
+  4  one of the two orders fails, or they give other bytes
+  0  no difference was seen, or one of the two waits for the other, so that there is one order
   1  the recording has a fault
   2  the words, a folder or the number are at fault, or this system refuses the copy; nothing was changed
-  3  nothing can be told: a file cannot be read, Ninja cannot be run, or the mended build fails as well
+  3  nothing can be told: a file cannot be read, Ninja cannot be run, or both orders fail
   128 and the signal's number where a signal ended it
 
 examples:
