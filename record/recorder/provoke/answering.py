@@ -4,7 +4,7 @@ of a clash, whose two commands are run in both orders."""
 from __future__ import annotations
 
 import os
-from dataclasses import dataclass, field
+from dataclasses import dataclass, field, replace
 from typing import Callable
 
 from ..depfiles import read_depfile
@@ -158,31 +158,37 @@ class Provoker:
         if race.kind in NO_ORDERS:
             return Answer(NO_ORDER, [NO_ORDERS[race.kind]])
         maker, user = self.edge(race.maker), self.edge(race.user)
-        try:
-            ways = self._ways_of_clash(maker, user) if race.is_clash else self._ways_of_race(race, maker, user)
-        except BadOrder as why:
-            raise Unfit(f"the order cannot be put into the manifest: {why}") from why
         if waits(self.manifest, user, maker):
-            return self._answer_of_mended(ways[0], race)
+            return self._answer_of_mended(self._two_ways(race)[0], race)
         if waits(self.manifest, maker, user):
-            return self._answer_of_mended(ways[1], race) if race.is_clash else Answer(NO_ORDER, [NO_ORDERS["cycle"]])
-        others = tuple(self._orders_of_others(race, ways))
-        self._look_at_orders([*others, *(it.order for it in ways)])
-        first, second = (Way(it.name, it.order, it.target, others) for it in ways)
+            return self._answer_of_mended(self._two_ways(race)[1], race) if race.is_clash else \
+                Answer(NO_ORDER, [NO_ORDERS["cycle"]])
+        found = self._answer_of_both(race)
+        return self._answer_of_changed_sources(found, maker, user) if found.text == SAME else found
+
+    def _answer_of_both(self, race: Race) -> Answer:
+        """Tries one order and then the other, and where it makes a difference, both at one time."""
+        first, second = self.ways(race)
+        others = first.others
         lines = [f"beside the orders that mend other findings: {len(others)}"] if others else []
-        one = self._try(first, race)
+        one = self.try_order(first, race)
         lines += _told(first.name, one)
         is_more_to_build = one.count > 0
-        other = self._try(second, race, is_more_to_build)
+        other = self.try_order(second, race, is_more_to_build)
         lines += _told(second.name, other)
-        found = self._compare(one, other, lambda: self._try(second, race, is_more_to_build), lines, race.is_clash)
+        found = self._compare(one, other, lambda: self.try_order(second, race, is_more_to_build), lines, race.is_clash)
         if STATUSES[found.text] == 4:
-            both = self._try(Way("both", first.order, first.target, (*others, second.order)), race, False)
+            both = self.try_order(Way("both", first.order, first.target, (*others, second.order)), race, False)
             if both.fault.startswith(_CYCLE):
                 found.lines.append(f"both: refused as a cycle, {shown(both.fault[len(_CYCLE) :])}")
-        elif found.text == SAME:
-            return self._answer_of_changed_sources(found, maker, user)
         return found
+
+    def ways(self, race: Race) -> tuple[Way, Way]:
+        """The two orders that are tried, beside those that mend other findings. Raises Unfit."""
+        first, second = self._two_ways(race)
+        others = self._orders_of_others(race, (first, second))
+        self._look_at_orders([*others, first.order, second.order])
+        return replace(first, others=tuple(others)), replace(second, others=tuple(others))
 
     def _answer_of_changed_sources(self, found: Answer, *commands: Edge) -> Answer:
         """Where a source is as a command of an earlier build left it, a trial cannot be as in a clean build."""
@@ -194,21 +200,23 @@ class Provoker:
         return Answer(UNKNOWN, [*found.lines, f"a command changes {_names(changed)} in place, and an earlier build has "
                                               f"done so: give it the content that it had, and take the outputs away"])
 
-    def _ways_of_race(self, race: Race, maker: Edge, user: Edge) -> tuple[Way, Way]:
-        """The user in front, so that the maker is not run, and the maker in front."""
-        adverse, mended = Order(maker, user), Order(user, maker, race.mend)
-        return (Way(f"the user first ({_text(adverse)})", adverse, user),
-                Way(f"mended ({_text(mended)})", mended, user))
-
-    def _ways_of_clash(self, one: Edge, other: Edge) -> tuple[Way, Way]:
-        """Both orders of the two commands."""
-        first, second = Order(one, other), Order(other, one)
-        return (Way(f"{shown_name(other.name)} first ({_text(first)})", first, one),
-                Way(f"{shown_name(one.name)} first ({_text(second)})", second, other))
+    def _two_ways(self, race: Race) -> tuple[Way, Way]:
+        """The two orders alone: of a race the user in front, so that the maker is not run, and the maker in front; of a
+        clash each of the two. Raises Unfit."""
+        maker, user = self.edge(race.maker), self.edge(race.user)
+        later, earlier = Order(maker, user), Order(user, maker, race.mend)
+        names = ("the user first", "mended")
+        if race.is_clash:
+            names = (f"{shown_name(user.name)} first", f"{shown_name(maker.name)} first")
+        try:
+            return (Way(f"{names[0]} ({_text(later)})", later, maker if race.is_clash else user),
+                    Way(f"{names[1]} ({_text(earlier)})", earlier, user))
+        except BadOrder as why:
+            raise Unfit(f"the order cannot be put into the manifest: {why}") from why
 
     def _answer_of_mended(self, way: Way, race: Race) -> Answer:
         """What Ninja says of an order where the other one is in the manifest."""
-        found = self._try(way, race)
+        found = self.try_order(way, race)
         if found.fault.startswith(_CYCLE):
             return Answer(REFUSED, [f"{way.name}: refused as a cycle, {shown(found.fault[len(_CYCLE) :])}"])
         return Answer(UNKNOWN, [*_told(way.name, found), "one of the two waits for the other, and Ninja saw no cycle"])
@@ -275,7 +283,7 @@ class Provoker:
                 paths <= set(other.edges[number].order_only) for number, paths in due.items()):
             raise Unfit("the order of this race changes another thing than the order-only inputs of its commands")
 
-    def _try(self, way: Way, race: Race, is_more_to_build: bool = True) -> Tried:
+    def try_order(self, way: Way, race: Race, is_more_to_build: bool = True) -> Tried:
         """One order tried. `is_more_to_build` is false where all that the maker waits for is there."""
         trial = self._trial(way, race, is_more_to_build)
         self.tell(way.name, "")
