@@ -22,6 +22,7 @@ from typing import Iterable, Iterator, Optional
 from .disk import Snapshot, take_snapshot
 from .fields import canonical, line, shown
 from .files import WRITTEN, names_of_files, write_recording
+from .generator.recorded import TARGETS, write_targets
 from .folders import OutFolder
 from .logs import BuildLog, LogEntry, open_build_log
 from .manifest import Edge, Manifest
@@ -219,9 +220,10 @@ class FromLogs(OneBuild):
         with OutFolder(self.options.out) as out:
             manifest = self.manifest()
             self.look_at_limits(manifest)
-            out.look_at_places([*names_of_files(manifest).values(), *WRITTEN])
+            out.look_at_places([*names_of_files(manifest).values(), *WRITTEN, TARGETS])
             found = self.found(manifest)
             write_recording(found, out.staging, self.options.lanes, self.launcher, at=out.folder)
+            write_targets(self.build, manifest, out.staging)
             self.signals.is_switching = True
             out.switch()
         self.tell_notes(found)

@@ -10,6 +10,7 @@ from .events import Start
 from .fields import canonical, shown
 from .files import WRITTEN, names_of_files, write_recording
 from .folders import OPTIONAL, BadFolder, NotInPlace, OutFolder
+from .generator.recorded import TARGETS, write_targets
 from .installed import word_of_launcher
 from .limits import what_is_refused
 from .manifest import Manifest
@@ -89,7 +90,7 @@ class Session(OneBuild):
         with OutFolder(self.options.out) as out:
             manifest = self.up_to_date_manifest()
             self.look_at_limits(manifest)
-            out.look_at_places([*names_of_files(manifest).values(), *WRITTEN, *(OPTIONAL if observer else ())])
+            out.look_at_places([*names_of_files(manifest).values(), *WRITTEN, *(OPTIONAL if observer else (TARGETS,))])
             as_run = self.options.jobs_as_run or self.options.lanes
             jobs = number_of_jobs(self.program, self.words.jobs) if as_run else None
             before = self.snapshot_before(manifest)
@@ -153,6 +154,7 @@ class Session(OneBuild):
             self.say(f"Ninja built nothing, so the recording in {self.options.out} stays (--force replaces it)")
             return status
         write_recording(found, out.staging, self.options.lanes, self.launcher, at=out.folder)
+        write_targets(self.build, manifest, out.staging)
         observation.write(found, after, out.staging)
         self.signals.is_switching = True
         out.switch()

@@ -31,7 +31,7 @@ from .places import Places
 from .processes import Command
 from .writing import Observed
 
-OBSERVED, LOG, FILTERS = OPTIONAL
+OBSERVED, LOG, FILTERS = OPTIONAL[:3]
 """The names of the files in a recording: what was observed, the observer's log where that is kept, and the places of
 which no observed conflict is to be told."""
 
