@@ -16,6 +16,8 @@ _CMAKE_WORD = re.compile(r"(?:[^\s()\"#\\]|\\.)+", re.S)
 _QUOTED = re.compile(r'"(?:[^"\\]|\\.)*"', re.S)
 _MESON_LONG = re.compile(r"f?'''.*?'''", re.S)
 _MESON_QUOTED = re.compile(r"f?'(?:[^'\\\n]|\\.)*'")
+_ASSIGNED = re.compile(r"[ \t]*([A-Za-z_]\w*)[ \t]*=[ \t]*\Z")
+_LONGEST_NAME = 1_000  # of what stands in front of a call on its line
 _KEYWORD = re.compile(r"[A-Za-z_]\w*[ \t]*:")
 
 
@@ -31,7 +33,8 @@ class Word:
 
 @dataclass
 class Call:
-    """A call: its name, the offset of that, the offset behind the open parenthesis and of the closed one, and lines."""
+    """A call: its name, the offset of that, the offset behind the open parenthesis and of the closed one, the lines,
+    and the variable of Meson's file that is what the call gives."""
 
     name: str
     begin: int
@@ -40,16 +43,18 @@ class Call:
     line: int
     last_line: int
     words: list[Word] = field(default_factory=list)
+    variable: str = ""
 
 
 class _Lines:
-    """The line of an offset, asked for rising offsets."""
+    """The line of an offset, asked for rising offsets, and where that line begins."""
 
     def __init__(self, text: str) -> None:
-        self.text, self.at, self.line = text, 0, 1
+        self.text, self.at, self.line, self.begin = text, 0, 1, 0
 
     def of(self, offset: int) -> int:
         self.line += self.text.count("\n", self.at, offset)
+        self.begin = max(self.begin, self.text.rfind("\n", self.at, offset) + 1)
         self.at = offset
         return self.line
 
@@ -137,6 +142,9 @@ def meson_calls(text: str) -> list[Call]:
             call = None
             if letter == "(" and name and not text[name.end() : at].strip(" \t"):
                 call = Call(name[0], name.start(), at + 1, at + 1, lines.of(name.start()), 0)
+                if call.begin - lines.begin <= _LONGEST_NAME:
+                    assigned = _ASSIGNED.match(text, lines.begin, call.begin)
+                    call.variable = assigned[1] if assigned else ""
                 found.append(call)
             open_calls.append(call)
             begins.append(at + 1)

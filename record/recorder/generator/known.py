@@ -8,7 +8,7 @@ from ..manifest import Manifest
 from .cmake import CMake
 from .cmake_reply import read_reply
 from .gn import GN
-from .meson import INFO, Meson
+from .meson import INFO, Meson, read_notes
 from .model import Generator, Known
 
 
@@ -32,7 +32,7 @@ def known_at_no_cost(build: str, manifest: Manifest) -> Known | None:
             written = os.stat(os.path.join(build, os.fsdecode(manifest.files[0][0]))).st_mtime_ns
             return CMake(build, manifest, read_reply(build, written), []).known()
         if generator is Generator.MESON:
-            return Meson(build, manifest, os.path.join(build, INFO), None).known()
+            return Meson(build, manifest, read_notes(build)).known()
         if generator is Generator.GN:
             return GN(build, manifest).known()
     except (OSError, ValueError, KeyError, TypeError, IndexError, AttributeError, RecursionError):

@@ -35,20 +35,35 @@ class ToldTarget:
     dependencies: list[str] = field(default_factory=list)
 
 
+@dataclass
+class Notes:
+    """What Meson notes in a build folder: the folder of the sources, its version, and the targets."""
+
+    top: str
+    version: str
+    targets: list[dict[str, Any]]
+
+
+def read_notes(build: str) -> Notes:
+    """The notes. Raises an error of the system, or one of those that a text of another form gives."""
+    about = _json(os.path.join(build, INFO, "meson-info.json"))
+    return Notes(os.path.normpath(about["directories"]["source"]), str(about["meson_version"]["full"]),
+                 list(_json(os.path.join(build, INFO, "intro-targets.json"))))
+
+
 class Meson:
     """The targets of a build folder of Meson."""
 
-    def __init__(self, build: str, manifest: Manifest, info: str, told: list[ToldTarget] | None) -> None:
+    def __init__(self, build: str, manifest: Manifest, notes: Notes, told: list[ToldTarget] | None = None) -> None:
         self.build, self.manifest = build, manifest
-        notes = _json(os.path.join(info, "meson-info.json"))
-        self.top, self.version = os.path.normpath(notes["directories"]["source"]), notes["meson_version"]["full"]
+        self.top, self.version = notes.top, notes.version
         self.targets: dict[str, Target] = {}
         self.of_output: dict[str, Target] = {}
         self.generated: list[tuple[set[str], Target]] = []
         self.dependencies: dict[str, Target] = {}
         self.texts: Texts[Call] = Texts(meson_calls)
         self.by_base: dict[str, list[Target]] = {}
-        for it in _json(os.path.join(info, "intro-targets.json")):
+        for it in notes.targets:
             self._take(it)
         for told_target in told or ():
             self._take_told(told_target)
@@ -73,7 +88,7 @@ class Meson:
         file = os.path.normpath(it["defined_in"])
         target = Target(it["name"], it["type"], folder=os.path.dirname(file), outputs=outputs,
                         part_of=it.get("subproject") or "")
-        target.binary = file
+        target.file = file
         self.targets[it["id"]] = target
         for path in outputs:
             self.of_output[path] = target
@@ -133,14 +148,15 @@ class Meson:
 
     def _guess_place(self, target: Target) -> None:
         """The place by the text of the file that declares it: the one call with this name, where there is one."""
-        if target.spans or target.place_basis is Basis.EXACT or not target.binary:
+        if target.spans or target.place_basis is Basis.EXACT or not target.file:
             return
-        calls = [it for it in self.texts.of(target.binary) if FUNCTIONS.get(it.name, "-") in ("", target.kind)]
+        calls = [it for it in self.texts.of(target.file) if FUNCTIONS.get(it.name, "-") in ("", target.kind)]
         found = [it for it in calls if it.words and it.words[0].text == f"'{target.name}'"]
         if not found:
             found = [it for it in calls if it.words and not it.words[0].text.startswith("'")]
         if len(found) == 1:
-            target.spans = [Span(target.binary, found[0].line, found[0].last_line, found[0].name)]
+            target.spans = [Span(target.file, found[0].line, found[0].last_line, found[0].name)]
+            target.variable = found[0].variable
 
 
 def _json(path: str) -> Any:

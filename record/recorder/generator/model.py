@@ -51,7 +51,7 @@ class Target:
 
     `carriers` are the targets that have the outputs of a custom command among their sources. `arguments` are those of
     the call as the generator expanded them. `variable` is what Meson's file calls it, `dependencies` are what it was
-    declared with there, and `part_of` is its subproject."""
+    declared with there, and `part_of` is its subproject, and `file` the file that it was declared in."""
 
     name: str
     kind: str
@@ -67,6 +67,7 @@ class Target:
     variable: str = ""
     dependencies: list[str] = field(default_factory=list)
     part_of: str = ""
+    file: str = ""
 
     @property
     def place(self) -> Span | None:

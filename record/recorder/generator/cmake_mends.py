@@ -1,0 +1,227 @@
+"""What mends a finding in CMake's files, by the shape of it: docs/MEND.md."""
+
+from __future__ import annotations
+
+import os
+
+from .calls import cmake_calls
+from .cmake import LISTS, UTILITY, CMake, TracedCall
+from .edits import Edit, How
+from .findings import Finding
+from .model import Role, Span, Target
+from .proposing import CannotEdit, Candidate, Ground, Side, free_name, waited_for
+
+_IN_TARGET = (Role.COMPILE, Role.HEADER, Role.LINK, Role.COMMAND)
+_OF_OUTSIDE = "externalproject_add"
+
+
+class CMakeMends:
+    """Proposes edits in the files of CMake."""
+
+    def __init__(self, ground: Ground, cmake: CMake) -> None:
+        self.ground, self.cmake = ground, cmake
+        self.spans: dict[tuple[str, int], list[str]] = {}
+        for it in cmake.targets.values():
+            for span in it.spans:
+                self.spans.setdefault((span.file, span.line), []).append(it.name)
+        self.rules: dict[tuple[str, int], set[str]] = {}
+        for rule in cmake.custom.values():
+            if rule.place is not None:
+                self.rules.setdefault((rule.place.file, rule.place.line), set()).add(rule.name)
+
+    def of(self, finding: Finding, user: Side, maker: Side | None) -> list[Candidate]:
+        """The candidates for a finding, the best first. Raises CannotEdit."""
+        found: list[Candidate] = []
+        if maker is not None and (finding.is_order or finding.mend):
+            found += self._orders(finding, user, maker)
+        if not finding.is_order and not finding.mend:
+            found += self.for_next_build(finding, user, maker)
+        return found
+
+    # Orders
+
+    def _orders(self, finding: Finding, user: Side, maker: Side) -> list[Candidate]:
+        made = self._made(finding, maker)
+        if user.role is Role.CUSTOM:
+            return self._into_custom_command(user, maker, made)
+        carriers = maker.target.carriers if maker.role is Role.CUSTOM else [maker.target.name]
+        utilities = [it for it in carriers if self._kind(it) == UTILITY]
+        found: list[Candidate] = []
+        if user.role is Role.COMMAND and user.target.place and user.target.place.call.lower() == "add_custom_target":
+            found += self._into_custom_target(user, maker, made)
+        if user.role is Role.LINK and maker.role is Role.CUSTOM:
+            found += self._behind(user.target, f"set_property(TARGET {user.target.name} APPEND PROPERTY LINK_DEPENDS "
+                                               f"{self._path(made, user.target)})")
+        named = carriers if maker.role is not Role.CUSTOM else sorted(utilities, key=self._cost)
+        for name in named:
+            found += self._dependency(user.target, name)
+        if maker.role is Role.CUSTOM and maker.target.folder == user.target.folder and user.role in (Role.COMPILE,
+                                                                                                    Role.HEADER):
+            found += self._behind(user.target, f"target_sources({user.target.name} PRIVATE "
+                                               f"{self._path(made, maker.target)})", maker.target)
+        if maker.role is Role.CUSTOM and not utilities:
+            found += self._target_of_its_own(user.target, maker.target, made)
+            for name in carriers:
+                found += self._dependency(user.target, name)
+        return found
+
+    def _dependency(self, user: Target, maker: str) -> list[Candidate]:
+        if maker == user.name:
+            return []
+        return self._behind(user, f"add_dependencies({user.name} {maker})", self.cmake.targets.get(maker))
+
+    def _target_of_its_own(self, user: Target, maker: Target, made: str) -> list[Candidate]:
+        """A custom target for a file that none has, beside the command that makes it."""
+        if maker.place is None:
+            return []
+        text = self.ground.text(maker.place.file)
+        name = free_name(os.path.basename(made) + "_made", [text, *self.cmake.targets])
+        path = self._path(made, maker)
+        first = self._behind(maker, f"add_custom_target({name} DEPENDS {path})")
+        second = self._behind(user, f"add_dependencies({user.name} {name})")
+        if not first or not second:
+            return []
+        return [Candidate(first[0].edits + second[0].edits, f"{first[0].says} and {second[0].says}")]
+
+    def _into_custom_target(self, user: Side, maker: Side, made: str) -> list[Candidate]:
+        if maker.role is Role.LINK:
+            return self._words(user.target, f"DEPENDS {maker.target.name}")
+        if maker.role is Role.CUSTOM and maker.target.folder == user.target.folder:
+            return self._words(user.target, f"DEPENDS {self._path(made, user.target)}")
+        return []
+
+    def _into_custom_command(self, user: Side, maker: Side, made: str) -> list[Candidate]:
+        target = user.target
+        if target.place is None:
+            raise CannotEdit(f"CMake does not tell where the command that makes {target.name} stands",
+                             "DEPENDS of that add_custom_command is to name the file, and its target where another "
+                             "folder makes the file")
+        if self._is_outside(target):
+            raise CannotEdit(f"{target.name} is a step of ExternalProject_Add",
+                             "DEPENDS of that ExternalProject_Add is to name the target that makes the file")
+        utilities = [it for it in maker.target.carriers if self._kind(it) == UTILITY]
+        found: list[Candidate] = []
+        if maker.role is Role.CUSTOM:
+            path = self._path(made, target)
+            is_near = maker.target.folder == target.folder
+            if is_near or not utilities:
+                found += self._words(target, f"DEPENDS {path}")
+            for it in sorted(utilities, key=self._cost):
+                found += self._words(target, f"DEPENDS {it} {path}" if not is_near else f"DEPENDS {it}")
+        else:
+            found += self._words(target, f"DEPENDS {maker.target.name}")
+        makers = maker.target.carriers if maker.role is Role.CUSTOM else [maker.target.name]
+        for carrier in target.carriers:
+            if carrier in self.cmake.targets:
+                for it in makers:
+                    found += self._dependency(self.cmake.targets[carrier], it)
+        return found
+
+    # What the next build misses
+
+    def for_next_build(self, finding: Finding, user: Side, maker: Side | None) -> list[Candidate]:
+        """What says that the maker makes the file, and that the user reads it."""
+        found: list[Candidate] = []
+        if finding.declare and maker is not None:
+            found += self._byproducts(finding.declare, maker)
+        if finding.list and user.target.place is not None and user.role in (Role.CUSTOM, Role.COMMAND):
+            found += self._words(user.target, f"DEPENDS {self._path(finding.list, user.target)}")
+        elif finding.list and user.role is Role.LINK:
+            found += self._behind(user.target, f"set_property(TARGET {user.target.name} APPEND PROPERTY LINK_DEPENDS "
+                                               f"{self._path(finding.list, user.target)})")
+        return [Candidate(it.edits, it.says, it.note, is_for_next_build=True) for it in found]
+
+    def _byproducts(self, path: str, maker: Side) -> list[Candidate]:
+        target = maker.target
+        if maker.role is Role.LINK:
+            commands = self.cmake.post_builds.get(target.name, [])
+            return self._byproducts_of(commands[0], path, target) if len(commands) == 1 else []
+        if target.place is None or maker.role not in (Role.CUSTOM, Role.COMMAND):
+            return []
+        if self._is_outside(target):
+            span = self._span_of_outside(target)
+            return self._words_at(span, f"BUILD_BYPRODUCTS {self._path(path, target)}", target)
+        return self._words(target, f"BYPRODUCTS {self._path(path, target)}")
+
+    def _byproducts_of(self, command: TracedCall, path: str, target: Target) -> list[Candidate]:
+        return self._words_at(command.spans[0], f"BYPRODUCTS {self._path(path, target)}", target)
+
+    # Where an edit goes
+
+    def _behind(self, target: Target, line: str, other: Target | None = None) -> list[Candidate]:
+        """A line behind the declaration of a target, in the file of its folder. Where that call declares several targets,
+        as in a loop, the line stands at the end of the file. Where the other target is declared later in this file, the
+        line stands behind that."""
+        if not target.spans:
+            return []
+        home = os.path.join(target.folder, LISTS)
+        spans = [it for it in target.spans if it.file == home] or [it for it in target.spans
+                                                                   if os.path.basename(it.file) == LISTS]
+        if not spans:
+            return []
+        span = spans[-1]
+        self.ground.text(span.file)
+        says = f"{self.ground.shown(span.file)}: {line}"
+        if len(set(self.spans.get((span.file, span.line), ()))) > 1:
+            last = self.ground.text(span.file).count("\n") + 1
+            return [Candidate((Edit(span.file, last, How.AT_END, line),), says)]
+        later = [it for it in other.spans if it.file == span.file] if other is not None else []
+        if later and later[-1].end > span.end and self._are_together(span, later[-1]):
+            span = later[-1]
+        return [Candidate((Edit(span.file, span.line, How.AFTER, line, end=span.end),), says)]
+
+    def _are_together(self, first: Span, second: Span) -> bool:
+        """Whether no condition or loop begins or ends between two calls of a file."""
+        names = {it.name.lower() for it in cmake_calls(self.ground.text(first.file))
+                 if first.end < it.line <= second.line}
+        return not names & {"if", "else", "elseif", "endif", "foreach", "endforeach", "while", "endwhile", "function",
+                            "endfunction", "macro", "endmacro", "block", "endblock", "return"}
+
+    def _words(self, target: Target, words: str) -> list[Candidate]:
+        """Words into the call that declares a target or a command."""
+        return self._words_at(target.place, words, target) if target.place is not None else []
+
+    def _words_at(self, span: Span, words: str, target: Target) -> list[Candidate]:
+        self.ground.text(span.file)
+        names = {*self.spans.get((span.file, span.line), ()), *self.rules.get((span.file, span.line), ())}
+        note = ""
+        if names - {target.name, *target.outputs}:
+            note = f"this call makes {len(names)} things, as in a function or a loop, and the words are for each of them"
+        says = f"{self.ground.shown(span.file)}: {words} in {span.call}"
+        return [Candidate((Edit(span.file, span.line, How.WORDS, words, call=span.call),), says, note)]
+
+    # What is known of targets
+
+    def _kind(self, name: str) -> str:
+        return self.cmake.targets[name].kind if name in self.cmake.targets else UTILITY
+
+    def _cost(self, name: str) -> int:
+        """How many commands who waits for a target waits for."""
+        return len(waited_for(self.ground.manifest, self.cmake.groups.get(name, [])))
+
+    def _made(self, finding: Finding, maker: Side) -> str:
+        """The output of the maker that the finding is about, else its first output."""
+        outputs = [os.fsdecode(it) for it in maker.edge.outputs]
+        names = [self.cmake.relative(self.ground.path_of(it)) for it in (finding.path, finding.mend) if it]
+        return next((it for it in names if it in outputs), outputs[0])
+
+    def _path(self, name: str, target: Target) -> str:
+        """A path as the file of a target's folder names it."""
+        path = self.ground.path_of(name)
+        roots = ((target.binary, "${CMAKE_CURRENT_BINARY_DIR}"), (self.ground.build, "${CMAKE_BINARY_DIR}"),
+                 (target.folder, "${CMAKE_CURRENT_SOURCE_DIR}"), (self.ground.top, "${CMAKE_SOURCE_DIR}"))
+        for root, variable in roots:
+            if root and path.startswith(root + "/"):
+                return _word(variable + path[len(root) :])
+        return _word(path)
+
+    def _is_outside(self, target: Target) -> bool:
+        return any(it.call.lower() == _OF_OUTSIDE for it in target.spans)
+
+    def _span_of_outside(self, target: Target) -> Span:
+        return next(it for it in target.spans if it.call.lower() == _OF_OUTSIDE)
+
+
+def _word(text: str) -> str:
+    """A path as one word of CMake."""
+    return f'"{text}"' if any(it in text for it in ' ;()#"\\') else text

@@ -1,0 +1,274 @@
+"""Chooses edits that mend findings, as few as can be, and tries them: the generator writes the manifest anew in a copy of
+the folders, and there each user has to wait for its maker."""
+
+from __future__ import annotations
+
+import os
+import time
+from dataclasses import dataclass, field
+from typing import Callable
+
+from ..manifest import Edge, Manifest
+from .asking import Asked, Asker, GeneratorRefused
+from .edits import Edit, NoPlace, edited
+from .findings import Finding
+from .proposer import Proposer
+from .proposing import CannotEdit, Candidate, Proposal, waits
+
+MOST_TRIES = 60
+_SECONDS_TO_LEAVE_OUT = 60.0
+_MOST_NAMED = 3
+
+
+@dataclass
+class Mend:
+    """A candidate that was tried and taken, and the numbers of the findings that it is for."""
+
+    candidate: Candidate
+    numbers: list[int]
+
+
+@dataclass
+class Left:
+    """A finding that no edit mends: why, what is to be done in general, and what was tried with what came of it."""
+
+    finding: Finding
+    why: str
+    advice: str
+    tried: list[tuple[str, str]] = field(default_factory=list)
+
+
+@dataclass
+class Outcome:
+    """What came of it. `already` are the numbers of the findings whose user waits for the maker as the sources are now,
+    `texts` are the new texts of files, and `waits` says how many pairs of commands have an order that had none."""
+
+    already: list[int] = field(default_factory=list)
+    mends: list[Mend] = field(default_factory=list)
+    left: list[Left] = field(default_factory=list)
+    texts: dict[str, str] = field(default_factory=dict)
+    waits: int | None = None
+    tries: int = 0
+
+
+@dataclass
+class _Tried:
+    """What came of one try: of each finding that is not mended why, and of all of them where the generator refused."""
+
+    why: str = ""
+    of_finding: dict[int, str] = field(default_factory=dict)
+    asked: Asked | None = None
+
+
+class Mender:
+    """Mends the findings of a recording in the files of its generator."""
+
+    def __init__(self, asker: Asker, asked: Asked, proposer: Proposer, tell: Callable[[str], None]) -> None:
+        self.asker, self.asked, self.proposer, self.tell = asker, asked, proposer, tell
+        self.manifest = proposer.ground.manifest
+        self.commands = _commands(self.manifest)
+        self.tries = 0
+        self.struck: dict[tuple[int, tuple[Edit, ...]], str] = {}
+
+    def mend(self, findings: list[Finding]) -> Outcome:
+        """Chooses and tries. Raises what a copy raises."""
+        found = Outcome([it.number for it in findings if self._is_mended(it)])
+        proposals = [self.proposer.proposal(it) for it in findings if it.number not in found.already]
+        found.mends, tried = self._chosen(proposals)
+        found.mends, tried = self._left_out(found.mends, tried)
+        found.mends, tried = self._with_extras(findings, found.mends, tried)
+        found.texts = self._texts(found.mends)
+        mended = {number for it in found.mends for number in it.numbers}
+        for proposal in proposals:
+            if proposal.finding.number not in mended:
+                found.left.append(self._left(proposal))
+        if tried.asked is not None:
+            found.waits = _added_orders(self.manifest, tried.asked.manifest())
+        found.tries = self.tries
+        return found
+
+    def _is_mended(self, finding: Finding) -> bool:
+        """Whether the user waits for the maker in the manifest that the sources give now."""
+        if not finding.is_order:
+            return False
+        user, maker = (self.proposer.ground.edge(it) for it in (finding.user, finding.maker))
+        return user is not None and maker is not None and waits(self.manifest, user, maker)
+
+    # Choosing
+
+    def _choose(self, proposals: list[Proposal]) -> list[Mend]:
+        """Candidates that are for all findings that have one: each time the one that is for most of those that are left,
+        of several the one that the findings have first."""
+        open_ones = {it.finding.number: [c for c in it.candidates if (it.finding.number, c.edits) not in self.struck]
+                     for it in proposals}
+        found: list[Mend] = []
+        left = {number for number, them in open_ones.items() if them}
+        while left:
+            votes: dict[tuple[Edit, ...], tuple[Candidate, list[int], list[int]]] = {}
+            for number in sorted(left):
+                for rank, candidate in enumerate(open_ones[number]):
+                    _, numbers, ranks = votes.setdefault(candidate.edits, (candidate, [], []))
+                    numbers.append(number)
+                    ranks.append(rank)
+            best = min(votes.values(), key=lambda it: (-len(it[1]), sum(it[2]), len(it[0].edits)))
+            found.append(Mend(best[0], best[1]))
+            left -= set(best[1])
+        return found
+
+    def _chosen(self, proposals: list[Proposal]) -> tuple[list[Mend], _Tried]:
+        """Candidates that hold together. What does not hold is struck out, and others are chosen."""
+        while self.tries < MOST_TRIES:
+            chosen = self._choose(proposals)
+            if not chosen:
+                break
+            tried = self._try(chosen)
+            if not tried.why and not tried.of_finding:
+                return chosen, tried
+            if len(chosen) == 1 or not tried.why:
+                self._strike(chosen, tried)
+                continue
+            alone = [(it, self._try([it])) for it in chosen if self.tries < MOST_TRIES]
+            for it, one in alone:
+                self._strike([it], one)
+            if not any(one.why or one.of_finding for _, one in alone):
+                self._strike(chosen[-1:], _Tried(f"not beside the other edits: {tried.why}"))
+        return [], _Tried()
+
+    def _strike(self, mends: list[Mend], tried: _Tried) -> None:
+        """Notes of each finding why the edit that was chosen for it does not mend it."""
+        for it in mends:
+            for number in it.numbers:
+                why = tried.why or tried.of_finding.get(number, "")
+                if why:
+                    self.struck[number, it.candidate.edits] = why
+
+    def _left_out(self, mends: list[Mend], tried: _Tried) -> tuple[list[Mend], _Tried]:
+        """Fewer edits where some of them make others unnecessary, as far as there is time to try that."""
+        until = time.monotonic() + _SECONDS_TO_LEAVE_OUT
+        for it in sorted(mends, key=lambda it: len(it.numbers)):
+            if len(mends) < 2 or time.monotonic() + self.asked.seconds > until or self.tries >= MOST_TRIES:
+                break
+            fewer = [other for other in mends if other is not it]
+            lacking = [number for number in it.numbers if not any(number in other.numbers for other in fewer)]
+            without = self._try(fewer, lacking)
+            if not without.why and not without.of_finding:
+                fewer[0].numbers = sorted({*fewer[0].numbers, *lacking})
+                mends, tried = fewer, without
+        return mends, tried
+
+    def _with_extras(self, findings: list[Finding], mends: list[Mend], tried: _Tried) -> tuple[list[Mend], _Tried]:
+        """Adds what a next build misses, where the generator takes it."""
+        wanted: dict[tuple[Edit, ...], Mend] = {}
+        known = {edit for it in mends for edit in it.candidate.edits}
+        for finding in findings:
+            if not finding.is_order or not any(finding.number in it.numbers for it in mends):
+                continue
+            for candidate in self.proposer.extras(finding):
+                if all(edit in known or _says_already(known, edit) for edit in candidate.edits):
+                    continue
+                wanted.setdefault(candidate.edits, Mend(candidate, [])).numbers.append(finding.number)
+        for it in wanted.values():
+            if self.tries >= MOST_TRIES:
+                break
+            more = self._try([*mends, it])
+            if not more.why and not more.of_finding:
+                mends, tried = [*mends, it], more
+        return mends, tried
+
+    # Trying
+
+    def _texts(self, mends: list[Mend]) -> dict[str, str]:
+        edits = [edit for it in mends for edit in it.candidate.edits]
+        for it in edits:
+            self.proposer.ground.text(it.file)
+        return edited(self.proposer.ground.texts, edits) if edits else {}
+
+    def _try(self, mends: list[Mend], more: list[int] | None = None) -> _Tried:
+        """Tries candidates together: the generator takes them, no command comes or goes, and the users of their findings
+        wait for the makers."""
+        self.tries += 1
+        self.tell(f"trying {len(mends)} edit{'s' * (len(mends) != 1)}")
+        try:
+            asked = self.asker.attempt(self._texts(mends))
+        except (NoPlace, CannotEdit) as why:
+            return _Tried(str(why))
+        except GeneratorRefused as why:
+            return _Tried(f"{self.asker.name} refuses it: {why}")
+        manifest = asked.manifest()
+        others = sorted(self.commands ^ _commands(manifest))
+        if others:
+            return _Tried(f"it changes which commands there are: {', '.join(others[:_MOST_NAMED])}")
+        numbers = {number for it in mends for number in it.numbers} | set(more or ())
+        found = _Tried(asked=asked)
+        for finding in self.proposer.ground.findings:
+            if finding.number in numbers and finding.is_order:
+                why_not = self._why_not(manifest, finding)
+                if why_not:
+                    found.of_finding[finding.number] = why_not
+        return found
+
+    def _why_not(self, manifest: Manifest, finding: Finding) -> str:
+        """Why a finding is not mended in a manifest; empty where it is."""
+        user, maker = (self._edge(manifest, it) for it in (finding.user, finding.maker))
+        if user is None or maker is None:
+            return "its commands are not there any more"
+        if not waits(manifest, user, maker):
+            return f"{finding.user} would still not wait for {finding.maker}"
+        return "it makes a cycle" if waits(manifest, maker, user) else ""
+
+    def _edge(self, manifest: Manifest, output: str) -> Edge | None:
+        edge = self.proposer.ground.edge(output)
+        return manifest.producer.get(edge.name) if edge is not None else None
+
+    def _left(self, proposal: Proposal) -> Left:
+        number = proposal.finding.number
+        tried = [(it.says, self.struck[number, it.edits]) for it in proposal.candidates
+                 if (number, it.edits) in self.struck]
+        why = proposal.why_not or ("no edit that was tried mends it" if tried else "there was no try left for it")
+        return Left(proposal.finding, why, proposal.advice or self.proposer.advice(proposal.finding), tried)
+
+
+def _says_already(known: set[Edit], edit: Edit) -> bool:
+    """Whether an edit of the same call says the same words among others."""
+    words = edit.text.split()
+    return any(it.file == edit.file and it.line == edit.line and it.how is edit.how
+               and it.text.split()[:1] == words[:1] and set(words) <= set(it.text.split()) for it in known)
+
+
+def _commands(manifest: Manifest) -> set[str]:
+    """The first outputs of all commands."""
+    return {os.fsdecode(it.name) for it in manifest.edges if not it.phony}
+
+
+_MOST_EDGES = 8_000
+
+
+def _added_orders(old: Manifest, new: Manifest) -> int | None:
+    """How many pairs of commands the new manifest has in an order, and the old one not; None where there are too many
+    commands to count."""
+    if max(len(old.edges), len(new.edges)) > _MOST_EDGES:
+        return None
+    return _orders(new) - _orders(old)
+
+
+def _orders(manifest: Manifest) -> int:
+    """How many pairs of commands have an order."""
+    before: dict[int, int] = {}
+    commands = sum(1 << it.number for it in manifest.edges if not it.phony)
+    for edge in manifest.edges:
+        todo = [edge]
+        while todo:
+            it = todo[-1]
+            makers = {maker.number: maker for path in it.inputs
+                      if (maker := manifest.producer.get(path)) is not None and maker is not it}
+            missing = [maker for number, maker in makers.items() if number not in before]
+            if it.number not in before and missing:
+                before[it.number] = 0  # so that a cycle ends
+                todo += missing
+                continue
+            todo.pop()
+            found = 0
+            for number in makers:
+                found |= before.get(number, 0) | 1 << number
+            before[it.number] = found
+    return sum((found & commands).bit_count() for number, found in before.items() if commands >> number & 1)
