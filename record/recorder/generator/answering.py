@@ -42,7 +42,8 @@ class Answer:
         yield self._sum()
 
     def _of_finding(self, finding: Finding) -> Iterator[str]:
-        yield f"{finding.kind} {shown(finding.path)} [{finding.number}]"
+        number = f"[{finding.number}]" if finding.shown_number else "by the error of a failed command"
+        yield f"{finding.kind} {shown(finding.path)} {number}"
         makes, uses = ("made by", "made by") if finding.kind == "clash" else ("made by", "used by")
         for what, output in ((makes, finding.maker), (uses, finding.user)):
             if output:
@@ -51,15 +52,12 @@ class Answer:
             yield "  mended already, as the sources are now: the user waits for the maker"
         for it in self.outcome.mends:
             if finding.number in it.numbers:
-                yield f"  {self._mend_word(it)}: {it.candidate.says}"
+                yield f"  {_mend_word(it, finding)}: {it.candidate.says}"
                 if it.candidate.note:
                     yield f"    ({it.candidate.note})"
         for left in self.outcome.left:
             if left.finding is finding:
                 yield from self._of_left(left)
-
-    def _mend_word(self, it: Mend) -> str:
-        return "and for the next build, tried" if it.candidate.is_for_next_build else "mend, tried"
 
     def _of_left(self, left: Left) -> Iterator[str]:
         for says, why in left.tried:
@@ -111,14 +109,14 @@ class Answer:
         """The answer as objects: docs/JSON.md."""
         for finding in self.findings:
             if finding.number in self.outcome.already:
-                yield {"kind": "mended", "number": finding.number}
+                yield {"kind": "mended", "number": finding.shown_number}
         for it in self.outcome.mends:
-            yield {"kind": "mend", "numbers": sorted(it.numbers), "says": it.candidate.says,
+            yield {"kind": "mend", "numbers": sorted(number for number in it.numbers if number > 0), "says": it.candidate.says,
                    "note": it.candidate.note or None, "of_next_build": it.candidate.is_for_next_build,
                    "edits": [{"file": shown(self.ground.shown(edit.file)), "line": edit.line, "how": edit.how.name.lower(),
                               "text": edit.text} for edit in it.candidate.edits]}
         for left in self.outcome.left:
-            yield {"kind": "left", "number": left.finding.number, "why": left.why, "advice": left.advice,
+            yield {"kind": "left", "number": left.finding.shown_number, "why": left.why, "advice": left.advice,
                    "tried": [{"says": says, "why": why} for says, why in left.tried]}
         for file, new in sorted(self.outcome.texts.items()):
             yield {"kind": "patch", "file": shown(self.ground.shown(file)),
@@ -137,6 +135,10 @@ def _described(target: Target, role: Role) -> str:
         return f"{_ROLES[role]} {target.name}"
     named = ", ".join(target.carriers[:_MOST_LISTED])
     return f"{target.kind} {target.name}{f' (of {named})' if named else ''}"
+
+
+def _mend_word(it: Mend, finding: Finding) -> str:
+    return "and for the next build, tried" if it.candidate.is_for_next_build and finding.is_order else "mend, tried"
 
 
 def _with_ends(lines: list[str]) -> list[str]:

@@ -124,6 +124,9 @@ class CMakeMends:
         found: list[Candidate] = []
         if finding.declare and maker is not None:
             found += self._byproducts(finding.declare, maker)
+        if finding.list and user.role in (Role.CUSTOM, Role.COMMAND) and self._is_outside(user.target):
+            raise CannotEdit(f"{user.target.name} is a step of ExternalProject_Add, which names what it reads itself",
+                             "a step that is to run again with a file is added by ExternalProject_Add_Step, with DEPENDS")
         if finding.list and user.target.place is not None and user.role in (Role.CUSTOM, Role.COMMAND):
             found += self._words(user.target, f"DEPENDS {self._path(finding.list, user.target)}")
         elif finding.list and user.role is Role.LINK:
@@ -161,13 +164,14 @@ class CMakeMends:
             return []
         span = spans[-1]
         self.ground.text(span.file)
-        says = f"{self.ground.shown(span.file)}: {line}"
+        says = f"{self.ground.shown(span.file)}:{span.end}: {line}"
         if len(set(self.spans.get((span.file, span.line), ()))) > 1:
             last = self.ground.text(span.file).count("\n") + 1
-            return [Candidate((Edit(span.file, last, How.AT_END, line),), says)]
+            return [Candidate((Edit(span.file, last, How.AT_END, line),), f"{self.ground.shown(span.file)}:{last}: {line}")]
         later = [it for it in other.spans if it.file == span.file] if other is not None else []
         if later and later[-1].end > span.end and self._are_together(span, later[-1]):
             span = later[-1]
+            says = f"{self.ground.shown(span.file)}:{span.end}: {line}"
         return [Candidate((Edit(span.file, span.line, How.AFTER, line, end=span.end),), says)]
 
     def _are_together(self, first: Span, second: Span) -> bool:
@@ -185,9 +189,9 @@ class CMakeMends:
         self.ground.text(span.file)
         names = {*self.spans.get((span.file, span.line), ()), *self.rules.get((span.file, span.line), ())}
         note = ""
-        if names - {target.name, *target.outputs}:
+        if names - {target.name, *target.outputs} and span.call.lower() != _OF_OUTSIDE:
             note = f"this call makes {len(names)} things, as in a function or a loop, and the words are for each of them"
-        says = f"{self.ground.shown(span.file)}: {words} in {span.call}"
+        says = f"{self.ground.shown(span.file)}:{span.line}: {words} in {span.call}"
         return [Candidate((Edit(span.file, span.line, How.WORDS, words, call=span.call),), says, note)]
 
     # What is known of targets

@@ -26,7 +26,7 @@ class GNMends:
         label = maker.target.name
         folder, _, name = label.rpartition(":")
         value = f'":{name}"' if folder == target.name.rpartition(":")[0] else f'"{label}"'
-        says = f"{self.ground.shown(place.file)}: deps of {place.call}(\"{target.variable}\") has {value}"
+        says = f"{self.ground.shown(place.file)}:{place.line}: deps of {place.call}(\"{target.variable}\") has {value}"
         return [Candidate((Edit(place.file, place.line, How.DEPS, value, call=place.call),), says)]
 
     def for_next_build(self, finding: Finding, user: Side, maker: Side | None) -> list[Candidate]:

@@ -94,7 +94,7 @@ def _run(options: Options, voice: Voice) -> int:
     if asker is None:
         raise Unfit(f"no generator that is known here wrote {options.build}/build.ninja: `rebug races --mend "
                     f"{options.recording}` patches the manifest itself")
-    findings = findings_of(options.rebug or launcher(), options.recording)
+    findings, failed = findings_of(options.rebug or launcher(), options.recording)
     chosen = _chosen(findings, options)
     voice.tell(f"asking {asker.name}")
     try:
@@ -102,6 +102,7 @@ def _run(options: Options, voice: Voice) -> int:
     except GeneratorRefused as why:
         raise GeneratorRefused(f"{asker.name} refuses the sources in {asker.top} as they are: {why}") from why
     proposer = Proposer(asker, asked, findings)
+    chosen += proposer.missing(failed) if not options.numbers else []
     outcome = Mender(asker, asked, proposer, voice.tell).mend(chosen)
     answer = Answer(proposer.ground, chosen, outcome)
     for line in map(line_of, answer.objects()) if options.json else answer.lines():

@@ -145,7 +145,10 @@ class Mender:
     def _left_out(self, mends: list[Mend], tried: _Tried) -> tuple[list[Mend], _Tried]:
         """Fewer edits where some of them make others unnecessary, as far as there is time to try that."""
         until = time.monotonic() + _SECONDS_TO_LEAVE_OUT
+        orders = {it.number for it in self.proposer.ground.findings if it.is_order}
         for it in sorted(mends, key=lambda it: len(it.numbers)):
+            if not set(it.numbers) <= orders:
+                continue
             if len(mends) < 2 or time.monotonic() + self.asked.seconds > until or self.tries >= MOST_TRIES:
                 break
             fewer = [other for other in mends if other is not it]
@@ -200,12 +203,29 @@ class Mender:
             return _Tried(f"it changes which commands there are: {', '.join(others[:_MOST_NAMED])}")
         numbers = {number for it in mends for number in it.numbers} | set(more or ())
         found = _Tried(asked=asked)
+        of_next_build = {number for it in mends if it.candidate.is_for_next_build for number in it.numbers}
         for finding in self.proposer.ground.findings:
-            if finding.number in numbers and finding.is_order:
-                why_not = self._why_not(manifest, finding)
-                if why_not:
-                    found.of_finding[finding.number] = why_not
+            if finding.number not in numbers:
+                continue
+            why_not = self._why_not(manifest, finding) if finding.is_order else ""
+            if finding.number in of_next_build:
+                why_not = why_not or self._why_not_named(manifest, finding)
+            if why_not:
+                found.of_finding[finding.number] = why_not
         return found
+
+    def _why_not_named(self, manifest: Manifest, finding: Finding) -> str:
+        """Why a manifest does not name the file of a finding as what its maker makes, or its user reads; empty where it
+        does."""
+        ground = self.proposer.ground
+        sides = ((finding.declare, self._edge(manifest, finding.maker), "outputs"),
+                 (finding.list, self._edge(manifest, finding.user), "inputs"))
+        for name, edge, what in sides:
+            if name and edge is not None:
+                named = edge.outputs if what == "outputs" else [*edge.explicit, *edge.implicit]
+                if ground.path_of(name) not in {ground.path_of(os.fsdecode(it)) for it in named}:
+                    return f"{name} would still not stand among the {what} of {os.fsdecode(edge.name)}"
+        return ""
 
     def _why_not(self, manifest: Manifest, finding: Finding) -> str:
         """Why a finding is not mended in a manifest; empty where it is."""
@@ -217,7 +237,7 @@ class Mender:
         return "it makes a cycle" if waits(manifest, maker, user) else ""
 
     def _edge(self, manifest: Manifest, output: str) -> Edge | None:
-        edge = self.proposer.ground.edge(output)
+        edge = self.proposer.ground.edge(output) if output else None
         return manifest.producer.get(edge.name) if edge is not None else None
 
     def _left(self, proposal: Proposal) -> Left:

@@ -11,8 +11,11 @@ from .findings import Finding
 from .meson import CUSTOM, FUNCTIONS, GENERATOR, RUN, Meson
 from .model import Role, Span, Target
 from .proposing import CannotEdit, Candidate, Ground, Side, free_name
+from .texts import text_of
 
 _WITH_VARIABLE = {*FUNCTIONS, "configure_file"} - {"run_target"}
+_STRING = re.compile(r"'''.*?'''|'(?:[^'\\\n]|\\.)*'", re.S)
+_MOST_FILES = 400
 _IN_SOURCES = (Role.COMPILE, Role.HEADER)
 
 
@@ -71,8 +74,8 @@ class MesonMends:
         before: tuple[Edit, ...] = ()
         variable = maker.variable
         if not variable:
-            texts = {it: self.ground.text(it) for it in (maker.place.file, user.place.file if user.place else "") if it}
-            variable = free_name(maker.name, list(texts.values()))
+            self.ground.text(maker.place.file)
+            variable = free_name(maker.name, self._names_of(maker))
             before = (Edit(maker.place.file, maker.place.line, How.NAME, variable, call=maker.place.call),)
         names = [variable]
         if maker.place.call not in FUNCTIONS and maker.kind == CUSTOM:  # a method of a module gives one or several
@@ -85,13 +88,18 @@ class MesonMends:
             names = [of_part + it[len(variable) :] for it in names]
         return [(it, before) for it in names]
 
+    def _names_of(self, maker: Target) -> list[str]:
+        """The texts of all files of the maker's project, without strings: a variable is known in all of them."""
+        files = {it.file for it in self.meson.targets.values() if it.part_of == maker.part_of and it.file}
+        return [_STRING.sub("''", text_of(it) or "") for it in sorted(files)[:_MOST_FILES]]
+
     def _orders(self, finding: Finding, user: Side, maker: Side, value: str,
                 before: tuple[Edit, ...]) -> list[Candidate]:
         """The candidates for this way to name what the maker makes."""
         place, whole = user.target.place, re.sub(r"\[\d+\]\Z", "", value)
         assert place is not None
         if user.role in _IN_SOURCES and maker.target.kind == CUSTOM:
-            direct = self._source(place, value, before)
+            direct = self._source(place, f"'{user.target.name}'", value, before)
             return self._of_dependencies(finding, user, maker, value, before) + self._moved(direct, user, maker)
         if user.role is Role.LINK:
             return self._moved(self._keyword(place, "link_depends", value, before), user, maker)
@@ -104,15 +112,15 @@ class MesonMends:
                              "have a custom_target make the file, and put that among the sources of the user")
         raise CannotEdit(f"{place.call} takes no `depends:`", "make a custom_target of it, with `depends:`")
 
-    def _source(self, place: Span, value: str, before: tuple[Edit, ...]) -> Candidate:
+    def _source(self, place: Span, name: str, value: str, before: tuple[Edit, ...]) -> Candidate:
         self.ground.text(place.file)
-        says = f"{self.ground.shown(place.file)}: {value} among the sources of {place.call}"
+        says = f"{self.ground.shown(place.file)}:{place.line}: {value} among the sources of {place.call}({name})"
         return Candidate((*before, Edit(place.file, place.line, How.SOURCE, value, call=place.call)), says,
                          self._note(place))
 
     def _keyword(self, place: Span, key: str, value: str, before: tuple[Edit, ...]) -> Candidate:
         self.ground.text(place.file)
-        says = f"{self.ground.shown(place.file)}: {key}: {value} in {place.call}"
+        says = f"{self.ground.shown(place.file)}:{place.line}: {key}: {value} in {place.call}"
         return Candidate((*before, Edit(place.file, place.line, How.KEYWORD, value, call=place.call, key=key)), says,
                          self._note(place))
 

@@ -2,12 +2,15 @@
 
 from __future__ import annotations
 
+import os
+import re
 from typing import Protocol
 
+from ..manifest import Edge
 from .asking import Asked, Asker
 from .cmake import CMake
 from .cmake_mends import CMakeMends
-from .findings import Finding
+from .findings import MISSING, Failed, Finding
 from .gn import GN
 from .gn_mends import GNMends
 from .meson import Meson
@@ -15,6 +18,8 @@ from .meson_mends import MesonMends
 from .model import Generator, Known
 from .proposing import CannotEdit, Candidate, Ground, Proposal, Side
 
+_ERROR = re.compile(r"(?:fatal error: |cannot find |can't open file ')([^\s:']+)")
+_FOLDERS = re.compile(r"-(?:I|isystem ?|iquote ?)\s*([^\s']+)")
 _OWN = {"own": ("the command lists its own output", "the command is to write another file than it reads"),
         "cycle": ("the maker waits for the user, so no order is possible",
                   "part the maker or the user into two commands, or have the user read a file of an earlier one")}
@@ -50,6 +55,28 @@ class Proposer:
             self.known = GN(asker.build, manifest).known()
             self.ground = Ground(asker.build, manifest, self.known, findings)
             self.shapes = GNMends(self.ground)
+
+    def missing(self, failed: list[Failed]) -> list[Finding]:
+        """What failed commands miss by their errors, and one command makes: with numbers below 0."""
+        found: list[Finding] = []
+        for it in failed:
+            edge = self.ground.edge(it.user)
+            for name in dict.fromkeys(match[1] for line in it.lines for match in [_ERROR.search(line)] if match):
+                maker = self._maker_of(name, edge) if edge is not None else None
+                if maker is not None:
+                    output = os.fsdecode(maker.name)
+                    found.append(Finding(-1 - len(found), MISSING, name, output, it.user, output))
+        self.ground.findings += found
+        return found
+
+    def _maker_of(self, name: str, user: Edge) -> Edge | None:
+        """The one command that makes a file of this name where the user's command looks for it."""
+        words = os.fsdecode(user.command)
+        flags = [it for edge_value in (words, *map(os.fsdecode, user.block.values())) for it in _FOLDERS.findall(edge_value)]
+        looked = {self.ground.path_of(os.path.join(it, name)) for it in ["", *flags]}
+        makers = {it.number: it for it in self.ground.manifest.edges if not it.phony and it is not user
+                  for path in it.outputs if self.ground.path_of(os.fsdecode(path)) in looked}
+        return next(iter(makers.values())) if len(makers) == 1 else None
 
     def proposal(self, finding: Finding) -> Proposal:
         """What may mend this finding."""
