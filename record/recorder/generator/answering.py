@@ -74,14 +74,15 @@ class Answer:
 
     def _sum(self) -> str:
         mended = {number for it in self.outcome.mends for number in it.numbers}
-        edits = len({edit for it in self.outcome.mends for edit in it.candidate.edits})
-        parts = [f"{_counted(edits, 'edit')} for {_counted(len(mended), 'finding')}"]
+        mends = len(self.outcome.mends)
+        parts = [f"{_counted(mends, 'mend')} for {_counted(len(mended), 'finding')}"]
         if self.outcome.already:
             parts.append(f"{len(self.outcome.already)} mended already")
         if self.outcome.left:
-            parts.append(f"{len(self.outcome.left)} without an edit")
-        if self.outcome.waits is not None and edits:
-            parts.append(f"{_counted(self.outcome.waits, 'order')} more between commands")
+            parts.append(f"{len(self.outcome.left)} without a mend")
+        if self.outcome.waits is not None and mends:
+            parts.append(f"{_counted(self.outcome.waits, 'pair')} of commands {'has' if self.outcome.waits == 1 else 'have'} "
+                         f"an order that had none")
         return "; ".join(parts) if self.findings else "no finding"
 
     # The patch

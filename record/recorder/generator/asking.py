@@ -30,7 +30,7 @@ _MOST_SAID = 8192
 _EARS = os.path.join(os.path.dirname(os.path.realpath(__file__)), "meson_ears.py")
 _UNKNOWN_MESON = 77
 _FRAME = re.compile(rb'"global_frame":(\d+)')
-_TOLD = re.compile(rb'"cmd":"(add_custom_command|add_custom_target|add_library|add_executable|externalproject_add)"',
+_TOLD = re.compile(rb'"cmd":"(add_custom_command|add_custom_target|add_library|add_executable|target_link_libraries)"',
                    re.IGNORECASE)
 _EVALUATED = re.compile(r"(.*):(\d+):EVAL")
 

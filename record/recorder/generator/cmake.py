@@ -68,7 +68,8 @@ class CMake:
         self.reply = reply or Reply()
         self.targets: dict[str, Target] = {}
         self.custom: dict[str, Target] = {}
-        self.calls = calls
+        self.patterns: list[tuple[re.Pattern[str], Target]] = []
+        self.links: dict[str, list[str]] = {}
         self.post_builds: dict[str, list[TracedCall]] = {}
         self.texts: Texts[Call] = Texts(cmake_calls)
         self.headings = headings(manifest)
@@ -96,6 +97,16 @@ class CMake:
         path = os.path.normpath(path)
         return path[len(self.build) + 1 :] if path.startswith(self.build + "/") else path
 
+    def linked(self, name: str) -> set[str]:
+        """The targets that a target is linked with, also through others, and itself."""
+        todo, found = [name], {name}
+        while todo:
+            for it in self.links.get(todo.pop(), ()):
+                if it not in found and (it in self.targets or it in self.links):
+                    found.add(it)
+                    todo.append(it)
+        return {it for it in found if it in self.targets}
+
     def _take_reply(self) -> None:
         for it in self.reply.targets.values():
             target = Target(it.name, it.kind, folder=it.folder, binary=it.binary, outputs=it.outputs)
@@ -110,6 +121,12 @@ class CMake:
 
     def _take_call(self, call: TracedCall) -> None:
         arguments = call.arguments
+        if call.command == "target_link_libraries":
+            self.links.setdefault(arguments[0], []).extend(it for word in arguments[1:] for it in word.split(";"))
+            return
+        if call.command == "add_library" and arguments[1:2] == ["ALIAS"]:
+            self.links.setdefault(arguments[0], []).extend(arguments[2:3])
+            return
         folder = next((os.path.dirname(it.file) for it in call.spans if os.path.basename(it.file) == LISTS), self.top)
         binary = self.reply.binaries.get(folder) or os.path.normpath(
             os.path.join(self.build, os.path.relpath(folder, self.top)))
@@ -131,7 +148,11 @@ class CMake:
     def _take_outputs(self, call: TracedCall, outputs: list[str], folder: str, binary: str) -> None:
         for it in outputs:
             path = self.relative(os.path.join(binary, it))
-            rule = self.custom.setdefault(path, Target(path, CUSTOM))
+            if "$<" in path:
+                rule = Target(path, CUSTOM)
+                self.patterns.append((_pattern(path), rule))
+            else:
+                rule = self.custom.setdefault(path, Target(path, CUSTOM))
             if rule.kind != CUSTOM:
                 continue
             rule.spans, rule.place_basis = self._of_the_user(call.spans), Basis.EXACT
@@ -177,14 +198,28 @@ class CMake:
         if utility is not None:
             return self._target(utility, UTILITY, self._folder_of_utility(utility)), Role.COMMAND
         rule = next((self.custom[it] for it in outputs if it in self.custom), None)
-        if rule is None:
-            rule = self.custom[outputs[0]] = Target(outputs[0], CUSTOM)
+        if rule is None or rule.kind == CUSTOM and not rule.spans:
+            carriers = rule.carriers if rule is not None else []
+            rule = self.custom[outputs[0]] = self._by_pattern(outputs) or rule or Target(outputs[0], CUSTOM)
+            rule.carriers += [it for it in carriers if it not in rule.carriers]
         if rule.kind == CUSTOM and not rule.carriers:
             rule.carriers += list(dict.fromkeys(name for it in edge.outputs for name in self.users.get(it, ())))
         if not rule.folder and rule.carriers:
             rule.folder = self._folder_of_carrier(rule.carriers[0])
         rule.outputs = rule.outputs or outputs
         return rule, Role.COMMAND if rule.kind == UTILITY else Role.CUSTOM
+
+    def _by_pattern(self, outputs: list[str]) -> Target | None:
+        """The one command of the trace whose outputs, which have generator expressions, can be these: of several the one
+        whose words name an output."""
+        found = [rule for pattern, rule in self.patterns if any(pattern.fullmatch(it) for it in outputs)]
+        names = {os.path.basename(it) for it in outputs}
+        near = [it for it in found if names & {os.path.basename(word) for word in it.arguments}]
+        found = found if len(found) == 1 else near
+        if len(found) != 1:
+            return None
+        found[0].name = outputs[0]
+        return found[0]
 
     def _folder_of_utility(self, name: str) -> str:
         """The folder of what a custom target makes, by the name that stands for the target."""
@@ -225,6 +260,20 @@ class CMake:
                      and (it.name.lower() in _DECLARING or it.name.lower() == "externalproject_add")]
         if len(found) == 1:
             target.spans = [Span(path, found[0].line, found[0].last_line, found[0].name)]
+
+
+def _pattern(path: str) -> re.Pattern[str]:
+    """What a path can become whose generator expressions CMake has not evaluated."""
+    found, deep, piece = "", 0, ""
+    for place, letter in enumerate(path):
+        if path.startswith("$<", place):
+            found += re.escape(piece) + (".*" if not deep else "")
+            deep, piece = deep + 1, ""
+        elif letter == ">" and deep:
+            deep -= 1
+        elif not deep:
+            piece += letter
+    return re.compile(found + re.escape(piece), re.S)
 
 
 def _role_in_target(edge: Edge) -> Role:

@@ -12,6 +12,7 @@ from .model import Role, Span, Target
 from .proposing import CannotEdit, Candidate, Ground, Side, free_name, waited_for
 
 _IN_TARGET = (Role.COMPILE, Role.HEADER, Role.LINK, Role.COMMAND)
+_READING = {"add_subdirectory", "include", "find_package", "subdirs"}
 _OF_OUTSIDE = "externalproject_add"
 
 
@@ -52,6 +53,7 @@ class CMakeMends:
         if user.role is Role.LINK and maker.role is Role.CUSTOM:
             found += self._behind(user.target, f"set_property(TARGET {user.target.name} APPEND PROPERTY LINK_DEPENDS "
                                                f"{self._path(made, user.target)})")
+        found += self._in_a_library(finding, utilities if maker.role is Role.CUSTOM else carriers)
         named = carriers if maker.role is not Role.CUSTOM else sorted(utilities, key=self._cost)
         for name in named:
             found += self._dependency(user.target, name)
@@ -64,6 +66,27 @@ class CMakeMends:
             for name in carriers:
                 found += self._dependency(user.target, name)
         return found
+
+    def _in_a_library(self, finding: Finding, makers: list[str]) -> list[Candidate]:
+        """One dependency of a library that several users are linked with: one that all of them have, or that not many
+        others have."""
+        others = [(it.number, self.ground.side(it.user)) for it in self.ground.findings
+                  if it.is_order and it.maker == finding.maker]
+        users = {number: side.target.name for number, side in others if side is not None and side.role in _IN_TARGET}
+        if len(set(users.values())) < 2:
+            return []
+        linked = {name: self.cmake.linked(name) for name in self.cmake.targets}
+        of_user = {number: linked.get(name, {name}) for number, name in users.items()}
+        found = []
+        for library in sorted(of_user.get(finding.number, ())):
+            numbers = tuple(number for number, them in of_user.items() if library in them)
+            names = {users[it] for it in numbers}
+            count = sum(library in them for them in linked.values())
+            if len(names) > 1 and (len(names) == len(set(users.values())) or count <= 2 * len(names)):
+                found += [(count, Candidate(it.edits, it.says, it.note, numbers))
+                          for name in sorted(makers, key=self._cost)
+                          for it in self._dependency(self.cmake.targets[library], name)]
+        return [it for _, it in sorted(found, key=lambda them: them[0])]
 
     def _dependency(self, user: Target, maker: str) -> list[Candidate]:
         if maker == user.name:
@@ -189,10 +212,18 @@ class CMakeMends:
         self.ground.text(span.file)
         names = {*self.spans.get((span.file, span.line), ()), *self.rules.get((span.file, span.line), ())}
         note = ""
+        function = self._function_around(target, span)
         if names - {target.name, *target.outputs} and span.call.lower() != _OF_OUTSIDE:
             note = f"this call makes {len(names)} things, as in a function or a loop, and the words are for each of them"
+        elif function:
+            note = f"the words stand in {function}, and are for each call of it"
         says = f"{self.ground.shown(span.file)}:{span.line}: {words} in {span.call}"
         return [Candidate((Edit(span.file, span.line, How.WORDS, words, call=span.call),), says, note)]
+
+    def _function_around(self, target: Target, span: Span) -> str:
+        """The function or macro that a call stands in; empty where it stands in none."""
+        outer = target.spans[target.spans.index(span) + 1 :] if span in target.spans else []
+        return next((it.call for it in outer[:1] if it.call.lower() not in _READING), "")
 
     # What is known of targets
 

@@ -240,12 +240,19 @@ class Mender:
         edge = self.proposer.ground.edge(output) if output else None
         return manifest.producer.get(edge.name) if edge is not None else None
 
+    def _advice(self, proposal: Proposal, tried: list[tuple[str, str]]) -> str:
+        """What is to be done in general, by what came of the tries."""
+        if any("Unknown variable" in why for _, why in tried):
+            return ("the maker is declared in a folder that Meson reads later: have its subdir() come before that of the "
+                    "user, and then ask again")
+        return proposal.advice or self.proposer.advice(proposal.finding)
+
     def _left(self, proposal: Proposal) -> Left:
         number = proposal.finding.number
         tried = [(it.says, self.struck[number, it.edits]) for it in proposal.candidates
                  if (number, it.edits) in self.struck]
         why = proposal.why_not or ("no edit that was tried mends it" if tried else "there was no try left for it")
-        return Left(proposal.finding, why, proposal.advice or self.proposer.advice(proposal.finding), tried)
+        return Left(proposal.finding, why, self._advice(proposal, tried), tried)
 
 
 def _says_already(known: set[Edit], edit: Edit) -> bool:
@@ -264,31 +271,34 @@ _MOST_EDGES = 8_000
 
 
 def _added_orders(old: Manifest, new: Manifest) -> int | None:
-    """How many pairs of commands the new manifest has in an order, and the old one not; None where there are too many
-    commands to count."""
+    """How many pairs of commands have an order in the new manifest, and had none in the old one. None where there are
+    too many commands to count."""
     if max(len(old.edges), len(new.edges)) > _MOST_EDGES:
         return None
-    return _orders(new) - _orders(old)
+    places: dict[bytes, int] = {}
+    for edge in (*old.edges, *new.edges):
+        places.setdefault(edge.name, len(places))
+    before, after = _orders(old, places), _orders(new, places)
+    return sum((found & ~before.get(name, 0)).bit_count() for name, found in after.items())
 
 
-def _orders(manifest: Manifest) -> int:
-    """How many pairs of commands have an order."""
-    before: dict[int, int] = {}
-    commands = sum(1 << it.number for it in manifest.edges if not it.phony)
+def _orders(manifest: Manifest, places: dict[bytes, int]) -> dict[bytes, int]:
+    """The commands that each command waits for, as bits at the places of their first outputs."""
+    found: dict[int, int] = {}
     for edge in manifest.edges:
         todo = [edge]
         while todo:
             it = todo[-1]
-            makers = {maker.number: maker for path in it.inputs
-                      if (maker := manifest.producer.get(path)) is not None and maker is not it}
-            missing = [maker for number, maker in makers.items() if number not in before]
-            if it.number not in before and missing:
-                before[it.number] = 0  # so that a cycle ends
+            makers = [maker for path in it.inputs if (maker := manifest.producer.get(path)) is not None
+                      and maker is not it]
+            missing = [maker for maker in makers if maker.number not in found]
+            if it.number not in found and missing:
+                found[it.number] = 0  # so that a cycle ends
                 todo += missing
                 continue
             todo.pop()
-            found = 0
-            for number in makers:
-                found |= before.get(number, 0) | 1 << number
-            before[it.number] = found
-    return sum((found & commands).bit_count() for number, found in before.items() if commands >> number & 1)
+            bits = 0
+            for maker in makers:
+                bits |= found.get(maker.number, 0) | (0 if maker.phony else 1 << places[maker.name])
+            found[it.number] = bits
+    return {edge.name: found[edge.number] for edge in manifest.edges if not edge.phony}

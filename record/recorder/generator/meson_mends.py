@@ -146,7 +146,8 @@ class MesonMends:
 
     def _of_dependencies(self, finding: Finding, user: Side, maker: Side, value: str,
                          before: tuple[Edit, ...]) -> list[Candidate]:
-        """`sources:` of a dependency that all users of this maker have, where there are several, the rarest first."""
+        """`sources:` of a dependency that several users of this maker have: one that all of them have, or that not many
+        others have. The rarest is first."""
         if user.target.part_of != maker.target.part_of:
             return []
         others = [it for it in self.ground.findings if it.is_order and it.maker == finding.maker]
@@ -154,11 +155,14 @@ class MesonMends:
         users = {side.target.name: side.target for _, side in sides if side is not None and side.role in _IN_SOURCES}
         if len(users) < 2:
             return []
-        common = set.intersection(*(set(it.dependencies) for it in users.values()))
-        count = {name: sum(name in it.dependencies for it in self.meson.targets.values()) for name in common}
-        numbers = tuple(it.number for it, side in sides if side is not None and side.target.name in users)
+        count = {name: sum(name in it.dependencies for it in self.meson.targets.values())
+                 for name in user.target.dependencies}
         found = []
         for name in sorted(count, key=lambda it: (count[it], it)):
+            having = [it for it in users.values() if name in it.dependencies]
+            if len(having) < 2 or len(having) < len(users) and count[name] > 2 * len(having):
+                continue
+            numbers = tuple(it.number for it, side in sides if side is not None and name in side.target.dependencies)
             target = self.meson.dependencies.get(name)
             if target is None or target.place is None or not self.ground.is_of_the_user(target.place.file):
                 continue
