@@ -37,7 +37,7 @@ class Answer:
     def lines(self) -> Iterator[str]:
         """The answer in words."""
         for finding in self.findings:
-            yield from self._of_finding(finding)
+            yield from map(_visible, self._of_finding(finding))
         yield from self.patch()
         yield self._sum()
 
@@ -136,6 +136,11 @@ def _described(target: Target, role: Role) -> str:
         return f"{_ROLES[role]} {target.name}"
     named = ", ".join(target.carriers[:_MOST_LISTED])
     return f"{target.kind} {target.name}{f' (of {named})' if named else ''}"
+
+
+def _visible(line: str) -> str:
+    """A line without letters that a terminal takes for more than that: names may be somebody else's."""
+    return "".join(it if it.isprintable() else it.encode("unicode_escape").decode() for it in line)
 
 
 def _mend_word(it: Mend, finding: Finding) -> str:

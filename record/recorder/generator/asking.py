@@ -84,8 +84,8 @@ class Asker:
         else:
             from .gn import root_of
             top, words = root_of(build, manifest) or "", _words_of_rule(manifest, b"gn")
-        if not os.path.isdir(top):
-            raise Unasked(f"the folder of the sources that {build} names is not there: {top or 'none'}")
+        if not os.path.isdir(top) or os.path.realpath(top) == "/" or build == "/":
+            raise Unasked(f"the folder of the sources that {build} names is none that can be copied: {top or 'none'}")
         return Asker(build, os.path.realpath(top), generator, words)
 
     @property

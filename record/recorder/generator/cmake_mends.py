@@ -9,7 +9,7 @@ from .cmake import LISTS, UTILITY, CMake, TracedCall
 from .edits import Edit, How
 from .findings import Finding
 from .model import Role, Span, Target
-from .proposing import CannotEdit, Candidate, Ground, Side, free_name, waited_for
+from .proposing import CannotEdit, Candidate, Ground, Side, free_name, plain, waited_for
 
 _IN_TARGET = (Role.COMPILE, Role.HEADER, Role.LINK, Role.COMMAND)
 _READING = {"add_subdirectory", "include", "find_package", "subdirs"}
@@ -21,6 +21,8 @@ class CMakeMends:
 
     def __init__(self, ground: Ground, cmake: CMake) -> None:
         self.ground, self.cmake = ground, cmake
+        self.shared: dict[str, list[tuple[str, Candidate]]] = {}
+        self.linked: dict[str, set[str]] = {}
         self.spans: dict[tuple[str, int], list[str]] = {}
         for it in cmake.targets.values():
             for span in it.spans:
@@ -70,23 +72,34 @@ class CMakeMends:
     def _in_a_library(self, finding: Finding, makers: list[str]) -> list[Candidate]:
         """One dependency of a library that several users are linked with: one that all of them have, or that not many
         others have."""
-        others = [(it.number, self.ground.side(it.user)) for it in self.ground.findings
-                  if it.is_order and it.maker == finding.maker]
-        users = {number: side.target.name for number, side in others if side is not None and side.role in _IN_TARGET}
-        if len(set(users.values())) < 2:
-            return []
-        linked = {name: self.cmake.linked(name) for name in self.cmake.targets}
-        of_user = {number: linked.get(name, {name}) for number, name in users.items()}
+        user = self.ground.side(finding.user)
+        if finding.maker not in self.shared:
+            self.shared[finding.maker] = self._shared(finding.maker, sorted(makers, key=self._cost))
+        linked = self._linked_of(user.target.name) if user is not None else set()
+        return [candidate for library, candidate in self.shared[finding.maker] if library in linked]
+
+    def _linked_of(self, name: str) -> set[str]:
+        if name not in self.linked:
+            self.linked[name] = self.cmake.linked(name)
+        return self.linked[name]
+
+    def _shared(self, maker: str, makers: list[str]) -> list[tuple[str, Candidate]]:
+        """The libraries that several users of a maker are linked with, the rarest first, each with its candidate."""
+        sides = [(it.number, self.ground.side(it.user)) for it in self.ground.of_maker(maker)]
+        users = {number: side.target.name for number, side in sides if side is not None and side.role in _IN_TARGET}
+        names = set(users.values())
+        having: dict[str, set[str]] = {}
+        for name in names if len(names) > 1 else ():
+            for library in self._linked_of(name):
+                having.setdefault(library, set()).add(name)
         found = []
-        for library in sorted(of_user.get(finding.number, ())):
-            numbers = tuple(number for number, them in of_user.items() if library in them)
-            names = {users[it] for it in numbers}
-            count = sum(library in them for them in linked.values())
-            if len(names) > 1 and (len(names) == len(set(users.values())) or count <= 2 * len(names)):
-                found += [(count, Candidate(it.edits, it.says, it.note, numbers))
-                          for name in sorted(makers, key=self._cost)
+        for library, them in sorted(having.items()):
+            count = sum(library in self._linked_of(name) for name in self.cmake.targets)
+            if len(them) > 1 and (len(them) == len(names) or count <= 2 * len(them)):
+                numbers = tuple(number for number, name in users.items() if name in them)
+                found += [(count, library, Candidate(it.edits, it.says, it.note, numbers)) for name in makers
                           for it in self._dependency(self.cmake.targets[library], name)]
-        return [it for _, it in sorted(found, key=lambda them: them[0])]
+        return [(library, it) for _, library, it in sorted(found, key=lambda them: them[:2])]
 
     def _dependency(self, user: Target, maker: str) -> list[Candidate]:
         if maker == user.name:
@@ -146,16 +159,22 @@ class CMakeMends:
         """What says that the maker makes the file, and that the user reads it."""
         found: list[Candidate] = []
         if finding.declare and maker is not None:
-            found += self._byproducts(finding.declare, maker)
-        if finding.list and user.role in (Role.CUSTOM, Role.COMMAND) and self._is_outside(user.target):
+            found += self._byproducts(self.ground.path_to_make(finding.declare), maker)
+        if finding.list:
+            found += self._listed(finding.list, user)
+        return [Candidate(it.edits, it.says, it.note, is_for_next_build=True) for it in found]
+
+    def _listed(self, name: str, user: Side) -> list[Candidate]:
+        """What says that a command reads a file."""
+        if user.role in (Role.CUSTOM, Role.COMMAND) and self._is_outside(user.target):
             raise CannotEdit(f"{user.target.name} is a step of ExternalProject_Add, which names what it reads itself",
                              "a step that is to run again with a file is added by ExternalProject_Add_Step, with DEPENDS")
-        if finding.list and user.target.place is not None and user.role in (Role.CUSTOM, Role.COMMAND):
-            found += self._words(user.target, f"DEPENDS {self._path(finding.list, user.target)}")
-        elif finding.list and user.role is Role.LINK:
-            found += self._behind(user.target, f"set_property(TARGET {user.target.name} APPEND PROPERTY LINK_DEPENDS "
-                                               f"{self._path(finding.list, user.target)})")
-        return [Candidate(it.edits, it.says, it.note, is_for_next_build=True) for it in found]
+        path = self._path(self.ground.path_to_read(name), user.target)
+        if user.role in (Role.CUSTOM, Role.COMMAND):
+            return self._words(user.target, f"DEPENDS {path}")
+        if user.role is Role.LINK:
+            return self._behind(user.target, f"set_property(TARGET {user.target.name} APPEND PROPERTY LINK_DEPENDS {path})")
+        return []
 
     def _byproducts(self, path: str, maker: Side) -> list[Candidate]:
         target = maker.target
@@ -247,8 +266,8 @@ class CMakeMends:
                  (target.folder, "${CMAKE_CURRENT_SOURCE_DIR}"), (self.ground.top, "${CMAKE_SOURCE_DIR}"))
         for root, variable in roots:
             if root and path.startswith(root + "/"):
-                return _word(variable + path[len(root) :])
-        return _word(path)
+                return _word(variable, path[len(root) :])
+        return _word("", path)
 
     def _is_outside(self, target: Target) -> bool:
         return any(it.call.lower() == _OF_OUTSIDE for it in target.spans)
@@ -257,6 +276,7 @@ class CMakeMends:
         return next(it for it in target.spans if it.call.lower() == _OF_OUTSIDE)
 
 
-def _word(text: str) -> str:
-    """A path as one word of CMake."""
-    return f'"{text}"' if any(it in text for it in ' ;()#"\\') else text
+def _word(variable: str, path: str) -> str:
+    """A path as one word of CMake, behind a variable. Raises CannotEdit."""
+    text = variable + plain(path)
+    return f'"{text}"' if " " in text else text

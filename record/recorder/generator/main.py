@@ -18,6 +18,7 @@ from .mending import Mender, Outcome
 from .proposer import Proposer
 from .words import NAME, BadWords, HelpWanted, Options, read_words
 
+MOST_FINDINGS = 1_000
 GOOD, LEFT, NOT_DONE, CANNOT = 0, 4, 2, 3
 
 
@@ -96,13 +97,16 @@ def _run(options: Options, voice: Voice) -> int:
                     f"{options.recording}` patches the manifest itself")
     findings, failed = findings_of(options.rebug or launcher(), options.recording)
     chosen = _chosen(findings, options)
+    if len(chosen) > MOST_FINDINGS:
+        voice.say(f"of {len(chosen)} findings the first {MOST_FINDINGS} are mended: with numbers, others are")
+        chosen = chosen[:MOST_FINDINGS]
     voice.tell(f"asking {asker.name}")
     try:
         asked = asker.ask()
     except GeneratorRefused as why:
         raise GeneratorRefused(f"{asker.name} refuses the sources in {asker.top} as they are: {why}") from why
     proposer = Proposer(asker, asked, findings)
-    chosen += proposer.missing(failed) if not options.numbers else []
+    chosen += proposer.missing(failed[:MOST_FINDINGS]) if not options.numbers else []
     outcome = Mender(asker, asked, proposer, voice.tell).mend(chosen)
     answer = Answer(proposer.ground, chosen, outcome)
     for line in map(line_of, answer.objects()) if options.json else answer.lines():

@@ -59,6 +59,11 @@ class _Tried:
     of_finding: dict[int, str] = field(default_factory=dict)
     asked: Asked | None = None
 
+    @property
+    def is_good(self) -> bool:
+        """Whether all that was tried holds."""
+        return not self.why and not self.of_finding
+
 
 class Mender:
     """Mends the findings of a recording in the files of its generator."""
@@ -69,6 +74,7 @@ class Mender:
         self.commands = _commands(self.manifest)
         self.tries = 0
         self.struck: dict[tuple[int, tuple[Edit, ...]], str] = {}
+        self.best: tuple[list[Mend], _Tried] = [], _Tried()
 
     def mend(self, findings: list[Finding]) -> Outcome:
         """Chooses and tries. Raises what a copy raises."""
@@ -116,23 +122,35 @@ class Mender:
         return found
 
     def _chosen(self, proposals: list[Proposal]) -> tuple[list[Mend], _Tried]:
-        """Candidates that hold together. What does not hold is struck out, and others are chosen."""
+        """Candidates that hold together. What does not hold is struck out, and others are chosen. Where there is no try
+        left, the most that held together are taken."""
         while self.tries < MOST_TRIES:
             chosen = self._choose(proposals)
             if not chosen:
                 break
             tried = self._try(chosen)
-            if not tried.why and not tried.of_finding:
+            if tried.is_good:
                 return chosen, tried
-            if len(chosen) == 1 or not tried.why:
-                self._strike(chosen, tried)
-                continue
-            alone = [(it, self._try([it])) for it in chosen if self.tries < MOST_TRIES]
-            for it, one in alone:
-                self._strike([it], one)
-            if not any(one.why or one.of_finding for _, one in alone):
-                self._strike(chosen[-1:], _Tried(f"not beside the other edits: {tried.why}"))
-        return [], _Tried()
+            self._part(chosen, tried)
+        return self.best
+
+    def _part(self, mends: list[Mend], tried: _Tried) -> None:
+        """Strikes out what does not hold of edits that did not hold together: by halves, where the generator refuses
+        them."""
+        if len(mends) == 1 or not tried.why:
+            self._strike(mends, tried)
+            return
+        middle, is_good = len(mends) // 2, True
+        for half in (mends[:middle], mends[middle:]):
+            if self.tries < MOST_TRIES:
+                one = self._try(half)
+                is_good = is_good and one.is_good
+                if not one.is_good:
+                    self._part(half, one)
+                elif sum(len(it.numbers) for it in half) > sum(len(it.numbers) for it in self.best[0]):
+                    self.best = half, one
+        if is_good:
+            self._strike(mends[-1:], _Tried(f"not beside the other edits: {tried.why}"))
 
     def _strike(self, mends: list[Mend], tried: _Tried) -> None:
         """Notes of each finding why the edit that was chosen for it does not mend it."""
@@ -154,7 +172,7 @@ class Mender:
             fewer = [other for other in mends if other is not it]
             lacking = [number for number in it.numbers if not any(number in other.numbers for other in fewer)]
             without = self._try(fewer, lacking)
-            if not without.why and not without.of_finding:
+            if without.is_good:
                 fewer[0].numbers = sorted({*fewer[0].numbers, *lacking})
                 mends, tried = fewer, without
         return mends, tried
@@ -174,7 +192,7 @@ class Mender:
             if self.tries >= MOST_TRIES:
                 break
             more = self._try([*mends, it])
-            if not more.why and not more.of_finding:
+            if more.is_good:
                 mends, tried = [*mends, it], more
         return mends, tried
 

@@ -37,14 +37,14 @@ class MesonMends:
 
     def for_next_build(self, finding: Finding, user: Side, _: Side | None) -> list[Candidate]:
         """What says that a command reads a source."""
-        target, path = user.target, self.ground.path_of(finding.list) if finding.list else ""
-        is_source = bool(path) and path.startswith(self.ground.top + "/") and not path.startswith(self.ground.build + "/")
-        if not is_source or target.place is None or os.path.isdir(path):
+        target = user.target
+        key = {Role.CUSTOM: "depend_files", Role.LINK: "link_depends"}.get(user.role)
+        if not finding.list or key is None or target.place is None or target.kind == GENERATOR:
+            return []
+        path = self.ground.path_to_read(finding.list)
+        if not path.startswith(self.ground.top + "/") or path.startswith(self.ground.build + "/"):
             return []
         name = os.path.relpath(path, os.path.dirname(target.place.file))
-        key = {Role.CUSTOM: "depend_files", Role.LINK: "link_depends"}.get(user.role)
-        if key is None or "'" in name or target.kind == GENERATOR:
-            return []
         candidate = self._keyword(target.place, key, f"files('{name}')", ())
         return [Candidate(candidate.edits, candidate.says, is_for_next_build=True)]
 
@@ -148,10 +148,9 @@ class MesonMends:
                          before: tuple[Edit, ...]) -> list[Candidate]:
         """`sources:` of a dependency that several users of this maker have: one that all of them have, or that not many
         others have. The rarest is first."""
-        if user.target.part_of != maker.target.part_of:
+        if user.target.part_of != maker.target.part_of or len(self.ground.of_maker(finding.maker)) < 2:
             return []
-        others = [it for it in self.ground.findings if it.is_order and it.maker == finding.maker]
-        sides = [(it, self.ground.side(it.user)) for it in others]
+        sides = [(it, self.ground.side(it.user)) for it in self.ground.of_maker(finding.maker)]
         users = {side.target.name: side.target for _, side in sides if side is not None and side.role in _IN_SOURCES}
         if len(users) < 2:
             return []

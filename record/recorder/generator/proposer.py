@@ -20,9 +20,8 @@ from .proposing import CannotEdit, Candidate, Ground, Proposal, Side
 
 _ERROR = re.compile(r"(?:fatal error: |cannot find |can't open file ')([^\s:']+)")
 _FOLDERS = re.compile(r"-(?:I|isystem ?|iquote ?)\s*([^\s']+)")
-_OWN = {"own": ("the command lists its own output", "the command is to write another file than it reads"),
-        "cycle": ("the maker waits for the user, so no order is possible",
-                  "part the maker or the user into two commands, or have the user read a file of an earlier one")}
+_OWN = {"own": ("the command lists its own output", "the command is to write another file than it reads")}
+_OF_CYCLE = "part the maker or the user into two commands, or have the user read a file of an earlier one"
 
 
 class Shapes(Protocol):
@@ -87,6 +86,8 @@ class Proposer:
                 raise CannotEdit("no edit is known for this shape", self.advice(finding))
         except CannotEdit as why:
             found.why_not, found.advice = why.why, why.advice
+        if finding.kind == "cycle":
+            found.why_not, found.advice = "the maker waits for the user, and no edit that was tried changes that", _OF_CYCLE
         return found
 
     def extras(self, finding: Finding) -> list[Candidate]:

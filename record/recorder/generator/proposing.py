@@ -69,6 +69,7 @@ class Ground:
     known: Known
     findings: list[Finding]
     texts: dict[str, str] = field(default_factory=dict)
+    _of_maker: dict[str, list[Finding]] = field(default_factory=dict)
 
     @property
     def top(self) -> str:
@@ -80,6 +81,14 @@ class Ground:
         if found is None and os.path.isabs(output) and output.startswith(self.build + "/"):
             found = self.manifest.producer.get(canonical(os.fsencode(output[len(self.build) + 1 :])))
         return found
+
+    def of_maker(self, maker: str) -> list[Finding]:
+        """The findings whose users are to wait for this maker."""
+        if not self._of_maker:
+            for it in self.findings:
+                if it.is_order:
+                    self._of_maker.setdefault(it.maker, []).append(it)
+        return self._of_maker.get(maker, [])
 
     def side(self, output: str) -> Side | None:
         """The command that makes an output; None where no target is known for it."""
@@ -116,6 +125,35 @@ class Ground:
     def path_of(self, name: str) -> str:
         """The absolute path of what the manifest or an observation names."""
         return os.path.normpath(os.path.join(self.build, name))
+
+    def path_to_read(self, name: str) -> str:
+        """The path of a file that an edit may have a command depend on: one that is there, or that a command makes. The
+        name may come from somebody else's recording. Raises CannotEdit."""
+        path = plain(self.path_of(name))
+        if not os.path.isfile(path) and self.edge(path) is None:
+            raise CannotEdit("what the command reads is no file that is there, and no command makes it",
+                             "build again, record that build, and ask of its recording")
+        return path
+
+    def path_to_make(self, name: str) -> str:
+        """The path of a file that an edit may say a command makes: below the build folder, since `ninja -t clean` takes
+        away what a line names as its output. Raises CannotEdit."""
+        path = plain(self.path_of(name))
+        if not path.startswith(self.build + "/"):
+            raise CannotEdit("the file stands outside of the build folder, and `ninja -t clean` would take it away",
+                             "have the command make the file below the build folder")
+        return path
+
+
+_PLAIN = re.compile(r"[\w+\-./~,= ]+")
+
+
+def plain(path: str) -> str:
+    """A path that no language of a generator takes for more than its letters. Raises CannotEdit."""
+    if not _PLAIN.fullmatch(path) or not path.isprintable():
+        raise CannotEdit("the name of the file has letters that a generator's file gives another sense",
+                         "give the file a name of letters, digits, and . - _ + alone")
+    return path
 
 
 def free_name(name: str, texts: list[str]) -> str:
