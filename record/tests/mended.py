@@ -42,7 +42,8 @@ MESON = "project('flake', 'c')\ngen = find_program('gen.sh')\n"
 @dataclass
 class Project:
     """The files of a project, and the mends that are due, in the words of the answer. The compiler begins `slow`
-    seconds late, where its words have `slow_for`; `gen.sh -i` reads after a time. `targets` are words for Ninja."""
+    seconds late, where its words have `slow_for`; `gen.sh -i` reads after a time. `targets` are words for Ninja.
+    What `left` names in the build folder no line declares, so that it is taken away for a build from nothing."""
 
     files: dict[str, str]
     due: list[str]
@@ -51,6 +52,7 @@ class Project:
     reads_after: float = 0.5
     targets: list[str] = field(default_factory=list)
     generator: str = "Ninja"
+    left: list[str] = field(default_factory=list)
 
     @property
     def tool(self) -> str:
@@ -128,7 +130,7 @@ int main(void){return V;}
     }, ["CMakeLists.txt:7: add_dependencies(app tool)",
         "CMakeLists.txt:6: BYPRODUCTS ${CMAKE_CURRENT_BINARY_DIR}/v.h in add_custom_command",
         "CMakeLists.txt:5: set_property(TARGET tool APPEND PROPERTY LINK_DEPENDS ${CMAKE_CURRENT_SOURCE_DIR}/gen.sh)"],
-        slow=1.2, slow_for="one.c"),
+        slow=1.2, slow_for="one.c", left=["v.h"]),
     "c06-custom-custom": Project({
         "CMakeLists.txt": HEAD + VERSION + """\
 add_custom_command(
@@ -160,11 +162,10 @@ target_include_directories(app PRIVATE ${CMAKE_BINARY_DIR})
 """,
         "ext/x": "",
         "one.c": ONE,
-    }, ["CMakeLists.txt:6: add_dependencies(app ext)",
+    }, ["CMakeLists.txt:7: add_dependencies(app ext)",
         "CMakeLists.txt:5: BUILD_BYPRODUCTS ${CMAKE_CURRENT_BINARY_DIR}/v.h in ExternalProject_Add",
-        "no: ext-prefix/src/ext-stamp/ext-mkdir is a step of ExternalProject_Add, which names what it reads itself",
         "no: ext-prefix/src/ext-stamp/ext-build is a step of ExternalProject_Add, which names what it reads itself"],
-        slow=2.5, slow_for="one.c"),
+        slow=2.5, slow_for="one.c", left=["v.h", "ext-prefix"]),
     "c09-target-command": Project({
         "CMakeLists.txt": HEAD + """\
 add_custom_target(stamp ALL COMMAND ${GEN} ${CMAKE_BINARY_DIR}/v.h)
@@ -380,7 +381,7 @@ shared_library('so', 'core.c', link_args: '-Wl,--version-script=app.map')
 """,
         "map.in": "{ global: core; local: *; };\n",
         "core.c": "int core(void){return 1;}\n",
-    }, ["meson.build:4: link_depends: map in shared_library"]),
+    }, ["meson.build:5: link_depends: map in shared_library"]),
     "m12-private-header": Project({
         "meson.build": MESON + """\
 g = generator(gen, output: '@BASENAME@.h', arguments: ['@OUTPUT@'])
@@ -582,7 +583,7 @@ toolchain("gcc") {
   }
   tool("link") {
     outputs = [ "{{target_output_name}}" ]
-    command = "@CC@ -o {{target_output_name}} {{inputs}}"
+    command = "$cc -o {{target_output_name}} {{inputs}}"
   }
   tool("stamp") {
     command = "touch {{output}}"
@@ -675,10 +676,18 @@ class Made:
         """The status of `rebug mend`, and what it wrote."""
         return self.run(sys.executable, MEND, "b", "before", "--rebug", program, *more)
 
+    def patch(self, answer: str) -> None:
+        """Has `patch` do what an answer says."""
+        text = "".join(f"{it}\n" for it in answer.split("\n") if re.match(r"[-+@ \\](?!  ?(?:made|used|mend,|and for|not|no "
+                                                                         r"edit|in general))", it))
+        (self.top / "answer").write_text(text)
+        status, said = self.run("patch", "-p0", "-i", "answer") if text else (0, "")
+        assert status == 0, (self.name, said, text)
+
     def from_nothing(self) -> None:
         """Takes away what the build made, also what no line declares."""
         self.run("ninja", "-C", "b", "-t", "clean")
-        for it in [*(self.top / "b").glob("*-prefix"), self.top / "b/v.h"]:
+        for it in (self.top / "b" / name for name in self.project.left):
             shutil.rmtree(it) if it.is_dir() else it.unlink(missing_ok=True)
 
     def races(self, out: str, program: object = STAND_IN) -> str:
@@ -702,7 +711,7 @@ class Made:
 @dataclass
 class Result:
     """What came of a project: the mends that the answer tells, its status, whether it left all as it was, and after the
-    mends were applied what the recording of a build from nothing has."""
+    patch what the recording of a build from nothing has."""
 
     name: str
     lines: list[str] = field(default_factory=list)
@@ -732,7 +741,7 @@ def tried(name: str, project: Project, keep: pathlib.Path | None = None) -> Resu
         found.status, found.answer = it.mend()
         found.is_unchanged = it.everything() == before
         found.lines = mends_in(found.answer)
-        it.mend("--apply")
+        it.patch(found.answer)
         it.from_nothing()
         found.built_again = it.record("after")
         found.races_after = it.races("after")

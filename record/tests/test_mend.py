@@ -227,10 +227,15 @@ class Answers(unittest.TestCase):
 
     def told(self, *objects: object) -> pathlib.Path:
         """A program that tells these objects of each recording."""
-        path = self.made.top / "program"
-        path.write_text("#!/bin/sh\ncat <<'END'\n" + "".join(f"{json.dumps(it)}\n" for it in objects) + "END\nexit 4\n")
+        text = "".join(f"{json.dumps(it)}\n" for it in objects)
+        return self.program(f"#!/bin/sh\ncat <<'END'\n{text}END\nexit 4\n")
+
+    def program(self, text: str) -> pathlib.Path:
+        """A program of this text, outside of the project."""
+        path = pathlib.Path(tempfile.mkdtemp(prefix="rebug-mend-")) / "program"
+        self.addCleanup(shutil.rmtree, path.parent, True)
+        path.write_text(text)
         path.chmod(0o755)
-        self.addCleanup(path.unlink)
         return path
 
     def race(self, **more: object) -> dict[str, object]:
@@ -287,7 +292,6 @@ race gen/v.h [1]
     def test_names_of_a_recording_run_nothing(self):
         bad = ['x) execute_process(COMMAND touch "@/ran") #', "${CMAKE_COMMAND}", "$ENV{HOME}", 'a"b', "a;b", "a\nb",
                "a\\", "[[x]]", "$<1:x>"]
-        before = self.made.everything()
         for name in bad:
             shown = name.replace("@", str(self.made.top)).replace("\\", "\\\\").replace(" ", "\\s").replace("\n", "\\n")
             (self.made.top / "b" / name.split("/")[0]).write_text("")
@@ -300,9 +304,7 @@ race gen/v.h [1]
                 with self.subTest(name=name, more=[*more]):
                     status, said = self.made.mend("--json", program=program)
                     self.assertIn(status, (0, 4), said)
-                    program_file = str(program.relative_to(self.made.top))
-                    after = {key: it for key, it in self.made.everything().items() if key != program_file}
-                    self.assertEqual([*after], [*before])
+                    self.assertEqual([*self.made.everything()], [*before])
                     for it in map(json.loads, said.splitlines()):
                         for edit in it.get("edits", ()):
                             self.assertEqual(edit["text"], "add_dependencies(core headers)")
@@ -318,27 +320,18 @@ race gen/v.h [1]
         self.assertNotIn("\x1b", said)
 
     def test_bad_input_is_said(self):
-        top = self.made.top
         for words, status, said in (
                 (["nowhere", "before"], 2, "nowhere is no folder"), (["b", "nowhere"], 2, "there is no recording"),
                 (["src", "before"], 3, "cannot read .*src/build.ninja"), (["b", "src"], 1, "")):
             with self.subTest(words=words):
-                program = top / "none"
-                program.write_text("#!/bin/sh\nexit 1\n")
-                program.chmod(0o755)
-                got = self.made.run(sys.executable, MEND, *words, "--rebug", program)
-                program.unlink()
+                got = self.made.run(sys.executable, MEND, *words, "--rebug", self.program("#!/bin/sh\nexit 1\n"))
                 self.assertEqual(got[0], status)
                 self.assertRegex(got[1], rf"\A(rebug mend: .*{said}.*\n)?\Z")
         for text, said in (("[", "not understood"), ('{"kind": "race"}\n[]', "not understood"),
                            ('{"kind": "race", "number": 1, "path": 1}', "not understood"), ("[" * 100_000, "not unders")):
-            path = top / "program"
-            path.write_text(f"#!/bin/sh\ncat <<'END'\n{text}\nEND\n")
-            path.chmod(0o755)
             with self.subTest(text=text[:30]):
-                got = self.made.mend(program=path)
+                got = self.made.mend(program=self.program(f"#!/bin/sh\ncat <<'END'\n{text}\nEND\n"))
                 self.assertEqual((got[0], said in got[1]), (3, True), got[1])
-            path.unlink()
         self.assertEqual(self.made.mend(program="/nowhere")[0], 2)
 
     def test_sources_that_the_generator_refuses_are_said(self):
@@ -367,16 +360,19 @@ race gen/v.h [1]
 
     def test_a_signal_at_any_moment_leaves_all_as_it_was(self):
         before = self.made.everything()
-        for place in range(8):
-            process = subprocess.Popen([sys.executable, MEND, "b", "before", "--rebug", builds.RECORDER.parent
-                                        / "tests/programs/observed_races.py"], cwd=self.made.top,
-                                       env=self.made.environment, stdout=subprocess.PIPE, stderr=subprocess.STDOUT)
-            time.sleep(0.15 * place)
-            number = (signal.SIGINT, signal.SIGTERM, signal.SIGKILL)[place % 3]
-            process.send_signal(number)
-            said = process.communicate(timeout=60)[0]
-            self.assertIn(process.returncode, (0, 128 + number, -number), said)
-            self.assertEqual(self.made.everything(), before)
+        with tempfile.TemporaryDirectory() as room:
+            asked = pathlib.Path(room) / "asked"
+            program = self.program(f"#!/bin/sh\n: > {asked}\ncat <<'END'\n{json.dumps(self.race())}\nEND\nexit 4\n")
+            for place, number in enumerate((signal.SIGINT, signal.SIGTERM, signal.SIGKILL) * 2):
+                asked.unlink(missing_ok=True)
+                process = subprocess.Popen([sys.executable, MEND, "b", "before", "--rebug", program], cwd=self.made.top,
+                                           env=self.made.environment, stdout=subprocess.PIPE, stderr=subprocess.STDOUT)
+                builds.wait_until(asked.exists, "the program was not asked")
+                time.sleep(0.1 * place)
+                process.send_signal(number)
+                said = process.communicate(timeout=builds.LONGEST_SECONDS)[0]
+                self.assertIn(process.returncode, (0, 128 + number, -number), said)
+                self.assertEqual(self.made.everything(), before)
 
 
 if __name__ == "__main__":

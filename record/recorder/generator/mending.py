@@ -180,13 +180,11 @@ class Mender:
     def _with_extras(self, findings: list[Finding], mends: list[Mend], tried: _Tried) -> tuple[list[Mend], _Tried]:
         """Adds what a next build misses, where the generator takes it."""
         wanted: dict[tuple[Edit, ...], Mend] = {}
-        known = {edit for it in mends for edit in it.candidate.edits}
+        manifest = tried.asked.manifest() if tried.asked is not None else self.manifest
         for finding in findings:
             if not finding.is_order or not any(finding.number in it.numbers for it in mends):
                 continue
-            for candidate in self.proposer.extras(finding):
-                if all(edit in known or _says_already(known, edit) for edit in candidate.edits):
-                    continue
+            for candidate in self.proposer.extras(finding) if self._why_not_named(manifest, finding) else ():
                 wanted.setdefault(candidate.edits, Mend(candidate, [])).numbers.append(finding.number)
         for it in wanted.values():
             if self.tries >= MOST_TRIES:
@@ -271,13 +269,6 @@ class Mender:
                  if (number, it.edits) in self.struck]
         why = proposal.why_not or ("no edit that was tried mends it" if tried else "there was no try left for it")
         return Left(proposal.finding, why, self._advice(proposal, tried), tried)
-
-
-def _says_already(known: set[Edit], edit: Edit) -> bool:
-    """Whether an edit of the same call says the same words among others."""
-    words = edit.text.split()
-    return any(it.file == edit.file and it.line == edit.line and it.how is edit.how
-               and it.text.split()[:1] == words[:1] and set(words) <= set(it.text.split()) for it in known)
 
 
 def _commands(manifest: Manifest) -> set[str]:
