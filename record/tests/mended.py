@@ -175,7 +175,8 @@ target_include_directories(app PRIVATE ${CMAKE_BINARY_DIR})
         "one.c": ONE,
     }, ["CMakeLists.txt:5: add_dependencies(app stamp)",
         "CMakeLists.txt:4: BYPRODUCTS ${CMAKE_CURRENT_BINARY_DIR}/v.h in add_custom_target",
-        "CMakeLists.txt:4: DEPENDS ${CMAKE_CURRENT_SOURCE_DIR}/gen.sh in add_custom_target"]),
+        "CMakeLists.txt:4: DEPENDS ${CMAKE_CURRENT_SOURCE_DIR}/gen.sh in add_custom_target"],
+        left=["v.h"]),
     "c10-pch-unity": Project({
         "CMakeLists.txt": HEAD + VERSION + """\
 add_custom_target(version ALL DEPENDS v.h)

@@ -4,10 +4,10 @@ from __future__ import annotations
 
 import os
 import signal
-from typing import Any, NoReturn, Sequence
+from typing import Sequence
 
 from ..installed import launcher
-from ..provoke.copies import Ended, Refused
+from ..provoke.copies import SHIELD, Ended, Refused
 from ..provoke.races import NotAsked
 from ..signals import NUMBERS, write_all
 from .answering import Answer, line_of, shown
@@ -57,7 +57,7 @@ def main(words: Sequence[str]) -> int:
     voice = Voice()
     try:
         for number in NUMBERS:
-            signal.signal(number, _end)
+            signal.signal(number, SHIELD.take)
         return _run(read_words(words), voice)
     except HelpWanted as why:
         voice.show(str(why))
@@ -80,10 +80,6 @@ def main(words: Sequence[str]) -> int:
         return CANNOT
     finally:
         voice.clear()
-
-
-def _end(number: int, _: Any) -> NoReturn:
-    raise Ended(number)
 
 
 def _run(options: Options, voice: Voice) -> int:
