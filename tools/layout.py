@@ -20,7 +20,7 @@ LIBEXEC, DOC = "libexec/rebug", "share/doc/rebug"
 # of docs/ that are not for engineers of rebug alone.
 PAGES = ("README.md", "CHANGELOG.md", "record/README.md", "record/observer/README.md")
 FOR_ENGINEERS = ("docs/inside/",)
-FOLDERS = ("examples/flaky",)
+FOLDERS = ("examples/flaky", "examples/generated")
 COMPLETIONS = {"rebug.bash": "share/bash-completion/completions/rebug", "_rebug": "share/zsh/site-functions/_rebug",
                "rebug.fish": "share/fish/vendor_completions.d/rebug.fish"}
 LINK = re.compile(r"\[([^\]\n]*(?:\n[^\]\n]*)?)\]\((?!https?:|#)([^)\s#]+)(#[^)\s]*)?\)")

@@ -1,0 +1,6 @@
+#include "version.h"
+
+int version(void)
+{
+    return VERSION;
+}
