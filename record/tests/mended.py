@@ -679,11 +679,9 @@ class Made:
 
     def patch(self, answer: str) -> None:
         """Has `patch` do what an answer says."""
-        text = "".join(f"{it}\n" for it in answer.split("\n") if re.match(r"[-+@ \\](?!  ?(?:made|used|mend,|and for|not|no "
-                                                                         r"edit|in general))", it))
-        (self.top / "answer").write_text(text)
-        status, said = self.run("patch", "-p0", "-i", "answer") if text else (0, "")
-        assert status == 0, (self.name, said, text)
+        (self.top / "answer").write_text(answer)
+        status, said = self.run("patch", "-p0", "-i", "answer") if "\n--- " in answer else (0, "")
+        assert status == 0, (self.name, said)
 
     def from_nothing(self) -> None:
         """Takes away what the build made, also what no line declares."""

@@ -44,8 +44,8 @@ class Words(unittest.TestCase):
 
     def test_words_that_are_not_taken_are_named(self):
         for words, said in ((["b"], "wants a build folder and a recording"), ([], "wants a build folder"),
-                            (["b", "r", "0"], "from 1"), (["b", "r", "x"], "from 1"), (["b", "r", "9" * 5000], "from 1"),
-                            (["b", "r", "--appl"], "--appl is not a word")):
+                            (["b", "r", "0"], "from 1"), (["b", "r", "x"], "from 1"),
+                            (["b", "r", "9" * 5000], "from 1"), (["b", "r", "--appl"], "--appl is not a word")):
             with self.subTest(words=words[:3]), self.assertRaises(BadWords) as caught:
                 read_words(words)
             self.assertIn(said, str(caught.exception))
@@ -95,7 +95,8 @@ class Edits(unittest.TestCase):
         self.of_meson("t('a', depends: [])\n", "t('a', depends: [v])\n", key)
         self.of_meson("t('a', depends: [x, y])\n", "t('a', depends: [v, w, x, y])\n", key, other)
         self.of_meson("t('a', depends: x + y)\n", "t('a', depends: [v, x + y])\n", key)
-        self.of_meson("t('a',\n  k: [b,\n      c], # no\n)\n", "t('a',\n  k: [b,\n      c],\n  depends: v, # no\n)\n", key)
+        self.of_meson("t('a',\n  k: [b,\n      c], # no\n)\n",
+                      "t('a',\n  k: [b,\n      c],\n  depends: v, # no\n)\n", key)
 
     def test_a_declaration_that_gets_a_name_and_goes_up(self):
         self.of_meson("a()\nt('x',\n  1)\nb()\n", "v = t('x',\n  1)\na(v)\nb()\n".replace("a(v)", "a()"),
@@ -148,7 +149,8 @@ class Applying(unittest.TestCase):
             change()
             with self.assertRaisesRegex(NotWritten, "nothing was written"):
                 write_all(self.old, self.new)
-            self.assertEqual((self.file.read_bytes(), [it for it in self.names() if it != "b"]), (b"old\xff\r\n", ["a"]))
+            self.assertEqual(self.file.read_bytes(), b"old\xff\r\n")
+            self.assertEqual([it for it in self.names() if it != "b"], ["a"])
 
     def test_a_link_is_written_where_it_leads(self):
         (self.room / "in").mkdir()
@@ -274,8 +276,8 @@ race gen/v.h [1]
         self.assertEqual(self.made.mend("1", program=program)[0], 0)
         self.assertEqual(self.made.mend("2", program=program)[0], 4)
         status, said = self.made.mend("7", program=program)
-        self.assertEqual((status, said), (2, "rebug mend: there is no finding 7 that an edit could be for: the recording "
-                                             "has 1, 2\n"))
+        self.assertEqual((status, said), (2, "rebug mend: there is no finding 7 that an edit could be for: the "
+                                             "recording has 1, 2\n"))
 
     def test_what_is_mended_already_is_said(self):
         text = (self.made.top / "src/CMakeLists.txt").read_text()
@@ -328,7 +330,8 @@ race gen/v.h [1]
                 self.assertEqual(got[0], status)
                 self.assertRegex(got[1], rf"\A(rebug mend: .*{said}.*\n)?\Z")
         for text, said in (("[", "not understood"), ('{"kind": "race"}\n[]', "not understood"),
-                           ('{"kind": "race", "number": 1, "path": 1}', "not understood"), ("[" * 100_000, "not unders")):
+                           ('{"kind": "race", "number": 1, "path": 1}', "not understood"),
+                           ("[" * 100_000, "not understood")):
             with self.subTest(text=text[:30]):
                 got = self.made.mend(program=self.program(f"#!/bin/sh\ncat <<'END'\n{text}\nEND\n"))
                 self.assertEqual((got[0], said in got[1]), (3, True), got[1])

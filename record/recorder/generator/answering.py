@@ -81,8 +81,8 @@ class Answer:
         if self.outcome.left:
             parts.append(f"{len(self.outcome.left)} without a mend")
         if self.outcome.waits is not None and mends:
-            parts.append(f"{_counted(self.outcome.waits, 'pair')} of commands {'has' if self.outcome.waits == 1 else 'have'} "
-                         f"an order that had none")
+            has = "has" if self.outcome.waits == 1 else "have"
+            parts.append(f"{_counted(self.outcome.waits, 'pair')} of commands {has} an order that had none")
         return "; ".join(parts) if self.findings else "no finding"
 
     # The patch
@@ -112,18 +112,20 @@ class Answer:
             if finding.number in self.outcome.already:
                 yield {"kind": "mended", "number": finding.shown_number}
         for it in self.outcome.mends:
-            yield {"kind": "mend", "numbers": sorted(number for number in it.numbers if number > 0), "says": it.candidate.says,
-                   "note": it.candidate.note or None, "of_next_build": it.candidate.is_for_next_build,
-                   "edits": [{"file": shown(self.ground.shown(edit.file)), "line": edit.line, "how": edit.how.name.lower(),
-                              "text": edit.text} for edit in it.candidate.edits]}
+            yield {"kind": "mend", "numbers": sorted(number for number in it.numbers if number > 0),
+                   "says": it.candidate.says, "note": it.candidate.note or None,
+                   "of_next_build": it.candidate.is_for_next_build,
+                   "edits": [{"file": shown(self.ground.shown(edit.file)), "line": edit.line,
+                              "how": edit.how.name.lower(), "text": edit.text} for edit in it.candidate.edits]}
         for left in self.outcome.left:
             yield {"kind": "left", "number": left.finding.shown_number, "why": left.why, "advice": left.advice,
                    "tried": [{"says": says, "why": why} for says, why in left.tried]}
         for file, new in sorted(self.outcome.texts.items()):
             yield {"kind": "patch", "file": shown(self.ground.shown(file)),
                    "text": "".join(f"{it}\n" for it in self._patch_of(file, new))}
-        yield {"kind": "sum", "generator": self.ground.known.generator.value, "version": self.ground.known.version or None,
-               "findings": len(self.findings), "orders": self.outcome.waits, "tries": self.outcome.tries}
+        yield {"kind": "sum", "generator": self.ground.known.generator.value,
+               "version": self.ground.known.version or None, "findings": len(self.findings),
+               "orders": self.outcome.waits, "tries": self.outcome.tries}
 
 
 def line_of(it: dict[str, Any]) -> str:

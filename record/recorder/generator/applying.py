@@ -23,7 +23,7 @@ class Written:
 
 
 def write_all(old: dict[str, str], new: dict[str, str]) -> list[Written]:
-    """Writes the new texts in place of the old ones. Raises NotWritten: nothing was written, except where it says so."""
+    """Writes the new texts in place of the old ones. Raises NotWritten: nothing was written, unless it says so."""
     folders = [_Held(file, _bytes(old[file]), _bytes(text)) for file, text in sorted(new.items())]
     written: list[Written] = []
     try:

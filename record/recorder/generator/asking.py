@@ -1,8 +1,8 @@
 """Asks the generator of a build folder again, in a copy of the folders that is thrown away (`copies`): what it declares
 where, and the manifest that comes of the sources as they are, or as edits would have them.
 
-All that is run is what the build folder names: the CMake of its cache, or the words by which its manifest has Meson or GN
-write it anew.
+All that is run is what the build folder names: the CMake of its cache, or the words by which its manifest has Meson or
+GN write it anew.
 """
 
 from __future__ import annotations
@@ -197,8 +197,9 @@ class Asker:
 def _last_words(text: str, status: int) -> str:
     """What a generator said of its fault, in a line."""
     lines = [" ".join(it.split()) for it in text.split("\n") if it.strip()]
-    at = next((place for place, it in enumerate(lines) if re.search(r"\berror\b", it, re.IGNORECASE)), max(0, len(lines) - 3))
-    found = " ".join(it for it in lines[at : at + 4])[:400]
+    of_errors = (place for place, it in enumerate(lines) if re.search(r"\berror\b", it, re.IGNORECASE))
+    at = next(of_errors, max(0, len(lines) - 3))
+    found = " ".join(lines[at : at + 4])[:400]
     return found or f"it ended with status {status}"
 
 

@@ -22,9 +22,9 @@ _DECLARING = {"add_library", "add_executable", "add_custom_target"}
 _OBJECTS = re.compile(rb"^(.*?/?)CMakeFiles/[^/]+\.dir/")
 _CACHE_LINE = re.compile(r"^(CMAKE_HOME_DIRECTORY|CMAKE_CACHE_(?:MAJOR|MINOR|PATCH)_VERSION|CMAKE_COMMAND):"
                          r"INTERNAL=(.*)$", re.M)
-SECTIONS = frozenset("""OUTPUT COMMAND MAIN_DEPENDENCY DEPENDS BYPRODUCTS IMPLICIT_DEPENDS WORKING_DIRECTORY COMMENT DEPFILE
-JOB_POOL VERBATIM APPEND USES_TERMINAL COMMAND_EXPAND_LISTS SOURCES ARGS ALL TARGET PRE_BUILD PRE_LINK POST_BUILD
-JOB_SERVER_AWARE""".split())
+SECTIONS = frozenset("""OUTPUT COMMAND MAIN_DEPENDENCY DEPENDS BYPRODUCTS IMPLICIT_DEPENDS WORKING_DIRECTORY COMMENT
+DEPFILE JOB_POOL VERBATIM APPEND USES_TERMINAL COMMAND_EXPAND_LISTS SOURCES ARGS ALL TARGET PRE_BUILD PRE_LINK
+POST_BUILD JOB_SERVER_AWARE""".split())
 """The words that begin a part of a custom command."""
 
 
@@ -210,8 +210,8 @@ class CMake:
         return rule, Role.COMMAND if rule.kind == UTILITY else Role.CUSTOM
 
     def _by_pattern(self, outputs: list[str]) -> Target | None:
-        """The one command of the trace whose outputs, which have generator expressions, can be these: of several the one
-        whose words name an output."""
+        """The one command of the trace whose outputs, which have generator expressions, can be these: of several the
+        one whose words name an output."""
         found = [rule for pattern, rule in self.patterns if any(pattern.fullmatch(it) for it in outputs)]
         names = {os.path.basename(it) for it in outputs}
         near = [it for it in found if names & {os.path.basename(word) for word in it.arguments}]

@@ -168,12 +168,14 @@ class CMakeMends:
         """What says that a command reads a file."""
         if user.role in (Role.CUSTOM, Role.COMMAND) and self._is_outside(user.target):
             raise CannotEdit(f"{user.target.name} is a step of ExternalProject_Add, which names what it reads itself",
-                             "a step that is to run again with a file is added by ExternalProject_Add_Step, with DEPENDS")
+                             "a step that is to run again with a file is added by ExternalProject_Add_Step, with "
+                             "DEPENDS")
         path = self._path(self.ground.path_to_read(name), user.target)
         if user.role in (Role.CUSTOM, Role.COMMAND):
             return self._words(user.target, f"DEPENDS {path}")
         if user.role is Role.LINK:
-            return self._behind(user.target, f"set_property(TARGET {user.target.name} APPEND PROPERTY LINK_DEPENDS {path})")
+            return self._behind(user.target, f"set_property(TARGET {user.target.name} APPEND PROPERTY LINK_DEPENDS "
+                                             f"{path})")
         return []
 
     def _byproducts(self, path: str, maker: Side) -> list[Candidate]:
@@ -194,9 +196,9 @@ class CMakeMends:
     # Where an edit goes
 
     def _behind(self, target: Target, line: str, other: Target | None = None) -> list[Candidate]:
-        """A line behind the declaration of a target, in the file of its folder. Where that call declares several targets,
-        as in a loop, the line stands at the end of the file. Where the other target is declared later in this file, the
-        line stands behind that."""
+        """A line behind the declaration of a target, in the file of its folder. Where that call declares several
+        targets, as in a loop, the line stands at the end of the file. Where the other target is declared later in this
+        file, the line stands behind that."""
         if not target.spans:
             return []
         home = os.path.join(target.folder, LISTS)
@@ -209,7 +211,8 @@ class CMakeMends:
         says = f"{self.ground.shown(span.file)}:{span.end}: {line}"
         if len(set(self.spans.get((span.file, span.line), ()))) > 1:
             last = self.ground.text(span.file).count("\n") + 1
-            return [Candidate((Edit(span.file, last, How.AT_END, line),), f"{self.ground.shown(span.file)}:{last}: {line}")]
+            says = f"{self.ground.shown(span.file)}:{last}: {line}"
+            return [Candidate((Edit(span.file, last, How.AT_END, line),), says)]
         later = [it for it in other.spans if it.file == span.file] if other is not None else []
         if later and later[-1].end > span.end and self._are_together(span, later[-1]):
             span = later[-1]
@@ -233,7 +236,8 @@ class CMakeMends:
         note = ""
         function = self._function_around(target, span)
         if names - {target.name, *target.outputs} and span.call.lower() != _OF_OUTSIDE:
-            note = f"this call makes {len(names)} things, as in a function or a loop, and the words are for each of them"
+            note = (f"this call makes {len(names)} things, as in a function or a loop, and the words are for each of "
+                    f"them")
         elif function:
             note = f"the words stand in {function}, and are for each call of it"
         says = f"{self.ground.shown(span.file)}:{span.line}: {words} in {span.call}"

@@ -20,9 +20,9 @@ _KINDS = (*ORDERS, "own", "undeclared", "unlisted", "clash")
 @dataclass(frozen=True)
 class Finding:
     """A finding by its number: its kind, the path, and the first outputs of maker and user (of a clash: of the two that
-    make the file). `mend` is what the user is to wait for, `declare` what the maker's line is to name as its output, and
-    `list` what the user's line is to name as its input. Of a file that a failed command misses, and that `races` has no
-    race for, the number is below 0."""
+    make the file). `mend` is what the user is to wait for. `declare` is what the maker's line is to name as its output,
+    and `list` what the user's line is to name as its input. Of a file that a failed command misses, and that `races`
+    has no race for, the number is below 0."""
 
     number: int
     kind: str

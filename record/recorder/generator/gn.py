@@ -1,4 +1,5 @@
-"""Whose each command of a manifest of GN is: by the paths of GN's files and outputs, and by the text of each BUILD.gn."""
+"""Whose each command of a manifest of GN is: by the paths of GN's files and outputs, and by the text of each BUILD.gn.
+"""
 
 from __future__ import annotations
 

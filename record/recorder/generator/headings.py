@@ -11,8 +11,8 @@ from ..manifest import Manifest
 _LINE = re.compile(rb"^(?:#[ \t]*([^\r\n]*)|build )", re.M)
 _OBJECTS = re.compile(r"(?:Object|Link) build statements for (\w+) target (.*)")
 _ONE = re.compile(r"(Order-only phony target|Utility command|Custom command|Phony custom command) for (.*)")
-_OF_CMAKE = ("Write statements", "Target aliases", "Folder", "Re-run CMake", "Re-check", "A missing CMake", "Clean", "Print all",
-             "Make the all", "Built-in targets")
+_OF_CMAKE = ("Write statements", "Target aliases", "Folder", "Re-run CMake", "Re-check", "A missing CMake", "Clean",
+             "Print all", "Make the all", "Built-in targets")
 
 
 class Subject(enum.Enum):

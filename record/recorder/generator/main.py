@@ -118,7 +118,8 @@ def _chosen(findings: list[Finding], options: Options) -> list[Finding]:
     for number in options.numbers:
         if number not in known:
             numbers = ", ".join(map(str, sorted(known)[:10])) + (", .." if len(known) > 10 else "")
-            raise Unfit(f"there is no finding {number} that an edit could be for: the recording has {numbers or 'none'}")
+            raise Unfit(f"there is no finding {number} that an edit could be for: the recording has "
+                        f"{numbers or 'none'}")
     return [it for it in findings if not options.numbers or it.number in options.numbers]
 
 

@@ -1,5 +1,5 @@
-"""Chooses edits that mend findings, as few as can be, and tries them: the generator writes the manifest anew in a copy of
-the folders, and there each user has to wait for its maker."""
+"""Chooses edits that mend findings, as few as can be, and tries them: the generator writes the manifest anew in a copy
+of the folders, and there each user has to wait for its maker."""
 
 from __future__ import annotations
 
@@ -103,8 +103,8 @@ class Mender:
     # Choosing
 
     def _choose(self, proposals: list[Proposal]) -> list[Mend]:
-        """Candidates that are for all findings that have one: each time the one that is for most of those that are left,
-        of several the one that the findings have first."""
+        """Candidates that are for all findings that have one: each time the one that is for most of those that are
+        left, of several the one that the findings have first."""
         open_ones = {it.finding.number: [c for c in it.candidates if (it.finding.number, c.edits) not in self.struck]
                      for it in proposals}
         found: list[Mend] = []
@@ -203,8 +203,8 @@ class Mender:
         return edited(self.proposer.ground.texts, edits) if edits else {}
 
     def _try(self, mends: list[Mend], more: list[int] | None = None) -> _Tried:
-        """Tries candidates together: the generator takes them, no command comes or goes, and the users of their findings
-        wait for the makers."""
+        """Tries candidates together: the generator takes them, no command comes or goes, and the users of their
+        findings wait for the makers."""
         self.tries += 1
         self.tell(f"trying {len(mends)} edit{'s' * (len(mends) != 1)}")
         try:
@@ -259,8 +259,8 @@ class Mender:
     def _advice(self, proposal: Proposal, tried: list[tuple[str, str]]) -> str:
         """What is to be done in general, by what came of the tries."""
         if any("Unknown variable" in why for _, why in tried):
-            return ("the maker is declared in a folder that Meson reads later: have its subdir() come before that of the "
-                    "user, and then ask again")
+            return ("the maker is declared in a folder that Meson reads later: have its subdir() come before that of "
+                    "the user, and then ask again")
         return proposal.advice or self.proposer.advice(proposal.finding)
 
     def _left(self, proposal: Proposal) -> Left:

@@ -128,7 +128,8 @@ class Meson:
         return self._find_private(edge, private, inner) if has_private else None
 
     def _find_private(self, edge: Edge, private: str, inner: str) -> tuple[Target, Role] | None:
-        """The target whose private folder an output stands in. That of a shared library has the name without version."""
+        """The target whose private folder an output stands in. That of a shared library has its name without version.
+        """
         target = self.of_output.get(private)
         if target is None:
             name = os.path.basename(private)

@@ -1,5 +1,5 @@
-"""Runs Meson, and writes down what its interpreter declares: for each target, use of a generator and dependency the calls
-of the user's files that it stands in.
+"""Runs Meson, and writes down what its interpreter declares: for each target, use of a generator and dependency the
+calls of the user's files that it stands in.
 
 It runs in the Python that Meson itself runs in: `meson_ears.py OUT MESON WORDS..`. It uses names of Meson's own that no
 page of Meson promises. Where this Meson does not have them, it ends with status 77 before Meson runs.

@@ -58,15 +58,15 @@ class MesonMends:
             raise CannotEdit("a run_target makes the file, and Meson lets nothing depend on a run_target",
                              "make a custom_target of it, and put that among the sources of the user")
         if maker.kind == GENERATOR:
-            raise CannotEdit("a generator() makes the file, which is private to the target that has it among its sources",
-                             "put g.process() among the sources of the user, or make a custom_target of the file, which "
-                             "both can have")
+            raise CannotEdit("a generator() makes the file, which is private to the target that has it among its "
+                             "sources", "put g.process() among the sources of the user, or make a custom_target of the "
+                             "file, which both can have")
         if maker.place.call not in _WITH_VARIABLE and not (maker.variable and maker.kind == CUSTOM):
             raise CannotEdit(f"{maker.place.call} makes the file, and what it gives is not known here",
                              "put what it gives among the sources of the user")
         if maker.part_of != user.part_of and not maker.part_of:
-            raise CannotEdit(f"the user is of the subproject {user.part_of}, and the maker is of the project that uses it",
-                             "a subproject cannot wait for what uses it: have the file made in the subproject")
+            raise CannotEdit(f"the user is of the subproject {user.part_of}, and the maker is of the project that uses "
+                             f"it", "a subproject cannot wait for what uses it: have the file made in the subproject")
 
     def _values(self, finding: Finding, user: Target, maker: Target) -> list[tuple[str, tuple[Edit, ...]]]:
         """How the user's file can name what the maker makes, each with the edit that gives it a variable."""

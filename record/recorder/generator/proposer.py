@@ -70,8 +70,8 @@ class Proposer:
 
     def _maker_of(self, name: str, user: Edge) -> Edge | None:
         """The one command that makes a file of this name where the user's command looks for it."""
-        words = os.fsdecode(user.command)
-        flags = [it for edge_value in (words, *map(os.fsdecode, user.block.values())) for it in _FOLDERS.findall(edge_value)]
+        words = [os.fsdecode(it) for it in (user.command, *user.block.values())]
+        flags = [it for text in words for it in _FOLDERS.findall(text)]
         looked = {self.ground.path_of(os.path.join(it, name)) for it in ["", *flags]}
         makers = {it.number: it for it in self.ground.manifest.edges if not it.phony and it is not user
                   for path in it.outputs if self.ground.path_of(os.fsdecode(path)) in looked}
@@ -87,7 +87,8 @@ class Proposer:
         except CannotEdit as why:
             found.why_not, found.advice = why.why, why.advice
         if finding.kind == "cycle":
-            found.why_not, found.advice = "the maker waits for the user, and no edit that was tried changes that", _OF_CYCLE
+            found.why_not = "the maker waits for the user, and no edit that was tried changes that"
+            found.advice = _OF_CYCLE
         return found
 
     def extras(self, finding: Finding) -> list[Candidate]:

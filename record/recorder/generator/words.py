@@ -8,9 +8,9 @@ from typing import NoReturn, Sequence
 
 NAME = "rebug mend"
 _USAGE = "%(prog)s BUILD_DIR RECORDING [N...] [--apply] [--json]"
-_ABOUT = """Mends the races of a recording in the files that CMake, Meson or GN read: asks the generator of BUILD_DIR again, in
-a copy of the folders that is thrown away, tries each edit there, and prints those that hold as a patch of the sources.
-RECORDING is of a build in BUILD_DIR. With numbers only these findings are mended."""
+_ABOUT = """Mends the races of a recording in the files that CMake, Meson or GN read: asks the generator of BUILD_DIR
+again, in a copy of the folders that is thrown away, tries each edit there, and prints those that hold as a patch of the
+sources. RECORDING is of a build in BUILD_DIR. With numbers only these findings are mended."""
 _MORE = """exit status:
   0  each finding has an edit that was tried, or is mended already, or there is none
   4  a finding has no edit: why, and what is to be done in general, stands in the answer
@@ -62,8 +62,8 @@ def _words() -> argparse.ArgumentParser:
     words.add_argument("names", metavar="BUILD_DIR RECORDING N", nargs="*",
                        help="the folder that Ninja runs in, that of the recording, and numbers of findings")
     words.add_argument("--apply", action="store_true",
-                       help="write the edits, with a copy of each file as it was beside it; a file that was changed since "
-                            "it was read stays as it is, and then nothing is written")
+                       help="write the edits, with a copy of each file as it was beside it; a file that was changed "
+                            "since it was read stays as it is, and then nothing is written")
     words.add_argument("--json", action="store_true", help="write a JSON object a line in place of words")
     words.add_argument("--rebug", metavar="PROGRAM", help="the program to ask, in place of the launcher")
     return words

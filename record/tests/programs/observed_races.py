@@ -1,6 +1,7 @@
 #!/usr/bin/env python3
 """Stands in for a program that answers `races --json RECORDING`: by what commands were observed to read and to write,
-read plainly. It knows races and cycles, files that no line declares, sources that no line lists, and failed commands."""
+read plainly. It knows races and cycles, files that no line declares, sources that no line lists, and failed
+commands."""
 
 import json
 import os
@@ -61,8 +62,9 @@ def objects(manifest, did):
                 if maker is not edge and not waits(manifest, edge, maker):
                     kind = "cycle" if waits(manifest, maker, edge) else "race"
                     declare = None if path in maker.outputs else shown_name(path)
+                    mend = shown_name(maker.name) if kind == "race" else None
                     yield {"kind": kind, "path": shown_name(path), "maker": told(maker), "user": told(edge),
-                           "declare": declare, "list": lists, "mend": shown_name(maker.name) if kind == "race" else None}
+                           "declare": declare, "list": lists, "mend": mend}
             if lists and path not in makers and path in did[name].get("reads", ()) and path[:1] in b"/.":
                 yield {"kind": "unlisted", "path": shown_name(path), "maker": None, "user": told(edge),
                        "declare": None, "list": lists, "mend": None}
