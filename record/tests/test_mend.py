@@ -317,6 +317,18 @@ race gen/v.h [1]
         self.assertEqual(status, 4)
         self.assertIn("`ninja -t clean` would take it away", said)
 
+    def test_a_file_that_the_makers_line_lacks_is_named_there(self):
+        status, said = self.made.mend(program=self.told(self.race(kind="undeclared", mend=None, declare="gen/w.h")))
+        self.assertEqual((status, mends_in(said)), (0, ["gen/CMakeLists.txt:1: BYPRODUCTS "
+                                                        "${CMAKE_CURRENT_BINARY_DIR}/w.h in add_custom_command"]))
+
+    def test_of_two_commands_that_make_one_file_both_places_are_told(self):
+        edges = {"first": {"output": "gen/v.h"}, "other": {"output": "src/libcore.a"}}
+        status, said = self.made.mend(program=self.told({"kind": "clash", "number": 1, "path": "x", **edges}))
+        self.assertEqual(status, 4)
+        self.assertIn("give core (src/CMakeLists.txt:2) another output, by a name of its own, and have who reads it "
+                      "name that; the other one is gen/v.h (gen/CMakeLists.txt:1)", said)
+
     def test_letters_that_a_terminal_would_take_for_more_are_shown(self):
         said = self.made.mend(program=self.told(self.race(path="\\x1b[31mx", maker={"output": "\\x1b]0;x\\x07"})))[1]
         self.assertNotIn("\x1b", said)
@@ -359,7 +371,7 @@ race gen/v.h [1]
         status, said = self.made.mend(program=program)
         self.assertEqual(status, 0)
         self.assertIn("of 5000 findings the first 1000 are mended", said)
-        self.assertLess(time.monotonic() - begin, 60)
+        self.assertLess(time.monotonic() - begin, builds.LONGEST_SECONDS)
 
     def test_a_signal_at_any_moment_leaves_all_as_it_was(self):
         before = self.made.everything()
@@ -376,6 +388,44 @@ race gen/v.h [1]
                 said = process.communicate(timeout=builds.LONGEST_SECONDS)[0]
                 self.assertIn(process.returncode, (0, 128 + number, -number), said)
                 self.assertEqual(self.made.everything(), before)
+
+
+@unittest.skipIf(LACKING, LACKING or "")
+class Folders(unittest.TestCase):
+    """Where build and sources stand, and generators that are called in another way."""
+
+    def made(self, name: str, tool: str) -> Made:
+        lacking = missing_tools(tool)
+        if lacking:
+            self.skipTest(lacking)
+        it = Made(name, PROJECTS[name])
+        self.addCleanup(it.remove)
+        return it
+
+    def test_a_build_in_the_folder_of_the_sources(self):
+        it = self.made("c02-other-dir", "cmake")
+        for words in (["cmake", "-G", "Ninja", "."], ["cmake", "."], ["ninja", "gen/v.h"],
+                      [sys.executable, builds.RECORDER, "--observe", ".", "before"]):
+            self.assertEqual(it.run(*words)[0], 0)
+        (it.top / "program").write_text("#!/bin/sh\ncat <<'END'\n" + json.dumps(
+            {"kind": "race", "number": 1, "path": "gen/v.h", "maker": {"output": "gen/v.h"}, "mend": "gen/v.h",
+             "user": {"output": "src/CMakeFiles/core.dir/core.c.o"}}) + "\nEND\n")
+        (it.top / "program").chmod(0o755)
+        status, said = it.run(sys.executable, MEND, ".", "before", "--rebug", it.top / "program", "--apply")
+        self.assertEqual((status, mends_in(said)), (0, ["src/CMakeLists.txt:4: add_dependencies(core headers)"]))
+        self.assertIn("add_dependencies(core headers)\n", (it.top / "src/CMakeLists.txt").read_text())
+
+    def test_a_meson_that_cannot_be_listened_to(self):
+        it = self.made("m02-subdir-no-variable", "meson")
+        it.configure()
+        it.record("before")
+        (it.top / "its-meson").write_text("#!/bin/sh\nexec meson \"$@\"\n")
+        (it.top / "its-meson").chmod(0o755)
+        path = it.top / "b/build.ninja"
+        path.write_text(path.read_text().replace(f"{shutil.which('meson')} --internal",
+                                                 f"{it.top}/its-meson --internal"))
+        status, said = it.mend()
+        self.assertEqual((status, mends_in(said)), (0, PROJECTS[it.name].due), said)
 
 
 if __name__ == "__main__":

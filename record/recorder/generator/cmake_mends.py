@@ -34,12 +34,9 @@ class CMakeMends:
 
     def of(self, finding: Finding, user: Side, maker: Side | None) -> list[Candidate]:
         """The candidates for a finding, the best first. Raises CannotEdit."""
-        found: list[Candidate] = []
-        if maker is not None and (finding.is_order or finding.mend):
-            found += self._orders(finding, user, maker)
-        if not finding.is_order and not finding.mend:
-            found += self.for_next_build(finding, user, maker)
-        return found
+        if maker is not None and finding.is_order:
+            return self._orders(finding, user, maker)
+        return self.for_next_build(finding, user, maker)
 
     # Orders
 

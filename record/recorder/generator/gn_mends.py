@@ -15,7 +15,7 @@ class GNMends:
 
     def of(self, finding: Finding, user: Side, maker: Side | None) -> list[Candidate]:
         """The candidates for a finding. Raises CannotEdit."""
-        if maker is None or not (finding.is_order or finding.mend):
+        if maker is None or not finding.is_order:
             raise CannotEdit("GN's files are changed for an order alone",
                              "`inputs` of the user, or `outputs` of the maker, is to name the file")
         target, place = user.target, user.target.place

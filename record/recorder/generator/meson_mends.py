@@ -27,7 +27,7 @@ class MesonMends:
 
     def of(self, finding: Finding, user: Side, maker: Side | None) -> list[Candidate]:
         """The candidates for a finding, the best first. Raises CannotEdit."""
-        if maker is None or not (finding.is_order or finding.mend):
+        if maker is None or not finding.is_order:
             return self.for_next_build(finding, user, maker)
         self._look_at(user.target, maker.target)
         found: list[Candidate] = []

@@ -109,10 +109,11 @@ class Ground:
         return self.texts[file]
 
     def is_of_the_user(self, file: str) -> bool:
-        """Whether a file stands below the sources, and not below the build folder."""
+        """Whether a file stands below the sources, and not below a build folder that is apart from them or in them."""
         real = os.path.realpath(file)
         top, build = (os.path.realpath(it) for it in (self.top, self.build))
-        return real.startswith(top + "/") and not real.startswith(build + "/")
+        is_built_around = (top + "/").startswith(build + "/")
+        return real.startswith(top + "/") and (is_built_around or not real.startswith(build + "/"))
 
     def shown(self, file: str) -> str:
         """A file as people are shown it: from the folder of the sources."""
