@@ -1,0 +1,101 @@
+"""The command line of `rebug shuffle`. Whatever goes wrong is told in a sentence, and has a status."""
+
+from __future__ import annotations
+
+import os
+import signal
+import time
+from typing import Any, NoReturn, Sequence
+
+from ..ninja import NoNinja, found_ninja
+from ..provoke.copies import Ended, Refused
+from ..signals import NUMBERS, write_all
+from .commands import NoBuild
+from .judging import Judge, Report, Unfit
+from .keeping import BadOut, Out
+from .places import prepared
+from .side_by_side import Bench, NoRoom
+from .telling import lines_of, objects_of
+from .words import NAME, BadWords, HelpWanted, Options, read_words
+
+_EACH_SECONDS = 1.0
+
+
+class Voice:
+    """What is written: answers to standard output, sentences to standard error, and there, where it is a terminal, once
+    a second a line that says how far the runs are."""
+
+    def __init__(self) -> None:
+        self.is_shown, self.at, self.what, self.last = os.isatty(2), False, "", 0.0
+
+    def show(self, text: str) -> None:
+        self.clear()
+        write_all(1, f"{text}\n".encode("utf-8", "surrogateescape"))
+
+    def say(self, text: object) -> None:
+        self.clear()
+        write_all(2, f"{NAME}: {text}\n".encode("utf-8", "surrogateescape"))
+
+    def tell(self, what: str) -> None:
+        self.what, self.last = what, 0.0
+
+    def progress(self, steps: int, ended: int, count: int) -> None:
+        now = time.monotonic()
+        if not self.is_shown or now - self.last < _EACH_SECONDS:
+            return
+        self.clear()
+        self.last, self.at = now, True
+        runs = f", {ended} of {count} runs ended" if count > 1 else ""
+        write_all(2, f"{NAME}: {self.what}: {steps} commands{runs}".encode("utf-8", "surrogateescape"))
+
+    def clear(self) -> None:
+        if self.at:
+            write_all(2, b"\r\x1b[K")
+        self.at = False
+
+
+def main(words: Sequence[str]) -> int:
+    voice = Voice()
+    try:
+        for number in NUMBERS:
+            signal.signal(number, _end)
+        return _run(read_words(words), voice)
+    except HelpWanted as why:
+        voice.show(str(why))
+        return 0
+    except (BadWords, BadOut, NoNinja, NoBuild) as why:
+        voice.say(why)
+        return 2
+    except Refused as why:
+        voice.say(f"this system makes no copy of a folder in which a build can be run: {why}. Nothing has run")
+        return 2
+    except (Unfit, NoRoom) as why:
+        voice.say(why)
+        return 3
+    except Ended as why:
+        voice.say(f"ended by {signal.Signals(why.number).name}")
+        return 128 + why.number
+    except (OSError, RuntimeError) as why:
+        voice.say(why)
+        return 3
+    finally:
+        voice.clear()
+
+
+def _end(number: int, _: Any) -> NoReturn:
+    raise Ended(number)
+
+
+def _run(options: Options, voice: Voice) -> int:
+    ninja = os.fsencode(found_ninja().program)
+    build = prepared(os.fsencode(options.build), ninja, options.for_ninja, dict(os.environ))
+    out = Out.checked(options.out, build) if options.out is not None else None
+    bench = Bench(build.place, options.side_by_side, voice.progress)
+    judge = Judge(options, build, bench, voice.tell)
+    report = judge.judge()
+    voice.clear()
+    if out:
+        out.write(report, build, judge)
+    for line in (objects_of if options.json else lines_of)(report, build):
+        voice.show(line)
+    return 4 if report.findings else 0
