@@ -14,6 +14,9 @@ from .rooms import layers_of_room, outermost
 from .running import Place
 from .states import Before
 
+_OF_THE_SYSTEM = frozenset(b"bin boot dev etc home lib lib32 lib64 libx32 media mnt nix opt proc root run sbin srv sys tmp "
+                           b"usr var".split())
+
 
 @dataclass
 class Prepared:
@@ -64,12 +67,20 @@ def _folders(build: bytes, manifest: Manifest) -> list[bytes]:
     may leave a file by the manifest, also through a link; none below another. Raises NoBuild."""
     left = {os.path.dirname(path) for edge in manifest.edges if not edge.phony for path in edge.outputs}
     left |= {os.path.dirname(name) for name, _, _ in manifest.files} | {manifest.log_folder()}
-    real = {build, *source_folders(build, manifest)}
+    real = {build, *(source_folders(build, manifest) or _sources_near_the_root(build, manifest))}
     real |= {_nearest(os.path.realpath(os.path.join(build, it))) for it in left}
     found = outermost([it for it in real if os.path.isdir(it)])
     if b"/" in found:
         raise NoBuild("the build leaves files in the folder /, of which no copy is made")
     return found
+
+
+def _sources_near_the_root(build: bytes, manifest: Manifest) -> list[bytes]:
+    """The folders of sources that stand in a folder of / which is none of the system's own."""
+    found = {os.path.dirname(it) for edge in manifest.edges for it in (*edge.explicit, *edge.implicit)
+             if it not in manifest.producer and it.startswith((b"/", b".."))}
+    real = {os.path.realpath(os.path.join(build, it)) for it in found}
+    return [it for it in real if it.count(b"/") == 1 and it[1:] and it[1:] not in _OF_THE_SYSTEM and os.path.isdir(it)]
 
 
 def _nearest(folder: bytes) -> bytes:

@@ -135,7 +135,7 @@ def _stands(folder: bytes, mounts: dict[bytes, _Mount]) -> tuple[bytes, bytes]:
     while at not in mounts and at != b"/":
         at = os.path.dirname(at)
     it = mounts[at]
-    return it.device, os.path.normpath(it.root + b"/" + folder[len(at.rstrip(b"/")) :].lstrip(b"/"))
+    return it.device, (it.root.rstrip(b"/") + folder[len(at.rstrip(b"/")) :]) or b"/"
 
 
 def enter(layers: Sequence[Layer], most_bytes: int) -> int:

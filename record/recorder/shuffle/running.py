@@ -167,7 +167,7 @@ def _run(place: Place, task: Task, progress: mmap.mmap) -> Ran:
     said, errors, me = Said(manifest, _STATUS, lambda _: None), os.memfd_create("errors"), os.getpid()
     begin, used = time.monotonic(), resource.getrusage(resource.RUSAGE_CHILDREN)
     words = [*place.ninja, b"-j%d" % task.jobs, *task.targets]
-    process = subprocess.Popen(words, stdin=subprocess.DEVNULL, stdout=subprocess.PIPE, stderr=errors, env=environment,
+    process = subprocess.Popen(words, stdin=_standard_input(), stdout=subprocess.PIPE, stderr=errors, env=environment,
                                preexec_fn=lambda: end_with_parent(me))
     try:
         is_late = _take(process, said, task.seconds, progress)
@@ -184,6 +184,14 @@ def _run(place: Place, task: Task, progress: mmap.mmap) -> Ran:
     return Ran(status if status >= 0 else 128 - status, failed, lines[-1] if status and lines else b"", is_late=is_late,
                seconds=time.monotonic() - begin,
                processor=after.ru_utime - used.ru_utime + after.ru_stime - used.ru_stime)
+
+
+def _standard_input() -> int:
+    """The file that is this process's standard input, from its beginning, since each run reads it; else nothing."""
+    with contextlib.suppress(OSError):
+        if stat.S_ISREG(os.fstat(0).st_mode):
+            return os.open("/proc/self/fd/0", os.O_RDONLY)
+    return subprocess.DEVNULL
 
 
 def _with_files(manifest: Manifest, files: dict[bytes, bytes]) -> Manifest:
