@@ -9,7 +9,7 @@ from typing import Callable, Hashable, Sequence
 
 from ..fields import canonical
 from ..manifest import Edge, Manifest
-from .commands import Commands, commands_of, read_dyndep
+from .commands import Commands, NoBuild, commands_of, read_dyndep
 from .orders import MOST_ORDERS, Chosen, Pairs, chosen
 from .pairing import Pair, bisected, walked
 from .patching import chained, with_orders, with_waits
@@ -164,12 +164,11 @@ class Judge:
         if dyndeps:
             self.more = read_dyndep(self.manifest, {dyndeps[it]: content for it, content in first.contents.items()})
             self.commands = commands_of(self.manifest, self.build.name, list(self.build.targets), self.more)
-        self.limit = max(_LEAST_SECONDS, _TIMES_LONGER * first.seconds)
+        self.limit = self.options.limit or max(_LEAST_SECONDS, _TIMES_LONGER * first.seconds)
         return first, self._again(first)
 
     def _again(self, first: Ran) -> Ran:
-        written = [path for path, it in first.changed.items() if path in self.before.stamps
-                   and path not in self.declared and not it.startswith(("folder", MISSING))]
+        written = self._written_again(first)
         self.tell("the build's own order again")
         if written and first.is_good:
             self.away = tuple(written)
@@ -179,6 +178,13 @@ class Judge:
                 return again
             self.away = ()
         return self.bench.run(self._task())
+
+    def _written_again(self, first: Ran) -> list[bytes]:
+        """What the run wrote again beside its outputs, and is not older than the outputs of an earlier build."""
+        stamps = self.before.stamps
+        outputs = [stamps[path].changed for path in self.declared if path in stamps and stamps[path].changed]
+        return [path for path, it in first.changed.items() if path in stamps and path not in self.declared
+                and stamps[path].changed >= min(outputs, default=1 << 63) and not it.startswith(("folder", MISSING))]
 
     def _order_of(self, first: Ran) -> list[int]:
         """The order in which the first run's commands ended, and behind them those that did not run."""
@@ -203,7 +209,7 @@ class Judge:
         if self.options.repeat is not None:
             orders = [it for it in orders if it[0] == self.options.repeat]
             if not orders and not self.options.overlap:
-                raise Unfit(f"there is no order {self.options.repeat}: see the numbers that a run without --repeat tells")
+                raise NoBuild(f"there is no order {self.options.repeat}: a call without --repeat tells the numbers")
         tasks = [self._task(order, seconds=self.limit) for _, _, order in orders]
         if self.options.overlap:
             tasks += [self._overlapped(seed) for seed in self._seeds()]

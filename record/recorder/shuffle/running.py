@@ -100,6 +100,7 @@ def run_in_room(place: Place, task: Task, most_bytes: int, progress: mmap.mmap) 
     os.chdir(place.build)
     _clean(place, task)
     contents = {name: content for name, content, _ in place.manifest.files}
+    stamps = {name: os.stat(name).st_mtime_ns for name in contents}
     for name, content in task.files.items():
         _exchange(name, content)
     if task.length > _LONG_CHAIN:
@@ -107,8 +108,8 @@ def run_in_room(place: Place, task: Task, most_bytes: int, progress: mmap.mmap) 
             _, most = resource.getrlimit(resource.RLIMIT_STACK)
             resource.setrlimit(resource.RLIMIT_STACK, (_STACK, most))
     found = _run(place, task, progress)
-    found.is_manifest_kept = all(_read(name) == task.files.get(canonical(name), content)
-                                 for name, content in contents.items())
+    found.is_manifest_kept = all(_read(name) == task.files.get(canonical(name), content) and os.stat(name).st_mtime_ns
+                                 == stamps[name] for name, content in contents.items())
     _look_at_log(found, os.path.join(place.logs, LOGS[0]))
     ignored = {os.path.join(place.build, canonical(name)) for name in contents}
     found.changed = changed(place.before, ignored)

@@ -13,7 +13,7 @@ from ..words import read_words as read_ninja_words
 
 NAME = "rebug shuffle"
 _USAGE = """%(prog)s BUILD_DIR [OUT_DIR] [--runs N] [--repeat ORDER] [--seed S] [--overlap] [--mend-all] [-j N] [--json]
-                     [-- TARGETS...]"""
+                     [--limit SECONDS] [--budget N] [-- TARGETS...]"""
 _ABOUT = """Builds BUILD_DIR from nothing in Ninja's own order and in orders that reverse it, in copies that are thrown
 away, and compares what they leave: status, files, bytes, links and modes. Where two differ it names the command in
 which they do first, the two commands whose order it comes from, and the line that mends it. OUT_DIR gets the orders,
@@ -54,6 +54,7 @@ class Options:
     overlap: bool = False
     mend_all: bool = False
     jobs: int | None = None
+    limit: int | None = None
     budget: int = 400
     json: bool = False
     for_ninja: NinjaWords = field(default_factory=lambda: NinjaWords([]))
@@ -95,6 +96,9 @@ def _words() -> argparse.ArgumentParser:
                        help="put each order that is found into the manifest of the copies, and go on until nothing differs")
     words.add_argument("--budget", metavar="N", type=_number("--budget", 4, "so many runs, from 4 on"), default=400,
                        help="begin no search when so many runs were made; else 400")
+    words.add_argument("--limit", metavar="SECONDS", type=_number("--limit", 1, "so many seconds, from 1 on"),
+                       help="end an order that takes longer, which is a difference; else ten times as long as Ninja's own, "
+                            "and at least 30 seconds")
     words.add_argument("-j", metavar="N", dest="jobs", type=_number("-j", 1, "so many runs side by side, from 1 on"),
                        help="make at most N runs side by side; else one for each processor, as far as memory allows")
     words.add_argument("--json", action="store_true", help="write a JSON object a line in place of words")
@@ -127,4 +131,4 @@ def read_words(words: Sequence[str]) -> Options:
     if for_ninja.jobs is not None:
         raise BadWords("-j stands in front of --: the commands of an order run one after the other")
     return Options(build, out, found.runs, found.repeat, found.seed, found.overlap, found.mend_all, found.jobs,
-                   found.budget, found.json, for_ninja)
+                   found.limit, found.budget, found.json, for_ninja)
