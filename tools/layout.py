@@ -40,8 +40,8 @@ def placed(top: Path) -> list[Placed]:
              Placed("docs/rebug.1", "share/man/man1/rebug.1"),
              *(Placed(f"tools/{name}", f"{LIBEXEC}/{name}") for name in ("session", "colours.sed")),
              Placed("record/observer/observer.c", f"{LIBEXEC}/record/observer/observer.c")]
-    found += [Placed(f"record/{name}", f"{LIBEXEC}/record/{name}") 
-              for name in ("rebug-record", "rebug-provoke", "rebug-mend")]
+    found += [Placed(f"record/{name}", f"{LIBEXEC}/record/{name}")
+              for name in ("rebug-record", "rebug-provoke", "rebug-shuffle", "rebug-mend")]
     found += [Placed(it, f"{LIBEXEC}/{it}") for it in below(top, "record/recorder") if it.endswith(".py")]
     found += [Placed(f"completions/{name}", target) for name, target in COMPLETIONS.items()]
     pages = [it for it in below(top, "docs") if it.endswith((".md", ".svg")) and not it.startswith(FOR_ENGINEERS)]

@@ -66,8 +66,8 @@ class Shuffled:
     def ninja(self, *words: str) -> None:
         subprocess.run(["ninja", *words], cwd=self.build, check=True, stdin=subprocess.DEVNULL, capture_output=True)
 
-    def words(self, *words: object) -> list[object]:
-        return [sys.executable, SHUFFLE, self.build, *words]
+    def words(self, *words: object) -> list[str]:
+        return [sys.executable, str(SHUFFLE), str(self.build), *map(str, words)]
 
     def shuffle(self, *words: object, **how: object) -> Answer:
         """The answer as JSON."""

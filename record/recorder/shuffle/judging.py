@@ -45,8 +45,9 @@ class Outcome:
 
 @dataclass
 class Finding:
-    """A difference: between which two outcomes, at which paths, in which command first, and the pair that it comes from,
-    with the file and the line of the mend. `tried` says what came of the build with it."""
+    """A difference: between which two outcomes, at which paths, in which command first, and the pair that it comes from.
+    `beside` has the commands that overlapped with the user. `is_mended` says whether the user does the same once the
+    order is put in, and `left` has the paths that differ still."""
 
     own: Outcome
     other: Outcome
@@ -132,8 +133,8 @@ class Judge:
         self.report.compared = len((self.before.stamps.keys() | changed.keys()) -
                                    {path for path, it in changed.items() if it == MISSING})
         if not self.before.is_as_it_was():
-            raise Unfit(f"files below {os.fsdecode(self.build.place.build)} or its sources changed meanwhile, by another "
-                        f"than these builds")
+            raise Unfit(f"files below {os.fsdecode(self.build.place.build)} or its sources changed meanwhile: what was "
+                        f"seen is of no single build")
         return self.report
 
     def _task(self, order: Sequence[int] | None = None, **more: object) -> Task:
@@ -241,7 +242,8 @@ class Judge:
     def _overlapped(self, seed: int) -> Task:
         jobs = 4 * (os.cpu_count() or 1)
         files = {**(self._mended() if self.mends else {}), **with_waits(self.commands.manifest, seed, _LONGEST_WAIT)}
-        return Task(files=files, targets=self.build.targets, away=self.away, jobs=jobs, seconds=self.limit, read_anew=True)
+        return Task(files=files, targets=self.build.targets, away=self.away, jobs=jobs, seconds=self.limit,
+                    read_anew=True)
 
     def _count(self, own: Outcome, outcomes: list[Outcome]) -> None:
         """Counts the pairs that stood both ways, by the commands that ran and the order in which they did."""
@@ -262,7 +264,8 @@ class Judge:
     # what differs
 
     def _note_unsteady(self, one: Ran, other: Ran) -> None:
-        """What differs between two runs of one order says nothing, and in a folder with names by chance no name does."""
+        """What differs between two runs of one order says nothing, and in a folder with names by chance no name does
+        so."""
         differ = differing(self.before, one.changed, other.changed)
         self.unsteady |= differ
         self.odd |= {os.path.dirname(it) for it in differ if self._is_there(one, it) != self._is_there(other, it)}
@@ -280,8 +283,8 @@ class Judge:
 
     def _first_finding(self, own: Outcome, outcomes: list[Outcome]) -> Finding | None:
         """The first order that leaves something else, once it has done so twice."""
-        differing_so_far = [it for it in outcomes if it is not own and it.is_possible and self._differs(own.ran, it.ran)]
-        for it in differing_so_far:
+        others = [it for it in outcomes if it is not own and it.is_possible and self._differs(own.ran, it.ran)]
+        for it in others:
             if not self._differs(own.ran, it.ran):
                 continue  # by what is known to be unsteady since
             self.tell(f"{it.name} again")
@@ -292,8 +295,8 @@ class Judge:
             for outcome, ran in zip((own, it), (once_more, *other)):
                 outcome.contents = ran.contents
             if self._differs(own.ran, it.ran) and all(self._differs(own.ran, them) for them in other):
-                others = [them.number for them in differing_so_far if them is not it and self._differs(own.ran, them.ran)]
-                return self._finding(own, it, others)
+                return self._finding(own, it, [them.number for them in others if them is not it
+                                               and self._differs(own.ran, them.ran)])
         return None
 
     def _finding(self, own: Outcome, other: Outcome, others: list[int]) -> Finding:

@@ -37,8 +37,8 @@ class Out:
         return Out(folder)
 
     def write(self, report: Report, build: Prepared, judge: Judge) -> None:
-        """Writes `order-N`, with a first output a line, and for each difference a folder with the files of both runs and
-        what the failed command wrote."""
+        """Writes `order-N`, with a first output a line. For each difference it writes a folder with the files of both
+        runs, and what the failed command wrote."""
         os.makedirs(self.folder, exist_ok=True)
         for it in report.outcomes:
             if it.order:

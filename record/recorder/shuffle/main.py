@@ -3,7 +3,9 @@
 from __future__ import annotations
 
 import os
+import secrets
 import signal
+import tempfile
 import time
 from typing import Any, NoReturn, Sequence
 
@@ -67,11 +69,12 @@ def main(words: Sequence[str]) -> int:
         voice.say(why)
         return 2
     except Refused as why:
-        voice.say(f"this system makes no copy of a folder in which a build can be run: {why}. Nothing has run")
+        voice.say(f"this system makes no copy of a folder in which a build can be run: {why}. Nothing has run (--in-copy "
+                  f"builds in a copy in another path)")
         return 2
     except (Unfit, NoRoom) as why:
         voice.say(why)
-        return 3
+        return 3 if voice.what else 2
     except Ended as why:
         voice.say(f"ended by {signal.Signals(why.number).name}")
         return 128 + why.number
@@ -87,11 +90,19 @@ def _end(number: int, _: Any) -> NoReturn:
 
 
 def _run(options: Options, voice: Voice) -> int:
+    copies = None
+    if options.in_copy:  # each run makes this folder, and takes it away
+        name = f"rebug-shuffle-{secrets.token_hex(8)}"
+        copies = os.fsencode(os.path.join(os.path.realpath(tempfile.gettempdir()), name))
     ninja = os.fsencode(found_ninja().program)
-    build = prepared(os.fsencode(options.build), ninja, options.for_ninja, dict(os.environ))
+    build = prepared(os.fsencode(options.build), ninja, options.for_ninja, dict(os.environ), copies)
+    if copies:
+        voice.say(f"the builds run in {os.fsdecode(copies + build.place.build)}, one after the other; what commands do "
+                  f"elsewhere is done")
     out = Out.checked(options.out, build) if options.out is not None else None
-    bench = Bench(build.place, options.side_by_side, voice.progress)
+    bench = Bench(build.place, options.side_by_side, voice.progress, options.most_memory)
     judge = Judge(options, build, bench, voice.tell)
+    bench.check_room(judge.declared)
     report = judge.judge()
     voice.clear()
     if out:

@@ -159,8 +159,8 @@ class Graph:
 
 
 class Pairs:
-    """The unordered pairs of commands: of which neither waits for the other. A pair is left as long as its commands have
-    stood one way alone, in the first order and in all that were taken.
+    """The unordered pairs of commands: of which neither waits for the other. A pair is left as long as its commands
+    have stood one way alone, in the first order and in all that were taken.
 
     Places are those of the first order; `_before[p]` has the places that stood before p in each order, and `_behind[p]`
     those that stood behind it.

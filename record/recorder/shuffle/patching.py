@@ -70,8 +70,8 @@ class _Places:
         stand at one line, since a file is read twice."""
         lines = self.added[canonical(edge.file)]
         if edge.line in lines:
-            raise NoBuild(f"{shown(edge.file)} is read twice, so that its line {edge.line} makes two commands, of which "
-                          f"no order can be given alone")
+            raise NoBuild(f"{shown(edge.file)} is read twice, so its line {edge.line} makes two commands, and no order "
+                          f"can be put into one of them alone")
         lines[edge.line] = put
 
     def changed(self) -> dict[bytes, bytes]:

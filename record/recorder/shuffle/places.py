@@ -1,4 +1,4 @@
-"""Where a build is shuffled: the build folder and its sources, the targets, and what goes before a build from nothing."""
+"""Where a build is shuffled: the build folder and its sources, the targets, and what goes before each build."""
 
 from __future__ import annotations
 
@@ -10,12 +10,13 @@ from ..manifest import Edge, Manifest
 from ..observed.naming import source_folders
 from ..words import NinjaWords
 from .commands import Commands, NoBuild, commands_of, read_manifest
+from .copying import Copying, check
 from .rooms import layers_of_room, outermost
 from .running import Place
 from .states import Before
 
-_OF_THE_SYSTEM = frozenset(b"bin boot dev etc home lib lib32 lib64 libx32 media mnt nix opt proc root run sbin srv sys tmp "
-                           b"usr var".split())
+_OF_THE_SYSTEM = frozenset(b"bin boot dev etc home lib lib32 lib64 libx32 media mnt nix opt proc root run sbin srv sys "
+                           b"tmp usr var".split())
 
 
 @dataclass
@@ -45,8 +46,10 @@ def whole_path(build: bytes, path: bytes) -> bytes:
     return os.path.join(os.path.realpath(os.path.dirname(whole)), os.path.basename(whole))
 
 
-def prepared(build: bytes, ninja: bytes, words: NinjaWords, environment: dict[str, str]) -> Prepared:
-    """The build of the folder. Raises NoBuild and Refused; nothing has run then."""
+def prepared(build: bytes, ninja: bytes, words: NinjaWords, environment: dict[str, str],
+             copies: bytes | None = None) -> Prepared:
+    """The build of the folder, in rooms, or in copies below a folder that is made anew for each. Raises NoBuild and
+    Refused; nothing has run then."""
     real = os.path.realpath(build)
     if not os.path.isdir(real):
         raise NoBuild(f"{shown(build)} is no folder")
@@ -57,7 +60,11 @@ def prepared(build: bytes, ninja: bytes, words: NinjaWords, environment: dict[st
     fixed = frozenset(path for it in commands.fixed for path in manifest.edges[it].outputs)
     folders = _folders(real, manifest)
     options = [os.fsencode(it) for it in words.all[: len(words.all) - len(words.targets)]]
-    place = Place(real, (ninja, *options), manifest, Before(folders), tuple(layers_of_room(folders, environment)),
+    copying = Copying(copies, tuple(folders)) if copies else None
+    if copying:
+        check(copying, manifest)
+    layers = [] if copying else layers_of_room(folders, environment)
+    place = Place(real, (ninja, *options), manifest, Before(folders), tuple(layers), copying,
                   _away(manifest, commands.fixed), manifest.log_folder() or b".", fixed)
     return Prepared(place, words.manifest, tuple(words.targets), commands)
 

@@ -21,14 +21,15 @@ from typing import Any, Mapping, Sequence
 
 from ..provoke.copies import Refused, in_process
 
-_MOUNTS, _USER, _NETWORK, _MESSAGES = 0x00020000, 0x10000000, 0x40000000, 0x08000000  # CLONE_NEWNS, ..USER, ..NET, ..IPC
+# CLONE_NEWNS, CLONE_NEWUSER, CLONE_NEWNET, CLONE_NEWIPC
+_MOUNTS, _USER, _NETWORK, _MESSAGES = 0x00020000, 0x10000000, 0x40000000, 0x08000000
 _BIND, _RECURSIVE, _PRIVATE = 0x1000, 0x4000, 1 << 18  # MS_BIND, MS_REC, MS_PRIVATE
 _REMOUNT, _READ_ONLY = 32, 1  # MS_REMOUNT, MS_RDONLY
 _MOUNT_SETATTR, _HERE, _ALL_BELOW, _ATTR_READ_ONLY = 442, -100, 0x8000, 1
 _GET_FLAGS, _SET_FLAGS, _UP = 0x8913, 0x8914, 0x41  # SIOCGIFFLAGS, SIOCSIFFLAGS, IFF_UP | IFF_RUNNING
 _OF_THE_SYSTEM = frozenset(
-    b"proc sysfs devpts devtmpfs cgroup cgroup2 mqueue securityfs debugfs tracefs bpf pstore configfs fusectl hugetlbfs "
-    b"binfmt_misc nsfs autofs rpc_pipefs efivarfs".split())
+    b"proc sysfs devpts devtmpfs cgroup cgroup2 mqueue securityfs debugfs tracefs bpf pstore configfs fusectl "
+    b"hugetlbfs binfmt_misc nsfs autofs rpc_pipefs efivarfs".split())
 _ESCAPED = re.compile(rb"\\([0-7]{3})")
 _TEMPORARIES = ("/tmp", "/var/tmp", "/dev/shm", "TMPDIR", "XDG_RUNTIME_DIR")
 _OWN = ("HOME", "XDG_CACHE_HOME", "CCACHE_DIR", "SCCACHE_DIR")

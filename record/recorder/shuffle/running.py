@@ -1,9 +1,10 @@
-"""One run of a build from nothing in a room: the outputs taken away, the manifest's files exchanged, Ninja run, and what
-it leaves told."""
+"""One run of a build from nothing in a room: the outputs taken away, the manifest's files exchanged, Ninja run, and
+what it leaves told."""
 
 from __future__ import annotations
 
 import contextlib
+import errno
 import mmap
 import os
 import resource
@@ -22,13 +23,14 @@ from ..logs import read_build_log
 from ..manifest import Manifest
 from ..provoke.copies import end_with_parent
 from ..said import BEGIN, END, Said
+from .copying import Copying
 from .rooms import Layer, enter
 from .states import Before, changed
 
 _STATUS = b"[%f/%t] "
 _MOST_SAID = 4096
 _MOST_KEPT = 64 << 20
-_LEAST_ROOM = 1 << 20
+_LEAST_ROOM, _NO_SPACE = 1 << 20, os.strerror(errno.ENOSPC).encode()
 _LONG_CHAIN, _STACK = 20_000, 1 << 28
 _SECONDS_TO_END, _LOOK_SECONDS = 3.0, 0.25
 LOGS = (b".ninja_log", b".ninja_deps")
@@ -37,7 +39,7 @@ LOGS = (b".ninja_log", b".ninja_deps")
 @dataclass(frozen=True)
 class Place:
     """Where builds run: the build folder, Ninja's words up to the targets, the manifest, what stood there before, and
-    the mounts of a room. `away` are paths that go before a build, and `logs` the folder of Ninja's logs. `kept` are
+    the mounts of a room, or how folders are copied where this system makes no room. `away` are paths that go before a build, and `logs` the folder of Ninja's logs. `kept` are
     outputs whose entries stay in the build log: those of what makes the manifest."""
 
     build: bytes
@@ -45,6 +47,7 @@ class Place:
     manifest: Manifest
     before: Before
     layers: tuple[Layer, ...]
+    copying: Copying | None
     away: tuple[bytes, ...]
     logs: bytes
     kept: frozenset[bytes]
@@ -94,10 +97,9 @@ class Ran:
 
 
 def run_in_room(place: Place, task: Task, most_bytes: int, progress: mmap.mmap) -> Ran:
-    """Runs the task in a room of this process's own, which ends with it. Raises Refused, and OSError where a file cannot
-    be written or Ninja cannot be run."""
-    memory = enter(place.layers, most_bytes)
-    os.chdir(place.build)
+    """Runs the task in a room of this process's own, which ends with it. Raises Refused, and OSError where a file
+    cannot be written or Ninja cannot be run."""
+    memory = _enter(place, most_bytes)
     _clean(place, task)
     contents = {name: content for name, content, _ in place.manifest.files}
     stamps = {name: os.stat(name).st_mtime_ns for name in contents}
@@ -112,18 +114,31 @@ def run_in_room(place: Place, task: Task, most_bytes: int, progress: mmap.mmap) 
                                  == stamps[name] for name, content in contents.items())
     _look_at_log(found, os.path.join(place.logs, LOGS[0]))
     ignored = {os.path.join(place.build, canonical(name)) for name in contents}
-    found.changed = changed(place.before, ignored)
-    _keep(found, task.wanted)
+    found.changed = changed(place.before, ignored, place.copying.top if place.copying else b"")
+    _keep(place, found, task.wanted)
     room = os.fstatvfs(memory)
-    found.used = (room.f_blocks - room.f_bfree) * room.f_frsize
-    found.is_full = room.f_bavail * room.f_frsize < _LEAST_ROOM
+    found.used = 0 if place.copying else (room.f_blocks - room.f_bfree) * room.f_frsize
+    found.is_full = room.f_bavail * room.f_frsize < _LEAST_ROOM or any(_NO_SPACE in text for _, text in found.failed)
     return found
+
+
+def _enter(place: Place, most_bytes: int) -> int:
+    """Has this process be in a room, or in copies. Gives a handle of what they stand in."""
+    copying = place.copying
+    if copying is None:
+        memory = enter(place.layers, most_bytes)
+        os.chdir(place.build)
+        return memory
+    copying.enter()
+    os.chdir(copying.place(place.build))
+    return os.open(copying.top, os.O_RDONLY | os.O_DIRECTORY)
 
 
 def _clean(place: Place, task: Task) -> None:
     """Takes away what a build from nothing does not find."""
-    tops = [it.place for it in place.layers]
-    for path in dict.fromkeys((*place.away, *task.away)):
+    copying = place.copying
+    tops = [copying.place(it) for it in copying.folders] if copying else [it.place for it in place.layers]
+    for path in dict.fromkeys((*place.away, *(copying.place(it) if copying else it for it in task.away))):
         _take_away(path, tops)
     log, deps = (os.path.join(place.logs, it) for it in LOGS)
     content = _read(log)
@@ -201,7 +216,8 @@ def _with_files(manifest: Manifest, files: dict[bytes, bytes]) -> Manifest:
 
 
 def _take(process: subprocess.Popen[bytes], said: Said, seconds: float | None, progress: mmap.mmap) -> bool:
-    """Takes what Ninja writes up to its end, and counts its status lines. Whether it was ended, since it took too long."""
+    """Takes what Ninja writes up to its end, and counts its status lines. Gives whether it was ended, since it took too
+    long."""
     assert process.stdout is not None
     until, count = time.monotonic() + seconds if seconds else None, 0
     with selectors.DefaultSelector() as ready:
@@ -239,12 +255,13 @@ def _look_at_log(found: Ran, path: bytes) -> None:
         found.times[output] = it.start, it.end
 
 
-def _keep(found: Ran, wanted: Sequence[bytes]) -> None:
+def _keep(place: Place, found: Ran, wanted: Sequence[bytes]) -> None:
     left = _MOST_KEPT
     for path in wanted:
+        here = place.copying.place(path) if place.copying else path
         with contextlib.suppress(OSError):
-            if stat.S_ISREG(os.lstat(path).st_mode) and os.lstat(path).st_size <= left:
-                found.contents[path] = _read(path) or b""
+            if stat.S_ISREG(os.lstat(here).st_mode) and os.lstat(here).st_size <= left:
+                found.contents[path] = _read(here) or b""
                 left -= len(found.contents[path])
 
 

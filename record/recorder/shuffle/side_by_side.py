@@ -9,14 +9,14 @@ import select
 import signal
 import struct
 from dataclasses import dataclass, field
-from typing import Callable, NoReturn, Sequence
+from typing import Callable, Iterable, NoReturn, Sequence
 
 from ..provoke.copies import end_with_parent, in_process
 from .running import Place, Ran, Task, run_in_room
 
 _LOOK_SECONDS = 0.2
 _SHARE_OF_MEMORY = 0.8
-_SPARE_BYTES, _MOST_OF_A_ROOM = 64 << 20, 1 << 46
+_SPARE_BYTES = 64 << 20
 
 
 class NoRoom(Exception):
@@ -40,12 +40,14 @@ class _Child:
 
 @dataclass
 class Bench:
-    """Where tasks run: how many side by side, how much memory a copy has taken so far, and who is told how far they
-    are: how many status lines have come of the runs at work, and how many tasks have ended."""
+    """Where tasks run: how many side by side, in how many megabytes of memory, and who is told how far they are: how
+    many status lines have come of the runs at work, how many tasks have ended, and how many there are. `used` is how
+    many bytes of memory a copy has taken at most."""
 
     place: Place
     most: int
     tell: Callable[[int, int, int], None] = lambda steps, ended, all: None
+    megabytes: int | None = None
     used: int = 0
     runs: int = 0
     processor: float = 0.0
@@ -75,14 +77,27 @@ class Bench:
 
     def _side_by_side(self) -> int:
         """How many rooms there is memory for, by what one has taken."""
-        if not self.runs:
+        if not self.runs or self.place.copying:
             return 1
-        return max(1, min(self.most, int(memory_free() * _SHARE_OF_MEMORY) // (self.used + _SPARE_BYTES)))
+        return max(1, min(self.most, self.memory() // (self.used + _SPARE_BYTES)))
 
     def _room(self, wanted: int) -> int:
         """How many bytes one of the rooms may take."""
         count = min(self._side_by_side(), max(1, wanted))
-        return min(_MOST_OF_A_ROOM, max(_SPARE_BYTES, int(memory_free() * _SHARE_OF_MEMORY) // count))
+        return max(1 << 20, self.memory() // count)
+
+    def check_room(self, outputs: Iterable[bytes]) -> None:
+        """Raises NoRoom where the outputs that an earlier build left are more than there is memory for."""
+        stamps = self.place.before.stamps
+        needed = sum(stamps[it].size for it in set(outputs) if it in stamps)
+        if needed > self.memory():
+            raise NoRoom(f"the copies stand in memory, of which {self.memory() >> 20} MB are free, and the outputs "
+                         f"that are there take {needed >> 20} MB. Nothing has run")
+
+    def memory(self) -> int:
+        """How many bytes all copies together may take."""
+        free = int(memory_free() * _SHARE_OF_MEMORY)
+        return free if self.megabytes is None else min(free, self.megabytes << 20)
 
     def _listen(self, children: list[_Child], found: dict[int, Ran], count: int) -> None:
         ready = select.select([it.reader for it in children], [], [], _LOOK_SECONDS)[0]
@@ -131,7 +146,8 @@ def _work(parent: int, writer: int, place: Place, task: Task, most_bytes: int, p
     try:
         end_with_parent(parent)
         try:
-            found: tuple[bool, object] = True, in_process(lambda: run_in_room(place, task, most_bytes, progress))
+            at_end = place.copying.leave if place.copying else lambda: None
+            found: tuple[bool, object] = True, in_process(lambda: run_in_room(place, task, most_bytes, progress), at_end)
         except Exception as why:
             found = False, why
         with os.fdopen(writer, "wb") as file:

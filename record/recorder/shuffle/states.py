@@ -5,7 +5,7 @@ from __future__ import annotations
 import hashlib
 import os
 import stat
-from dataclasses import dataclass, field
+from dataclasses import dataclass, field, replace
 from typing import Collection, Iterator
 
 LEFT_OUT = frozenset((b".ninja_log", b".ninja_deps", b".ninja_lock", b"__pycache__"))
@@ -65,14 +65,17 @@ def _stamps(folders: Collection[bytes]) -> Iterator[tuple[bytes, Stamp]]:
                                      0 if is_folder else status.st_mtime_ns, 0 if is_folder else status.st_ctime_ns)
 
 
-def changed(before: Before, ignored: Collection[bytes]) -> dict[bytes, str]:
+def changed(before: Before, ignored: Collection[bytes], top: bytes = b"") -> dict[bytes, str]:
     """The paths that are not as they were before, each with what stands there now. A file that was written again is
-    among them also where its bytes are the same."""
+    among them also where its bytes are the same. Copies of the folders may stand below a folder `top`: a copy has the
+    stamps of what it was made of, but for the last."""
     found, seen = {}, set()
-    for path, stamp in _stamps(before.folders):
+    for here, stamp in _stamps([top + it for it in before.folders]):
+        path = here[len(top) :]
         seen.add(path)
-        if path not in ignored and before.stamps.get(path) != stamp:
-            found[path] = state_of(path)
+        was = before.stamps.get(path)
+        if path not in ignored and (was is None or was != (replace(stamp, renamed=was.renamed) if top else stamp)):
+            found[path] = state_of(here)
     found.update((path, MISSING) for path in before.stamps.keys() - seen if path not in ignored)
     return found
 

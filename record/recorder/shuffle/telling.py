@@ -12,6 +12,7 @@ from ..provoke.answering import visible
 from ..provoke.races import shown_name
 from .judging import Finding, Outcome, Report
 from .places import Prepared
+from .states import MISSING
 
 _MOST_NAMES, _MOST_LINES = 3, 12
 _MOST_PATHS = 1000
@@ -45,12 +46,12 @@ def _lines_of_finding(it: Finding, build: Prepared) -> Iterator[str]:
     yield f"difference: {it.other.name} leaves something else than {it.own.name}"
     yield from _lines_of_status(it, build)
     if it.paths:
-        missing = [path for path in it.paths if "missing" in (_state(it.own, path, build), _state(it.other, path, build))]
-        others = [path for path in it.paths if path not in set(missing)]
+        missing = {path for path in it.paths if MISSING in (_state(it.own, path, build), _state(it.other, path, build))}
+        others = [path for path in it.paths if path not in missing]
         if others:
             yield f"  other bytes: {_names(others, build)}"
         if missing:
-            yield f"  there after one of them alone: {_names(missing, build)}"
+            yield f"  there after one of them alone: {_names(sorted(missing), build)}"
     if it.causes:
         yield f"  it begins in: {_edges(it.causes)}"
     if it.beside:

@@ -13,7 +13,7 @@ from ..words import read_words as read_ninja_words
 
 NAME = "rebug shuffle"
 _USAGE = """%(prog)s BUILD_DIR [OUT_DIR] [--runs N] [--repeat ORDER] [--seed S] [--overlap] [--mend-all] [-j N] [--json]
-                     [--limit SECONDS] [--budget N] [-- TARGETS...]"""
+                     [--limit SECONDS] [--budget N] [--most-memory MB] [--in-copy] [-- TARGETS...]"""
 _ABOUT = """Builds BUILD_DIR from nothing in Ninja's own order and in orders that reverse it, in copies that are thrown
 away, and compares what they leave: status, files, bytes, links and modes. Where two differ it names the command in
 which they do first, the two commands whose order it comes from, and the line that mends it. OUT_DIR gets the orders,
@@ -52,10 +52,12 @@ class Options:
     repeat: int | None = None
     seed: int = 1
     overlap: bool = False
+    in_copy: bool = False
     mend_all: bool = False
     jobs: int | None = None
     limit: int | None = None
     budget: int = 400
+    most_memory: int | None = None
     json: bool = False
     for_ninja: NinjaWords = field(default_factory=lambda: NinjaWords([]))
 
@@ -84,7 +86,8 @@ def _words() -> argparse.ArgumentParser:
     words.add_argument("names", metavar="BUILD_DIR [OUT_DIR]", nargs="*",
                        help="the folder that Ninja runs in, and a new folder for what is left of the runs")
     words.add_argument("--runs", metavar="N", type=_number("--runs", 2, "so many orders, from 2 on"),
-                       help="run at most N orders; else as many as let each pair of commands stand both ways, at most 12")
+                       help="run at most N orders; else as many as let each pair of commands stand both ways, at most "
+                            "12")
     words.add_argument("--repeat", metavar="ORDER", type=_number("--repeat", 2, "the number of an order, from 2 on"),
                        help="run the build's own order and the one with this number alone")
     words.add_argument("--seed", metavar="S", type=_number("--seed", 0, "a number from 0 on"), default=1,
@@ -93,12 +96,18 @@ def _words() -> argparse.ArgumentParser:
                        help="run the build with many jobs as well, and with small waits before its commands: for what "
                             "shows only while two commands overlap")
     words.add_argument("--mend-all", action="store_true",
-                       help="put each order that is found into the manifest of the copies, and go on until nothing differs")
+                       help="put each order that is found into the manifest of the copies, and go on until nothing "
+                            "differs")
+    words.add_argument("--in-copy", action="store_true",
+                       help="build in copies in another path, one at a time, where this system refuses those at the same "
+                            "path: what commands do elsewhere is done then")
     words.add_argument("--budget", metavar="N", type=_number("--budget", 4, "so many runs, from 4 on"), default=400,
                        help="begin no search when so many runs were made; else 400")
     words.add_argument("--limit", metavar="SECONDS", type=_number("--limit", 1, "so many seconds, from 1 on"),
-                       help="end an order that takes longer, which is a difference; else ten times as long as Ninja's own, "
-                            "and at least 30 seconds")
+                       help="end an order that takes longer, which is a difference; else ten times as long as Ninja's "
+                            "own, and at least 30 seconds")
+    words.add_argument("--most-memory", metavar="MB", type=_number("--most-memory", 1, "so many megabytes, from 1 on"),
+                       help="let the copies take at most so many megabytes of memory; else four fifths of what is free")
     words.add_argument("-j", metavar="N", dest="jobs", type=_number("-j", 1, "so many runs side by side, from 1 on"),
                        help="make at most N runs side by side; else one for each processor, as far as memory allows")
     words.add_argument("--json", action="store_true", help="write a JSON object a line in place of words")
@@ -130,5 +139,5 @@ def read_words(words: Sequence[str]) -> Options:
         raise BadWords(f"{why} (behind --)") from why
     if for_ninja.jobs is not None:
         raise BadWords("-j stands in front of --: the commands of an order run one after the other")
-    return Options(build, out, found.runs, found.repeat, found.seed, found.overlap, found.mend_all, found.jobs,
-                   found.limit, found.budget, found.json, for_ninja)
+    return Options(build, out, found.runs, found.repeat, found.seed, found.overlap, found.in_copy, found.mend_all, found.jobs,
+                   found.limit, found.budget, found.most_memory, found.json, for_ninja)

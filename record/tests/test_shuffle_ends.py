@@ -1,0 +1,209 @@
+"""How a call of `rebug shuffle` can end: bad input gets a sentence before anything runs, and whatever ends it nothing is
+changed, and nothing goes on."""
+
+from __future__ import annotations
+
+import contextlib
+import os
+import pathlib
+import random
+import shutil
+import signal
+import subprocess
+import tempfile
+import time
+import unittest
+import uuid
+
+from builds import wait_until
+from shuffled import RULES, Shuffled, statement
+from test_shuffle import HIDDEN, LACKING, SOFT, SOUND, Case
+
+SEED = 5
+KILLS = 60
+SIGNALS = (signal.SIGKILL, signal.SIGTERM, signal.SIGINT, signal.SIGHUP)
+MARK = "REBUG_TEST_MARK"
+
+
+class BadInput(Case):
+    def refused(self, it: Shuffled, said: str, *words: object, status: int = 2, **how: object) -> None:
+        """One sentence, and no command has run."""
+        (it.build / "build.ninja").open("a").close()
+        before = it.everything()
+        found = it.shuffle(*words, **how)
+        self.assertEqual((found.status, found.said.count("\n"), found.objects), (status, 1, []), found.said)
+        self.assertIn(said, found.said)
+        self.assertTrue(found.said.startswith("rebug shuffle: "), found.said)
+        self.assertEqual(it.everything(), before)
+
+    def test_targets_and_manifests(self):
+        it = self.made(SOUND + "build all: phony m.o\nbuild empty: phony\n")
+        self.refused(it, "the manifest has no target nowhere", "--", "nowhere")
+        self.refused(it, "need no command", "--", "empty")
+        self.refused(it, f"cannot read {it.build}/other: No such file", "--", "-f", "other")
+        (it.build / "bad").write_text("build a: unknown\n")
+        self.refused(it, "bad:1: unknown rule", "--", "-f", "bad")
+        (it.build / "loop").write_text(RULES + "build a: r b\nbuild b: r a\nbuild c: r\ndefault a c\n")
+        self.refused(it, "wait for each other", "--", "-f", "loop")
+        (it.build / "build.ninja").unlink()
+        (it.build / "build.ninja").mkdir()
+        self.assertIn("Is a directory", it.shuffle().said)
+
+    def test_a_build_folder_that_is_none(self):
+        it = self.made(SOUND)
+        for name in ("nothing", "build.ninja"):
+            done = subprocess.run([*it.words()[:2], it.build / name], capture_output=True, text=True)
+            self.assertEqual((done.returncode, done.stderr), (2, f"rebug shuffle: {it.build / name} is no folder\n"))
+
+    def test_folders_for_what_is_left(self):
+        it = self.made(SOUND)
+        (it.room / "file").write_text("")
+        self.refused(it, "is no folder", it.room / "file")
+        self.refused(it, "is not empty", it.room)
+        self.refused(it, "cannot be made", it.room / "no/such")
+        self.refused(it, "which is compared", it.build / "out")
+
+    def test_a_ninja_that_is_none(self):
+        it = self.made(SOUND)
+        self.refused(it, "which cannot be run", env={**os.environ, "NINJA": "/nowhere/ninja"})
+
+    def test_a_system_that_makes_no_namespaces(self):
+        """By a filter of calls, as a container has it: unshare is refused."""
+        it = self.made(SOUND)
+        program = it.room / "deny"
+        source = pathlib.Path(__file__).parent / "programs/deny_unshare.c"
+        compiler = shutil.which("cc") or shutil.which("gcc")
+        if not compiler:
+            self.skipTest("not on this machine: cc")
+        subprocess.run([compiler, "-o", program, source], check=True)
+        before = it.everything()
+        done = subprocess.run([program, *it.words()], capture_output=True, text=True)
+        self.assertEqual((done.returncode, done.stdout), (2, ""), done.stderr)
+        self.assertRegex(done.stderr, r"\Arebug shuffle: this system makes no copy .*namespaces: .*Nothing has run\n\Z")
+        self.assertEqual(it.everything(), before)
+
+    def test_a_build_that_fails_in_each_order(self):
+        it = self.made(statement("a", "echo why >&2; false") + SOUND)
+        self.refused(it, "a failed: why", status=3)
+
+    def test_a_ninja_that_refuses_the_manifest(self):
+        it = self.made("ninja_required_version = 99\n" + SOUND)
+        self.refused(it, "Ninja refuses the build: ninja: ", status=3)
+
+    def test_a_build_folder_that_changes_meanwhile(self):
+        it = self.made(SOUND + statement("slow", "sleep 1; touch slow"))
+        with subprocess.Popen(it.words(), stdout=subprocess.DEVNULL, stderr=subprocess.PIPE, text=True) as process:
+            time.sleep(1)
+            (it.build / "new").write_text("")
+            said = process.communicate()[1]
+        self.assertEqual((process.returncode, said.count("\n"), "changed meanwhile" in said), (3, 1, True), said)
+
+    def test_no_room_in_the_copies(self):
+        it = self.made(statement("big", "head -c 40000000 /dev/zero > big && touch done") + SOUND)
+        self.refused(it, "there is no room for what this build leaves", "--most-memory", "16", status=3)
+        it.ninja()
+        self.refused(it, "of which 16 MB are free, and the outputs that are there take 38 MB", "--most-memory", "16")
+
+
+class InCopy(Case):
+    """Builds in copies in another path."""
+
+    def test_what_differs_is_found_and_nothing_is_changed(self):
+        it = self.made(HIDDEN + statement("n", "cat ../src/s > n; echo more >> ../src/s", "| ../src/s"), {"src/s": "s\n"})
+        before = it.everything()
+        found = it.shuffle("--in-copy")
+        self.assertEqual((found.status, found.pair, found.difference["mended"]), (4, ("v.h", "m.o"), True), found.said)
+        self.assertRegex(found.said, r"\Arebug shuffle: the builds run in /\S+/build, one after the other; [^\n]*\n\Z")
+        self.assertEqual(it.everything(), before)
+
+    def test_temporaries_and_the_users_own_folder_are_others(self):
+        name = f"rebug-shuffle-{uuid.uuid4()}"
+        it = self.made(statement("a", f"echo x > $HOME/{name}; echo x > $TMPDIR/{name}; cat $HOME/{name} > a") + SOUND)
+        self.assertEqual(it.shuffle("--in-copy").status, 0)
+        self.assertFalse(os.path.exists(os.path.expanduser(f"~/{name}")))
+        self.assertFalse(os.path.exists(os.path.join(tempfile.gettempdir(), name)))
+
+    def test_what_would_change_the_folders_is_refused(self):
+        it = self.made(statement("a", "echo x > @ROOM@/build/a"))
+        before = it.everything()
+        found = it.shuffle("--in-copy")
+        self.assertEqual((found.status, "by its whole path" in found.said), (2, True), found.said)
+        self.assertEqual(it.everything(), before)
+        it = self.made(SOUND)
+        for leads in (it.room / "elsewhere", it.build / "s"):
+            (it.build / "l").symlink_to(leads)
+            (it.build / "s").write_text("")
+            found = it.shuffle("--in-copy")
+            self.assertEqual((found.status, "would change" in found.said), (2, True), found.said)
+            (it.build / "l").unlink()
+
+
+class Ends(Case):
+    def setUp(self):
+        self.chance = random.Random(SEED)
+
+    def processes(self, mark: str) -> list[int]:
+        """The processes that have the mark in their environment."""
+        found = []
+        for name in os.listdir("/proc"):
+            with contextlib.suppress(OSError):
+                if name.isdigit() and mark.encode() in pathlib.Path("/proc", name, "environ").read_bytes():
+                    found.append(int(name))
+        return found
+
+    def ended(self, it: Shuffled, number: int, seconds: float, *words: str) -> int:
+        """The status of a call that a signal ends after so many seconds; nothing of it is left."""
+        room = tempfile.TemporaryDirectory(prefix="rebug-temporaries-")
+        self.addCleanup(room.cleanup)
+        mark = f"{MARK}={uuid.uuid4()}"
+        name, _, value = mark.partition("=")
+        before, mounts = it.everything(), pathlib.Path("/proc/self/mounts").read_bytes()
+        environment = {**os.environ, name: value, "TMPDIR": room.name}
+        process = subprocess.Popen(it.words(*words), stdin=subprocess.DEVNULL, stdout=subprocess.DEVNULL,
+                                   stderr=subprocess.DEVNULL, env=environment, start_new_session=True)
+        time.sleep(seconds)
+        process.send_signal(number)
+        status = process.wait()
+        wait_until(lambda: not self.processes(mark), "processes of an ended call do not end")
+        self.assertEqual(it.everything(), before, (number, seconds))
+        self.assertEqual((pathlib.Path("/proc/self/mounts").read_bytes(), os.listdir(room.name)), (mounts, []))
+        return status
+
+    def test_signals_at_any_moment(self):
+        text = HIDDEN + SOFT + "".join(statement(f"n{it}", f"sleep 0.02; echo {it} > n{it}; echo {it} >> s") for it in range(6))
+        it = self.made(text, {"build/s": "s\n"})
+        at_work = 0
+        for _ in range(KILLS):
+            number = self.chance.choice(SIGNALS)
+            words = ["--in-copy"] if self.chance.random() < 0.3 else []
+            status = self.ended(it, number, self.chance.random() * 4, *words)
+            self.assertIn(status, (4, -number, 128 + number))
+            at_work += status != 4
+        self.assertGreater(at_work, KILLS // 2)
+
+    def test_a_command_that_goes_on_is_ended(self):
+        """A process that a command leaves behind, and that takes no signal that can be refused."""
+        it = self.made(statement("a", "(trap '' INT TERM HUP; sleep 100; touch late) > /dev/null 2>&1 < /dev/null & touch a")
+                       + statement("b", "sleep 2; touch b"))
+        self.assertEqual(self.ended(it, signal.SIGINT, 1.5), 128 + signal.SIGINT)
+        mark = uuid.uuid4()
+        found = it.shuffle(env={**os.environ, MARK: str(mark)})
+        self.assertEqual((found.status, self.processes(str(mark))), (0, []))
+
+    def test_a_process_of_a_run_is_killed(self):
+        it = self.made(SOUND + statement("slow", "sleep 3; touch slow"))
+        mark, before = str(uuid.uuid4()), it.everything()
+        with subprocess.Popen(it.words(), stdin=subprocess.DEVNULL, stdout=subprocess.DEVNULL, stderr=subprocess.PIPE,
+                              text=True, env={**os.environ, MARK: mark}) as process:
+            wait_until(lambda: len(self.processes(mark)) > 4, "no command is run")
+            for one in set(self.processes(mark)) - {process.pid}:
+                with contextlib.suppress(ProcessLookupError):
+                    os.kill(one, signal.SIGKILL)
+            said = process.communicate()[1]
+        self.assertEqual((process.returncode, said.count("\n")), (3, 1), said)
+        wait_until(lambda: not self.processes(mark), "processes of an ended call do not end")
+        self.assertEqual(it.everything(), before)
+
+
+if __name__ == "__main__":
+    unittest.main()
