@@ -25,6 +25,21 @@ SIGNALS = (signal.SIGKILL, signal.SIGTERM, signal.SIGINT, signal.SIGHUP)
 MARK = "REBUG_TEST_MARK"
 
 
+def processes(mark: str) -> list[int]:
+    """The processes that have the mark in their environment."""
+    found = []
+    for name in os.listdir("/proc"):
+        with contextlib.suppress(OSError):
+            if name.isdigit() and mark.encode() in pathlib.Path("/proc", name, "environ").read_bytes():
+                found.append(int(name))
+    return found
+
+
+def wait_for_commands(mark: str) -> None:
+    """Waits until a command of a build runs: this process, those of the run, Ninja, and the command."""
+    wait_until(lambda: len(processes(mark)) > 5, "no command is run")
+
+
 class BadInput(Case):
     def refused(self, it: Shuffled, said: str, *words: object, status: int = 2, **how: object) -> None:
         """One sentence, and no command has run."""
@@ -79,7 +94,7 @@ class BadInput(Case):
         before = it.everything()
         done = subprocess.run([program, *it.words()], capture_output=True, text=True)
         self.assertEqual((done.returncode, done.stdout), (2, ""), done.stderr)
-        self.assertRegex(done.stderr, r"\Arebug shuffle: this system makes no copy .*namespaces: .*Nothing has run\n\Z")
+        self.assertRegex(done.stderr, r"\Arebug shuffle: this system makes no copy .*namespaces: .*Nothing has run \(--in-copy .*\)\n\Z")
         self.assertEqual(it.everything(), before)
 
     def test_a_build_that_fails_in_each_order(self):
@@ -92,8 +107,10 @@ class BadInput(Case):
 
     def test_a_build_folder_that_changes_meanwhile(self):
         it = self.made(SOUND + statement("slow", "sleep 1; touch slow"))
-        with subprocess.Popen(it.words(), stdout=subprocess.DEVNULL, stderr=subprocess.PIPE, text=True) as process:
-            time.sleep(1)
+        mark = str(uuid.uuid4())
+        with subprocess.Popen(it.words(), stdin=subprocess.DEVNULL, stdout=subprocess.DEVNULL, stderr=subprocess.PIPE,
+                              text=True, env={**os.environ, MARK: mark}) as process:
+            wait_for_commands(mark)
             (it.build / "new").write_text("")
             said = process.communicate()[1]
         self.assertEqual((process.returncode, said.count("\n"), "changed meanwhile" in said), (3, 1, True), said)
@@ -142,15 +159,6 @@ class Ends(Case):
     def setUp(self):
         self.chance = random.Random(SEED)
 
-    def processes(self, mark: str) -> list[int]:
-        """The processes that have the mark in their environment."""
-        found = []
-        for name in os.listdir("/proc"):
-            with contextlib.suppress(OSError):
-                if name.isdigit() and mark.encode() in pathlib.Path("/proc", name, "environ").read_bytes():
-                    found.append(int(name))
-        return found
-
     def ended(self, it: Shuffled, number: int, seconds: float, *words: str) -> int:
         """The status of a call that a signal ends after so many seconds; nothing of it is left."""
         room = tempfile.TemporaryDirectory(prefix="rebug-temporaries-")
@@ -164,7 +172,7 @@ class Ends(Case):
         time.sleep(seconds)
         process.send_signal(number)
         status = process.wait()
-        wait_until(lambda: not self.processes(mark), "processes of an ended call do not end")
+        wait_until(lambda: not processes(mark), "processes of an ended call do not end")
         self.assertEqual(it.everything(), before, (number, seconds))
         self.assertEqual((pathlib.Path("/proc/self/mounts").read_bytes(), os.listdir(room.name)), (mounts, []))
         return status
@@ -188,20 +196,20 @@ class Ends(Case):
         self.assertEqual(self.ended(it, signal.SIGINT, 1.5), 128 + signal.SIGINT)
         mark = uuid.uuid4()
         found = it.shuffle(env={**os.environ, MARK: str(mark)})
-        self.assertEqual((found.status, self.processes(str(mark))), (0, []))
+        self.assertEqual((found.status, processes(str(mark))), (0, []))
 
     def test_a_process_of_a_run_is_killed(self):
         it = self.made(SOUND + statement("slow", "sleep 3; touch slow"))
         mark, before = str(uuid.uuid4()), it.everything()
         with subprocess.Popen(it.words(), stdin=subprocess.DEVNULL, stdout=subprocess.DEVNULL, stderr=subprocess.PIPE,
                               text=True, env={**os.environ, MARK: mark}) as process:
-            wait_until(lambda: len(self.processes(mark)) > 4, "no command is run")
-            for one in set(self.processes(mark)) - {process.pid}:
+            wait_for_commands(mark)
+            for one in set(processes(mark)) - {process.pid}:
                 with contextlib.suppress(ProcessLookupError):
                     os.kill(one, signal.SIGKILL)
             said = process.communicate()[1]
         self.assertEqual((process.returncode, said.count("\n")), (3, 1), said)
-        wait_until(lambda: not self.processes(mark), "processes of an ended call do not end")
+        wait_until(lambda: not processes(mark), "processes of an ended call do not end")
         self.assertEqual(it.everything(), before)
 
 

@@ -7,7 +7,7 @@ import secrets
 import signal
 import tempfile
 import time
-from typing import Any, NoReturn, Sequence
+from typing import Any, Sequence
 
 from ..ninja import NoNinja, found_ninja
 from ..provoke.copies import Ended, Refused
@@ -29,6 +29,7 @@ class Voice:
 
     def __init__(self) -> None:
         self.is_shown, self.at, self.what, self.last = os.isatty(2), False, "", 0.0
+        self.is_over = False
 
     def show(self, text: str) -> None:
         self.clear()
@@ -58,9 +59,25 @@ class Voice:
 
 def main(words: Sequence[str]) -> int:
     voice = Voice()
+
+    def end(number: int, _: Any) -> None:
+        if not voice.is_over:
+            raise Ended(number)
+
     try:
-        for number in NUMBERS:
-            signal.signal(number, _end)
+        try:
+            for number in NUMBERS:
+                signal.signal(number, end)
+            return _answered(words, voice)
+        finally:
+            voice.is_over = True
+    except Ended as why:
+        voice.say(f"ended by {signal.Signals(why.number).name}")
+        return 128 + why.number
+
+
+def _answered(words: Sequence[str], voice: Voice) -> int:
+    try:
         return _run(read_words(words), voice)
     except HelpWanted as why:
         voice.show(str(why))
@@ -75,18 +92,11 @@ def main(words: Sequence[str]) -> int:
     except (Unfit, NoRoom) as why:
         voice.say(why)
         return 3 if voice.what else 2
-    except Ended as why:
-        voice.say(f"ended by {signal.Signals(why.number).name}")
-        return 128 + why.number
     except (OSError, RuntimeError) as why:
         voice.say(why)
         return 3
     finally:
         voice.clear()
-
-
-def _end(number: int, _: Any) -> NoReturn:
-    raise Ended(number)
 
 
 def _run(options: Options, voice: Voice) -> int:

@@ -12,6 +12,7 @@ from dataclasses import dataclass, field
 from typing import Callable, Iterable, NoReturn, Sequence
 
 from ..provoke.copies import end_with_parent, in_process
+from ..signals import NUMBERS
 from .running import Place, Ran, Task, run_in_room
 
 _LOOK_SECONDS = 0.2
@@ -65,6 +66,7 @@ class Bench:
                 while todo and len(children) < self._side_by_side():
                     number, task = todo.pop()
                     children.append(_start(number, self.place, task, self._room(len(children) + 1 + len(todo))))
+                    signal.pthread_sigmask(signal.SIG_UNBLOCK, NUMBERS)
                 self._listen(children, found, len(tasks))
         except BaseException:
             for it in children:
@@ -133,17 +135,19 @@ def _start(number: int, place: Place, task: Task, most_bytes: int) -> _Child:
     progress = mmap.mmap(-1, mmap.PAGESIZE)
     reader, writer = os.pipe()
     parent = os.getpid()
+    signal.pthread_sigmask(signal.SIG_BLOCK, NUMBERS)  # until it is known which of the two processes this is
     process = os.fork()
-    if process:
-        os.close(writer)
-        return _Child(number, process, reader, progress)
-    os.close(reader)
-    _work(parent, writer, place, task, most_bytes, progress)
+    if not process:
+        _work(parent, writer, place, task, most_bytes, progress)
+    child = _Child(number, process, reader, progress)
+    os.close(writer)
+    return child
 
 
 def _work(parent: int, writer: int, place: Place, task: Task, most_bytes: int, progress: mmap.mmap) -> NoReturn:
     """What the process of a task does. It is killed with its parent, and then its keeper ends all that it started."""
     try:
+        signal.pthread_sigmask(signal.SIG_UNBLOCK, NUMBERS)
         end_with_parent(parent)
         try:
             at_end = place.copying.leave if place.copying else lambda: None
