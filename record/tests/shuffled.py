@@ -13,6 +13,9 @@ from dataclasses import dataclass, field
 
 import builds
 
+sys.path.append(str(pathlib.Path(__file__).resolve().parents[2] / "tests"))
+from json_schema import misfits  # noqa: E402
+
 SHUFFLE = builds.RECORDER.parent / "rebug-shuffle"
 RULES = "rule r\n  command = $c\n"
 NOBODY = 65534
@@ -74,6 +77,7 @@ class Shuffled:
         at = words.index("--") if "--" in words else len(words)
         done = subprocess.run(self.words(*words[:at], "--json", *words[at:]),
                               **{"stdin": subprocess.DEVNULL, "capture_output": True, "text": True, **how})
+        assert not misfits(done.stdout.encode(), "shuffle"), misfits(done.stdout.encode(), "shuffle")
         return Answer(done.returncode, done.stderr, [json.loads(it) for it in done.stdout.splitlines()])
 
     def told(self, *words: object) -> tuple[int, str]:

@@ -121,8 +121,8 @@ class Orders(unittest.TestCase):
             Graph([[1], [0]], [True, True])
 
     def test_twenty_thousand_commands(self):
-        """Of a build like CMake's: a generated header behind a name, libraries of fifty, and programs. It takes seconds of
-        the processor for each order, and less memory than 300 MB."""
+        """Of a build like CMake's: a generated header behind a name, libraries of fifty, and programs. An order takes
+        seconds of the processor, and all of it less memory than 300 MB."""
         text = textwrap.dedent("""
             import random, resource, sys, time
             sys.path.insert(0, sys.argv[1])
@@ -173,7 +173,8 @@ class Planted(unittest.TestCase):
                         self.assertTrue(all(place[b] < place[a] for a in it for b in graph.waited_for(a)))
                     return [unseen in it for it in orders]
 
-                self.assertEqual(walked(graph, own, other, seen_by, look), Pair(maker, user), (graph.before, own, other))
+                found = walked(graph, own, other, seen_by, look)
+                self.assertEqual(found, Pair(maker, user), (graph.before, own, other))
 
     def test_the_walk_names_nobody_where_the_user_does_the_same_in_both(self):
         graph, own, other, maker, user = self.planted(1)

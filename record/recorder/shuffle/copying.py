@@ -52,7 +52,8 @@ class Copying:
 
 
 def check(copying: Copying, manifest: Manifest) -> None:
-    """Raises NoBuild where a build in the copies would change what is copied, or could: by a whole path, or by a link."""
+    """Raises NoBuild where a build in the copies would change what is copied, or could: by a whole path, or by a
+    link."""
     for name, content, _ in manifest.files:
         for folder in copying.folders:
             if folder in content:
@@ -70,4 +71,5 @@ def _check_link(path: bytes, top: bytes) -> None:
     leads = os.path.realpath(path)
     is_inside = not os.path.isabs(os.readlink(path)) and (leads == top or leads.startswith(top + b"/"))
     if not is_inside and os.path.exists(leads) and os.access(leads, os.W_OK) and not leads.startswith(b"/dev/"):
-        raise NoBuild(f"{shown(path)} is a link to {shown(leads)}, which a build in a copy would change. Nothing has run")
+        raise NoBuild(f"{shown(path)} is a link to {shown(leads)}, which a build in a copy would change. Nothing has "
+                      f"run")

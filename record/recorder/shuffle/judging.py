@@ -11,7 +11,7 @@ from ..fields import canonical
 from ..manifest import Edge, Manifest
 from .commands import Commands, NoBuild, commands_of, read_dyndep
 from .orders import MOST_ORDERS, Chosen, Pairs, chosen
-from .pairing import Pair, bisected, walked
+from .pairing import Pair, bisected, up_to, walked
 from .patching import chained, with_orders, with_waits
 from .places import Prepared
 from .running import Ran, Task
@@ -23,6 +23,7 @@ _LEAST_SECONDS, _TIMES_LONGER = 30.0, 10
 _IMPOSSIBLE = (b"dependency cycle", b"multiple rules generate")
 _OVERLAPS, _LONGEST_WAIT = 4, 0.2
 _FIRST_OVERLAP, _MOST_KEPT = 1000, 200
+_SPARE_MILLISECONDS = 1000
 
 
 class Unfit(Exception):
@@ -45,9 +46,9 @@ class Outcome:
 
 @dataclass
 class Finding:
-    """A difference: between which two outcomes, at which paths, in which command first, and the pair that it comes from.
-    `beside` has the commands that overlapped with the user. `is_mended` says whether the user does the same once the
-    order is put in, and `left` has the paths that differ still."""
+    """A difference: between which two outcomes, at which paths, in which command first, and the pair that it comes
+    from. `beside` has the commands that overlapped with the user. `is_mended` says whether the user does the same once
+    the order is put in, and `left` has the paths that differ still."""
 
     own: Outcome
     other: Outcome
@@ -120,7 +121,7 @@ class Judge:
             self.report.findings.append(finding)
             self._name_pair(finding)
             turns += 1
-            if not self.options.mend_all or finding.maker is None:
+            if not self.options.mend_all or not finding.is_mended:
                 break
             if self.bench.runs >= self.options.budget:
                 self.report.is_cut = True
@@ -181,11 +182,14 @@ class Judge:
         return self.bench.run(self._task())
 
     def _written_again(self, first: Ran) -> list[bytes]:
-        """What the run wrote again beside its outputs, and is not older than the outputs of an earlier build."""
+        """What the run wrote again beside its outputs, and is not older than an earlier build, by the oldest output and
+        the longest command."""
         stamps = self.before.stamps
         outputs = [stamps[path].changed for path in self.declared if path in stamps and stamps[path].changed]
+        longest = max((end - begin for begin, end in first.times.values()), default=0)
+        oldest = min(outputs, default=1 << 63) - (longest + _SPARE_MILLISECONDS) * 1_000_000
         return [path for path, it in first.changed.items() if path in stamps and path not in self.declared
-                and stamps[path].changed >= min(outputs, default=1 << 63) and not it.startswith(("folder", MISSING))]
+                and stamps[path].changed >= oldest and not it.startswith(("folder", MISSING))]
 
     def _order_of(self, first: Ran) -> list[int]:
         """The order in which the first run's commands ended, and behind them those that did not run."""
@@ -331,7 +335,7 @@ class Judge:
             pair = bisected(own, other, lambda order: self._is_as_own(finding, order))
         if pair is not None:
             finding.maker, finding.user = (self.commands.edges[it] for it in (pair.first, pair.second))
-            self._try_mend(finding, pair)
+            self._try_mend(finding, pair, user)
 
     def _user(self, finding: Finding) -> int | None:
         """The command that failed, or never ended, or the first cause."""
@@ -394,21 +398,22 @@ class Judge:
 
     # the mend
 
-    def _try_mend(self, finding: Finding, pair: Pair) -> None:
-        """Puts the order into the manifest, and runs the order that differed, as far as it is still one."""
-        assert finding.maker and finding.user and finding.other.order
+    def _try_mend(self, finding: Finding, pair: Pair, user: int | None) -> None:
+        """Puts the order into the manifest, and runs the order that differed, as far as it is still one; and of it what
+        the user needs, since another command may fail before it."""
+        assert finding.maker and finding.user and finding.other.order and finding.own.order
         self.tell("the order put in")
         kept = self.commands, list(self.mends)
         self._put_in(finding.maker, finding.user)
         order = self.commands.graph.near(finding.other.order)
         ran = self.bench.run(self._task(order, seconds=self.limit))
-        is_same = ran.is_good and not self._steady(finding.own.ran, ran)
-        finding.is_mended = is_same or self._done(ran, pair.second) == self._done(finding.own.ran, pair.second)
-        finding.left = [] if is_same else self._steady(finding.own.ran, ran)
+        finding.left = self._steady(finding.own.ran, ran)
+        finding.is_mended = ran.is_good and not set(finding.left).intersection(finding.paths or finding.left)
+        if not finding.is_mended and user is not None:
+            one, other = self._look(user, [up_to(it, user) for it in (finding.own.order, order)])
+            finding.is_mended = one == other
         if not self.options.mend_all or not finding.is_mended:
             self.commands, self.mends = kept
-            if self.options.mend_all:
-                finding.maker = finding.user = None
 
     def _put_in(self, maker: Edge, user: Edge) -> None:
         self.mends.append((user.number, maker.outputs[0]))

@@ -86,8 +86,8 @@ def _answered(words: Sequence[str], voice: Voice) -> int:
         voice.say(why)
         return 2
     except Refused as why:
-        voice.say(f"this system makes no copy of a folder in which a build can be run: {why}. Nothing has run (--in-copy "
-                  f"builds in a copy in another path)")
+        voice.say(f"this system makes no copy of a folder in which a build can be run: {why}. Nothing has run "
+                  f"(--in-copy builds in a copy in another path)")
         return 2
     except (Unfit, NoRoom) as why:
         voice.say(why)

@@ -33,11 +33,11 @@ def walked(graph: Graph, own: Sequence[int], other: Sequence[int], user: int, lo
     """
     needed = graph.waited_for(user)
     alone = [it for it in own if it in needed] + [user]
-    in_own, in_other, early = look([_up_to(own, user), _up_to(other, user), alone])
+    in_own, in_other, early = look([up_to(own, user), up_to(other, user), alone])
     if in_own == in_other:
         return None
     order, at_end = (own, in_own) if early != in_own else (other, in_other)
-    before = [it for it in _up_to(order, user)[:-1] if it not in needed]
+    before = [it for it in up_to(order, user)[:-1] if it not in needed]
     low, high = 0, len(before)
     while high - low > 1:
         middle = (low + high) // 2
@@ -57,7 +57,8 @@ def walked(graph: Graph, own: Sequence[int], other: Sequence[int], user: int, lo
     return Pair(partner, user) if place[partner] < place[user] else Pair(user, partner)
 
 
-def _up_to(order: Sequence[int], user: int) -> list[int]:
+def up_to(order: Sequence[int], user: int) -> list[int]:
+    """The beginning of an order that ends with the user."""
     return list(order[: order.index(user) + 1])
 
 

@@ -145,7 +145,7 @@ def enter(layers: Sequence[Layer], most_bytes: int) -> int:
     _unshare()
     _mount("it does not part its mounts from others", b"none", b"/", None, _PRIVATE | _RECURSIVE)
     _have_all_read_only()
-    handles = [os.open(it.place, os.O_PATH) for it in layers]
+    layers, handles = _opened(layers)
     first = next(it.place for it in layers if it.kind is Kind.COPY)
     _mount("it mounts no memory", b"tmpfs", first, b"tmpfs", 0, b"mode=0700,size=%d" % most_bytes)
     memory = os.open(first, os.O_RDONLY | os.O_DIRECTORY)
@@ -165,6 +165,17 @@ def enter(layers: Sequence[Layer], most_bytes: int) -> int:
         os.close(handle)
     _start_network()
     return memory
+
+
+def _opened(layers: Sequence[Layer]) -> tuple[list[Layer], list[int]]:
+    """The layers whose places are there, with handles of them: what others mount below folders of temporaries comes and
+    goes."""
+    found, handles = [], []
+    for it in layers:
+        with contextlib.suppress(OSError):
+            handles.append(os.open(it.place, os.O_PATH))
+            found.append(it)
+    return found, handles
 
 
 def _lay_over(place: bytes, it: bytes, handle: int, number: int) -> None:

@@ -39,8 +39,9 @@ LOGS = (b".ninja_log", b".ninja_deps")
 @dataclass(frozen=True)
 class Place:
     """Where builds run: the build folder, Ninja's words up to the targets, the manifest, what stood there before, and
-    the mounts of a room, or how folders are copied where this system makes no room. `away` are paths that go before a build, and `logs` the folder of Ninja's logs. `kept` are
-    outputs whose entries stay in the build log: those of what makes the manifest."""
+    the mounts of a room, or how folders are copied where this system makes no room. `away` are paths that go before a
+    build, and `logs` is the folder of Ninja's logs. `kept` are outputs whose entries stay in the build log: those of
+    what makes the manifest."""
 
     build: bytes
     ninja: tuple[bytes, ...]

@@ -151,7 +151,8 @@ def _work(parent: int, writer: int, place: Place, task: Task, most_bytes: int, p
         end_with_parent(parent)
         try:
             at_end = place.copying.leave if place.copying else lambda: None
-            found: tuple[bool, object] = True, in_process(lambda: run_in_room(place, task, most_bytes, progress), at_end)
+            run = lambda: run_in_room(place, task, most_bytes, progress)
+            found: tuple[bool, object] = True, in_process(run, at_end)
         except Exception as why:
             found = False, why
         with os.fdopen(writer, "wb") as file:

@@ -95,7 +95,8 @@ def objects_of(report: Report, build: Prepared) -> Iterator[str]:
     """The answer as JSON objects."""
     for it in report.outcomes:
         yield _json(kind="order", number=it.number, name=it.name, status=it.ran.status, possible=it.is_possible,
-                    late=it.ran.is_late, seconds=round(it.ran.seconds, 3), processor=round(it.ran.processor, 3))
+                    late=it.ran.is_late, milliseconds=round(1000 * it.ran.seconds),
+                    processor=round(1000 * it.ran.processor))
     for them in report.findings:
         yield _json(kind="difference", own=them.own.number, other=them.other.number,
                     statuses=[them.own.ran.status, them.other.ran.status], late=them.other.ran.is_late,

@@ -99,8 +99,8 @@ def _words() -> argparse.ArgumentParser:
                        help="put each order that is found into the manifest of the copies, and go on until nothing "
                             "differs")
     words.add_argument("--in-copy", action="store_true",
-                       help="build in copies in another path, one at a time, where this system refuses those at the same "
-                            "path: what commands do elsewhere is done then")
+                       help="build in copies in another path, one at a time, where this system refuses those at the "
+                            "same path: what commands do elsewhere is done then")
     words.add_argument("--budget", metavar="N", type=_number("--budget", 4, "so many runs, from 4 on"), default=400,
                        help="begin no search when so many runs were made; else 400")
     words.add_argument("--limit", metavar="SECONDS", type=_number("--limit", 1, "so many seconds, from 1 on"),
@@ -139,5 +139,5 @@ def read_words(words: Sequence[str]) -> Options:
         raise BadWords(f"{why} (behind --)") from why
     if for_ninja.jobs is not None:
         raise BadWords("-j stands in front of --: the commands of an order run one after the other")
-    return Options(build, out, found.runs, found.repeat, found.seed, found.overlap, found.in_copy, found.mend_all, found.jobs,
-                   found.limit, found.budget, found.most_memory, found.json, for_ninja)
+    return Options(build, out, found.runs, found.repeat, found.seed, found.overlap, found.in_copy, found.mend_all,
+                   found.jobs, found.limit, found.budget, found.most_memory, found.json, for_ninja)
