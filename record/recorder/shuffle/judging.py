@@ -103,16 +103,15 @@ class Judge:
 
     def judge(self) -> Report:
         """All of it. Raises Unfit, NoRoom, Refused and what a run raises."""
-        first, again = self._own_order()
-        order = self._order_of(first)
-        own = Outcome(1, "its own order", order, first)
-        outcomes = [own, *self._others(own)]
+        first = self._own_order()
+        again = self._without_leftovers(first)
+        own = Outcome(1, "its own order", self._order_of(first), first)
+        outcomes = [own, *self._others(own, again)]
         reference = next((it for it in outcomes if it.ran.is_good and it.order), None)
         if reference is None:
             raise Unfit(self._why_not(first))
         self._count(own, outcomes)
         self.report.outcomes = outcomes
-        self._note_unsteady(first, again)
         turns = 0
         while True:
             finding = self._first_finding(reference, outcomes)
@@ -127,7 +126,7 @@ class Judge:
                 self.report.is_cut = True
                 break
             self.tell(f"{turns} mended")
-            outcomes = self._others(reference)
+            outcomes = self._others(reference, reference.ran)
         self.report.unsteady = sorted(self.unsteady)
         self.report.runs = self.bench.runs
         changed = reference.ran.changed
@@ -143,7 +142,8 @@ class Judge:
         files = self._mended() if self.mends else {}
         if order is not None:
             files = {**files, **chained(self.commands, order)}
-        return Task(files=files, targets=self.build.targets, away=self.away, length=len(order or ()),
+        return Task(files=files, targets=self.build.targets, away=self.away,
+                    length=len(self.commands.graph.commands if order is None else order),
                     **more)  # type: ignore[arg-type]
 
     def _mended(self) -> dict[bytes, bytes]:
@@ -151,9 +151,8 @@ class Judge:
 
     # the build's own order
 
-    def _own_order(self) -> tuple[Ran, Ran]:
-        """Two runs of the manifest as it is. What a first one writes again beside the outputs is taken away before the
-        second, if the build leaves the same then: what an earlier build left hides what is missing."""
+    def _own_order(self) -> Ran:
+        """A run of the manifest as it is."""
         self.tell("the build's own order")
         dyndeps = {self.build.whole(canonical(edge.dyndep)): canonical(edge.dyndep)
                    for edge in self.commands.edges if edge.dyndep}
@@ -167,19 +166,23 @@ class Judge:
             self.more = read_dyndep(self.manifest, {dyndeps[it]: content for it, content in first.contents.items()})
             self.commands = commands_of(self.manifest, self.build.name, list(self.build.targets), self.more)
         self.limit = self.options.limit or max(_LEAST_SECONDS, _TIMES_LONGER * first.seconds)
-        return first, self._again(first)
+        return first
 
-    def _again(self, first: Ran) -> Ran:
+    def _without_leftovers(self, first: Ran) -> Ran | None:
+        """A second run of the manifest, from which is taken away what the first one wrote again beside the outputs; and
+        from all later ones, if the build leaves the same: what an earlier build left hides what is missing. None where
+        there is nothing, or it is needed."""
         written = self._written_again(first)
-        self.tell("the build's own order again")
-        if written and first.is_good:
-            self.away = tuple(written)
-            again = self.bench.run(self._task())
-            if again.is_good and not differing(self.before, first.changed, again.changed):
-                self.report.leftovers = sorted(written)
-                return again
-            self.away = ()
-        return self.bench.run(self._task())
+        if not written or not first.is_good:
+            return None
+        self.tell("the build's own order, without what an earlier build left")
+        self.away = tuple(written)
+        again = self.bench.run(self._task())
+        if again.is_good and not differing(self.before, first.changed, again.changed):
+            self.report.leftovers = sorted(written)
+            return again
+        self.away = ()
+        return None
 
     def _written_again(self, first: Ran) -> list[bytes]:
         """What the run wrote again beside its outputs, and is not older than an earlier build, by the oldest output and
@@ -207,8 +210,9 @@ class Judge:
 
     # the other orders
 
-    def _others(self, own: Outcome) -> list[Outcome]:
-        """The other orders, and what came of them. With mends that were put in, those of the mended manifest."""
+    def _others(self, own: Outcome, again: Ran | None) -> list[Outcome]:
+        """The other orders, and what came of them. With mends that were put in, those of the mended manifest. The
+        manifest as it is runs a second time beside them, where it has not yet."""
         assert own.order is not None
         orders = list(self._chosen(own.order))
         if self.options.repeat is not None:
@@ -219,7 +223,8 @@ class Judge:
         if self.options.overlap:
             tasks += [self._overlapped(seed) for seed in self._seeds()]
         self.tell(f"{len(tasks)} other orders" if len(tasks) != 1 else "1 other order")
-        ran = self.bench.run_all(tasks)
+        ran = self.bench.run_all([*tasks, *([self._task()] if again is None else [])])
+        self._note_unsteady(own.ran, again or ran.pop())
         found = [Outcome(number, name, order, it) for (number, name, order), it in zip(orders, ran)]
         for number, (seed, it) in enumerate(zip(self._seeds(), ran[len(orders) :]), 1):
             found.append(Outcome(_FIRST_OVERLAP + number, f"commands that overlap, by seed {seed}", None, it, seed))
@@ -247,7 +252,7 @@ class Judge:
         jobs = 4 * (os.cpu_count() or 1)
         files = {**(self._mended() if self.mends else {}), **with_waits(self.commands.manifest, seed, _LONGEST_WAIT)}
         return Task(files=files, targets=self.build.targets, away=self.away, jobs=jobs, seconds=self.limit,
-                    read_anew=True)
+                    length=len(self.commands.graph.commands), read_anew=True)
 
     def _count(self, own: Outcome, outcomes: list[Outcome]) -> None:
         """Counts the pairs that stood both ways, by the commands that ran and the order in which they did."""

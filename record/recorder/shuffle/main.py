@@ -42,14 +42,14 @@ class Voice:
     def tell(self, what: str) -> None:
         self.what, self.last = what, 0.0
 
-    def progress(self, steps: int, ended: int, count: int) -> None:
+    def progress(self, commands: int, all_commands: int, runs: int) -> None:
         now = time.monotonic()
         if not self.is_shown or now - self.last < _EACH_SECONDS:
             return
         self.clear()
         self.last, self.at = now, True
-        runs = f", {ended} of {count} runs ended" if count > 1 else ""
-        write_all(2, f"{NAME}: {self.what}: {steps} commands{runs}".encode("utf-8", "surrogateescape"))
+        left = f"{commands} of {all_commands} commands, {runs} run{'' if runs == 1 else 's'} left"
+        write_all(2, f"{NAME}: {self.what}: {left}".encode("utf-8", "surrogateescape"))
 
     def clear(self) -> None:
         if self.at:

@@ -57,7 +57,7 @@ class Place:
 @dataclass(frozen=True)
 class Task:
     """A run: the manifest's files that are others, the targets, how many jobs, further paths that go before, and after
-    how many seconds it is ended. Of the paths `wanted` the bytes are given. `length` is that of the chain."""
+    how many seconds it is ended. Of the paths `wanted` the bytes are given. `length` is the number of commands."""
 
     files: dict[bytes, bytes] = field(default_factory=dict)
     targets: tuple[bytes, ...] = ()

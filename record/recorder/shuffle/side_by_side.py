@@ -42,12 +42,12 @@ class _Child:
 @dataclass
 class Bench:
     """Where tasks run: how many side by side, in how many megabytes of memory, and who is told how far they are: how
-    many status lines have come of the runs at work, how many tasks have ended, and how many there are. `used` is how
-    many bytes of memory a copy has taken at most."""
+    many commands have run, of how many, and how many runs are left. `used` is how many bytes of memory a copy has taken
+    at most."""
 
     place: Place
     most: int
-    tell: Callable[[int, int, int], None] = lambda steps, ended, all: None
+    tell: Callable[[int, int, int], None] = lambda commands, all, runs: None
     megabytes: int | None = None
     used: int = 0
     runs: int = 0
@@ -67,7 +67,7 @@ class Bench:
                     number, task = todo.pop()
                     children.append(_start(number, self.place, task, self._room(len(children) + 1 + len(todo))))
                     signal.pthread_sigmask(signal.SIG_UNBLOCK, NUMBERS)
-                self._listen(children, found, len(tasks))
+                self._listen(children, found, tasks)
         except BaseException:
             for it in children:
                 os.kill(it.process, signal.SIGTERM)
@@ -101,7 +101,7 @@ class Bench:
         free = int(memory_free() * _SHARE_OF_MEMORY)
         return free if self.megabytes is None else min(free, self.megabytes << 20)
 
-    def _listen(self, children: list[_Child], found: dict[int, Ran], count: int) -> None:
+    def _listen(self, children: list[_Child], found: dict[int, Ran], tasks: Sequence[Task]) -> None:
         ready = select.select([it.reader for it in children], [], [], _LOOK_SECONDS)[0]
         for it in [it for it in children if it.reader in ready]:
             data = os.read(it.reader, 1 << 20)
@@ -116,7 +116,8 @@ class Bench:
                 if ran.is_full:
                     raise NoRoom(f"the copies stand in memory, and there is no room for what this build leaves: "
                                  f"{ran.used >> 20} MB were not enough")
-        self.tell(sum(it.steps() for it in children), len(found), count)
+        ended = sum(tasks[number].length for number in found)
+        self.tell(ended + sum(it.steps() for it in children), sum(it.length for it in tasks), len(tasks) - len(found))
 
 
 def memory_free() -> int:
