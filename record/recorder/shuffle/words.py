@@ -23,7 +23,7 @@ _MORE = """What stands behind -- goes to Ninja: targets, -f FILE, ...
 exit status:
   0  no order leaves something else
   2  the words, a folder or a target are at fault, or this system refuses the copies; nothing has run
-  3  nothing can be told: the build fails in each order, makes its manifest anew, or changes meanwhile
+  3  there is no answer: the build fails in each order, makes its manifest anew, or changes meanwhile
   4  an order leaves something else
   128 and the signal's number where a signal ended it
 
