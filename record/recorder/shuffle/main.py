@@ -7,10 +7,10 @@ import secrets
 import signal
 import tempfile
 import time
-from typing import Any, Sequence
+from typing import Sequence
 
 from ..ninja import NoNinja, found_ninja
-from ..provoke.copies import Ended, Refused
+from ..provoke.copies import SHIELD, Ended, Refused
 from ..signals import NUMBERS, write_all
 from .commands import NoBuild
 from .judging import Judge, Report, Unfit
@@ -29,7 +29,6 @@ class Voice:
 
     def __init__(self) -> None:
         self.is_shown, self.at, self.what, self.last = os.isatty(2), False, "", 0.0
-        self.is_over = False
 
     def show(self, text: str) -> None:
         self.clear()
@@ -59,18 +58,13 @@ class Voice:
 
 def main(words: Sequence[str]) -> int:
     voice = Voice()
-
-    def end(number: int, _: Any) -> None:
-        if not voice.is_over:
-            raise Ended(number)
-
     try:
         try:
             for number in NUMBERS:
-                signal.signal(number, end)
+                signal.signal(number, SHIELD.take)
             return _answered(words, voice)
         finally:
-            voice.is_over = True
+            SHIELD.is_up = True
     except Ended as why:
         voice.say(f"ended by {signal.Signals(why.number).name}")
         return 128 + why.number
