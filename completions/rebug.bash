@@ -4,11 +4,11 @@ _rebug() {
   if [ "$first" = --try ]; then first=${COMP_WORDS[2]} place=2; fi
   COMPREPLY=()
   if [ "$COMP_CWORD" -le "$place" ]; then
-    COMPREPLY=($(compgen -W "record provoke mend help races certify replay ask picture timeline compare --try --manifest --trace --script --workers --migrate --help --version" -- "$word"))
+    COMPREPLY=($(compgen -W "record provoke mend shuffle help races certify replay ask picture timeline compare --try --manifest --trace --script --workers --migrate --help --version" -- "$word"))
     return
   fi
   if [ "$first" = help ]; then
-    COMPREPLY=($(compgen -W "record provoke mend races certify replay ask picture timeline compare" -- "$word"))
+    COMPREPLY=($(compgen -W "record provoke shuffle mend races certify replay ask picture timeline compare" -- "$word"))
     return
   fi
   case $word in -*) ;; *) return ;; esac
@@ -21,6 +21,7 @@ _rebug() {
     compare) COMPREPLY=($(compgen -W "--all --json" -- "$word")) ;;
     record) COMPREPLY=($(compgen -W "--check --rebug --help -j --from-logs --jobs-as-run --lanes --anyway --force --verbose --output --observe --observe=if-possible --observer --keep-log" -- "$word")) ;;
     provoke) COMPREPLY=($(compgen -W "--help --all --stale --in-place --rebug" -- "$word")) ;;
+    shuffle) COMPREPLY=($(compgen -W "--help --runs --repeat --seed --overlap --mend-all --in-copy --budget --limit --most-memory -j --json" -- "$word")) ;;
     mend) COMPREPLY=($(compgen -W "--help --apply --json --rebug" -- "$word")) ;;
     -*) COMPREPLY=($(compgen -W "--try --manifest --trace --script --workers --migrate --help --version" -- "$word")) ;;
   esac
