@@ -1,6 +1,6 @@
-"""Other names of files. The manifest and lists may name a file in several ways: from the build folder, absolutely, through
-a symbolic link, with `..` behind one. Ninja takes these for several files, and so does the trace. Beside the trace stands
-which of them are one, so that answers can join them."""
+"""Other names of files. The manifest and lists may name a file in several ways: from the build folder, absolutely,
+through a symbolic link. Ninja takes these for several files, and so does the trace. Beside the trace stands which of them
+are one, so that answers can join them."""
 
 from __future__ import annotations
 
@@ -11,8 +11,8 @@ from .manifest import Manifest
 
 
 def in_order(paths: Iterable[bytes]) -> list[bytes]:
-    """Paths in the order in which they give a file its own name. An absolute path differs from machine to machine, so each
-    relative one comes before."""
+    """Paths in the order in which they give a file its own name. An absolute path differs from machine to machine, so
+    each relative one comes before."""
     return sorted(paths, key=lambda path: path.startswith(b"/"))
 
 

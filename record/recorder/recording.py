@@ -169,16 +169,17 @@ def _without_manifest_edges(it, entries):
 
 
 def _without_inner_ninja(it, entries, ran):
-    """Drops what a Ninja ran that is a command of the build and works in the same folder: it writes into the same log, by
-    a clock of its own, and its commands are a part of what that command does."""
+    """Drops what a Ninja ran that is a command of the build and works in the same folder: it writes into the same log,
+    by a clock of its own, and its commands are a part of what that command does."""
     edges = {edge.number: edge for edge in (it.manifest.producer.get(canonical(entry.output)) for entry in entries)
              if edge is not None and not edge.phony}
     inner = ran.said.of_inner_ninja(edges) if ran.said else {}
     if inner:
         names = ", ".join(shown(edge.name) for edge in list(inner.values())[:3])
         more = f" and {len(inner) - 3} more" if len(inner) > 3 else ""
-        it.notes.append(f"Ninja's log has commands that this Ninja did not show: {names}{more}. They are taken for those "
-                        f"of a Ninja that a command of the build runs in the same folder, and are a part of that command")
+        it.notes.append(f"Ninja's log has commands that this Ninja did not show: {names}{more}. They are taken for "
+                        f"those of a Ninja that a command of the build runs in the same folder, and are a part of that "
+                        f"command")
     outputs = {output for edge in inner.values() for output in edge.outputs}
     return [entry for entry in entries if canonical(entry.output) not in outputs]
 

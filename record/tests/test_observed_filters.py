@@ -117,7 +117,8 @@ class Defaults(unittest.TestCase):
         self.assertEqual(self.of_caches(), ["a *b"])
 
     def test_logs_of_a_ninja_that_commands_run(self):
-        text = default_filters(b"/b", [], [], self.environment, [b"sub/.ninja_log", b"#s/.ninja_deps", b"l\nm/.ninja_log"])
+        logs = [b"sub/.ninja_log", b"#s/.ninja_deps", b"l\nm/.ninja_log"]
+        text = default_filters(b"/b", [], [], self.environment, logs)
         self.assertEqual(patterns(text)[len(ALWAYS) :], [b"sub/.ninja_log"])
 
     def test_the_text_is_never_too_long(self):

@@ -1,4 +1,4 @@
-"""A command that runs Ninja in the folder of the build: the inner Ninja writes into the same log, by a clock of its own."""
+"""A command that runs Ninja in the folder of the build: the inner Ninja writes into the same log, by its own clock."""
 
 import os
 import pathlib

@@ -53,8 +53,8 @@ class Names(unittest.TestCase):
             (top / "build/build.ninja").write_text(OF_SOURCES.replace("$top", str(top)))
             self.record(top, "o", "p", "q", "r", f"{top}/build/s")
             lines = (top / "out/names").read_text().splitlines()
-        self.assertEqual(lines, ["rebug-names 1", f"{top}/src/x.h ../src/x.h", "l.h ../src/x.h", "linked/x.h ../src/x.h",
-                                 f"only.h {top}/src/y.h", f"s {top}/build/s"])
+        self.assertEqual(lines, ["rebug-names 1", f"{top}/src/x.h ../src/x.h", "l.h ../src/x.h",
+                                 "linked/x.h ../src/x.h", f"only.h {top}/src/y.h", f"s {top}/build/s"])
 
     def record(self, top, *words):
         done = subprocess.run([sys.executable, builds.RECORDER, top / "build", top / "out", "--", *words],

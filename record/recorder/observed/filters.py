@@ -73,8 +73,8 @@ CACHES = (
 def default_filters(build: bytes, sources: Iterable[bytes], named: Iterable[bytes],
                     environment: Mapping[str, str] = os.environ, logs: Iterable[bytes] = ()) -> bytes:
     """The text of the file. `build` and `sources` are the real folders of the build and of its sources, and `named` the
-    places that `observed` names: a cache in which none of them lies is not named here, since it tells of its user. `logs`
-    has the places of logs that a Ninja leaves which a command runs."""
+    places that `observed` names: a cache in which none of them lies is not named here, since it tells of its user.
+    `logs` has the places of logs that a Ninja leaves which a command runs."""
     folders = dict.fromkeys([*_named_by_ccache(environment), *_folders(environment)])
     patterns = [it for it in (_pattern(os.fsencode(name), build, tuple(sources)) for name in folders) if it]
     paths = list(named)

@@ -176,8 +176,8 @@ def _of_inner_ninjas(logs: dict[bytes, list[Any]]) -> Iterator[str]:
     for log, edges in logs.items():
         if log.endswith(NINJA_LOGS[0]):
             runs = "1 command runs" if len(edges) == 1 else f"{len(edges)} commands run"
-            yield (f"{runs} a Ninja that writes {shown(log)}: {_some([it.name for it in edges])}. What its commands do is "
-                   f"taken to be done by these, and no finding is about its logs")
+            yield (f"{runs} a Ninja that writes {shown(log)}: {_some([it.name for it in edges])}. What its commands do "
+                   f"is taken to be done by these, and no finding is about its logs")
 
 
 def _some(names: list[bytes]) -> str:
