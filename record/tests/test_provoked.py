@@ -330,6 +330,27 @@ class Provoked(unittest.TestCase):
             self.assertIn(said, done.stderr)
         self.assertEqual(it.everything(), before)
 
+    def test_an_answer_that_cannot_be_written(self):
+        it = self.made("order_only_missing")
+        with open("/dev/full", "wb") as full:
+            done = subprocess.run(it.words(), stdin=subprocess.DEVNULL, stdout=full, stderr=subprocess.PIPE, text=True)
+        self.assertEqual((done.returncode, done.stderr),
+                         (3, "rebug provoke: cannot write the answer: No space left on device\n"))
+        reader, writer = os.pipe()
+        os.close(reader)
+        done = subprocess.run(it.words(), stdin=subprocess.DEVNULL, stdout=writer, stderr=subprocess.PIPE, text=True)
+        os.close(writer)
+        self.assertEqual((done.returncode, done.stderr), (128 + signal.SIGPIPE, ""))
+
+    def test_no_name_moves_a_cursor(self):
+        it = self.made("order_only_missing")
+        for name in (b"\x1b[2Jno", b"\xffno", b"\rno"):
+            done = subprocess.run([sys.executable, PROVOKE, os.fsencode(it.room) + b"/" + name, it.recording, "1"],
+                                  stdin=subprocess.DEVNULL, capture_output=True)
+            self.assertEqual((done.returncode, done.stderr.count(b"\n")), (2, 1))
+            self.assertTrue(done.stderr.strip().isascii() and b"\x1b" not in done.stderr and b"\r" not in done.stderr,
+                            done.stderr)
+
     def test_where_copies_are_refused_a_sentence_says_so(self):
         it = self.made("order_only_missing")
         before = it.everything()

@@ -31,6 +31,7 @@ STATUSES = {FAILS: 4, DIFFERS: 4, FAILS_MENDED: 4, ONE_FAILS: 4, BOTH_DIFFER: 4,
 NO_ORDERS = {"cycle": "the maker waits for the user", "own": "the command lists its own output"}
 """The kinds of races that no order mends, and why."""
 _LINES, _COLUMNS = 12, 200
+_LONGEST_CYCLE = 4096
 _MOST_OTHERS = 500
 """Of how many races the mends stand beside a trial of another one."""
 _LONGEST_DEPFILE = 1 << 26
@@ -180,7 +181,7 @@ class Provoker:
         if STATUSES[found.text] == 4:
             both = self.try_order(Way("both", first.order, first.target, (*others, second.order)), race, False)
             if both.fault.startswith(_CYCLE):
-                found.lines.append(f"both: refused as a cycle, {shown(both.fault[len(_CYCLE) :])}")
+                found.lines.append(f"both: refused as a cycle, {visible(both.fault[len(_CYCLE) :], _LONGEST_CYCLE)}")
         return found
 
     def ways(self, race: Race) -> tuple[Way, Way]:
@@ -218,7 +219,8 @@ class Provoker:
         """What Ninja says of an order where the other one is in the manifest."""
         found = self.try_order(way, race)
         if found.fault.startswith(_CYCLE):
-            return Answer(REFUSED, [f"{way.name}: refused as a cycle, {shown(found.fault[len(_CYCLE) :])}"])
+            return Answer(REFUSED, [f"{way.name}: refused as a cycle, "
+                                    f"{visible(found.fault[len(_CYCLE) :], _LONGEST_CYCLE)}"])
         return Answer(UNKNOWN, [*_told(way.name, found), "one of the two waits for the other, and Ninja saw no cycle"])
 
     def _orders_of_others(self, race: Race, ways: tuple[Way, Way]) -> list[Order]:
@@ -345,9 +347,9 @@ def _told(what: str, found: Tried) -> list[str]:
     return lines
 
 
-def visible(line: bytes) -> str:
+def visible(line: bytes, columns: int = _COLUMNS) -> str:
     """A line of a command's output with its control bytes visible, not longer than a reader wants."""
-    text = line[:_COLUMNS].decode("utf-8", "backslashreplace").replace("\t", "    ")
+    text = line[:columns].decode("utf-8", "backslashreplace").replace("\t", "    ")
     return "".join(it if it.isprintable() else it.encode("unicode_escape").decode() for it in text)
 
 

@@ -2,6 +2,7 @@
 
 from __future__ import annotations
 
+import errno
 import os
 import signal
 from collections import Counter
@@ -18,6 +19,20 @@ from .races import Findings, NotAsked, Other, Race, Recording, shown_name
 from .words import NAME, BadWords, HelpWanted, Options, read_words
 
 
+class NotWritten(Exception):
+    """The answer could not be written, for a reason with this number."""
+
+    def __init__(self, number: int) -> None:
+        super().__init__(number)
+        self.number = number
+
+
+def plain(text: str) -> str:
+    """A text in which no byte moves a cursor: what is not printable is escaped."""
+    return "".join(it if it.isprintable() else f"\\x{ord(it) & 0xff:02x}" if "\udc80" <= it <= "\udcff" else
+                   it.encode("unicode_escape").decode() for it in text)
+
+
 class Voice:
     """What is written: answers to standard output, sentences to standard error, and there, where it is a terminal, a
     line that says what is done now, and once a second how far it is."""
@@ -26,19 +41,24 @@ class Voice:
         self.is_shown, self.at, self.race = os.isatty(2), False, ""
 
     def show(self, text: str) -> None:
+        """Writes a line of the answer. Raises NotWritten."""
         self.clear()
-        write_all(1, f"{text}\n".encode("utf-8", "surrogateescape"))
+        data = "".join(f"{plain(line)}\n" for line in text.split("\n")).encode()
+        while data:
+            try:
+                data = data[os.write(1, data) :]
+            except OSError as why:
+                raise NotWritten(why.errno or 0) from why
 
     def say(self, text: object) -> None:
         self.clear()
-        write_all(2, f"{NAME}: {text}\n".encode("utf-8", "surrogateescape"))
+        write_all(2, f"{NAME}: {plain(str(text))}\n".encode())
 
     def tell(self, what: str, far: str) -> None:
         if self.is_shown:
             self.clear()
             self.at = True
-            text = f"{self.race}: {what.split(' (')[0]} .. {far}".rstrip()
-            write_all(2, text.encode("utf-8", "surrogateescape"))
+            write_all(2, plain(f"{self.race}: {what.split(' (')[0]} .. {far}").rstrip().encode())
 
     def clear(self) -> None:
         if self.at:
@@ -69,6 +89,11 @@ def main(words: Sequence[str]) -> int:
     except Blocked as why:
         voice.say(why)
         return 2
+    except NotWritten as why:
+        if why.number == errno.EPIPE:  # the reader has read enough
+            return 128 + signal.SIGPIPE
+        voice.say(f"cannot write the answer: {os.strerror(why.number)}")
+        return 3
     except Ended as why:
         voice.say(f"ended by {signal.Signals(why.number).name}")
         return 128 + why.number

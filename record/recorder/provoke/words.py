@@ -19,7 +19,7 @@ exit status:
   0  no difference was seen, or one of the two waits for the other, so that there is one order
   1  the recording has a fault
   2  the words, a folder or the number are at fault, or this system refuses the copy; nothing was changed
-  3  nothing can be told: a file cannot be read, Ninja cannot be run, or both orders fail
+  3  nothing can be told: a file cannot be read, the answer cannot be written, Ninja cannot be run, or both orders fail
   128 and the signal's number where a signal ended it
 
 examples:
