@@ -76,6 +76,19 @@ class LeftByOthers(WithProjects):
                 it.room.chmod(0o1777)
                 self.keeps_all(it, "it fails so", more, python=python, user=NOBODY, group=NOBODY, extra_groups=[])
 
+    @unittest.skipIf(os.geteuid(), "only root can become two users")
+    def test_in_place_in_a_folder_of_another_user(self):
+        python = python_for_all()
+        if python is None:
+            self.skipTest("nobody cannot run Python here")
+        it = self.project()
+        it.build.chmod(0o777)
+        before = everything(it.room)
+        status, said = it.provoke("--in-place", python=python, user=NOBODY, group=NOBODY, extra_groups=[])
+        self.assertEqual((status, said.count("\n")), (2, 1), said)
+        self.assertIn(f"{it.build} belongs to the user 0, who alone can give it its stamps back", said)
+        self.assertEqual(everything(it.room), before)
+
     def refused(self, it: Made, said: str, **how: object) -> None:
         """In each way, by one sentence, and nothing is changed."""
         before = everything(it.room)

@@ -52,7 +52,7 @@ def in_place(build: bytes, folders: list[bytes], work: Callable[[], Any]) -> Any
                 return in_process(lambda: aside.on_copies(work), lambda: _put_back(build, is_later=False), aside.sign())
             finally:
                 aside.close()
-        except OSError as why:
+        except (OSError, BadState) as why:
             raise Blocked(f"the folders cannot be worked in: {why}. What stood there is there") from why
         finally:
             SHIELD.is_up = True
@@ -119,7 +119,9 @@ class Aside:
             worked = [_looked_at(path, stays, held) for path, stays in folders]
             os.mkdir(OWN, 0o700, dir_fd=held.descriptor)
             worked[0].look.give(held.descriptor)
-            own = held.below(OWN)
+            own = _own_folder(held)
+            if own is None:
+                raise OSError(f"somebody has taken {os.fsdecode(OWN)} away")
             asides = []
             for place in range(len(worked)):
                 os.mkdir(b"%d" % place, 0o700, dir_fd=own.descriptor)
@@ -184,6 +186,9 @@ def _looked_at(path: bytes, stays: tuple[bytes, ...], build: HeldFolder) -> Work
     folder."""
     with opened(path) as held:
         found, device = os.fstat(held.descriptor), os.fstat(build.descriptor).st_dev
+        if os.geteuid() not in (0, found.st_uid):
+            raise Blocked(f"{shown(path)} belongs to the user {found.st_uid}, who alone can give it its stamps back. "
+                          f"Nothing was changed")
         moved = {}
         for name in held.names():
             its = status_of(held, name)
