@@ -161,19 +161,28 @@ class Ends(Case):
     def setUp(self):
         self.chance = random.Random(SEED)
 
-    def ended(self, it: Shuffled, number: int, seconds: float, *words: str) -> int:
-        """The status of a call that a signal ends after so many seconds; nothing of it is left."""
+    def ended(self, it: Shuffled, number: int, seconds: float | None, *words: str) -> int:
+        """The status of a call that a signal ends after so many seconds, or once a command runs; nothing of it is
+        left."""
         room = tempfile.TemporaryDirectory(prefix="rebug-temporaries-")
         self.addCleanup(room.cleanup)
         mark = f"{MARK}={uuid.uuid4()}"
         name, _, value = mark.partition("=")
         before = it.everything()
         environment = {**os.environ, name: value, "TMPDIR": room.name}
-        process = subprocess.Popen(it.words(*words), stdin=subprocess.DEVNULL, stdout=subprocess.DEVNULL,
-                                   stderr=subprocess.DEVNULL, env=environment, start_new_session=True)
-        time.sleep(seconds)
+        said = tempfile.TemporaryFile()
+        self.addCleanup(said.close)
+        process = subprocess.Popen(it.words(*words), stdin=subprocess.DEVNULL, stdout=subprocess.DEVNULL, stderr=said,
+                                   env=environment, start_new_session=True)
+        if seconds is None:
+            wait_for_commands(value)
+        else:
+            time.sleep(seconds)
         process.send_signal(number)
         status = process.wait()
+        said.seek(0)
+        if status == 1 and b"KeyboardInterrupt" in said.read():
+            status = -number  # Python itself began
         wait_until(lambda: not processes(mark), "processes of an ended call do not end")
         self.assertEqual(it.everything(), before, (number, seconds))
         self.assertEqual(os.listdir(room.name), [])
@@ -196,7 +205,7 @@ class Ends(Case):
         """A process that a command leaves behind, and that takes no signal that can be refused."""
         left = "(trap '' INT TERM HUP; sleep 100; touch late) > /dev/null 2>&1 < /dev/null & touch a"
         it = self.made(statement("a", left) + statement("b", "sleep 2; touch b"))
-        self.assertEqual(self.ended(it, signal.SIGINT, 1.5), 128 + signal.SIGINT)
+        self.assertEqual(self.ended(it, signal.SIGINT, None), 128 + signal.SIGINT)
         mark = uuid.uuid4()
         found = it.shuffle(env={**os.environ, MARK: str(mark)})
         self.assertEqual((found.status, processes(str(mark))), (0, []))
