@@ -246,6 +246,25 @@ impl<'a> Patched<'a> {
         self.push_path(&mut amendments.inputs, mend.file, mend.line, path)
     }
 
+    // Adds the path of a naming.
+    fn push_naming_path(
+        self,
+        amendments: &mut Amendments<'a>,
+        naming: Naming<'a>,
+    ) -> Result<(), AllocError> {
+        let Naming {
+            file,
+            line,
+            path,
+            is_output,
+            ..
+        } = naming;
+        if is_output {
+            return self.push_path(&mut amendments.outputs, file, line, path);
+        }
+        self.push_path(&mut amendments.inputs, file, line, path)
+    }
+
     // What mends and namings add to edges.
     fn amendments(
         self,
@@ -259,12 +278,7 @@ impl<'a> Patched<'a> {
             orders: Vec::new(alloc),
         };
         for naming in namings {
-            let paths = if naming.is_output {
-                &mut amendments.outputs
-            } else {
-                &mut amendments.inputs
-            };
-            self.push_path(paths, naming.file, naming.line, naming.path)?;
+            self.push_naming_path(&mut amendments, *naming)?;
         }
         for mend in mends {
             self.push_order(&mut amendments, *mend)?;
