@@ -346,6 +346,10 @@ class KilledAtEachStep(unittest.TestCase):
     def setUp(self):
         self.room = pathlib.Path(tempfile.mkdtemp(prefix="rebug-keeps-"))
         self.addCleanup(shutil.rmtree, self.room, ignore_errors=True)
+        # a kill loses nothing that the system has not written out yet, and a busy disk takes a second for each call
+        no_waiting = mock.patch.object(os, "fsync", lambda _: None)
+        no_waiting.start()
+        self.addCleanup(no_waiting.stop)
 
     def project(self) -> pathlib.Path:
         """A build folder below the folder of the sources, with another folder on the way."""
