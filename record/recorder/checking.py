@@ -10,6 +10,7 @@ from typing import Callable, Dict, List, Optional, Tuple
 
 from .folders import whole
 from .held import HeldFolder
+from .regular import read_regular
 from .replaying import names_of_words, words_of_replay
 
 # The recorded commands of each lane: the number of the line, and its text. Those of the script are of no lane.
