@@ -6,12 +6,14 @@
 KIND is one of
   layered  objects of a source and 19 shared headers, archives of 20 objects, programs of 20 archives
   headers  objects of a source, whose deps records list 300 headers
-  ladder   phony edges in ladders of 1,000 rungs of two, each rung over both of the one below, with a command at each end
+  ladder   phony edges in ladders of 1,000 rungs of two, each rung over both of the one below, with a command at each
+           end
   group    objects behind one phony group, for which no file stands, of as many headers as there are objects
 STATE is todo (sources alone) or done (all outputs of commands and their records are there).
 
-DIR gets build.ninja, the files, .ninja_log and .ninja_deps; open.trace opens this state, plan.trace plans it as well, and `run` is the script of both.
-The logs are those of the Ninja on the PATH, or of the one that NINJA names; `ninja -n` is asked whether it has read them.
+DIR gets build.ninja, the files, .ninja_log and .ninja_deps; open.trace opens this state, plan.trace plans it as well,
+and `run` is the script of both. The logs are those of the Ninja on the PATH, or of the one that NINJA names; `ninja -n`
+is asked whether it has read them.
 """
 import os
 import struct
@@ -27,7 +29,8 @@ LISTED, SHARED, RUNGS, FAN = 300, 3_000, 1_000, 20
 
 
 class Build:
-    """A build: its sources, and for each edge its rule, output, explicit and implicit inputs, and the headers that its deps list."""
+    """A build: its sources, and for each edge its rule, output, explicit and implicit inputs, and the headers that its
+    deps list."""
 
     def __init__(self, rules):
         self.rules, self.sources, self.edges = rules, {}, []
@@ -123,7 +126,8 @@ def write_logs(build, made, folder, version):
         for edge in made:
             if edge[4]:
                 numbers = [number(path) for path in (edge[1], *edge[4])]
-                record = struct.pack("<IQ", numbers[0], OUTPUT * 10**9) + struct.pack(f"<{len(numbers) - 1}I", *numbers[1:])
+                record = struct.pack("<IQ", numbers[0], OUTPUT * 10**9)
+                record += struct.pack(f"<{len(numbers) - 1}I", *numbers[1:])
                 log.write(struct.pack("<I", len(record) | 0x80000000) + record)
 
 
@@ -142,7 +146,8 @@ def write_traces(build, made, folder):
 
 
 def check_logs(ninja, state, folder):
-    """Asks Ninja whether there is nothing to do where all is done: a log of another version is thrown away without a word."""
+    """Asks Ninja whether there is nothing to do where all is done: Ninja throws a log of another version away without a
+    word."""
     said = subprocess.run([ninja, "-n"], cwd=folder, stdin=subprocess.DEVNULL, capture_output=True, text=True).stdout
     if (said == "ninja: no work to do.\n") != (state == "done"):
         sys.exit(f"generate.py: {ninja} has not read the state that was written ({state}): {said[:200]}")

@@ -3,8 +3,8 @@
 
     crowd.py MAKERS USERS LISTED FOLDER
 
-Each of MAKERS makes a header, and each of USERS lists LISTED of them and waits for none: USERS times LISTED races. Users
-that stand side by side list other headers. All makers come first, so that each user reads what is there.
+Each of MAKERS makes a header, and each of USERS lists LISTED of them and waits for none: USERS times LISTED races.
+Users that stand side by side list other headers. All makers come first, so that each user reads what is there.
 """
 
 from __future__ import annotations

@@ -4,14 +4,14 @@
     generate.py EDGES HEADERS SETS RACES FOLDER [OBSERVED]
 
 A tenth of EDGES, at most 2,000, make a header each; the others compile, and each lists HEADERS paths, of which eight
-are made headers. There are SETS phony groups of eight made headers, and each compile waits for one of them, so for the made
-headers that it lists. RACES of the compiles wait for no group: each of these has eight races.
+are made headers. There are SETS phony groups of eight made headers, and each compile waits for one of them, so for the
+made headers that it lists. RACES of the compiles wait for no group: each of these has eight races.
 
-With OBSERVED the recording has the file `observed` too: each command read what it lists, or what its line names, and left
-its outputs. OBSERVED is `runs` where the numbers of the paths that a command read stand in few ranges, as a recorder
-gives them that numbers paths as it meets them, or `apart` where no two of these numbers meet, so that each is a word.
-Where OBSERVED is `deps`, there is no such file, but Ninja's deps log of the same lists (`.ninja_deps`, version 4), which
-`ninja -t missingdeps` reads.
+With OBSERVED the recording has the file `observed` too: each command read what it lists, or what its line names, and
+left its outputs. OBSERVED is `runs` where the numbers of the paths that a command read stand in few ranges, as a
+recorder gives them that numbers paths as it meets them, or `apart` where no two of these numbers meet, so that each is
+a word. Where OBSERVED is `deps`, there is no such file, but Ninja's deps log of the same lists (`.ninja_deps`, version
+4), which `ninja -t missingdeps` reads.
 """
 import os
 import struct

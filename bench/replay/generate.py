@@ -3,8 +3,8 @@
 
     generate.py EDGES HEADERS PREFIX
 
-Each edge has 20 inputs; with HEADERS above 0 each finish lists so many headers. PREFIX.read reads and runs nothing, PREFIX.run runs the
-trace, PREFIX.ask runs it and lists marks, stamps and logs.
+Each edge has 20 inputs; with HEADERS above 0 each finish lists so many headers. PREFIX.read reads and runs nothing,
+PREFIX.run runs the trace, PREFIX.ask runs it and lists marks, stamps and logs.
 """
 import sys
 

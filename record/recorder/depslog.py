@@ -128,8 +128,8 @@ class DepsLog:
 
 
 def without_records(content: bytes, outputs: Container[bytes]) -> bytes:
-    """A deps log in which these outputs (canonical) have records that list nothing, and that are older than each output.
-    So Ninja runs their commands, and finds no cycle by what they listed."""
+    """A deps log in which these outputs (canonical) have records that list nothing and are older than each output. So
+    Ninja runs their commands, and finds no cycle by what they listed."""
     version = int.from_bytes(content[len(_HEADER) : len(_HEADER) + 4], "little")
     if content[: len(_HEADER)] != _HEADER or version not in _KNOWN:
         return content

@@ -1,6 +1,6 @@
 """Other names of files. The manifest and lists may name a file in several ways: from the build folder, absolutely,
-through a symbolic link. Ninja takes these for several files, and so does the trace. Beside the trace stands which of them
-are one, so that answers can join them."""
+through a symbolic link. Ninja takes these for several files, and so does the trace. Beside the trace stands which of
+them are one, so that answers can join them."""
 
 from __future__ import annotations
 

@@ -1,5 +1,5 @@
 #!/usr/bin/env python3
-"""Runs generated traces of many lanes on threads, and then says what came, one command after another, to a run without threads.
+"""Runs generated traces of many lanes on threads, and says what came to a run without threads, command by command.
 
     many_lanes.py RUNS [SEED]
 
@@ -46,7 +46,8 @@ class Case:
         self.after = self.noise(self.random.randint(0, 3))
 
     def make_manifest(self):
-        lines = ["pool p", "  depth = 2", "rule cc", "  command = cc $in", "rule re", "  command = re $in", "  restat = 1"]
+        lines = ["pool p", "  depth = 2", "rule cc", "  command = cc $in"]
+        lines += ["rule re", "  command = re $in", "  restat = 1"]
         for edge in range(self.edges):
             inputs = [f"s{self.random.randint(0, 4)}"]
             inputs += [f"o{it}" for it in range(edge) if it == edge - 1 or self.random.random() < 2 / self.edges]

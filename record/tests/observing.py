@@ -122,7 +122,7 @@ class Room:
 
 
 class WithRoom:
-    """Cases with a room for builds, for the observer whose word is `observer`. They are skipped where it cannot work."""
+    """Cases with a room for builds, for the observer with the word `observer`; skipped where it cannot work."""
 
     observer = ""
 

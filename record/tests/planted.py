@@ -1,5 +1,5 @@
-"""Small projects, ten with a fault that shows on some days and two without one, what their commands do, and what `races`
-finds in each of their recordings.
+"""Small projects, ten with a fault that shows on some days and two without one, what their commands do, and what
+`races` finds in each of their recordings.
 
 `due` has a line for each look of a command at what another command leaves: the edge, the kinds of which one is due (by
 the day: who asks first misses what who asks later reads), and the path. Other looks at what others leave are not due.
@@ -25,8 +25,8 @@ rule compile
 
 @dataclass
 class Project:
-    """A project: why it is one to try, its build lines and sources, what is due, what is to be found, and the tools that
-    it wants."""
+    """A project: why it is one to try, its build lines and sources, what is due, what is to be found, and the tools
+    that it wants."""
 
     name: str
     why: str

@@ -93,8 +93,8 @@ class Replays(unittest.TestCase):
             self.assertEqual(shown.get(path, 0), disk.get(path, 0), path)
 
     def look_at_built(self, lines, expected, manifest, ran):
-        """Ninja writes one stamp into the records of all outputs of an edge; rebug each output's own. `ran` names the edges
-        that ended well in this recording: what another run left stands in rebug's log as in Ninja's."""
+        """Ninja writes one stamp into the records of all outputs of an edge; rebug each output's own. `ran` names the
+        edges that ended well in this recording: what another run left stands in rebug's log as in Ninja's."""
         shown = {unescaped(line[1]): (int(line[2]), unescaped(line[3])) for line in lines if line[0] == b"built"}
         logged = {path.encode("latin-1"): it for path, it in expected["built"].items()}
         self.assertEqual({it for it in logged if it in manifest.producer}, set(shown))

@@ -8,8 +8,8 @@ from dataclasses import dataclass
 
 @dataclass(frozen=True)
 class Failing:
-    """A build that fails: the lines of its manifest below the rule `sh`, the words for Ninja, parts of what `races` is to
-    write, the findings with a path as kind, path, and maker, and parts that the answer may not have."""
+    """A build that fails: the lines of its manifest below the rule `sh`, the words for Ninja, parts of what `races` is
+    to write, the findings with a path as kind, path, and maker, and parts that the answer may not have."""
 
     build: str
     words: tuple[str, ...]

@@ -1,6 +1,6 @@
-"""Builds with a planted finding that one patch of `races --mend` mends, by real Ninja: what the patch adds to which build
-line, and what `races` tells of the build that was patched and made from nothing. Where the manifest does not say which of
-two commands comes last, the patch has the order of the recorded build."""
+"""Builds with a planted finding that one patch of `races --mend` mends, by real Ninja: what the patch adds to which
+build line, and what `races` prints of the build that was patched and made from nothing. Where the manifest does not say
+which of two commands comes last, the patch has the order of the recorded build."""
 
 from __future__ import annotations
 
@@ -135,7 +135,8 @@ build inc/gen.h: sh in
   do = until [ -e gen.h ]; do sleep 0.05; done; mv gen.h inc/gen.h
 build user: sh in | inc/gen.h
   do = cat in inc/gen.h > user
-""", {"in": "x\n"}, ("race gen.h made by gen.h (build.ninja:3)\n  used by inc/gen.h (build.ninja:5), which does not wait",
+""", {"in": "x\n"}, ("race gen.h made by gen.h (build.ninja:3)\n"
+                     "  used by inc/gen.h (build.ninja:5), which does not wait",
                      "mend: build.ninja:5: build inc/gen.h: ... | gen.h\n"),
         ("build inc/gen.h: sh in | gen.h",), ("unstable",), ("clash",)),
     "a folder that one takes away and another fills": Mended(
@@ -152,7 +153,8 @@ build doc/logo: sh in
 build stamp: sh in
   do = sleep 1; cp in logo; touch stamp
 """, {"in": "x\n", "logo": "old\n"},
-        ("race logo: clean (build.ninja:3) takes it away", "build stamp: ... || clean (what it does comes last, as here)"),
+        ("race logo: clean (build.ninja:3) takes it away",
+         "build stamp: ... || clean (what it does comes last, as here)"),
         ("build stamp: sh in || clean",), ("undeclared",)),
     "two commands with one temporary": Mended(
         """build one: sh in

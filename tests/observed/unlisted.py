@@ -80,7 +80,7 @@ ROWS = (
     Row("build app: cc a.c", "edge app; reads a.c app.d; writes app"),
     Row("build gen.h: c a.c; build app: c a.c", "edge gen.h; writes gen.h; edge app; reads gen.h; writes app"),
     Row("build gen.h: c a.c; build app: c || gen.h", "edge gen.h; writes gen.h log; edge app; reads log; writes app"),
-    # Other names of files (OTHER_NAMES): on the line of the edge, in its list, and on the way to an edge that has the file.
+    # Other names of files (OTHER_NAMES): on the line of the edge, in its list, and on the way to an edge with the file.
     Row("build app: c a.c /b/a.h", "edge app; reads a.c a.h; writes app"),
     Row("build app: cc a.c", "edge app; reads a.c a.h; writes app", listed="a.c /b/a.h"),
     Row("build a.o: c a.c /b/a.h; build app: c a.o", "edge app; reads a.h a.o; writes app"),
