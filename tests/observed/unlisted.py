@@ -84,9 +84,8 @@ ROWS = (
     Row("build app: c a.c /b/a.h", "edge app; reads a.c a.h; writes app"),
     Row("build app: cc a.c", "edge app; reads a.c a.h; writes app", listed="a.c /b/a.h"),
     Row("build a.o: c a.c /b/a.h; build app: c a.o", "edge app; reads a.h a.o; writes app"),
-    # A link counts with the file to which it leads, and the file does not count with a link that leads to it.
+    # A link counts with the file to which it leads.
     Row("build app: c a.c lib.a", "edge app; reads a.c lib.a log; writes app"),
-    Row("build app: c a.c log", "edge app; reads a.c lib.a log; writes app", due="lib.a"),
 )
 # Each has the file to which it leads: /b/a.h is a.h by its absolute path, and lib.a is a link to log.
 OTHER_NAMES = {"/b/a.h": "a.h", "lib.a": "log"}
