@@ -237,12 +237,13 @@ class Differences(Case):
 
     def test_several_differences_are_mended_one_after_the_other(self):
         text = HIDDEN + statement("w.h", "echo 1 > w.h") + statement("n.o", "cat w.h v.h > n.o", "|| v.h")
+        text += statement("k.o", "cat v.h > k.o")
         it = self.made(text + statement("p.o", "cat w.h > p.o 2>/dev/null || echo none > p.o"))
         found = self.answer(it, "--mend-all")
         pairs = {(them["maker"]["output"], them["user"]["output"]) for them in found.of("difference")}
-        due = {("v.h", "m.o"), ("w.h", "n.o"), ("w.h", "p.o")}
+        due = {("v.h", "m.o"), ("v.h", "k.o"), ("w.h", "n.o"), ("w.h", "p.o")}
         self.assertEqual((found.status, pairs), (DIFFERS, due), found.objects)
-        self.assertEqual([them["mended"] for them in found.of("difference")], [True] * 3)
+        self.assertEqual([them["mended"] for them in found.of("difference")], [True] * 4)
 
     def test_a_pair_that_never_ran_is_no_pair_that_stood_both_ways(self):
         """In the opposite order the first command fails, so that no pair of the others has stood both ways."""

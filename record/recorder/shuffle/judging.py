@@ -404,8 +404,8 @@ class Judge:
     # the mend
 
     def _try_mend(self, finding: Finding, pair: Pair, user: int | None) -> None:
-        """Puts the order into the manifest, and runs the order that differed, as far as it is still one; and of it what
-        the user needs, since another command may fail before it."""
+        """Puts the order into the manifest, and runs the order that differed, as far as it is still one. Where that
+        differs still, since another command fails before the user, say, what the user needs is run alone."""
         assert finding.maker and finding.user and finding.other.order and finding.own.order
         self.tell("the order put in")
         kept = self.commands, list(self.mends)
@@ -415,7 +415,9 @@ class Judge:
         finding.left = self._steady(finding.own.ran, ran)
         finding.is_mended = ran.is_good and not set(finding.left).intersection(finding.paths or finding.left)
         if not finding.is_mended and user is not None:
-            one, other = self._look(user, [up_to(it, user) for it in (finding.own.order, order)])
+            needed = self.commands.graph.waited_for(user)
+            early = [it for it in order if it in needed] + [user]
+            one, other = self._look(user, [up_to(finding.own.order, user), early])
             finding.is_mended = one == other
         if not self.options.mend_all or not finding.is_mended:
             self.commands, self.mends = kept
