@@ -72,6 +72,7 @@ class Edge:
     ninja_command: bytes = b""
     content: bytes = b""
     depfile: bytes = b""
+    rspfile: bytes = b""
     deps: bytes = b""
     dyndep: bytes = b""
     restat: bool = False
@@ -178,6 +179,7 @@ class Manifest:
         edge.ninja_command = edge.command if edge.block else _compared(_Lookup(edge, as_ninja=True))
         as_it_stands = _Lookup(edge, as_ninja=True, escape=lambda it: it)
         edge.depfile = as_it_stands.value(b"depfile")
+        edge.rspfile = as_it_stands.value(b"rspfile")
         edge.dyndep = as_it_stands.value(b"dyndep")
         edge.deps = lookup.value(b"deps")
         edge.restat, edge.generator = bool(lookup.value(b"restat")), bool(lookup.value(b"generator"))

@@ -95,7 +95,7 @@ class Room:
     def build(self, observer: str, ninja: str | bytes, files: Mapping[str | bytes, str | bytes] = {}, *,
               words: Iterable[str] = ("-j", "2", "-k", "0"), own: Iterable[str] = (),
               before: Callable[[pathlib.Path], None] | None = None, environment: Mapping[str, str] = {},
-              timeout: float = 900) -> Build:
+              timeout: float = 900, read: bool = True) -> Build:
         """Records the build of a manifest and files in a folder of its own."""
         folder = pathlib.Path(tempfile.mkdtemp(dir=self.path)) / "build"
         folder.mkdir()
@@ -106,18 +106,19 @@ class Room:
                 file.write(content if isinstance(content, bytes) else content.encode())
         if before is not None:
             before(folder)
-        return self.record(observer, folder, words=words, own=own, environment=environment, timeout=timeout)
+        return self.record(observer, folder, words=words, own=own, environment=environment, timeout=timeout,
+                           read=read)
 
     def record(self, observer: str, folder: pathlib.Path, *, words: Iterable[str] = (), own: Iterable[str] = (),
-               environment: Mapping[str, str] = {}, timeout: float = 900) -> Build:
-        """Records a build in a folder that is there, observed."""
+               environment: Mapping[str, str] = {}, timeout: float = 900, read: bool = True) -> Build:
+        """Records a build in a folder that is there, observed. `read`: its file, of version 1, is read."""
         out = folder.parent / "out"
         line = [sys.executable, RECORDER, folder, out, "--observe", "--observer", observer, *own, "--", *words]
         with open(folder.parent / "said", "w+b") as said:  # a file, since what lives on may keep it open
             ran = subprocess.run(line, stdin=subprocess.DEVNULL, stdout=said, stderr=subprocess.STDOUT,
                                  env={**os.environ, **environment}, timeout=timeout)
         observed = out / "observed"
-        commands = read_observed(observed) if observed.exists() else {}
+        commands = read_observed(observed) if read and observed.exists() else {}
         return Build(folder, ran.returncode, os.fsdecode((folder.parent / "said").read_bytes()), commands)
 
 

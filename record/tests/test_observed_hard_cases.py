@@ -152,7 +152,8 @@ class Cases(WithRoom):
         found = self.room.build(self.observer, ninja, {"a": "1"})
         it = found.commands[b"out"]
         reads, writes = it.reads - {b"/dev/null"}, it.writes - {b"/dev/null"}
-        self.assertEqual((reads, writes, it.flags), ({b"a"}, {b"out", b"late"}, set()), found.said)
+        self.assertEqual((reads, writes, it.flags), ({b"a"}, {b"out", b"late"}, {"unresolved"}), found.said)
+        self.assertIn("out (late)", found.said)
         self.assertEqual(found.commands[b"all"].writes, {b"all"})
 
     def test_commands_that_are_killed(self):

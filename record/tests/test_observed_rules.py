@@ -15,10 +15,11 @@ from dataclasses import dataclass
 
 from recorder.observed.calls import CLONE_FILES, CLONE_FS, CLONE_THREAD, CURRENT, Call, Kind
 from recorder.observed.effects import Build
-from recorder.observed.footprints import KINDS
 from recorder.observed.matching import match
 from recorder.observed.places import Places
-from recorder.observed.writing import ranges
+from recorder.observed.processes import Command
+from recorder.observed.shares import Changes, flag_what_two_share
+from recorder.observed.writing import KINDS, kinds_of, ranges
 
 NINJA, SHELL = 1, 10
 WRITE = os.O_WRONLY | os.O_CREAT | os.O_TRUNC
@@ -77,9 +78,9 @@ class Rules(unittest.TestCase):
         return self.sets(build, build.commands[0])
 
     def sets(self, build, command):
-        top, found = self.folder + b"/", {}
+        top, found, sets = self.folder + b"/", {}, kinds_of(command.packed)
         for kind in KINDS:
-            paths = [build.places.paths[it] for it in command.packed.sets.get(kind, ())]
+            paths = [build.places.paths[it] for it in sets.get(kind, ())]
             inside = {it.removeprefix(top) for it in paths if it.startswith(top)}
             if inside:
                 found[kind] = inside
@@ -285,7 +286,7 @@ class Rules(unittest.TestCase):
     def test_a_child_that_outlives_its_shell_and_not_ninja(self):
         child = call(Kind.SPAWN, result=SHELL + 1)
         found = self.one(child, call(Kind.EXIT), (SHELL + 1, opened(b"late", WRITE)), (SHELL + 1, call(Kind.EXIT)))
-        self.assertEqual((found, self.flags), ({"writes": {b"late"}}, set()))
+        self.assertEqual((found, self.flags), ({"writes": {b"late"}}, {"late"}))
 
     def test_a_child_whose_calls_come_before_it(self):
         events = [(NINJA, call(Kind.SPAWN, result=SHELL)), (SHELL, shell()), (SHELL + 1, opened(b"a")),
@@ -303,12 +304,28 @@ class Rules(unittest.TestCase):
         self.assertEqual(build.commands, [])
 
     def test_flags(self):
-        for kind, flag in ((Kind.SERVER, "server"), (Kind.URING, "uring"), (Kind.NAMESPACE, "namespace"),
-                           (Kind.UNKNOWN, "unresolved")):
+        for kind, flag in ((Kind.URING, "uring"), (Kind.NAMESPACE, "namespace"), (Kind.UNRESOLVED, "unresolved"),
+                           (Kind.UNKNOWN, "unknown"), (Kind.NOTIFIED, "notified"), (Kind.DEEP, "deep"),
+                           (Kind.ATTRIBUTES, "attributes"), (Kind.IPC, "ipc")):
             self.one(call(kind))
             self.assertEqual(self.flags, {flag})
             self.one(call(kind, result=-errno.EPERM))
             self.assertEqual(self.flags, set())
+
+    def sockets(self, *commands):
+        """The flags of commands that bind (`True`) or connect to addresses."""
+        found = [Command(b"c", 0, None) for _ in commands]
+        for it, addresses in zip(found, commands):
+            it.addresses = [(is_bind, address, b"connect", b"p") for is_bind, address in addresses]
+        flag_what_two_share(found, Changes([], Places(), ()))
+        return [it.flags for it in found]
+
+    def test_a_server_of_the_commands_own_sets_no_flag(self):
+        self.assertEqual(self.sockets([(True, b"0.0.0.0:99"), (False, b"127.0.0.1:99")]), [set()])
+        self.assertEqual(self.sockets([(True, b"@x")]), [set()])
+        self.assertEqual(self.sockets([(False, b"10.0.0.1:53")]), [{"socket"}])
+        self.assertEqual(self.sockets([(True, b"@x")], [(True, b"@x")]), [{"socket"}, {"socket"}])
+        self.assertEqual(self.sockets([(True, b"0.0.0.0:99")], [(False, b"[::1]:99")]), [{"socket"}, {"socket"}])
 
 
 @dataclass(eq=False)
@@ -334,11 +351,8 @@ class Matching(unittest.TestCase):
     def commands(self, *statuses, texts=None):
         found = []
         for number, status in enumerate(statuses):
-            it = Build(set(), b"/", Places(), {}).processes
-            command = type("Command", (), {})()
-            command.text, command.start, command.end = (texts[number] if texts else b"c"), number, number
-            command.status, command.flags = status, set()
-            del it
+            command = Command(texts[number] if texts else b"c", number, None)
+            command.status, command.end = status, number
             found.append(command)
         return found
 

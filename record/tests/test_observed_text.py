@@ -8,7 +8,8 @@ import unittest
 from recorder.observed.calls import CURRENT, Call, Kind
 from recorder.observed.strace_text import StraceText
 
-FIELDS = ("kind", "path", "folder", "other", "other_folder", "flags", "result", "command")
+FIELDS = ("kind", "path", "folder", "other", "other_folder", "flags", "result", "command",
+          "text")
 
 
 def read(text):
@@ -18,8 +19,9 @@ def read(text):
     return found, reader.unread
 
 
-def told(kind, path=b"", folder=CURRENT, other=b"", other_folder=CURRENT, flags=0, result=0, command=None):
-    return dict(zip(FIELDS, (kind, path, folder, other, other_folder, flags, result, command)))
+def told(kind, path=b"", folder=CURRENT, other=b"", other_folder=CURRENT, flags=0, result=0, command=None,
+         text=b""):
+    return dict(zip(FIELDS, (kind, path, folder, other, other_folder, flags, result, command, text)))
 
 
 LINES = (
@@ -34,7 +36,24 @@ LINES = (
     (b'newfstatat(AT_FDCWD, "a\\", 0", 0x7ffc, AT_SYMLINK_NOFOLLOW) = -1 ENOENT (No such file or directory)',
      told(Kind.STAT, b'a", 0', flags=os.O_NOFOLLOW, result=-errno.ENOENT)),
     (b'lstat("l", {st_mode=S_IFLNK|0777, st_size=1, ...}) = 0', told(Kind.STAT, b"l", flags=os.O_NOFOLLOW)),
-    (b'access("a", R_OK) = -1 ENOENT (No such file or directory)', told(Kind.STAT, b"a", result=-errno.ENOENT)),
+    (b'access("a", R_OK) = -1 ENOENT (No such file or directory)', told(Kind.MODE, b"a", result=-errno.ENOENT)),
+    (b'faccessat2(3, "a", F_OK, AT_EACCESS) = 0', told(Kind.MODE, b"a", 3, flags=1)),
+    (b'readlink("l", "to", 64) = 2', told(Kind.READLINK, b"l", flags=os.O_NOFOLLOW)),
+    (b'execve("/bin/mkdir", ["mkdir", "-p", "a b"], 0x7ffe /* 3 vars */) = 0',
+     told(Kind.EXEC, b"/bin/mkdir", text=b"mkdir\0-p\0a b\0")),
+    (b"flock(3, LOCK_EX) = 0", told(Kind.LOCK, folder=3)),
+    (b"fcntl(3, F_SETLK, {l_type=F_WRLCK}) = 0", told(Kind.LOCK, folder=3)),
+    (b"msgget(0x5515, 0666) = 4", told(Kind.IPC, text=b"0x5515")),
+    (b'bind(3, {sa_family=AF_UNIX, sun_path=@"x"}, 4) = 0', told(Kind.BIND, text=b"@x")),
+    (b'bind(3, {sa_family=AF_UNIX, sun_path="s"}, 4) = 0', told(Kind.BIND, b"s", text=b"s")),
+    (b'connect(3, {sa_family=AF_INET, sin_port=htons(53), sin_addr=inet_addr("10.0.0.1")}, 16) = 0',
+     told(Kind.SOCKET, text=b"10.0.0.1:53")),
+    (b'sendto(3, "x", 1, 0, {sa_family=AF_INET6, sin6_port=htons(9), sin6_flowinfo=htonl(0), '
+     b'inet_pton(AF_INET6, "::1", &sin6_addr), sin6_scope_id=0}, 28) = 1', told(Kind.SOCKET, text=b"[::1]:9")),
+    (b"kill(77, SIGTERM) = 0", told(Kind.SIGNAL, text=b"77")),
+    (b"ioctl(3, FS_IOC_GETFLAGS, [0]) = 0", told(Kind.ATTRIBUTES, folder=3)),
+    (b"fchmod(3, 0755) = 0", told(Kind.META, folder=3)),
+    (b'setxattr("f", "user.k", "1", 1, 0) = 0', told(Kind.META, b"f")),
     (b'execve("/bin/sh", ["/bin/sh", "-c", "cat \\"a\\" > b"], 0x7ffe /* 3 vars */) = 0',
      told(Kind.EXEC, b"/bin/sh", command=b'cat "a" > b')),
     (b'execve("/bin/sh", ["/bin/sh", "-e", "s"], 0x7ffe /* 3 vars */) = 0', told(Kind.EXEC, b"/bin/sh")),
@@ -51,14 +70,14 @@ LINES = (
     (b'rename("a", "b") = 0', told(Kind.RENAME, b"a", other=b"b", flags=os.O_NOFOLLOW)),
     (b'renameat2(3, "a", AT_FDCWD, "b", RENAME_EXCHANGE) = 0', told(Kind.EXCHANGE, b"a", 3, b"b", flags=os.O_NOFOLLOW)),
     (b'linkat(AT_FDCWD, "a", 4, "b", AT_SYMLINK_FOLLOW) = 0', told(Kind.LINK, b"a", other=b"b", other_folder=4)),
-    (b'symlink("to", "l") = 0', told(Kind.SYMLINK, other=b"l")),
-    (b'symlinkat("to", 4, "l") = 0', told(Kind.SYMLINK, other=b"l", other_folder=4)),
-    (b'unlinkat(AT_FDCWD, "d", AT_REMOVEDIR) = 0', told(Kind.RMDIR, b"d")),
-    (b'unlinkat(4, "f", 0) = 0', told(Kind.UNLINK, b"f", 4)),
-    (b'mkdir("d", 0777) = -1 EEXIST (File exists)', told(Kind.MKDIR, b"d", result=-errno.EEXIST)),
+    (b'symlink("to", "l") = 0', told(Kind.SYMLINK, other=b"l", text=b"to")),
+    (b'symlinkat("to", 4, "l") = 0', told(Kind.SYMLINK, other=b"l", other_folder=4, text=b"to")),
+    (b'unlinkat(AT_FDCWD, "d", AT_REMOVEDIR) = 0', told(Kind.RMDIR, b"d", flags=os.O_NOFOLLOW)),
+    (b'unlinkat(4, "f", 0) = 0', told(Kind.UNLINK, b"f", 4, flags=os.O_NOFOLLOW)),
+    (b'mkdir("d", 0777) = -1 EEXIST (File exists)', told(Kind.MKDIR, b"d", flags=os.O_NOFOLLOW, result=-errno.EEXIST)),
     (b'fchmodat(AT_FDCWD, "m", 0755) = 0', told(Kind.META, b"m")),
     (b"io_uring_setup(4, {flags=0, sq_thread_cpu=0}) = 5", told(Kind.URING, result=5)),
-    (b'connect(3, {sa_family=AF_UNIX, sun_path="/s"}, 110) = 0', told(Kind.SERVER)),
+    (b'connect(3, {sa_family=AF_UNIX, sun_path="/s"}, 110) = 0', told(Kind.SOCKET, text=b"/s")),
     (b'chroot("r") = 0', told(Kind.NAMESPACE, b"r")),
     (b"unshare(CLONE_NEWNS|CLONE_FS) = 0", told(Kind.UNSHARE, flags=0x20000 | 0x200)),
     (b"ptrace(PTRACE_TRACEME) = -1 EPERM (Operation not permitted)", told(Kind.TRACE, result=-errno.EPERM)),
@@ -66,6 +85,11 @@ LINES = (
     (b"+++ killed by SIGSEGV (core dumped) +++", told(Kind.EXIT, result=-11)),
 )
 NOTHING = (
+    b'readlink("/usr/include", 0x7ffc, 1023) = -1 EINVAL (Invalid argument)',
+    b"ioctl(1, TCGETS, {c_iflag=0}) = 0",
+    b"fcntl(1, F_GETFD) = 0",
+    b"sendto(3, \"x\", 1, 0, NULL, 0) = 1",
+    b"kill(0, SIGTERM) = 0",
     b'newfstatat(3, "", {st_mode=S_IFREG|0644, st_size=5, ...}, AT_EMPTY_PATH) = 0',
     b"fcntl(1, F_GETFL) = 0x8001 (flags O_WRONLY|O_LARGEFILE)",
     b"utimensat(0, NULL, NULL, 0) = 0",
@@ -103,7 +127,7 @@ class Lines(unittest.TestCase):
         self.assertEqual(read(text), ([(18, told(Kind.EXIT)), (17, told(Kind.EXEC, b"/bin/p", result=19))], 0))
 
     def test_lines_that_are_not_understood_are_told_and_counted(self):
-        self.assertEqual(read(b"17 something else\n"), ([(17, told(Kind.UNKNOWN))], 1))
+        self.assertEqual(read(b"17 something else\n"), ([(17, told(Kind.UNRESOLVED))], 1))
         self.assertEqual(read(b'17 openat(AT_FDCWD, "a", O_RD'), ([], 0))  # the log was cut there
 
     def test_a_log_in_pieces(self):

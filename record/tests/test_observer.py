@@ -14,28 +14,33 @@ from io import BytesIO
 
 import builds
 from observed_calls import NO_SUCH_CALL, Log, built, observed, whole
-from recorder.observed.calls import CURRENT, NOT_ASKED, Kind
+from recorder.observed.calls import NOT_ASKED, Kind
 from recorder.observed.own import SOURCE, NotBuilt, Own, _built
 from recorder.observed.own_records import Records
+from recorder.observed.ways import Standing
 
 REFUSED = builds.missing_tools("cc") or Own().refusal()
 
 
-def block(texts=(), calls=(), commands=(), events=()):
-    """A block as the observer writes it."""
-    parts = [b"".join(struct.pack("=I", len(it)) + it for it in texts),
-             b"".join(struct.pack("=IiI4I", *it) for it in calls),
-             b"".join(struct.pack("=I", len(it)) + it for it in commands),
+def texts_of(texts):
+    return b"".join(struct.pack("=I", len(it)) + it for it in texts)
+
+
+def block(texts=(), ways=(), calls=(), commands=(), events=()):
+    """A block as the observer writes it. A way is ten numbers and then pairs."""
+    parts = [texts_of(texts), texts_of(struct.pack(f"={len(it)}I", *it) for it in ways),
+             b"".join(struct.pack("=IiI4I", *it) for it in calls), texts_of(commands),
              b"".join(struct.pack("=iIiI", *it) for it in events)]
-    return struct.pack("=4I", *map(len, parts)) + b"".join(parts)
+    return struct.pack("=5I", *map(len, parts)) + b"".join(parts)
 
 
 class Reading(unittest.TestCase):
     """The records of a log, written here byte by byte."""
 
-    LINE = b"rebug-observer 1 1764200000000\n"
-    FIRST = block([b"/d", b"a b\xff", b"/bin/sh"],
-                  [(4, NOT_ASKED, os.O_RDONLY, 1, 2, 0, 0), (9, 0, 0, 1, 2, 0, 3), (1, 0, 0, 0, 3, 0, 0)],
+    LINE = b"rebug-observer 2 1764200000000 6.10 x86-64\n"
+    FIRST = block([b"/d/a b\xff", b"/bin/sh", b"/usr/bin/dash", b"dash", b"/d", b"openat", b"/bin", b"usr/bin"],
+                  [(2, 1, 0, 0, 5, 0, 0, 0, 0, 0), (4, 2, 2, 3, 0, 0, 0, 1, 1, 1, 7, 8, 2, 4, 5, 3)],
+                  [(4, NOT_ASKED, os.O_RDONLY, 1, 0, 0, 6), (9, 0, 0, 1, 2, 0, 0), (1, 0, 0, 2, 0, 0, 0)],
                   [b"cat x; exit"], [(7, 1, 0, 5), (7, 2, 0, 5), (8, 3, 1, 6), (7, 1, 0, 7)])
 
     def read(self, data):
@@ -58,26 +63,38 @@ class Reading(unittest.TestCase):
             (9, Kind.EXIT, b"", b"", 0, -15, None),
             (7, Kind.EXIT, b"", b"", 0, 0, None)])
         self.assertIs(events[0][1], events[3][1])  # the same call is the same object
-        self.assertEqual((events[2][1].folder, events[1][1].other_folder), (CURRENT, CURRENT))
+        self.assertEqual((records.release, records.machine, events[0][1].name), (b"6.10", b"x86-64", b"openat"))
+
+    def test_ways(self):
+        events, _ = self.read(self.LINE + self.FIRST)
+        plain, program = events[0][1].way, events[2][1].way
+        self.assertEqual((plain.entry, plain.standing, plain.end, plain.base, plain.links, plain.asked),
+                         (b"/d/a b\xff", Standing.FILE, None, b"/d", (), ()))
+        self.assertEqual((program.entry, program.standing, program.end, program.end_standing),
+                         (b"/bin/sh", Standing.LINK, b"/usr/bin/dash", Standing.FILE))
+        self.assertEqual((program.links, program.ends, program.asked),
+                         (((b"/bin", b"usr/bin"),), ((b"/bin/sh", b"dash"),), ((b"/d", Standing.FOLDER),)))
 
     def test_a_log_without_a_word(self):
         self.assertEqual(self.read(b"")[0], [])
         self.assertTrue(self.read(b"")[1].is_whole)
 
     def test_a_log_that_is_cut_off_gives_its_whole_blocks(self):
-        for cut in (1, 15, 16, 20, len(self.FIRST) - 1):
+        for cut in (1, 19, 20, 24, len(self.FIRST) - 1):
             events, records = self.read(self.LINE + self.FIRST + self.FIRST[:cut])
             self.assertEqual((len(events), records.is_whole), (4, False), cut)
 
     def test_numbers_that_nothing_has(self):
         for wrong in (block(events=[(7, 4, 0, 5)]), block(calls=[(99, 0, 0, 0, 0, 0, 0)]),
-                      block(calls=[(4, 0, 0, 0, 9, 0, 0)]), block(events=[(8, 3, 2, 6)]), b"x" * 16,
-                      struct.pack("=4I", 8, 0, 0, 0) + struct.pack("=I", 9) + b"abcd"):
+                      block(calls=[(4, 0, 0, 9, 0, 0, 0)]), block(events=[(8, 3, 2, 6)]), b"x" * 20,
+                      block(ways=[(2, 99, 0, 0, 0, 0, 0, 0, 0, 0)]), block(ways=[(2, 1, 0, 0, 0, 0, 0, 1, 0, 0)]),
+                      block(ways=[(99, 1, 0, 0, 0, 0, 0, 0, 0, 0)]),
+                      struct.pack("=5I", 8, 0, 0, 0, 0) + struct.pack("=I", 9) + b"abcd"):
             events, records = self.read(self.LINE + self.FIRST + wrong)
             self.assertEqual((len(events), records.is_whole), (4, False))
 
     def test_another_first_line(self):
-        for line in (b"rebug-observer 2 1\n", b"rebug-observer 1 x\n", b"7 execve(\n"):
+        for line in (b"rebug-observer 1 1\n", b"rebug-observer 2 x 6.10 arm64\n", b"rebug-observer 2 1\n", b"7 execve(\n"):
             self.assertEqual((self.read(line + self.FIRST)[0], self.read(line + self.FIRST)[1].is_whole), ([], False))
 
     def test_the_kinds_are_the_observers(self):
@@ -194,7 +211,8 @@ class Calls(unittest.TestCase):
         found = self.run_calls("unnamed", "d", "a", "d/new")
         self.assertEqual((self.opened(found), self.opened(found, False)), ({b"a"}, {b"d"}))
         links = [call for _, call in found.events if call.kind is Kind.LINK]
-        self.assertEqual([(it.path, it.other, it.result) for it in links], [(b"", b"d/new", 0)])
+        self.assertEqual([(it.path.endswith(b" (deleted)"), it.other, it.result) for it in links],
+                         [(True, self.here + b"/d/new", 0)])
 
     def test_a_path_without_a_letter_is_none(self):
         found = self.run_calls("empty", "a", "out")
@@ -203,7 +221,7 @@ class Calls(unittest.TestCase):
     def test_a_folder_that_was_renamed_has_its_other_name(self):
         found = self.run_calls("renamed", "d", "../d", "../e", "a", "out")
         self.assertEqual((self.opened(found), self.opened(found, False)), ({b"e/a"}, {b"e/out"}))
-        self.assertEqual(found.paths(Kind.RENAME), [self.here + b"/d/../d"])
+        self.assertEqual(found.paths(Kind.RENAME), [self.here + b"/d"])
 
     def test_programs_by_descriptors(self):
         shutil.copy(self.program, self.folder / "d/other")
@@ -230,10 +248,10 @@ class Calls(unittest.TestCase):
 
     def test_what_cannot_be_followed_is_told(self):
         self.assertIn(Kind.URING, self.run_calls("ring", "a", "out").kinds())
-        self.assertIn(Kind.UNKNOWN, self.run_calls("thirty-two", "a").kinds())
+        self.assertIn(Kind.UNRESOLVED, self.run_calls("thirty-two", "a").kinds())
         traces = [call.result for _, call in self.run_calls("trace", "a", "out").events if call.kind is Kind.TRACE]
         self.assertEqual(traces, [-1])
-        self.assertTrue({Kind.UNKNOWN, Kind.TRACE, Kind.URING}.isdisjoint(self.run_calls("copy", "a", "out").kinds()))
+        self.assertTrue({Kind.UNRESOLVED, Kind.TRACE, Kind.URING}.isdisjoint(self.run_calls("copy", "a", "out").kinds()))
 
     @unittest.skipIf(os.geteuid(), "only the superuser becomes another user")
     def test_another_user_without_rights(self):
@@ -244,22 +262,24 @@ class Calls(unittest.TestCase):
         self.assertEqual((self.opened(found), self.opened(found, False)), ({b"a"}, {b"out"}))
         (self.folder / "out").unlink()
         found = self.run_calls("hidden", "a", "out", **nobody)  # it lets nobody look into it, and that is told
-        self.assertEqual([call.kind for _, call in found.events[-3:]], [Kind.UNKNOWN, Kind.UNKNOWN, Kind.EXIT])
+        self.assertEqual([call.kind for _, call in found.events[-3:]], [Kind.UNRESOLVED, Kind.UNRESOLVED, Kind.EXIT])
 
     def test_what_failed(self):
         script = "cat gone; cat a/b; mkdir d; ln -s x d/a; echo 2>/dev/null >/gone/x; ./a; set -C; echo > a; true"
+        at = lambda path: self.here + b"/" + path
         found = observed(Own(), ["/bin/sh", "-c", script], self.folder)
         results = {(call.kind, call.path if call.kind is not Kind.SYMLINK else call.other): call.result
                    for _, call in found.events if call.result < 0}
-        for key, errno in {(Kind.OPEN, b"gone"): -2, (Kind.OPEN, b"a/b"): -20, (Kind.MKDIR, b"d"): -17,
-                           (Kind.SYMLINK, b"d/a"): -17, (Kind.OPEN, b"/gone/x"): -2, (Kind.EXEC, b"./a"): -13}.items():
+        for key, errno in {(Kind.OPEN, at(b"gone")): -2, (Kind.OPEN, at(b"a/b")): -20, (Kind.MKDIR, at(b"d")): -17,
+                           (Kind.SYMLINK, at(b"d/a")): -17, (Kind.OPEN, b"/gone/x"): -2,
+                           (Kind.EXEC, at(b"a")): -13}.items():
             self.assertEqual(results.get(key), errno, key)
 
     def test_listings_and_descriptors_of_folders(self):
         found = observed(Own(), ["/bin/sh", "-c", "ls d; cd d && cp a ../out"], self.folder)
         self.assertEqual(set(found.paths(Kind.LIST)), {self.here + b"/d"})
         self.assertIn(self.here + b"/d/a", found.paths(Kind.OPEN))
-        self.assertIn(self.here + b"/d/../out", found.paths(Kind.OPEN))
+        self.assertIn(self.here + b"/out", found.paths(Kind.OPEN))
 
     def test_a_command_is_told_as_ninja_starts_it_and_only_so(self):
         text = "echo 'a b'; : " + "x" * 120_000
@@ -274,7 +294,7 @@ class Calls(unittest.TestCase):
         for name in names:
             (self.folder / os.fsdecode(name)).write_text("x")
             found = observed(Own(), [b"/bin/cat", name], self.folder)
-            self.assertIn(name, [call.path for _, call in found.events if call.result == NOT_ASKED])
+            self.assertIn(self.here + b"/" + name, [call.path for _, call in found.events if call.result == NOT_ASKED])
 
     def test_three_thousand_processes(self):
         found = observed(Own(), ["/bin/sh", "-c", "for i in $(seq 3000); do /bin/true; done; cat a"], self.folder)
@@ -374,7 +394,7 @@ class Nothing(unittest.TestCase):
             self.assertEqual(log.end(), 0)
         # the command, the one between, and the one that lives on: on a busy machine the first two may be told last
         ended = {process: place for place, (process, call) in enumerate(events) if call.kind is Kind.EXIT}
-        ((opened, late),) = [(place, process) for place, (process, call) in enumerate(events) if call.path == b"late"]
+        ((opened, late),) = [(place, process) for place, (process, call) in enumerate(events) if call.path.endswith(b"/late")]
         self.assertEqual((len(ended), log.process.pid in ended, late == log.process.pid), (3, True, False))
         self.assertGreater(ended[late], opened)
 

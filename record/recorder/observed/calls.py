@@ -11,6 +11,8 @@ changed, and what stands behind it works faster with calls that it has met befor
     kind         path, folder           other, other_folder  flags           result (or -errno)
     SPAWN        -                      -                    CLONE_...       the child
     EXEC         the program            -                    -               0, or the thread in whose place it goes on
+    LOAD         what the system loads  -                    -               0 (an interpreter, for a program)
+                 besides
     EXIT         -                      -                    -               the status; -SIGNAL where one ended it
     CHDIR        where to (fchdir:      -                    -               0
                  no path)
@@ -19,25 +21,38 @@ changed, and what stands behind it works faster with calls that it has met befor
                  (no path)                                                   fcntl F_DUPFD and F_DUPFD_CLOEXEC)
     NO_FILE      -                      -                    -               a descriptor of no file (memfd_create)
     OPEN         what                   -                    O_...           the descriptor, or NOT_ASKED
-    STAT         what                   -                    O_NOFOLLOW or 0 0 (stat, access, statx and their kin)
+    STAT         what                   -                    O_NOFOLLOW or 0 0 (stat, statx, getxattr and their kin)
+    MODE         what                   -                    O_NOFOLLOW, 1   0 (access and its kin; 1: only whether it is
+                                                                             there)
+    READLINK     what                   -                    O_NOFOLLOW      0; -EINVAL where no link is there
     LIST         the folder's           -                    -               0 or more (getdents, getdents64)
                  descriptor (no path)
     LINK         the old name           the new name         O_NOFOLLOW or 0 0
-    SYMLINK      -                      the link's own name  -               0
+    SYMLINK      -                      the link's own name  -               0; `text` is the link's text
     RENAME       the old name           the new name         -               0
     EXCHANGE     one                    the other            -               0 (renameat2 with RENAME_EXCHANGE)
     UNLINK       what                   -                    -               0
     RMDIR        what                   -                    -               0
     MKDIR        what                   -                    -               0
     MKNOD        what                   -                    -               0
+    BIND         the socket's file,     -                    -               0; `text` is the address
+                 where it has one
     TRUNCATE     what                   -                    -               0
-    META         what                   -                    O_NOFOLLOW or 0 0 (chmod, utimensat and their kin)
-    SERVER       -                      -                    -               0 or -EINPROGRESS (connect, to another
-                                                                             process: AF_UNIX, AF_INET, AF_INET6)
+    META         what                   -                    O_NOFOLLOW or 0 0 (chmod, utimensat, setxattr and their kin)
+    SOCKET       -                      -                    -               0 or -EINPROGRESS (connect, or what is sent
+                                                                             to an address: `text`)
+    IPC          -                      -                    -               0 or more; `text` is the key or the name
+    LOCK         the file               -                    -               0 (flock, and fcntl's locks)
+    SIGNAL       -                      -                    -               0; `text` is the process it was sent to
+    ATTRIBUTES   the file               -                    -               0 (ioctl)
+    NOTIFIED     -                      -                    -               0 (seccomp with a listener)
     URING        -                      -                    -               a descriptor (io_uring_setup)
     NAMESPACE    chroot: the new root   -                    -               0 (chroot, mount, pivot_root, setns)
-    UNKNOWN      -                      -                    -               - (a call whose paths cannot be told:
+    UNRESOLVED   -                      -                    -               - (a call whose paths cannot be told:
                                                                              open_by_handle_at, 32-bit calls)
+    DEEP         -                      -                    -               - (a path of more than 4,096 bytes)
+    UNKNOWN      the file, if there is  -                    -               - (a call that is in no list)
+                 one
     TRACE        -                      -                    -               0 or -errno (ptrace with PTRACE_ATTACH,
                                                                              PTRACE_SEIZE or PTRACE_TRACEME)
 """
@@ -47,6 +62,8 @@ from dataclasses import dataclass
 from enum import IntEnum, auto
 from io import BufferedReader
 from typing import Protocol
+
+from .ways import Way
 
 CURRENT = -100
 """The folder of a relative path: that of the process (AT_FDCWD)."""
@@ -64,6 +81,7 @@ class Kind(IntEnum):
 
     SPAWN = auto()
     EXEC = auto()
+    LOAD = auto()
     EXIT = auto()
     CHDIR = auto()
     UNSHARE = auto()
@@ -71,6 +89,8 @@ class Kind(IntEnum):
     NO_FILE = auto()
     OPEN = auto()
     STAT = auto()
+    MODE = auto()
+    READLINK = auto()
     LIST = auto()
     LINK = auto()
     SYMLINK = auto()
@@ -80,11 +100,19 @@ class Kind(IntEnum):
     RMDIR = auto()
     MKDIR = auto()
     MKNOD = auto()
+    BIND = auto()
     TRUNCATE = auto()
     META = auto()
-    SERVER = auto()
+    SOCKET = auto()
+    IPC = auto()
+    LOCK = auto()
+    SIGNAL = auto()
+    ATTRIBUTES = auto()
+    NOTIFIED = auto()
     URING = auto()
     NAMESPACE = auto()
+    UNRESOLVED = auto()
+    DEEP = auto()
     UNKNOWN = auto()
     TRACE = auto()
 
@@ -93,14 +121,16 @@ class Kind(IntEnum):
 class Call:
     """A call that came to its end. Two calls are the same only where they are one object.
 
-    `path` stands as the process gave it: absolute, or relative to `folder`. `folder` is CURRENT, a descriptor of the
-    process, or (bytes) the path of that descriptor's folder, where the observer has asked the system for it. A call on
-    a descriptor alone (fchdir, AT_EMPTY_PATH, dup) has an empty path. `flags` are the numbers of this machine, as in
-    `os`. `result` is what the call gave; -errno where it failed.
+    `path` stands as the process gave it: absolute, or relative to `folder`. `folder` is CURRENT or a descriptor of the
+    process. A call on a descriptor alone (fchdir, AT_EMPTY_PATH, dup) has an empty path. Where the observer took the
+    path name by name itself, `way` and `other_way` have how, and `path` and `other` the entries. `flags` are the
+    numbers of this machine, as in `os`. `result` is what the call gave; -errno where it failed. `name` is that of the
+    system's call.
 
-    `command` is given for EXEC alone: TEXT, where the words are `/bin/sh`, `-c` and TEXT and no others, as Ninja starts
-    a command. It is None for all others. No field is changed but `memo`, where what stands behind the observers keeps
-    where the path led last; observers leave it alone.
+    `command` is given for EXEC alone: TEXT, where the words are `/bin/sh`, `-c` and TEXT and no others, as Ninja
+    starts a command. `text` of an EXEC has the program's words, with a NUL behind each, where another thing is done
+    by them. No field is changed but `memo`, where what stands behind the observers keeps the entry that is asked for
+    in vain; observers leave it alone.
     """
 
     kind: Kind
@@ -111,7 +141,11 @@ class Call:
     flags: int = 0
     result: int = 0
     command: bytes | None = None
-    memo: tuple | None = None
+    memo: int | None = None
+    way: Way | None = None
+    other_way: Way | None = None
+    text: bytes = b""
+    name: bytes = b""
 
 
 Event = tuple[int, Call]
@@ -122,6 +156,15 @@ class Observer(Protocol):
 
     name: bytes
     """What stands behind `by` in the file."""
+
+    release: bytes
+    """The release of the kernel from which its lists of calls were taken."""
+
+    machine: bytes
+    """The kind of the machine, as the file has it."""
+
+    is_late: bool
+    """Whether paths are taken name by name when the log is read, and not when the call is made."""
 
     def refusal(self) -> str | None:
         """Why it cannot observe here, as the rest of a sentence behind "cannot observe: "; None where it can.

@@ -75,7 +75,7 @@ def default_filters(build: bytes, sources: Iterable[bytes], named: Iterable[byte
     """The text of the file. `build` and `sources` are the real folders of the build and of its sources, and `named` the
     places that `observed` names: a cache in which none of them lies is not named here, since it tells of its user.
     `logs` has the places of logs that a Ninja leaves which a command runs."""
-    folders = dict.fromkeys([*_named_by_ccache(environment), *_folders(environment)])
+    folders = folders_of_caches(environment)
     patterns = [it for it in (_pattern(os.fsencode(name), build, tuple(sources)) for name in folders) if it]
     paths = list(named)
     lines = [it for it in patterns if any(path.startswith(_begin(it)) for path in paths)]
@@ -86,6 +86,11 @@ def default_filters(build: bytes, sources: Iterable[bytes], named: Iterable[byte
     if lines:
         text += _OF_CACHES.encode() + b"".join(it + b"\n" for it in dict.fromkeys(lines))
     return text[:text.rindex(b"\n", 0, MOST_BYTES) + 1] if len(text) > MOST_BYTES else text
+
+
+def folders_of_caches(environment: Mapping[str, str]) -> list[str]:
+    """The folders of all caches that are there, each once."""
+    return list(dict.fromkeys([*_named_by_ccache(environment), *_folders(environment)]))
 
 
 def _folders(environment: Mapping[str, str]) -> Iterator[str]:

@@ -5,7 +5,8 @@ from __future__ import annotations
 from collections import defaultdict
 from typing import Any
 
-from .processes import TWIN, Command
+from .flags import Flag
+from .processes import Command
 
 
 def text_of(edge: Any) -> bytes:
@@ -69,7 +70,7 @@ def _pairs(group: list[Command], edges: list[Any], ran: dict[int, Any]) -> tuple
 
 def _flag(commands: list[Command]) -> None:
     for it in commands:
-        it.flags.add(TWIN)
+        it.flag(Flag.TWIN)
 
 
 def _flag_ties(pairs: Any, ran: dict[int, Any]) -> None:

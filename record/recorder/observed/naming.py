@@ -58,7 +58,10 @@ class Names:
         self._places, self._build = places, build
         self._below = tuple(it + b"/" for it in (build, *sources))
         self._tops = {build, *sources}
-        self._names: dict[int, bytes] = {}
+        self._names: dict[int, list[bytes]] = {}
+        self._folders: dict[int, bytes] = {}
+        self._used: dict[bytes, int] = {}
+        self._inside: dict[int, bool] = {}
         for path in outputs:
             self._note(path)
         self.outputs = set(self._names)
@@ -67,19 +70,49 @@ class Names:
 
     def _note(self, path: bytes) -> None:
         place = self._places.find(os.path.join(self._build, path))
-        if place is not None:
-            self._names.setdefault(place, path)
+        if place is None:
+            return
+        names = self._names.setdefault(place, [])
+        if path in names:
+            return
+        names.append(path)
+        folder = os.path.dirname(path)
+        if path.startswith(b"../") and place and b"/../" not in path.lstrip(b"./"):
+            above = self._places.folders[place]
+            if os.path.normpath(os.path.join(self._build, folder)) == self._places.paths[above]:
+                self._folders.setdefault(above, folder)
 
     def of(self, place: int) -> bytes:
         """The name: that of the build, else relative to the build folder where it is below that, else absolute."""
         found = self._names.get(place)
-        if found is None:
-            real = self._places.paths[place] or b"/"
-            found = real[len(self._build) + 1 :] if real.startswith(self._build + b"/") else real
-            found = self._names[place] = b"." if real == self._build else found
-        return found
+        if found:
+            return found[0]
+        real = self._places.paths[place] or b"/"
+        if real == self._build:
+            return b"."
+        return real[len(self._build) + 1 :] if real.startswith(self._build + b"/") else real
+
+    def unique(self, place: int) -> bytes:
+        """The name, as version 2 of the file has it: an entry beside one that the manifest names is named in the same
+        way. Where another place has this name, it is the real path."""
+        name = self.of(place)
+        if name.startswith(b"/") and place and place not in self._names:
+            folder = self._folders.get(self._places.folders[place])
+            own = self._folders.get(place)
+            name = own or (folder + b"/" + self._places.paths[place].rpartition(b"/")[2] if folder else name)
+        if self._used.setdefault(name, place) != place:
+            name = self._places.paths[place] or b"/"
+            self._used.setdefault(name, place)
+        return name
+
+    def others(self, place: int) -> list[bytes]:
+        """Further names that the build has for it."""
+        return self._names.get(place, [])[1:]
 
     def is_inside(self, place: int) -> bool:
         """Whether a place is below the build folder or one of the sources'."""
-        real = self._places.paths[place]
-        return real.startswith(self._below) or real in self._tops
+        found = self._inside.get(place)
+        if found is None:
+            real = self._places.paths[place]
+            found = self._inside[place] = real.startswith(self._below) or real in self._tops
+        return found

@@ -21,15 +21,22 @@ from ..fields import shown
 from ..folders import OPTIONAL
 from ..held import HeldFolder
 from ..other_names import in_order, outputs_in_order
+from .caches import Caches, known_folders
 from .calls import Observer
 from .effects import Build
 from .filters import NINJA_LOGS, default_filters
+from .footprints import Packed
 from .log_pipe import BUFFER, LogPipe
 from .matching import match, text_of
 from .naming import Names, source_folders
 from .places import Places
 from .processes import Command
+from .shares import Changes, flag_what_two_share
+from .version_2 import Blocks, Head, Version2
 from .writing import Observed
+
+VERSION = int(os.environ.get("REBUG_OBSERVED_VERSION", "1"))
+"""The version of the file that is written. The environment's variable is for tests alone."""
 
 OBSERVED, LOG, FILTERS = OPTIONAL[:3]
 """The names of the files in a recording: what was observed, the observer's log where that is kept, and the places of
@@ -66,12 +73,14 @@ class Observation:
     def __init__(self, observer: Observer, build: bytes, manifest: Any, keep_log: BinaryIO | None = None) -> None:
         self.observer, self.manifest, self.folder = observer, manifest, os.path.realpath(build)
         self.places = Places()
+        self._missing: set[int] = set()
         self.texts = {text_of(it) for it in manifest.edges if not it.phony}
-        self.build = Build(self.texts, self.folder, self.places, self._present())
+        self.build = Build(self.texts, self.folder, self.places, self._present(), observer.is_late)
         self.notes: list[str] = []
         self.seconds = 0.0
         self._pipe = LogPipe()
         self._reader = self._pipe.reader
+        self._ninjas: Packed | None = None
         self._copy = keep_log
         self._thread = threading.Thread(target=self._read, daemon=True)
 
@@ -91,8 +100,18 @@ class Observation:
         for edge in self.manifest.edges:
             for path in edge.outputs if not edge.phony else ():
                 real = os.path.join(self.folder, path)
-                found[self.places.of(real)] = os.path.lexists(real)
+                place = self.places.of(real)
+                found[place] = os.path.lexists(real)
+                self._note_missing(place)
         return found
+
+    def _note_missing(self, place: int) -> None:
+        """The folders above an output that are missing: Ninja is to make them."""
+        folders, paths = self.places.folders, self.places.paths
+        above = folders[place]
+        while above not in self._missing and not os.path.lexists(paths[above] or b"/"):
+            self._missing.add(above)
+            above = folders[above]
 
     def words(self, ninja: list[Any]) -> list[bytes]:
         """The words that run Ninja observed."""
@@ -137,9 +156,14 @@ class Observation:
         outputs = outputs_in_order(self.manifest)
         sources = source_folders(self.folder, self.manifest)
         names = Names(self.places, self.folder, sources, in_order(after.stamps), outputs)
+        changes = self._changes(pairs, names)
+        flag_what_two_share([it for _, it in pairs], changes)
         observed = Observed(pairs, self.places, names)
         with folder.create(OBSERVED) as file:
-            named = observed.write(file, self.observer.name)
+            if VERSION == 1:
+                named = observed.write(file, self.observer.name)
+            else:
+                named = self._version_2(pairs, names, changes).write(file)
         logs = observed.inner_logs()
         with folder.create(FILTERS) as file:
             file.write(default_filters(self.folder, sources, named, logs=logs))
@@ -148,6 +172,29 @@ class Observation:
                                  f"reading that took {self.seconds:.2f} s of processor time")
         if left:
             recording.remarks.append(f"{len(left)} commands were observed of which no edge could be told")
+
+    def _changes(self, pairs: list[tuple[Any, Command]], names: Names) -> Changes:
+        """What the commands, and Ninja, change, and what the manifest declares."""
+        packed = [it.packed for it in self.build.commands if it.packed is not None]
+        others = [path for edge in self.manifest.edges if not edge.phony for path in (edge.rspfile, edge.depfile) if path]
+        declared = {*names.outputs, *(self.places.of(os.path.join(self.folder, it)) for it in others)}
+        declared |= self._missing
+        return Changes([self._ninja(), *packed], self.places, declared, self.build.opening)
+
+    def _ninja(self) -> Packed:
+        """What Ninja itself changed."""
+        if self._ninjas is None:
+            self._ninjas = self.build.ninja.pack()
+        return self._ninjas
+
+    def _version_2(self, pairs: list[tuple[Any, Command]], names: Names, changes: Changes) -> Version2:
+        """The text of version 2."""
+        blocks = Blocks(changes, names, self.places, Caches(self.places, known_folders()))
+        own_files = tuple(self.places.of(self.folder + b"/" + it) for it in (b".ninja_log", b".ninja_deps"))
+        head = Head(self.observer.name, self.observer.release, self.observer.machine, self.build.opening, own_files)
+        outputs = {edge.number: [self.places.of(os.path.join(self.folder, it)) for it in edge.outputs]
+                   for edge, _ in pairs}
+        return Version2(pairs, self._ninja(), blocks, head, outputs)
 
     def _notes(self, pairs: list[tuple[Any, Command]], runs: list[Any]) -> Iterator[str]:
         """What the user is told: what was not observed whole, and what the commands could not do."""

@@ -4,6 +4,7 @@ import atexit
 import hashlib
 import os
 import pathlib
+import re
 import shutil
 import subprocess
 import tempfile
@@ -28,9 +29,11 @@ class Own:
     """The observer of record/observer. `program` names one that is built already."""
 
     name = b"ptrace"
+    is_late = False
 
     def __init__(self, program: pathlib.Path | None = None):
         self.unread, self._program = 0, program
+        self.release, self.machine = release_of(SOURCE), machine()
 
     def program(self) -> pathlib.Path:
         """The program, which is built at the first use. Raises NotBuilt where it cannot be."""
@@ -59,6 +62,25 @@ class Own:
         records = Records(log)
         yield from records.events()
         self.unread += not records.is_whole
+
+
+def release_of(source: pathlib.Path) -> bytes:
+    """The release of the kernel from which the lists of calls were taken, as the observer's source has it."""
+    try:
+        found = re.search(rb'^#define RELEASE "([^"]+)"$', source.read_bytes(), re.M)
+    except OSError:
+        found = None
+    return found[1] if found else b"unknown"
+
+
+def machine() -> bytes:
+    """This machine's name, as the file has it."""
+    name = os.uname().machine
+    return _MACHINES.get(name, os.fsencode(name))
+
+
+_MACHINES = {"x86_64": b"x86-64", "aarch64": b"arm64"}
+"""The names of machines as the file has them."""
 
 
 def _built(source: pathlib.Path) -> pathlib.Path:

@@ -10,14 +10,12 @@ from __future__ import annotations
 from collections.abc import Container
 from dataclasses import dataclass, field
 
-from .calls import CLONE_FILES, CLONE_FS, CLONE_NAMESPACES, CLONE_THREAD, CURRENT, NOT_ASKED, Call, Kind
+from ..fields import canonical
+from .calls import CLONE_FILES, CLONE_FS, CLONE_NAMESPACES, CLONE_THREAD, CURRENT, NOT_ASKED, Call
+from .flags import Cause, Flag, Flags
 from .footprints import Footprint, Packed
 from .imports import Imports
 from .places import Places
-
-CUT, SERVER, NAMESPACE, URING, UNRESOLVED, TWIN = "cut", "server", "namespace", "uring", "unresolved", "twin"
-FLAGS = (CUT, SERVER, NAMESPACE, URING, UNRESOLVED, TWIN)
-"""What makes a command's footprint one that is not whole, in the order of the file."""
 
 _OF_PROCESS = (b"/proc/self/", b"/proc/thread-self/", b"/dev/fd/", b"/dev/std")
 _STANDARD = {b"/dev/stdin": 0, b"/dev/stdout": 1, b"/dev/stderr": 2}
@@ -38,10 +36,12 @@ class Folders:
 
 @dataclass(eq=False, slots=True)
 class Command:
-    """A command that Ninja started. `start` and `end` are its places among all starts and ends.
+    """A command that Ninja started. `start` and `end` are its places among all starts and ends, from 1 for ends.
 
-    `footprint` is there while a process of it runs, `packed` afterwards. `status` is that of its shell, None where that
-    was not seen to end.
+    `footprint` is there while a process of it runs, `packed` afterwards. `status` is that of its shell, None where
+    that was not seen to end. `members` are the numbers of its processes. `standard_input` is what it reads there,
+    where that is something. `addresses` are those of sockets: whether it was bound there, the address, the call and
+    the program. `locks` are by the entry, with call and program.
     """
 
     text: bytes
@@ -52,9 +52,22 @@ class Command:
     end: int = 0
     alive: int = 1
     processes: int = 1
-    flags: set[str] = field(default_factory=set)
+    members: set[int] = field(default_factory=set)
+    standard_input: bytes = b""
+    whole: Flags = field(default_factory=Flags)
+    addresses: list[tuple[bool, bytes, bytes, bytes]] = field(default_factory=list)
+    locks: dict[int, tuple[bytes, bytes]] = field(default_factory=dict)
     wanted_trace: bool = False
     lost_rights: bool = False
+
+    @property
+    def flags(self) -> set[Flag]:
+        """Why it was not observed whole."""
+        return self.whole.words
+
+    def flag(self, flag: Flag, call: bytes = b"", program: bytes = b"", text: bytes = b"") -> None:
+        """It was not observed whole."""
+        self.whole.note(Cause(flag, call, program, text))
 
     def pack(self) -> None:
         """Its last process has ended, or nothing more of it is seen."""
@@ -66,7 +79,9 @@ class Command:
 class Process:
     """A process or a thread. Descriptors that were closed stay noted until their number is given again.
 
-    `imports` is there while the process runs Python.
+    `program` is the name of the program that it runs. `imports` is there while that is Python. `asks` are looks of a
+    program that may make the folder that it asks for, by the entry; `tried` are the folders that it tried to make.
+    `misses` is where a vain question is noted, where that needs nothing else.
     """
 
     number: int
@@ -77,6 +92,19 @@ class Process:
     programs: int = 0
     is_shell: bool = False
     imports: Imports | None = None
+    program: bytes = b""
+    is_searching: bool = False
+    is_ensuring: bool = False
+    may_ensure: bool = False
+    is_elsewhere: bool = False
+    asks: dict[int, int] = field(default_factory=dict)
+    tried: list[int] = field(default_factory=list)
+    misses: dict[int, int] | None = None
+
+    @property
+    def footprint(self) -> Footprint | None:
+        """That of the process's command, while it has one."""
+        return self.command.footprint if self.command is not None else None
 
     def note(self, descriptor: int, path: bytes | None) -> None:
         """The descriptor was given for this path, or for no file."""
@@ -85,10 +113,10 @@ class Process:
         else:
             self.descriptors.pop(descriptor, None)
 
-    def flag(self, flag: str) -> None:
+    def flag(self, flag: Flag, call: bytes = b"", text: bytes = b"") -> None:
         """The process's command is not observed whole."""
         if self.command is not None:
-            self.command.flags.add(flag)
+            self.command.flag(flag, call, self.program, text)
 
     def path(self, path: bytes, folder: int | bytes) -> bytes | None:
         """The absolute path, as it was used; None where it begins at a descriptor of which nothing is known."""
@@ -101,8 +129,6 @@ class Process:
         else:
             base = folder if isinstance(folder, bytes) else self.descriptors.get(folder)
         if base is None:
-            if path:
-                self.flag(UNRESOLVED)
             return None
         return base + b"/" + path if path else base
 
@@ -128,7 +154,7 @@ class Processes:
         self.is_over = False
         self.count = 0
         self._texts, self._folder, self._places, self._present = texts, folder, places, present
-        self._root, self._ends = 0, 0
+        self._root, self._ends, self._mounted = 0, 0, b""
         self.running: dict[int, Process] = {}
         self._early: dict[int, tuple[list[Call], list[Command]]] = {}
 
@@ -152,27 +178,61 @@ class Processes:
         self.count += 1
         folders = parent.folders if call.flags & CLONE_FS else Folders(parent.folders.current, parent.folders.root)
         descriptors = parent.descriptors if call.flags & CLONE_FILES else dict(parent.descriptors)
-        child = Process(call.result, folders, descriptors, parent.command, self.count)
-        if parent.imports is not None:
-            child.imports = parent.imports if call.flags & CLONE_THREAD else Imports()
+        child = Process(call.result, folders, descriptors, parent.command, self.count, program=parent.program,
+                        is_searching=parent.is_searching, is_ensuring=parent.is_ensuring, may_ensure=parent.may_ensure,
+                        is_elsewhere=parent.is_elsewhere, misses=None if parent.may_ensure else parent.misses)
+        if call.flags & CLONE_THREAD:
+            child.imports, child.asks, child.tried = parent.imports, parent.asks, parent.tried
+        elif parent.imports is not None:
+            child.imports = Imports()
         self.running[child.number] = child
         if child.command is not None:
             child.command.alive += 1
             child.command.processes += 1
+            child.command.members.add(child.number)
         if call.flags & CLONE_NAMESPACES:
-            child.flag(NAMESPACE)
+            child.flag(Flag.NAMESPACE, b"clone")
+            child.is_elsewhere = True
         return child, self._early.pop(child.number, ([], []))[0]
 
-    def runs(self, process: Process, call: Call) -> None:
-        """A program was put in the place of a process: a command begins where it is the first one of it."""
+    def runs(self, process: Process, call: Call, program: bytes) -> Process:
+        """A program was put in the place of a process: a command begins where it is the first one of it. A thread that
+        is not the first one goes on as the first one, whose place it takes."""
         if call.result > 0:
-            self.gone(call.result, None)
+            process = self._takes_place(process, call.result)
         process.programs += 1
+        process.program, process.asks, process.tried = program, {}, []
         is_first = process.programs == 1 and process.number != self._root and process.command is None
         if is_first and call.result >= 0 and call.command is not None and call.command in self._texts:
-            process.command = Command(call.command, process.start, Footprint(self._places, self._present))
+            process.command = Command(call.command, process.start, Footprint(self._places, self._present),
+                                      members={process.number}, standard_input=call.text)
             process.is_shell = True
+            if self._mounted:
+                process.command.flag(Flag.NAMESPACE, self._mounted)
             self.commands.append(process.command)
+        return process
+
+    def _takes_place(self, thread: Process, number: int) -> Process:
+        """The thread goes on under the number of its process."""
+        first = self.running.pop(number, None)
+        self.running.pop(thread.number, None)
+        if first is not None and first is not thread:
+            thread.is_shell, thread.programs = first.is_shell, first.programs
+            thread.start = first.start
+            if first.command is not None:
+                first.command.alive -= 1
+        thread.number = number
+        thread.folders = Folders(thread.folders.current, thread.folders.root)
+        thread.descriptors = dict(thread.descriptors)
+        self.running[number] = thread
+        return thread
+
+    def mounted(self, call: bytes) -> None:
+        """A file system was mounted where every process sees it: from now on paths may lead elsewhere."""
+        self._mounted = call
+        for command in self.commands:
+            if command.alive:
+                command.flag(Flag.NAMESPACE, call)
 
     def gone(self, number: int, status: int | None) -> None:
         """A process ended."""
@@ -194,7 +254,9 @@ class Processes:
         unknown = {it for _, commands in self._early.values() for it in commands}
         for command in self.commands:
             if command.alive or command in unknown:
-                command.flags.add(CUT)
+                names = sorted({it.program for it in self.running.values() if it.command is command})
+                for name in names or [b""]:
+                    command.flag(Flag.CUT, b"", name)
             command.pack()
 
     def unshared(self, process: Process, call: Call) -> None:
@@ -204,13 +266,14 @@ class Processes:
         if call.flags & CLONE_FILES:
             process.descriptors = dict(process.descriptors)
         if call.flags & CLONE_NAMESPACES:
-            process.flag(NAMESPACE)
+            process.flag(Flag.NAMESPACE, call.name or b"unshare")
+            process.is_elsewhere = True
 
     def renamed(self, old: bytes, new: bytes) -> None:
         """A folder has another real path: processes that stand in it, or have it open, go with it."""
 
         def moved(path: bytes) -> bytes:
-            real = self._places.folder(path)
+            real = canonical(path)
             return new + real[len(old) :] if real == old or real.startswith(old + b"/") else path
 
         for process in self.running.values():

@@ -11,6 +11,7 @@ from io import BufferedReader
 
 from .calls import Event, Kind
 from .log_pipe import LogPipe
+from .own import SOURCE, machine, release_of
 from .strace_text import CALLS, StraceText
 
 _OLDEST = (5, 3)  # the first with --seccomp-bpf
@@ -26,10 +27,13 @@ class Strace:
     it: the calls that its filter hands to it would fail from then on.
     """
 
+    is_late = True
+
     def __init__(self) -> None:
         self.program = shutil.which("strace")
         self.version = _version(self.program) if self.program else ()
         self._reader = StraceText()
+        self.release, self.machine = release_of(SOURCE), machine()
 
     @property
     def name(self) -> bytes:

@@ -21,7 +21,9 @@ _MOST_KNOWN = 1 << 16
 _LONGEST_KNOWN = 1024
 
 # A line's process and the rest of it. Questions about a descriptor are half of all lines, and are passed over here.
-_OF_DESCRIPTOR = rb'newfstatat\(\d+, "", |<\.\.\. newfstatat resumed>.*, AT_EMPTY_PATH\)'
+# The C library's realpath asks for each name of a path in turn, with room for 1,023 bytes: that is passed over too.
+_OF_DESCRIPTOR = (rb'newfstatat\(\d+, "", |<\.\.\. newfstatat resumed>.*, AT_EMPTY_PATH\)'
+                  rb"|readlink\(.*, 1023\) += |<\.\.\. readlink resumed>.*, 1023\) += ")
 _LINES = re.compile(rb"(?:\d+ +(?:" + _OF_DESCRIPTOR + rb").*\n)*(\d+) +(.*\n)")
 _PART = 1 << 18
 
@@ -44,6 +46,10 @@ _LINK_FOLDER = re.compile(rb", ".join([_PATH, _FOLDER, _PATH]))
 _DESCRIPTOR = re.compile(rb"(\d+)")
 _OPEN_FLAG = re.compile(rb"\bO_[A-Z]+")
 _CLONE_FLAG = re.compile(rb"\bCLONE_[A-Z]+")
+_WORDS = re.compile(rb"\[(.*)\], 0x")
+_LOCAL = re.compile(rb"sa_family=AF_UNIX, sun_path=(@?)" + _PATH)
+_INTERNET = re.compile(rb'sin_port=htons\((\d+)\), sin_addr=inet_addr\("([\d.]+)"\)')
+_INTERNET_6 = re.compile(rb'sin6_port=htons\((\d+)\).*inet_pton\(AF_INET6, "([^"]+)"')
 _SHELL = re.compile(rb'"/bin/sh", \["/bin/sh", "-c", ' + _PATH + rb"\]")
 _ESCAPE = re.compile(rb"\\([0-7]{1,3}|.)", re.S)
 _SIMPLE = {b"n": b"\n", b"t": b"\t", b"r": b"\r", b"v": b"\v", b"f": b"\f"}
@@ -142,7 +148,7 @@ class StraceText:
 
     def _keep(self, key: bytes, text: bytes) -> Call | None:
         call = self._call(text)
-        if len(key) < _LONGEST_KNOWN and (call is None or call.kind is not Kind.UNKNOWN):
+        if len(key) < _LONGEST_KNOWN and (call is None or call.kind is not Kind.UNRESOLVED):
             if len(self._known) >= _MOST_KNOWN:
                 self._known.clear()
             self._known[key] = call
@@ -165,7 +171,7 @@ class StraceText:
         if not text.endswith(b"\n"):
             return None  # the log ends here
         self.unread += 1
-        return Call(Kind.UNKNOWN)
+        return Call(Kind.UNRESOLVED)
 
     def _call(self, text: bytes) -> Call | None:
         found = _CALL.fullmatch(text)
@@ -198,7 +204,10 @@ def _read_open(name: bytes, text: bytes, result: int) -> Call | None:
         path = path.lstrip(b"/") or b"."
     creates = os.O_WRONLY | os.O_CREAT | os.O_TRUNC
     flags = creates if name == b"creat" else _flags(_OPEN_FLAG, _OPEN_FLAGS, text[found.end() :])
-    return Call(Kind.OPEN, path, folder, flags=flags, result=result)
+    return Call(Kind.OPEN, path, folder, flags=flags, result=result, name=name)
+
+
+_OF_THE_NAME = (Kind.UNLINK, Kind.RMDIR, Kind.MKDIR, Kind.MKNOD)
 
 
 def _reader_of_one(kind: Kind, is_at: bool) -> Callable[[bytes, bytes, int], Call | None]:
@@ -211,36 +220,42 @@ def _reader_of_one(kind: Kind, is_at: bool) -> Callable[[bytes, bytes, int], Cal
         path, rest = plain(found[found.lastindex or 1]), text[found.end() :]
         if not path and kind is not Kind.EXEC:
             return None
-        flags = os.O_NOFOLLOW if name == b"lstat" else _no_follow(rest)
+        flags = os.O_NOFOLLOW if name.startswith(b"l") or kind in _OF_THE_NAME else _no_follow(rest)
         its = Kind.RMDIR if kind is Kind.UNLINK and b"AT_REMOVEDIR" in rest else kind
-        return Call(its, path, _folder(found[1]) if is_at else CURRENT, flags=flags, result=min(result, 0))
+        return Call(its, path, _folder(found[1]) if is_at else CURRENT, flags=flags, result=min(result, 0), name=name)
 
     return reads
+
+
+def _words(text: bytes) -> bytes:
+    """The words of a program, with a NUL behind each."""
+    return b"".join(plain(it) + b"\0" for it in re.findall(_PATH, text))
 
 
 def _read_exec(name: bytes, text: bytes, result: int) -> Call | None:
     call = _reader_of_one(Kind.EXEC, name == b"execveat")(name, text, result)
     shell = _SHELL.match(text) if name == b"execve" else None
     if call is None or shell is None:
-        return call
-    return Call(Kind.EXEC, call.path, result=result, command=plain(shell[1]))
+        words = _WORDS.search(text) if call is not None and call.path.endswith((b"/mkdir", b"/cmake")) else None
+        return call if call is None or words is None else replace(call, text=_words(words[1]))
+    return Call(Kind.EXEC, call.path, result=result, command=plain(shell[1]), name=name)
 
 
 def _reader_of_two(kind: Kind, is_at: bool) -> Callable[[bytes, bytes, int], Call | None]:
     """Reads a call on two paths."""
 
-    def reads(_: bytes, text: bytes, result: int) -> Call | None:
+    def reads(name: bytes, text: bytes, result: int) -> Call | None:
         its = Kind.EXCHANGE if b"RENAME_EXCHANGE" in text else kind
         if is_at:
             found = _TWO_FOLDERS.match(text)
             if not found:
                 return None
             flags = 0 if b"AT_SYMLINK_FOLLOW" in text else os.O_NOFOLLOW
-            return Call(its, plain(found[2]), _folder(found[1]), plain(found[4]), _folder(found[3]), flags, result)
+            return Call(its, plain(found[2]), _folder(found[1]), plain(found[4]), _folder(found[3]), flags, result, name=name)
         found = _TWO.match(text)
         if not found:
             return None
-        return Call(its, plain(found[1]), CURRENT, plain(found[2]), CURRENT, os.O_NOFOLLOW, result)
+        return Call(its, plain(found[1]), CURRENT, plain(found[2]), CURRENT, os.O_NOFOLLOW, result, name=name)
 
     return reads
 
@@ -250,17 +265,28 @@ def _read_symlink(name: bytes, text: bytes, result: int) -> Call | None:
         found = _LINK_FOLDER.match(text)
         if not found:
             return None
-        return Call(Kind.SYMLINK, other=plain(found[3]), other_folder=_folder(found[2]), result=result)
+        return Call(Kind.SYMLINK, other=plain(found[3]), other_folder=_folder(found[2]), result=result,
+                    text=plain(found[1]), name=name)
     found = _TWO.match(text)
-    return None if not found else Call(Kind.SYMLINK, other=plain(found[2]), result=result)
+    return None if not found else Call(Kind.SYMLINK, other=plain(found[2]), result=result, text=plain(found[1]), name=name)
+
+
+def _read_mode(name: bytes, text: bytes, result: int) -> Call | None:
+    call = _reader_of_one(Kind.MODE, name.startswith(b"faccessat"))(name, text, result)
+    return call if call is None or b", F_OK" not in text else replace(call, flags=call.flags | 1)
+
+
+def _read_readlink(name: bytes, text: bytes, result: int) -> Call | None:
+    if text.endswith(b", 1023"):
+        return None
+    call = _reader_of_one(Kind.READLINK, name == b"readlinkat")(name, text, result)
+    return call if call is None else replace(call, flags=os.O_NOFOLLOW)
 
 
 def _reader_of_descriptor(kind: Kind) -> Callable[[bytes, bytes, int], Call | None]:
     def reads(name: bytes, text: bytes, result: int) -> Call | None:
         found = _DESCRIPTOR.match(text)
-        if not found or name == b"fcntl" and b"F_DUPFD" not in text:
-            return None
-        return Call(kind, folder=int(found[1]), result=result)
+        return Call(kind, folder=int(found[1]), result=result, name=name) if found else None
 
     return reads
 
@@ -275,9 +301,55 @@ def _read_unshare(_: bytes, text: bytes, result: int) -> Call | None:
     return Call(Kind.UNSHARE, flags=_flags(_CLONE_FLAG, _CLONE_FLAGS, text), result=result)
 
 
-def _read_connect(_: bytes, text: bytes, result: int) -> Call | None:
-    is_server = b"AF_UNIX" in text or b"AF_INET" in text
-    return Call(Kind.SERVER, result=result) if is_server and b"/nscd/" not in text else None
+def _address(text: bytes) -> bytes:
+    """The address in the arguments of a call; empty where no other process has it."""
+    found = _LOCAL.search(text)
+    if found:
+        path = plain(found[2])
+        return b"" if b"/nscd/" in path else b"@" + path if found[1] else path
+    found = _INTERNET.search(text)
+    if found:
+        return found[2] + b":" + found[1]
+    found = _INTERNET_6.search(text)
+    if found:
+        return b"[" + found[2] + b"]:" + found[1]
+    return b"netlink" if b"AF_NETLINK" in text else b""
+
+
+def _read_address(name: bytes, text: bytes, result: int) -> Call | None:
+    address = _address(text)
+    if not address:
+        return None
+    is_file = name == b"bind" and b"AF_UNIX" in text and not address.startswith(b"@")
+    kind = Kind.BIND if name == b"bind" else Kind.SOCKET
+    return Call(kind, address if is_file else b"", result=min(result, 0), text=address, name=name)
+
+
+def _read_ipc(name: bytes, text: bytes, result: int) -> Call | None:
+    path = _AT.match(text)
+    return Call(Kind.IPC, result=min(result, 0), text=plain(path[1]) if path else text.split(b",")[0], name=name)
+
+
+def _read_kill(name: bytes, text: bytes, result: int) -> Call | None:
+    number = text.split(b",")[0]
+    return None if number == b"0" else Call(Kind.SIGNAL, result=result, text=number, name=name)
+
+
+def _read_fcntl(name: bytes, text: bytes, result: int) -> Call | None:
+    if b"F_DUPFD" in text:
+        return _reader_of_descriptor(Kind.DUP)(name, text, result)
+    is_lock = b"F_SETLK" in text or b"F_GETLK" in text or b"F_OFD_" in text or b"F_SETLEASE" in text
+    return _reader_of_descriptor(Kind.LOCK)(name, text, result) if is_lock else None
+
+
+def _read_ioctl(name: bytes, text: bytes, result: int) -> Call | None:
+    if not re.search(rb"FS_IOC_(?:GET|SET|FSGET|FSSET)|FS_IOC_\w*VERSION", text):
+        return None
+    return _reader_of_descriptor(Kind.ATTRIBUTES)(name, text, result)
+
+
+def _read_seccomp(name: bytes, text: bytes, result: int) -> Call | None:
+    return Call(Kind.NOTIFIED, result=result, name=name) if b"NEW_LISTENER" in text else None
 
 
 def _read_ptrace(_: bytes, text: bytes, result: int) -> Call | None:
@@ -286,21 +358,26 @@ def _read_ptrace(_: bytes, text: bytes, result: int) -> Call | None:
 
 
 def _reader_of_flag(kind: Kind) -> Callable[[bytes, bytes, int], Call | None]:
-    return lambda name, text, result: Call(kind, result=result)
+    return lambda name, text, result: Call(kind, result=result, name=name)
 
 
 def _readers() -> dict[bytes, Callable[[bytes, bytes, int], Call | None]]:
     one, two = _reader_of_one, _reader_of_two
     groups = (
         ("open openat openat2 creat", _read_open),
-        ("stat lstat access", one(Kind.STAT, False)),
-        ("newfstatat statx faccessat faccessat2", one(Kind.STAT, True)),
+        ("stat lstat getxattr lgetxattr listxattr llistxattr", one(Kind.STAT, False)),
+        ("newfstatat statx", one(Kind.STAT, True)),
+        ("access faccessat faccessat2", _read_mode),
+        ("readlink readlinkat", _read_readlink),
         ("execve execveat", _read_exec),
         ("clone clone3 fork vfork", _read_clone),
         ("unshare", _read_unshare),
         ("chdir", one(Kind.CHDIR, False)),
         ("fchdir", _reader_of_descriptor(Kind.CHDIR)),
-        ("dup dup2 dup3 fcntl", _reader_of_descriptor(Kind.DUP)),
+        ("dup dup2 dup3", _reader_of_descriptor(Kind.DUP)),
+        ("fcntl", _read_fcntl),
+        ("flock", _reader_of_descriptor(Kind.LOCK)),
+        ("ioctl", _read_ioctl),
         ("memfd_create", _reader_of_flag(Kind.NO_FILE)),
         ("getdents getdents64", _reader_of_descriptor(Kind.LIST)),
         ("rename", two(Kind.RENAME, False)),
@@ -316,13 +393,20 @@ def _readers() -> dict[bytes, Callable[[bytes, bytes, int], Call | None]]:
         ("mknod", one(Kind.MKNOD, False)),
         ("mknodat", one(Kind.MKNOD, True)),
         ("truncate", one(Kind.TRUNCATE, False)),
-        ("chmod utime utimes", one(Kind.META, False)),
-        ("fchmodat fchmodat2 utimensat futimesat", one(Kind.META, True)),
-        ("connect", _read_connect),
+        ("chmod chown lchown utime utimes setxattr lsetxattr removexattr lremovexattr", one(Kind.META, False)),
+        ("fchmodat fchmodat2 fchownat utimensat futimesat", one(Kind.META, True)),
+        ("fchmod fchown fsetxattr fremovexattr", _reader_of_descriptor(Kind.META)),
+        ("connect bind sendto sendmsg sendmmsg", _read_address),
+        ("msgget msgctl msgsnd msgrcv semget semctl semop semtimedop shmget shmctl shmat mq_open mq_unlink", _read_ipc),
+        ("kill", _read_kill),
+        ("seccomp", _read_seccomp),
+        ("statfs inotify_add_watch fanotify_init fanotify_mark name_to_handle_at process_vm_readv process_vm_writev "
+         "pidfd_send_signal pidfd_getfd perf_event_open bpf keyctl add_key request_key acct quotactl",
+         _reader_of_flag(Kind.UNKNOWN)),
         ("io_uring_setup", _reader_of_flag(Kind.URING)),
         ("mount move_mount pivot_root setns", _reader_of_flag(Kind.NAMESPACE)),
         ("chroot", one(Kind.NAMESPACE, False)),
-        ("open_by_handle_at", _reader_of_flag(Kind.UNKNOWN)),
+        ("open_by_handle_at", _reader_of_flag(Kind.UNRESOLVED)),
         ("ptrace", _read_ptrace),
     )
     return {name.encode(): reads for names, reads in groups for name in names.split()}

@@ -1,4 +1,5 @@
-"""Writes the file `observed`: what each command read and wrote, paths once and sets as ranges of their numbers."""
+"""Writes version 1 of the file `observed`: what each command read and wrote, paths once and sets as ranges of
+numbers."""
 
 from __future__ import annotations
 
@@ -9,15 +10,53 @@ from typing import Any, BinaryIO
 
 from ..fields import field
 from .filters import NINJA_LOGS
-from .footprints import KINDS
-from .imports import can_be_module
+from .footprints import (FOLDER, IMPORTED, LINK_EDITED, LINK_READ, LINK_SEEN, LINK_WRITTEN, LISTED, MISSING, MODE, READ,
+                         STATUS, THERE, Packed)
 from .naming import Names
 from .places import Places
-from .processes import FLAGS, Command
+from .processes import Command
+from .programs import can_be_module
+
+KINDS = ("reads", "stats", "misses", "lists", "writes", "edits", "deletes", "temps", "folders")
+"""The kinds of the file, in its order."""
 
 _LEAVES = ("writes", "edits", "deletes")
 _MAKES = (*_LEAVES, "temps", "folders")
-_DEVICES = (b"/dev/", b"/proc/", b"/sys/")
+_STATS = STATUS | MODE | THERE | FOLDER | LINK_SEEN
+
+
+def kinds_of(packed: Packed) -> dict[str, array[int]]:
+    """A footprint as version 1 has it: for each kind the numbers of its places, in rising order; `imports` besides."""
+    found: defaultdict[str, set[int]] = defaultdict(set)
+    looks = [*zip(packed.places, packed.looks), *(it for its in packed.asked for it in its.places.items())]
+    for place, look in looks:
+        if look & (READ | LINK_READ):
+            found["reads"].add(place)
+        if look & _STATS:
+            found["stats"].add(place)
+        if look & MISSING:
+            found["misses"].add(place)
+        if look & LISTED:
+            found["lists"].add(place)
+        if look & IMPORTED:
+            found["imports"].add(place)
+        if look & (LINK_WRITTEN | LINK_EDITED):
+            found["writes"].add(place)
+        if look & LINK_EDITED:
+            found["edits"].add(place)
+    for place, it in packed.touched.items():
+        if it.is_there:
+            found["folders" if it.is_folder else "writes"].add(place)
+            if it.is_edited and not it.is_folder:
+                found["edits"].add(place)
+        elif it.existed or it.is_edited:
+            found["deletes"].add(place)
+        elif not it.is_folder:
+            found["temps"].add(place)
+        if not it.is_there and it.is_folder:
+            found["lists"].discard(place)
+    found["stats"] -= found["reads"] | found["lists"]
+    return {kind: array("I", sorted(its)) for kind, its in found.items() if its}
 
 
 class Observed:
@@ -25,6 +64,7 @@ class Observed:
 
     def __init__(self, pairs: list[tuple[Any, Command]], places: Places, names: Names) -> None:
         self.pairs, self.places, self.names = pairs, places, names
+        self._sets = {id(it): kinds_of(it.packed) if it.packed is not None else {} for _, it in pairs}
         self._left: set[int] = set()
         self._made: set[int] = set()
         uses: dict[int, int] = defaultdict(int)
@@ -36,10 +76,8 @@ class Observed:
         self._shared = self._temps_of_others(uses)
         self._modules = self._possible_modules()
 
-    def _all_sets(self) -> Iterator[dict[str, array]]:
-        for _, command in self.pairs:
-            if command.packed is not None:
-                yield command.packed.sets
+    def _all_sets(self) -> Iterator[dict[str, array[int]]]:
+        return iter(self._sets.values())
 
     def _temps_of_others(self, uses: dict[int, int]) -> set[int]:
         """The temporaries with which another command than the one whose they are has to do."""
@@ -66,14 +104,12 @@ class Observed:
         """Whether a place is named; one that is not holds no race."""
         if kind == "misses":
             return place in self._made or place in self.names.outputs
-        if self.places.paths[place].startswith(_DEVICES):
-            return False
         return self.names.is_inside(place) or place in self._left or place in self._shared
 
     def sets_of(self, command: Command) -> Iterator[tuple[str, list[int]]]:
         """The places of each kind, with what Python's import asked of: modules by their compiled copies, and entries
         of the folders that it listed."""
-        sets: dict[str, Any] = dict(command.packed.sets) if command.packed is not None else {}
+        sets: dict[str, Any] = dict(self._sets[id(command)])
         reads = set(sets.get("reads", ()))
         added = self._sources_of_compiled(reads) - reads
         if added:
@@ -100,7 +136,7 @@ class Observed:
         numbers: dict[int, int] = {}
         body: list[bytes] = []
         for edge, command in self.pairs:
-            flags = [it.encode() for it in FLAGS if it in command.flags]
+            flags = [it.encode() for it in command.whole.words_of_version_1]
             body.append(b" ".join([b"edge", field(edge.name), *flags]))
             outside: set[int] = set()
             for kind, its in self.sets_of(command):
@@ -121,7 +157,7 @@ class Observed:
         logs = {it for it, path in enumerate(self.places.paths) if path.rpartition(b"/")[2] in NINJA_LOGS} & self._left
         found: dict[bytes, list[Any]] = {self.names.of(it): [] for it in sorted(logs)}
         for edge, command in self.pairs if logs else ():
-            sets = command.packed.sets if command.packed is not None else {}
+            sets = self._sets[id(command)]
             for place in logs.intersection(it for kind in _LEAVES for it in sets.get(kind, ())):
                 found[self.names.of(place)].append(edge)
         return found
