@@ -18,29 +18,33 @@ WORDS = (["copy", "a", "o"], ["vforks", "3", "a", "o"], ["openat2", "d", "a", "1
          ["path", "d", "a", "3"], ["unnamed", "d", "a", "d/n"], ["empty", "a", "4"], ["duplicate", "d", "a", "5"],
          ["thread", "d", "a", "6"], ["ring", "a", "7"], ["hidden", "a", "8"], ["thirty-two", "a"], ["trace", "a", "9"],
          ["signals", "50"], ["renamed", "d", "../d", "../e", "a", "o"])
-# Children that make calls with arguments by chance: bad addresses, loops of links, the longest paths, other processes.
+# Children that make looking calls with arguments by chance: bad addresses, loops of links, the longest paths, other
+# processes.
 HOSTILE = """
 import ctypes, os, random, signal, sys
 call, chance = ctypes.CDLL(None).syscall, random.Random()
 numbers = [int(it) for it in sys.argv[2].split(",")]
 texts = ["a", "d/a", "/proc/self/fd/0", "../" * 1300, "/" * 4095, "/".join(["a" * 200] * 19), "l/" * 2040, "loop/x", "",
          "/proc/self/cwd/loop", "/dev/fd/99", "/proc/thread-self/root/etc/passwd", "/proc/1/root", "far", "x" * 70000]
-kept = [ctypes.create_string_buffer(it.encode()) for it in texts]
+kept = [ctypes.create_string_buffer(it.encode(), 1 << 17) for it in texts]  # no answer leaves its room
 addresses = [0, 1, -1, 0xdeadbeef, *map(ctypes.addressof, kept), ctypes.addressof(kept[-1]) + 69990]
 os.symlink("loop", "loop"), os.symlink("../" * 1300 + "x" * 100, "far")
 for child in range(60):
     if os.fork():
         os.wait()
         continue
-    signal.alarm(5)  # a lock may be waited for
+    signal.alarm(5)
     chance.seed(child + 1000 * int(sys.argv[1]))
     for _ in range(60):
         given = [chance.choice([chance.choice(addresses), -100, chance.randrange(64)]) for _ in range(6)]
         call(ctypes.c_long(chance.choice(numbers)), *map(ctypes.c_long, given))
     os._exit(0)
-""" # Calls of x86-64 that only look at files. A call that changes something is never among them: with arguments by
-chance, and # as root, such a call changes files of the machine on which the test runs. X86_64 =
-"4,6,21,89,137,191,192,262,267,269,332,439" THREADS ="""
+"""
+# Calls of x86-64 that only look at files: stat, lstat, access, readlink, statfs, getxattr, lgetxattr, newfstatat,
+# readlinkat, faccessat, statx, faccessat2. A call that changes something is never among them: with arguments by chance,
+# and as the superuser, such a call changes files of the machine on which the test runs.
+X86_64 = "4,6,21,89,137,191,192,262,267,269,332,439"
+THREADS = """
 import threading
 def work(number):
     open(f"t{number % 50}", "a").close()
