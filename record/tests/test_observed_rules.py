@@ -312,6 +312,18 @@ class Rules(unittest.TestCase):
             self.one(call(kind, result=-errno.EPERM))
             self.assertEqual(self.flags, set())
 
+    def test_a_question_for_free_room_is_no_flag_of_version_1(self):
+        whole = self.command_of(Call(Kind.UNKNOWN, name=b"statfs")).whole
+        self.assertEqual((whole.words_of_version_1, whole.words_in(1), whole.words_in(2)), ([], set(), {"unknown"}))
+        whole = self.command_of(Call(Kind.UNKNOWN, name=b"statfs"), Call(Kind.UNKNOWN, name=b"bpf")).whole
+        self.assertEqual((whole.words_of_version_1, whole.words_in(1)), (["unresolved"], {"unknown"}))
+
+    def command_of(self, *calls):
+        """The command that makes these calls."""
+        events = [(NINJA, call(Kind.SPAWN, result=SHELL)), (SHELL, shell()), *((SHELL, it) for it in calls),
+                  (SHELL, call(Kind.EXIT)), (NINJA, call(Kind.EXIT))]
+        return self.build(events).commands[0]
+
     def sockets(self, *commands):
         """The flags of commands that bind (`True`) or connect to addresses."""
         found = [Command(b"c", 0, None) for _ in commands]

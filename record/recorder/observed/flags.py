@@ -31,6 +31,10 @@ IN_VERSION_1 = {Flag.CUT: "cut", Flag.SOCKET: "server", Flag.NAMESPACE: "namespa
                 Flag.TWIN: "twin"}
 """The flags that version 1 of the file has; each other one is its `unresolved`."""
 
+LOOKING = (b"statfs",)
+"""Unknown calls that only look, and at no file: how much room a file system has. Version 1 of the file does not have
+them, so such a command is observed whole there."""
+
 MOST_CAUSES = 16
 
 
@@ -50,11 +54,14 @@ class Flags:
     def __init__(self) -> None:
         self.causes: dict[Cause, None] = {}
         self._counts: dict[Flag, int] = {}
+        self._in_version_1: set[Flag] = set()
 
     def note(self, cause: Cause) -> None:
         """Notes a cause, or that there are more than are told."""
         if cause in self.causes:
             return
+        if cause.flag is not Flag.UNKNOWN or cause.call not in LOOKING:
+            self._in_version_1.add(cause.flag)
         count = self._counts[cause.flag] = self._counts.get(cause.flag, 0) + 1
         if count <= MOST_CAUSES:
             self.causes[cause] = None
@@ -66,10 +73,14 @@ class Flags:
         """The flags that are set."""
         return set(self._counts)
 
+    def words_in(self, version: int) -> set[Flag]:
+        """Those of the flags for which a version of the file has a word."""
+        return self._in_version_1 if version == 1 else self.words
+
     @property
     def words_of_version_1(self) -> list[str]:
         """The same, as version 1 of the file has them, in its order."""
-        found = {IN_VERSION_1.get(it, "unresolved") for it in self._counts}
+        found = {IN_VERSION_1.get(it, "unresolved") for it in self._in_version_1}
         return [it for it in ("cut", "server", "namespace", "uring", "unresolved", "twin") if it in found]
 
     def sorted(self) -> list[Cause]:

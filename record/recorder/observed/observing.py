@@ -202,7 +202,8 @@ class Observation:
         unseen = [it.edge.name for it in runs if it.edge.number not in seen]
         if unseen:
             yield f"{len(unseen)} commands ran and were not observed: {_some(unseen)}"
-        flagged = [edge.name + b" (" + " ".join(sorted(it.flags)).encode() + b")" for edge, it in pairs if it.flags]
+        words = [(edge.name, sorted(it.whole.words_in(VERSION))) for edge, it in pairs]
+        flagged = [name + b" (" + " ".join(its).encode() + b")" for name, its in words if its]
         if flagged:
             yield f"{len(flagged)} of {len(pairs)} commands were not observed whole: {_some(flagged)}"
         traced = [edge.name for edge, it in pairs if it.wanted_trace]
