@@ -198,6 +198,13 @@ class Rules(unittest.TestCase):
         self.assertEqual(self.one(call(Kind.MKDIR, b"d"), call(Kind.MKDIR, b"e"), call(Kind.RMDIR, b"e"),
                                   call(Kind.MKDIR, b"f", result=-errno.EEXIST)), {"folders": {b"d"}})
 
+    def test_a_folder_of_another_that_is_listed_and_taken_away(self):
+        os.makedirs(self.folder + b"/d")
+        self.assertEqual(self.one(opened(b"d", os.O_RDONLY | os.O_DIRECTORY, 5), call(Kind.LIST, folder=5),
+                                  call(Kind.RMDIR, b"d")), {"lists": {b"d"}, "deletes": {b"d"}})
+        self.assertEqual(self.one(call(Kind.MKDIR, b"e"), opened(b"e", os.O_RDONLY | os.O_DIRECTORY, 5),
+                                  call(Kind.LIST, folder=5), call(Kind.RMDIR, b"e")), {})
+
     def test_a_renamed_folder_takes_what_is_in_it_along(self):
         self.assertEqual(self.one(call(Kind.MKDIR, b"d"), opened(b"d/x", WRITE), call(Kind.RENAME, b"d", b"e"),
                                   opened(b"e/x")), {"folders": {b"e"}, "writes": {b"e/x"}, "temps": {b"d/x"}})

@@ -53,7 +53,7 @@ def kinds_of(packed: Packed) -> dict[str, array[int]]:
             found["deletes"].add(place)
         elif not it.is_folder:
             found["temps"].add(place)
-        if not it.is_there and it.is_folder:
+        else:  # a folder of the command's own, which nobody else filled
             found["lists"].discard(place)
     found["stats"] -= found["reads"] | found["lists"]
     return {kind: array("I", sorted(its)) for kind, its in found.items() if its}
