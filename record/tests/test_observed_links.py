@@ -1,4 +1,4 @@
-"""Links are followed as they stood when a call was made: two hundred times beside a busy build, whatever else runs
+"""Links are followed as they stood when a call was made: fifty times beside a busy build, whatever else runs
 and however late the log is read."""
 
 import unittest
@@ -6,7 +6,7 @@ import unittest
 import observed_2
 from observing import WithRoom
 
-TIMES = 200
+TIMES = 50
 LINK = "ln -s x l$out && cat l$out > $out && rm l$out"
 FOLDER = "ln -s d l$out && cat l$out/x > $out && rm l$out"
 MOVED = "ln -s d l$out && mv l$out m$out && cat m$out/x > $out && rm m$out"
