@@ -301,7 +301,10 @@ class Said:
     def of_inner_ninja(self, edges: dict[int, Edge]) -> dict[int, Edge]:
         """Of the edges in Ninja's log those that another Ninja ran, which this one has not shown. Where Ninja shows its
         commands, it shows each once, and on a terminal each twice that is not of the console pool: so there are some
-        where fewer were shown."""
+        where fewer were shown. While a command of the console pool runs, Ninja keeps its status lines back and then
+        shows the last of them alone: such a build has none that are known."""
+        if any(edge.pool == b"console" for edge in (*edges.values(), *(it.edge for it in self.failed))):
+            return {}
         twice = sum(edge.pool != b"console" for edge in edges.values()) if self.shown.is_smart else 0
         if len(edges) + twice <= self.shown.count - len(self.failed):
             return {}

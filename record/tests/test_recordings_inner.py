@@ -70,6 +70,24 @@ class InnerNinjas(unittest.TestCase):
                 self.assertEqual(sorted(self.starts(trace)), ["a", "b", "c", "d", "deploy", "e"])
                 self.assertNotIn("did not show", said)
 
+    def test_commands_beside_one_at_the_console_are_its_own(self):
+        held = """rule cp
+  command = cp $in $out
+  description = CP $out
+rule hold
+  command = sleep 0.5 && touch $out
+  pool = console
+build long: hold in
+build a: cp in
+build b: cp a
+build c: cp b
+build all: phony long c
+default all
+"""
+        trace, said = self.record(held, "-j4")
+        self.assertEqual(sorted(self.starts(trace)), ["a", "b", "c", "long"])
+        self.assertNotIn("did not show", said)
+
 
 if __name__ == "__main__":
     unittest.main()
