@@ -192,11 +192,13 @@ class Ends(Case):
     def test_signals_at_any_moment(self):
         more = (statement(f"n{it}", f"sleep 0.02; echo {it} > n{it}; echo {it} >> s") for it in range(6))
         it = self.made(HIDDEN + SOFT + "".join(more), {"build/s": "s\n"})
-        at_work = 0
+        at_work, begun = 0, time.monotonic()
+        it.shuffle()
+        undisturbed = time.monotonic() - begun
         for _ in range(KILLS):
             number = self.chance.choice(SIGNALS)
             words = ["--in-copy"] if self.chance.random() < 0.3 else []
-            status = self.ended(it, number, self.chance.random() * 4, *words)
+            status = self.ended(it, number, self.chance.random() * undisturbed, *words)
             self.assertIn(status, (4, -number, 128 + number))
             at_work += status != 4
         self.assertGreater(at_work, KILLS // 2)
@@ -216,9 +218,11 @@ class Ends(Case):
         with subprocess.Popen(it.words(), stdin=subprocess.DEVNULL, stdout=subprocess.DEVNULL, stderr=subprocess.PIPE,
                               text=True, env={**os.environ, MARK: mark}) as process:
             wait_for_commands(mark)
-            for one in set(processes(mark)) - {process.pid}:
-                with contextlib.suppress(ProcessLookupError):
-                    os.kill(one, signal.SIGKILL)
+            while process.poll() is None:
+                for one in set(processes(mark)) - {process.pid}:
+                    with contextlib.suppress(ProcessLookupError):
+                        os.kill(one, signal.SIGKILL)
+                time.sleep(0.01)
             said = process.communicate()[1]
         self.assertEqual((process.returncode, said.count("\n")), (3, 1), said)
         wait_until(lambda: not processes(mark), "processes of an ended call do not end")
