@@ -18,7 +18,7 @@ from builds import LONGEST_SECONDS, missing_tools, read_terminal, wait_until
 from provoked import FAINT, GEN, NOBODY, PLANTED, PROVOKE, STAND_IN, USE, Made, Planted, python_for_all
 from recorder.manifest import Manifest
 from recorder.provoke.copies import Refused, in_copy
-from recorder.provoke.in_place import OWN
+from recorder.provoke.in_place import OWN, put_back
 from recorder.provoke.orders import waits, with_order
 from recorder.provoke.races import NotAsked, Observed, Recording, name_of, shown_name
 from recorder.provoke.words import BadWords, HelpWanted, Options, read_words
@@ -412,6 +412,8 @@ class UnderSignals(unittest.TestCase):
             if statuses[-1] == FAILS_SO:  # it had ended by itself: the first one took longer, on a machine at work
                 longest = max(delay, 0.1)
             self.wait_until_put_back(it)
+            if number == signal.SIGKILL:  # it may have come before the process began that puts things back
+                put_back(os.fsencode(os.path.realpath(it.build)))
             self.assertEqual(it.everything(), before, f"{more} {statuses}")
         return statuses
 
