@@ -19,9 +19,9 @@ _rebug() {
     ask) COMPREPLY=($(compgen -W "--json --color" -- "$word")) ;;
     picture) COMPREPLY=($(compgen -W "--html --event" -- "$word")) ;;
     compare) COMPREPLY=($(compgen -W "--all --json" -- "$word")) ;;
-    record) COMPREPLY=($(compgen -W "--check --rebug --help -j --from-logs --jobs-as-run --lanes --anyway --force --verbose --output --observe --observe=if-possible --observer --keep-log" -- "$word")) ;;
+    record) COMPREPLY=($(compgen -W "--check --rebug --help -j --from-logs --jobs-as-run --lanes --anyway --force --verbose --output --observe --observe=if-possible --observer --keep-log --contents" -- "$word")) ;;
     provoke) COMPREPLY=($(compgen -W "--help --all --stale --in-place --rebug" -- "$word")) ;;
-    shuffle) COMPREPLY=($(compgen -W "--help --runs --repeat --seed --overlap --mend-all --in-copy --budget --limit --most-memory -j --json" -- "$word")) ;;
+    shuffle) COMPREPLY=($(compgen -W "--help --runs --repeat --seed --overlap --blocks --mend-all --observe --in-copy --budget --limit --most-memory -j --json" -- "$word")) ;;
     mend) COMPREPLY=($(compgen -W "--help --apply --json --rebug" -- "$word")) ;;
     -*) COMPREPLY=($(compgen -W "--try --manifest --trace --script --workers --migrate --help --version" -- "$word")) ;;
   esac

@@ -1,6 +1,7 @@
 /* rebug's own observer: runs a command, and tells what its processes do to which entries of folders.
 
      observer LOG COMMAND...   this process becomes COMMAND; one beside it writes to LOG, a pipe that is being read
+     observer --looks LOG COMMAND...   the same, with a look at what each command changed, before COMMAND learns its end
      observer --try            says on standard output why that cannot be done here, and ends with 1; else with 0
 
    The process beside is nobody's child and has a session of its own: no signal of the terminal reaches it, the caller's
@@ -62,7 +63,8 @@ enum { TRACEME = 0, ATTACH = 16, SEIZE = 0x4206, GET_SYSCALL_INFO = 0x420e };
 /* The kinds of a record, as own_records.py has them too; those behind LAST_TOLD are not written. */
 enum kind { SPAWN, EXEC, EXIT, UNSHARE, OPEN, STAT, LIST, LINK, SYMLINK, RENAME, EXCHANGE, UNLINK, RMDIR, MKDIR, MKNOD,
             TRUNCATE, META, SOCKET, URING, NAMESPACE, UNRESOLVED, TRACE, CHDIR, READLINK, LOAD, MODE, BIND, IPC, LOCK,
-            SIGNAL, ATTRIBUTES, NOTIFIED, UNKNOWN, DEEP, LAST_TOLD = DEEP, OTHER_USER, ADDRESS, MESSAGE, STATFS, IOCTL };
+            SIGNAL, ATTRIBUTES, NOTIFIED, UNKNOWN, DEEP, LOOKED, LAST_TOLD = LOOKED,
+            OTHER_USER, ADDRESS, MESSAGE, STATFS, IOCTL };
 enum { NOT_ASKED = 1 << 30 }; /* the result of an open that went well: nobody asks for its descriptor */
 
 /* Which calls stop, and where their parts stand. `reading` says what the argument `flags` is; `mask` has flags that the
@@ -431,7 +433,10 @@ static uint32_t number_in(struct table *in, const void *bytes, size_t length) {
     return in->slots[at];
 }
 static uint32_t text(const char *bytes, size_t length) { return length ? number_in(&texts, bytes, length) : 0; }
+static bool looks; /* whether the ends of commands are looked at */
+static void note_entries(pid_t process, const struct call *call);
 static void tell(pid_t process, struct call call, int32_t value) {
+    if (looks && (call.way || call.other)) note_entries(process, &call);
     struct event it = {process, number_in(&calls, &call, sizeof call), value, (uint32_t)(milliseconds() - began)};
     add(&events, &it, sizeof it);
     if (events.used >= 1 << 16 || texts.fresh.used + ways.fresh.used + commands.used >= 1 << 18) flush();
@@ -441,10 +446,11 @@ static void tell(pid_t process, struct call call, int32_t value) {
    see other files than the observer. */
 enum { MOST_LOADED = 6 };
 struct pending { struct call call; bool is_scoped, is_new; uint32_t entry, other_entry; uint32_t loaded[MOST_LOADED]; int socket; };
-struct task { struct pending *pending; uint32_t clone_flags; bool is_elsewhere; };
+struct task { struct pending *pending; uint32_t clone_flags, command; bool is_elsewhere, is_known; };
 static struct task *tasks;
 enum { MOST_TASKS = 1 << 22 };
 static bool is_plain = true; /* every process sees the same files as the observer */
+static bool has_spaces; /* a process of the build has changed its root, its mounts or its namespaces */
 
 static bool copy(pid_t pid, uint64_t at, void *to, size_t length) {
 #ifdef __aarch64__
@@ -476,7 +482,7 @@ static ssize_t link_of(pid_t pid, const char *what, int descriptor, char *to) {
 /* What stands at an entry, by the number of its path: asked of the disk once, and anew after a call that may have changed
    it. A state of an older `era` does not count: since then a link or a folder went, or came by a rename. */
 enum standing { UNASKED, MISSING, A_FILE, A_FOLDER, A_LINK, A_DEVICE, OF_KERNEL };
-struct state { uint32_t era, link, inode; uint8_t standing; };
+struct state { uint32_t era, link, inode, noted_by; uint8_t standing; bool is_changed; };
 static struct state *states;
 static size_t states_room;
 static uint32_t era = 1, made_era = 1;
@@ -550,7 +556,7 @@ static struct state *ask(uint32_t entry, const char *path, bool is_elsewhere) {
     char to[PATH_MAX + 1];
     if (!s || is_elsewhere) return &unknown;
     if (s->standing != UNASKED && s->era == era) return s;
-    *s = (struct state){.era = era};
+    *s = (struct state){.era = era, .noted_by = s->noted_by, .is_changed = s->is_changed};
     if (fstatat(AT_FDCWD, *path ? path : "/", &it, AT_SYMLINK_NOFOLLOW)) {
         s->standing = errno == EACCES ? A_FILE : MISSING;
         return s;
@@ -1002,7 +1008,7 @@ static bool enter_without_path(pid_t pid, struct task *t, const struct rule *r, 
     switch (r->kind) {
     case SPAWN:
         t->clone_flags = c.flags & SPACES;
-        if (c.flags & SPACES) is_plain = false;
+        if (c.flags & SPACES) is_plain = false, has_spaces = true;
         if (c.flags & UNTRACED) { /* a process that cannot be observed, as those are that trace their maker */
             tell(pid, (struct call){.kind = UNRESOLVED, .name = c.name}, 0);
             tell(pid, (struct call){.kind = TRACE, .result = -EPERM}, 0);
@@ -1020,9 +1026,9 @@ static bool enter_without_path(pid_t pid, struct task *t, const struct rule *r, 
         } else c.text = text(to, (size_t)snprintf(to, sizeof to, "0x%llx", (unsigned long long)(uint32_t)a[0]));
         break;
     case SIGNAL: c.text = text(to, (size_t)snprintf(to, sizeof to, "%d", (int)a[0])); break;
-    case UNSHARE: is_plain = false; break;
+    case UNSHARE: is_plain = false, has_spaces = true; break;
     case NAMESPACE:
-        is_plain = false;
+        is_plain = false, has_spaces = true;
         if (r->path != NO) return false;
         break;
     case NOTIFIED: case URING: case UNRESOLVED: case TRACE: break;
@@ -1137,6 +1143,124 @@ static void leave(pid_t pid, struct task *t) {
     }
     forget(t);
 }
+/* With --looks: the commands that Ninja started, each with the entries at which it is to be looked at its end: those that
+   it changed, the files that it read after a command had changed them, and the folders whose names it read. Commands have
+   the numbers 1, 2 and so on; 0 is Ninja itself. */
+struct looked { pid_t shell; uint32_t *entries; size_t used, room; };
+static struct looked *lookers;
+static size_t lookers_used = 1, lookers_room;
+
+static int by_entry(const void *a, const void *b) {
+    uint32_t x = *(const uint32_t *)a, y = *(const uint32_t *)b;
+    return x < y ? -1 : x > y;
+}
+/* Each entry once. */
+static void sort_entries(struct looked *l) {
+    size_t kept = 0;
+    if (!l->used) return;
+    qsort(l->entries, l->used, sizeof *l->entries, by_entry);
+    for (size_t i = 0; i < l->used; i++)
+        if (!kept || l->entries[i] != l->entries[kept - 1]) l->entries[kept++] = l->entries[i];
+    l->used = kept;
+}
+static void note_entry(uint32_t command, struct state *s, uint32_t entry) {
+    struct looked *l = &lookers[command];
+    if (!l->shell || s->noted_by == command) return;
+    s->noted_by = command;
+    if (l->used == l->room) sort_entries(l);
+    if (2 * l->used >= l->room) {
+        size_t room = l->room ? 2 * l->room : 16;
+        uint32_t *at = realloc(l->entries, room * sizeof *at);
+        if (!at) { give_up(); return; }
+        l->entries = at, l->room = room;
+    }
+    l->entries[l->used++] = entry;
+}
+/* The command of a thread. Where its maker has not been met yet, /proc says who that is. */
+static uint32_t command_of_task(pid_t pid) {
+    struct task *t = &tasks[pid];
+    if (t->is_known) return t->command;
+    char name[64], line[512];
+    int parent = 0, group = 0;
+    snprintf(name, sizeof name, "/proc/%d/status", pid);
+    FILE *file = fopen(name, "re");
+    while (file && fgets(line, sizeof line, file)) {
+        if (!strncmp(line, "Tgid:", 5)) group = atoi(line + 5);
+        if (!strncmp(line, "PPid:", 5)) { parent = group == pid ? atoi(line + 5) : group; break; }
+    }
+    if (file) fclose(file);
+    if (parent > 0 && parent <= MOST_TASKS) t->command = tasks[parent].command;
+    t->is_known = true;
+    return t->command;
+}
+/* Whether a call changed the entry of its way, or that of its other way. */
+static bool changes(const struct call *c, bool is_other) {
+    switch (c->kind) {
+    case OPEN: return c->flags & (O_ACCMODE | O_CREAT | O_TRUNC);
+    case LINK: case SYMLINK: return is_other;
+    case RENAME: case EXCHANGE: case UNLINK: case RMDIR: case MKDIR: case MKNOD: case BIND: case TRUNCATE: case META: return true;
+    default: return false;
+    }
+}
+/* What a call that is told has to do with what its command is looked at for. */
+static void note_entries(pid_t process, const struct call *c) {
+    const uint32_t told[] = {c->way, c->other};
+    if (c->result < 0) return;
+    uint32_t command = command_of_task(process);
+    for (int i = 0; i < 2; i++) {
+        if (!told[i]) continue;
+        struct way_head h;
+        memcpy(&h, ways.kept[told[i] - 1].bytes, sizeof h);
+        bool is_read = c->kind == OPEN || c->kind == EXEC || c->kind == LOAD || (c->kind == LINK && !i);
+        bool is_change = changes(c, i), follows = is_read || c->kind == TRUNCATE || c->kind == META || c->kind == LIST;
+        uint32_t entry = h.end && follows && !(c->flags & O_NOFOLLOW) ? h.end : h.entry;
+        struct state *s = state_at(entry);
+        if (!s || tasks[process].is_elsewhere) continue;
+        s->is_changed |= is_change;
+        if (command && (is_change || c->kind == LIST || (is_read && s->is_changed))) note_entry(command, s, entry);
+    }
+}
+/* A command begins: when, by the clock of which the kernel takes the stamps of files. */
+static void begin_command(pid_t shell) {
+    struct timespec now;
+    char line[32];
+    if (!looks || command_of_task(shell)) return;
+    if (lookers_used >= lookers_room) {
+        size_t room = lookers_room ? 2 * lookers_room : 64;
+        struct looked *at = realloc(lookers, room * sizeof *at);
+        if (!at) { give_up(); return; }
+        lookers = at, lookers_room = room;
+    }
+    lookers[lookers_used] = (struct looked){.shell = shell};
+    tasks[shell].command = (uint32_t)lookers_used++, tasks[shell].is_known = true;
+    clock_gettime(CLOCK_REALTIME_COARSE, &now);
+    int n = snprintf(line, sizeof line, "%lld", (long long)now.tv_sec * 1000000000 + now.tv_nsec);
+    tell(shell, (struct call){.kind = LOOKED, .name = text(line, (size_t)n)}, 0);
+}
+/* A command's shell has ended and its maker does not know that yet: what stands at its entries. Where a process has other
+   mounts, nothing is asked: the answer could come from a process that waits for the observer. */
+static void look_at_end(pid_t shell) {
+    char path[2 * PATH_MAX], line[160];
+    uint32_t command = shell <= MOST_TASKS ? tasks[shell].command : 0;
+    if (!command || lookers[command].shell != shell) return;
+    struct looked l = lookers[command];
+    lookers[command] = (struct looked){0};
+    sort_entries(&l);
+    for (size_t i = 0; !has_spaces && record >= 0 && i < l.used; i++) {
+        struct kept *k = &texts.kept[l.entries[i] - 1];
+        struct stat it;
+        if (k->length >= sizeof path) continue;
+        memcpy(path, k->bytes, k->length), path[k->length] = 0;
+        if (fstatat(AT_FDCWD, path, &it, AT_SYMLINK_NOFOLLOW)) continue;
+        int n = snprintf(line, sizeof line, "%llu %llu %llu %lld %lld %u", (unsigned long long)it.st_dev,
+                         (unsigned long long)it.st_ino, (unsigned long long)it.st_size,
+                         (long long)it.st_mtim.tv_sec * 1000000000 + it.st_mtim.tv_nsec,
+                         (long long)it.st_ctim.tv_sec * 1000000000 + it.st_ctim.tv_nsec, (unsigned)it.st_mode);
+        tell(shell, (struct call){.kind = LOOKED, .text = l.entries[i], .name = text(line, (size_t)n)}, 0);
+    }
+    free(l.entries);
+    flush();
+}
 /* The words of a process, each behind a NUL but the first; their length. */
 static size_t words_of(pid_t pid, char *words, size_t room) {
     size_t got = 0;
@@ -1202,7 +1326,9 @@ static void has_run(pid_t pid) {
     c.result = from != t ? pid : 0;
     forget(t);
     tell((pid_t)former, c, command);
+    if (command) begin_command(pid);
     for (int i = 0; i < MOST_LOADED && loaded[i]; i++) tell(pid, (struct call){.kind = LOAD, .way = loaded[i], .name = c.name}, 0);
+    if (from != t) *from = (struct task){0};
 }
 
 static void go_on(pid_t pid, int signal) {
@@ -1222,7 +1348,10 @@ static void has_made(pid_t pid, int event) {
     snprintf(name, sizeof name, "/proc/%d/task/%lu", pid, child);
     if (event == PTRACE_EVENT_CLONE && !access(name, F_OK)) c.flags |= FS | FILES | THREAD;
     tasks[pid].clone_flags = 0;
-    if (child && child <= MOST_TASKS) tasks[child].is_elsewhere = tasks[pid].is_elsewhere || c.flags & SPACES;
+    if (child && child <= MOST_TASKS) {
+        tasks[child].is_elsewhere = tasks[pid].is_elsewhere || c.flags & SPACES;
+        if (!tasks[child].is_known) tasks[child].command = tasks[pid].command, tasks[child].is_known = true;
+    }
     if (child && record >= 0) tell(pid, c, (int32_t)child);
 }
 static void stopped(pid_t pid, int status) {
@@ -1239,16 +1368,28 @@ static void stopped(pid_t pid, int status) {
     }
     go_on(pid, 0);
 }
+/* The next stop or end. With --looks an end is met twice: the maker of a process learns its end with the second time. */
+static pid_t next(int *status, int how) {
+    for (;;) {
+        siginfo_t it = {0};
+        if (!looks || record < 0) return waitpid(-1, status, __WALL | how);
+        if (waitid(P_ALL, 0, &it, WEXITED | WSTOPPED | WNOWAIT | __WALL | how)) return -1;
+        if (!it.si_pid) return 0;
+        if (it.si_code == CLD_EXITED || it.si_code == CLD_KILLED || it.si_code == CLD_DUMPED) look_at_end(it.si_pid);
+        pid_t pid = waitpid(it.si_pid, status, __WALL | WNOHANG);
+        if (pid) return pid;
+    }
+}
 /* Follows all processes to the last one's end. The command's own end is told when all that happened before it is. */
 static void follow(pid_t command) {
     bool has_ended = false, is_told = false;
     int status, end = 0;
     for (;;) {
-        pid_t pid = waitpid(-1, &status, __WALL | (has_ended ? WNOHANG : 0));
+        pid_t pid = next(&status, has_ended ? WNOHANG : 0);
         if (!pid) {
             if (!is_told && record >= 0) is_told = true, tell(command, (struct call){.kind = EXIT}, end);
             flush();
-            pid = waitpid(-1, &status, __WALL);
+            pid = next(&status, 0);
         }
         if (pid < 0 && errno == EINTR) continue;
         if (pid < 0 || pid > MOST_TASKS) break;
@@ -1256,7 +1397,7 @@ static void follow(pid_t command) {
         struct task *t = &tasks[pid];
         int how = WIFEXITED(status) ? WEXITSTATUS(status) : -WTERMSIG(status);
         forget(t);
-        t->clone_flags = 0, t->is_elsewhere = false;
+        t->clone_flags = t->command = 0, t->is_elsewhere = t->is_known = false;
         if (pid == command) has_ended = true, end = how;
         else if (record >= 0) tell(pid, (struct call){.kind = EXIT}, how);
     }
@@ -1339,7 +1480,8 @@ static int try_it(void) {
 }
 int main(int count, char **words) {
     if (count == 2 && !strcmp(words[1], "--try")) return try_it();
-    if (count < 3) { fprintf(stderr, "usage: observer LOG COMMAND... | --try\n"); return 2; }
+    if (count > 2 && !strcmp(words[1], "--looks")) looks = true, words++, count--;
+    if (count < 3) { fprintf(stderr, "usage: observer [--looks] LOG COMMAND... | --try\n"); return 2; }
     int log = open(words[1], O_WRONLY | O_NONBLOCK | O_CLOEXEC);
     const char *why = log < 0 ? strerror(errno) : be_observed(log);
     if (why) { fprintf(stderr, "observer: %s\n", why); return 126; }

@@ -5,7 +5,7 @@ from __future__ import annotations
 import os
 import time
 from dataclasses import dataclass, field
-from typing import Callable, Container
+from typing import Callable, Container, Iterable
 
 from .depfiles import read_depfile
 from .depslog import DepsLog, Listing
@@ -40,9 +40,10 @@ class Snapshot:
     taken: int = 0
 
 
-def take_snapshot(folder: bytes, manifest: Manifest, ninja: Ninja) -> Snapshot:
+def take_snapshot(folder: bytes, manifest: Manifest, ninja: Ninja,
+                  more: Callable[[BuildLog], Iterable[bytes]] = lambda _: ()) -> Snapshot:
     """Reads the logs as far as they go and as the Ninja takes them, the depfiles that Ninja keeps no record of, and the
-    stamp of every path."""
+    stamp of every path, also of those that `more` gives of the build log."""
     taken = time.time_ns()
     log = ninja.as_read(open_build_log(os.path.join(folder, manifest.log_folder(), b".ninja_log")))
     deps = _deps_records(folder, manifest, ninja)
@@ -52,6 +53,7 @@ def take_snapshot(folder: bytes, manifest: Manifest, ninja: Ninja) -> Snapshot:
             texts[edge.name] = read_file(os.path.join(folder, edge.depfile))
     paths = manifest.known_paths()
     paths.update(dict.fromkeys(_listed_paths(deps)))
+    paths.update(dict.fromkeys(more(log)))
     for name, text in texts.items():
         paths.update(dict.fromkeys(read_depfile(text, manifest.producer[name].outputs) or ()))
     return Snapshot({it: stamp_of(folder, it) for it in paths}, log, deps, texts, taken=taken)

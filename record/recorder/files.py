@@ -8,6 +8,7 @@ import stat
 from typing import Iterator, Sequence
 
 from .depslog import text_of
+from .dyndep.kept import FOLDER
 from .events import WORDS, Abort, Clean, Event, Fail, Finish, Interrupt, Pass, Plan, Start, Touch, name_of
 from .fields import canonical, field, line, shown
 from .folders import OPTIONAL, is_name
@@ -21,7 +22,7 @@ MOST_LANES = 63
 # The files beside those of the manifest.
 WRITTEN = (b"trace", b"script", b"replay", b"times", b"names", b"ninja", b"output")
 # What no file of the manifest may have as the first part of its name; that of an absolute path is empty.
-_TAKEN = (b"", b".", b"..", b"outside", *WRITTEN, *OPTIONAL)
+_TAKEN = (b"", b".", b"..", b"outside", *WRITTEN, *OPTIONAL, FOLDER)
 
 
 def write_recording(it: Recording, folder: HeldFolder, with_lanes: bool, program: str, at: bytes | str) -> list[bytes]:
@@ -30,6 +31,10 @@ def write_recording(it: Recording, folder: HeldFolder, with_lanes: bool, program
     `at` is where the recording will stand, by which `replay` finds the program.
     """
     names = write_manifest(it, folder)
+    if it.dyndep is not None:
+        for name, content in it.dyndep.files(copies_of_files(it.dyndep.original)):
+            with folder.create(name) as file:
+                file.write(content)
     lanes, script = _lanes(it) if with_lanes else _one_lane(it)
     with folder.create(b"trace") as file:
         file.write(b"rebug-trace %d\n" % (1 if len(lanes) == 1 else 2))

@@ -28,7 +28,7 @@ NEW, MOVING = b".new", b".moving"
 _OLD = b".old"  # where earlier versions of the recorder put aside what they replaced
 OWN_NAMES = (NEW, MOVING, _OLD)
 _REPLAY = b"replay"
-OPTIONAL = (b"observed", b"observed-log", b"filters", b"targets")
+OPTIONAL = (b"observed", b"observed-log", b"filters", b"targets", b"contents", b"dyndep/notes")
 """Files that not every recording has: those of an earlier one go with it."""
 _WITHOUT = b".without"  # in `.moving`: the names of such files that the new recording does not have
 

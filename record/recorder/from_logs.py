@@ -19,6 +19,7 @@ import statistics
 from dataclasses import dataclass, field, replace
 from typing import Iterable, Iterator, Optional
 
+from .dyndep.build import Dyndeps
 from .disk import Snapshot, take_snapshot
 from .fields import canonical, line, shown
 from .files import WRITTEN, names_of_files, write_recording
@@ -221,7 +222,11 @@ class FromLogs(OneBuild):
             manifest = self.manifest()
             self.look_at_limits(manifest)
             out.look_at_places([*names_of_files(manifest).values(), *WRITTEN, TARGETS])
+            dyndeps, kept, notes = Dyndeps.of(self.build, manifest), None, list[str]()
+            if dyndeps:  # by what they say now: the logs do not have it
+                manifest, kept, notes = dyndeps.by_present_files()
             found = self.found(manifest)
+            found.dyndep, found.notes = kept, notes + found.notes
             write_recording(found, out.staging, self.options.lanes, self.launcher, at=out.folder)
             write_targets(self.build, manifest, out.staging)
             self.signals.is_switching = True

@@ -1,4 +1,7 @@
-"""The hashes of commands in Ninja's build log. Words are little-endian, and arithmetic is on 64 bits."""
+"""The hashes of commands in Ninja's build log. Words are little-endian, and arithmetic is on 64 bits. A recording with
+dyndep files needs the hash of each command twice, so hashes are remembered."""
+
+import functools
 
 _WORD = (1 << 64) - 1
 _MURMUR_SEED, _MURMUR_TIMES, _MURMUR_SHIFT = 0xDECAFBADDECAFBAD, 0xC6A4A7935BD1E995, 47
@@ -6,6 +9,7 @@ _RAPID_SEED = 0xBDD89AA982704029
 _RAPID_KEYS = (0x2D358DCCAA6C78A5, 0x8BB84B93962EACC9, 0x4B33A62ED433D4A3)
 
 
+@functools.lru_cache(maxsize=None)
 def murmur_hash(command: bytes) -> int:
     """MurmurHash2 in its 64-bit form A: logs of versions 5 and 6, Ninja up to 1.12."""
     value = (_MURMUR_SEED ^ (len(command) * _MURMUR_TIMES)) & _WORD
@@ -21,6 +25,7 @@ def murmur_hash(command: bytes) -> int:
     return value ^ (value >> _MURMUR_SHIFT)
 
 
+@functools.lru_cache(maxsize=None)
 def rapid_hash(command: bytes) -> int:
     """rapidhash: logs of version 7, Ninja from 1.13 on."""
     size = len(command)

@@ -42,8 +42,6 @@ def _of_pools(manifest: Manifest) -> Iterator[str]:
 
 def _of_edges(manifest: Manifest) -> Iterator[str]:
     for edge in manifest.edges:
-        if edge.dyndep:
-            yield f"{place_of(edge)} has a dyndep, which rebug does not read (22)"
         for path in (*edge.outputs, *edge.inputs, *edge.validations):
             if len(path) > LONGEST_PATH:
                 yield f"{place_of(edge)} has a path of {len(path):,} bytes, and rebug takes {LONGEST_PATH:,} (2)"

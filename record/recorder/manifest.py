@@ -24,6 +24,7 @@ _BLANKS = re.compile(rb"(?: |\$\r?\n)*")
 _DROPPED = re.compile(rb"(?: *\r?\n| *#[^\n]*(?:\n|\Z))*")
 _COMMENT = re.compile(rb" *#[^\n]*(?:\n|\Z)")
 _INDENT = re.compile(rb" +(?=[^ \r\n#])")
+_SPANNED = (b"dyndep", b"restat")
 _LINE_END = re.compile(rb" *(?:\r?\n|\Z)")
 
 
@@ -48,6 +49,23 @@ class Scope:
                 return scope.rules[name]
             scope = scope.parent
         return None
+
+
+@dataclass(frozen=True)
+class Places:
+    """Where a build statement with a dyndep stands in its file: the places at which implicit outputs and inputs can be
+    put in, and whether there are some already; its binding of `dyndep` and that of `restat`, from begin to end, each
+    where the block has it; whether its paths or its rule need one of the two; and whether its file is read a second
+    time."""
+
+    outputs: int
+    has_outputs: bool
+    inputs: int
+    has_inputs: bool
+    dyndep: tuple[int, int] | None
+    restat: tuple[int, int] | None
+    needs: frozenset[bytes]
+    is_again: bool
 
 
 @dataclass(eq=False)
@@ -79,6 +97,7 @@ class Edge:
     generator: bool = False
     pool: bytes = b""
     inputs: list = field(default_factory=list)
+    places: Places | None = None
 
     @property
     def keeps_deps(self):
@@ -150,6 +169,9 @@ class Manifest:
         self._known: dict[bytes, tuple[bytes, bytes, list]] = {}
         self.depths: dict[bytes, bytes] = {}
         self.deepest = 0
+        # where rules bind `dyndep`, and where a file binds it at its own level
+        self.dyndeps_of_rules: list[tuple[bytes, int, int]] = []
+        self.dyndeps_of_files: list[tuple[bytes, int]] = []
         self.scope = Scope()
         self._read(name, self.scope, 0)
         for edge in self.edges:
@@ -163,12 +185,12 @@ class Manifest:
         if depth > 100:
             raise BadManifest(f"{shown(name)} is included by itself")
         self.deepest = max(self.deepest, depth)
-        known = self._known.get(canonical(name))
+        known, is_again = self._known.get(canonical(name)), True
         if known is None:
-            content = self.read_file(name)
+            content, is_again = self.read_file(name), False
             known = self._known[canonical(name)] = (name, content, [])
             self.files.append(known)
-        _Reader(self, known, scope, depth).read()
+        Reader(self, known, scope, depth, is_again).read()
 
     def _end(self, edge):
         """What is expanded once all files are read."""
@@ -214,13 +236,13 @@ def _compared(lookup):
     return lookup.value(b"command") + (b";rspfile=" + content if content else b"")
 
 
-class _Reader:
-    """Reads the statements of one file."""
+class Reader:
+    """Reads the statements of one file, which may have been read before (`is_again`)."""
 
-    def __init__(self, manifest, known, scope, depth):
+    def __init__(self, manifest, known, scope, depth, is_again=False):
         self.manifest, self.scope, self.depth = manifest, scope, depth
         self.name, self.text, self.includes = known
-        self.is_first = not self.includes
+        self.is_again = is_again
         self.at = self._counted = 0
         self._line = 1
 
@@ -305,7 +327,13 @@ class _Reader:
             elif statement:
                 statement()
             else:
-                self.binding(keyword, self.scope.variables)
+                self.variable(keyword)
+
+    def variable(self, name):
+        """A binding at the file's own level."""
+        if name == b"dyndep":
+            self.manifest.dyndeps_of_files.append((self.name, self.line()))
+        self.binding(name, self.scope.variables)
 
     def binding(self, name, into):
         if not self.takes(b"="):
@@ -330,11 +358,18 @@ class _Reader:
         self.line_end()
         texts = {}
         while self.indented():
-            key = self.name_here("a variable")
+            begin, key = self.at, self.name_here("a variable")
             if not self.takes(b"="):
                 raise self.bad("expected '='")
             texts[key] = self.value()
+            if key == b"dyndep" and not self.is_again:
+                self.manifest.dyndeps_of_rules.append((self.name, *self.span(begin)))
         self.scope.rules[name] = texts
+
+    def span(self, begin):
+        """From a place to the end of the line that was read last."""
+        end = self.at - self.text.endswith(b"\n", 0, self.at)
+        return begin, end - self.text.endswith(b"\r", 0, end)
 
     def pool(self):
         name = self.name_here("a pool's name")
@@ -359,31 +394,43 @@ class _Reader:
         path = expand(texts[0], self.scope.variable)
         self.line_end()
         end = self.at - self.text.endswith(b"\n", 0, self.at)
-        if self.is_first:
+        if not self.is_again:
             self.includes.append(Include(begin, end, keyword, path))
         self.manifest._read(path, self.scope if keyword == b"include" else Scope(self.scope), self.depth + 1)
 
     def build(self):
         line = self.line()
         outs = self.paths()
-        implicit_outs = self.paths() if self.takes(b"|") else []
+        has_outputs = self.takes(b"|")
+        implicit_outs = self.paths() if has_outputs else []
+        outputs_at = self.at
         if not self.takes(b":"):
             raise self.bad("expected ':'")
         name = self.name_here("a rule")
         lists = [self.paths()]
-        for token in (b"|", b"||", b"|@"):
-            is_it = not (token == b"|" and self.text.startswith((b"||", b"|@"), self.at)) and self.takes(token)
-            lists.append(self.paths() if is_it else [])
+        has_inputs = not self.text.startswith((b"||", b"|@"), self.at) and self.takes(b"|")
+        lists.append(self.paths() if has_inputs else [])
+        inputs_at = self.at
+        for token in (b"||", b"|@"):
+            lists.append(self.paths() if self.takes(token) else [])
         self.line_end()
         block: dict = {}
+        spans: dict = {}
         while self.indented():
-            self.binding(self.name_here("a variable"), block)
+            begin, key = self.at, self.name_here("a variable")
+            self.binding(key, block)
+            if key in _SPANNED:
+                spans[key] = self.span(begin)
         texts = {} if name == b"phony" else self.scope.rule(name)
         if texts is None:
             raise self.bad(f"unknown rule {name.decode()}", line)
         lookup = lambda it: block[it] if it in block else self.scope.variable(it)
         values = [[canonical(expand(it, lookup)) for it in found] for found in (outs, implicit_outs, *lists)]
-        self.add(name, texts, values, block, line)
+        edge = self.add(name, texts, values, block, line)
+        if b"dyndep" in block or b"dyndep" in texts:
+            needs = _needed(texts.values(), outs, implicit_outs, *lists)
+            edge.places = Places(outputs_at, has_outputs, inputs_at, has_inputs, spans.get(b"dyndep"),
+                                 spans.get(b"restat"), needs, self.is_again)
 
     def add(self, name, texts, values, block, line):
         outs, implicit_outs, explicit, implicit, order_only, validations = values
@@ -399,3 +446,10 @@ class _Reader:
                     block, texts, self.scope, self.name, line, phony=name == b"phony")
         edge.inputs = explicit + implicit + order_only
         edges.append(edge)
+        return edge
+
+
+def _needed(*lists):
+    """Which of `dyndep` and `restat` the texts need."""
+    names = {it[0] for texts in lists for text in texts for it in text if isinstance(it, tuple)}
+    return frozenset(names.intersection(_SPANNED))

@@ -6,7 +6,7 @@ import argparse
 from dataclasses import dataclass, field
 from typing import Any, NoReturn, Sequence
 
-from .observed.observers import OBSERVERS
+from .observed.observers import OBSERVERS, OWN
 
 _NAME = "rebug record"
 _USAGE = """%(prog)s BUILD_DIR OUT_DIR [OPTIONS] [-- NINJA_WORDS...]
@@ -60,6 +60,7 @@ class Options:
     observe: str | None = None
     observer: str | None = None
     keep_log: bool = False
+    contents: bool = False
 
 
 @dataclass
@@ -153,6 +154,9 @@ def _add_observing_words(words: argparse.ArgumentParser) -> None:
                        help=f"the program that observes, {' or '.join(OBSERVERS)}; else the first that can be used")
     group.add_argument("--keep-log", action="store_true",
                        help="keep what the observer wrote, too, as observed-log, which is large")
+    group.add_argument("--contents", action="store_true",
+                       help="observe, by the recorder's own observer, and write digests of what each command read and "
+                            "left, too, to the recording's file contents")
 
 
 def read_words(words: Sequence[str]) -> Options | Checking:
@@ -174,6 +178,10 @@ def _read_recording(own: Sequence[str], for_ninja: Sequence[str]) -> Options:
                          f"in `-- {behind}`")
     if found.rebug is not None:
         raise BadOptions("--rebug goes with --check")
+    if found.contents and found.observer not in (None, OWN):
+        raise BadOptions(f"--contents goes with --observer {OWN} alone")
+    if found.contents and not found.from_logs:
+        found.observe = found.observe or ALWAYS
     if not found.observe and (found.observer or found.keep_log):
         raise BadOptions(f"{'--observer' if found.observer else '--keep-log'} goes with --observe")
     _refuse_beside_logs(found)
@@ -188,7 +196,7 @@ def _refuse_beside_logs(found: argparse.Namespace) -> None:
     """What asks for a Ninja that runs does not go with its logs."""
     if not found.from_logs:
         return
-    for word, is_given in (("--observe", bool(found.observe)), ("--output", found.output != FAILED)):
+    for word, is_given in (("--observe", bool(found.observe)), ("--contents", found.contents), ("--output", found.output != FAILED)):
         if is_given:
             raise BadOptions(f"{word} does not go with --from-logs, which runs nothing")
 

@@ -6,6 +6,7 @@ import os
 import statistics
 from dataclasses import dataclass, field, replace
 
+from .dyndep.kept import Kept
 from .disk import built_records, deps_records, stamp_of
 from .events import WORDS, name_of
 from .fields import canonical, line, shown
@@ -44,20 +45,26 @@ class Recording:
     found: Sequence = field(default_factory=Sequence)
     runs: list[EdgeRun] = field(default_factory=list)
     names: dict[bytes, bytes] = field(default_factory=dict)
+    dyndep: Kept | None = None
     about_ninja: list[bytes] = field(default_factory=list)
     notes: list[str] = field(default_factory=list)
     remarks: list[str] = field(default_factory=list)
 
 
-def record(ninja, folder, manifest, words, jobs, before, after, ran):
+def record(ninja, folder, manifest, words, jobs, before, after, ran, late=None):
     """Works out the opening and the events. Notes say what could not be known, and what rebug will refuse.
 
-    `jobs` is how many commands Ninja may run side by side where the jobs are to be those that ran, else None.
+    `jobs` is how many commands Ninja may run side by side where the jobs are to be those that ran, else None. `late`
+    has what the opening has otherwise, since Ninja looked at it only once a dyndep file was loaded.
     """
     if before.log.version != after.log.version:  # a later Ninja than is known here has thrown its log away
         before = replace(before, log=BuildLog(after.log.version, []))
     built = _built(ninja, manifest, before, after)
-    it = Recording(manifest, jobs or 1, _targets(manifest, words.targets), dict(before.stamps), built,
+    stamps = dict(before.stamps)
+    if late is not None:
+        built = {path: it for path, it in {**built, **late.built}.items() if it is not None}
+        stamps.update(late.stamps)
+    it = Recording(manifest, jobs or 1, targets_of(manifest, words.targets), stamps, built,
                    deps_records(manifest, before))
     if ninja.hash_in(after.log) is None:
         it.notes.append(f"this Ninja's log (version {after.log.version}) has hashes that the recorder does not know: "
@@ -101,7 +108,7 @@ def _built(ninja, manifest, before, after):
     return built_records(manifest, before.log, hash_of, changed)
 
 
-def _targets(manifest, targets):
+def targets_of(manifest, targets):
     """The targets as paths; `SOURCE^` names the first output of the first edge that has SOURCE as an input."""
     found = []
     for text in targets:
@@ -326,7 +333,7 @@ def _seen_at(edge, seen):
 
 def _touches(it, before, after, runs, begin, ran_begin, folder):
     """What changed and was no output of a command that ran, or changed again after its end: (time, path, stamp)."""
-    last = dict(before.stamps)
+    last, ends = dict(before.stamps), dict[bytes, int]()
     for path, stamp in after.stamps.items():
         if path not in last:
             is_older = 0 < stamp < ran_begin
@@ -336,11 +343,14 @@ def _touches(it, before, after, runs, begin, ran_begin, folder):
     for run in runs:
         last.update(zip(run.edge.outputs, run.stamps))
         last.update(run.touched)
+        ends.update(dict.fromkeys(run.edge.outputs, run.end))
     touches = []
     for path in last:
         stamp = after.stamps[path] if path in after.stamps else stamp_of(folder, path)
         if stamp != last[path]:
             time = (stamp - begin) // _NANOSECONDS if stamp >= begin else None
+            if time is not None and path in ends:  # the disk's clock is coarse, and its maker had ended
+                time = max(time, ends[path] + 1)
             touches.append((time, path, stamp))
     return touches
 

@@ -49,6 +49,7 @@ class Ran:
     jobserver: bytes | None = None  # MAKEFLAGS, where Ninja says that it asks the jobserver in it
     said_interrupted: bool = False
     said_stopped: bool = False
+    load_stopped: bool = False  # a dyndep file could not be loaded while commands ran
 
     @property
     def died(self):
@@ -61,7 +62,7 @@ class Ran:
 
     @property
     def interrupted(self):
-        return self.said_interrupted or self.status == 130 or self.died
+        return self.said_interrupted or self.load_stopped or self.status == 130 or self.died
 
 
 class _Watcher(threading.Thread):

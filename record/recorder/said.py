@@ -318,7 +318,10 @@ class Said:
             for edge in self.manifest.edges:
                 if not edge.phony:
                     self._by_outputs.setdefault(b" ".join(edge.outputs), []).append(edge)
-        return self._by_outputs.get(outputs, [])
+        found = self._by_outputs.get(outputs, [])
+        # behind the outputs of the manifest stand those that a dyndep file says
+        return found or [edge for edge in self.manifest.edges
+                         if edge.dyndep and outputs.startswith(b" ".join(edge.outputs) + b" ")]
 
 
 def texts_of(edge: Edge) -> list[bytes]:

@@ -6,6 +6,9 @@ import shlex
 
 from .depslog import BrokenLog
 from .disk import read_file, take_snapshot
+from .dyndep.build import Dyndeps, log_outputs
+from .dyndep.reading import Unresolvable
+from .dyndep.resolving import what_cannot_be_resolved
 from .events import Start
 from .fields import canonical, shown
 from .files import WRITTEN, names_of_files, write_recording
@@ -15,10 +18,11 @@ from .installed import word_of_launcher
 from .limits import what_is_refused
 from .manifest import Manifest
 from .ninja import NoNinja, changed_commands, found_ninja
-from .observed.observers import chosen
+from .observed.observers import OWN, chosen
+from .observed.own import Own
 from .observed.observing import LOG, Observation, Unobserved
 from .options import ALL, IF_POSSIBLE, NONE
-from .recording import record
+from .recording import record, targets_of
 from .running import run_ninja, run_quietly
 from .signals import name_of, write_all
 from .words import number_of_jobs, read_words
@@ -26,6 +30,7 @@ from .words import number_of_jobs, read_words
 NOT_RUN, NOT_RECORDED = 2, 3
 # Ninja's own lines, beside the commands and what these write: of these it says some again when it runs once more.
 _OF_NINJA = b"ninja: "
+_NAMED = 5
 _SAID_AGAIN = (b"ninja: no work to do.\n",)
 _JOBSERVER = re.compile(rb"ninja: .*jobserver", re.IGNORECASE)
 
@@ -57,6 +62,11 @@ class OneBuild:
 
     def look_at_limits(self, manifest):
         """Says what makes a recording useless, before anything is done."""
+        unresolved = what_cannot_be_resolved(manifest)
+        if unresolved:
+            for it in unresolved[:_NAMED]:
+                self.say(it)
+            raise Failure(f"what dyndep files say cannot be put into this manifest, so {self.stops}")
         refused = what_is_refused(manifest)
         for it in refused:
             self.say(it)
@@ -113,23 +123,29 @@ class Session(OneBuild):
         """What observes the build, or None; fails where that is to be and cannot."""
         if not self.options.observe:
             return None
-        found, why_not = chosen(self.options.observer)
+        found, why_not = chosen(OWN if self.options.contents else self.options.observer)
         if found is None and self.options.observe != IF_POSSIBLE:
             raise Failure(f"the build cannot be observed: {why_not}. Ninja was not run (--observe=if-possible records "
                           f"without)")
         if found is None:
             self.say(f"the build cannot be observed: {why_not}. It is recorded without")
+        if isinstance(found, Own):
+            found.looks = self.options.contents
         return found
 
     def observation(self, observer, manifest, out):
         if observer is None:
             return Unobserved()
         log = out.staging.create(LOG) if self.options.keep_log else None
-        return Observation(observer, self.build, manifest, log)
+        if self.dyndeps:  # so that the outputs are known which dyndep files say
+            manifest = Dyndeps(self.build, manifest).by_present_files()[0]
+        return Observation(observer, self.build, manifest, log, self.options.contents)
 
     def snapshot_before(self, manifest):
         """What is there before the run. Where the log's hash is not known, Ninja says which commands are others."""
-        before = take_snapshot(self.build, manifest, self.ninja)
+        self.dyndeps = Dyndeps.of(self.build, manifest)
+        more = (lambda log: self.dyndeps.more_paths() | log_outputs(log)) if self.dyndeps else (lambda _: set())
+        before = take_snapshot(self.build, manifest, self.ninja, more)
         if not before.log.is_empty() and self.ninja.hash_in(before.log) is None:
             words = [self.program, "-n", "-d", "explain", *self.words.all]
             before.changed = changed_commands(run_quietly(words, self.build, self.signals, errors_alone=True)[1])
@@ -142,10 +158,18 @@ class Session(OneBuild):
                 raise Failure(f"{shown(name)} was written anew during the build, and a trace is of one manifest: "
                               f"nothing was recorded. Record again, now that it is there", status or NOT_RECORDED)
         try:
+            resolved = self.resolved(manifest, before, ran, status)
+            if resolved is not None:
+                manifest = observation.manifest = resolved.manifest
             after = take_snapshot(self.build, manifest, self.ninja)
+        except Unresolvable as why:
+            raise Failure(f"{why}. Nothing was recorded", status or NOT_RECORDED) from why
         except BrokenLog as why:
             raise Failure(f"{why}. Nothing was recorded", status or NOT_RECORDED) from why
-        found = record(self.ninja, self.build, manifest, self.words, jobs, before, after, ran)
+        found = record(self.ninja, self.build, manifest, self.words, jobs, before, after, ran,
+                       resolved and resolved.late)
+        if resolved is not None:
+            found.dyndep, found.notes = resolved.kept, resolved.notes + found.notes
         if self.options.output == NONE:
             for run in found.runs:
                 run.written = None
@@ -163,6 +187,13 @@ class Session(OneBuild):
         else:
             self.tell(found, ran)
         return 128 + self.signals.held[0] if self.signals.held else status
+
+    def resolved(self, manifest, before, ran, status):
+        """What is recorded of a build with dyndep files; None where the manifest names none."""
+        if not self.dyndeps:
+            return None
+        targets = targets_of(manifest, self.words.targets) or manifest.defaults()
+        return self.dyndeps.resolved(self.ninja, targets, before, ran, status, self.options.anyway)
 
     def tell(self, found, ran):
         if ran.died and ran.status < 0:

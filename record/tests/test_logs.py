@@ -18,13 +18,15 @@ from recorder.ninja import Ninja
 
 HEAD = b"# ninja log v5\n"
 MANIFEST = b"rule c\n  command = touch $out\n  deps = gcc\n  depfile = x\nbuild o: c\nbuild p: c\n"
-# Runs the recorder in a process of its own, and says the greatest memory that it took, in kilobytes.
+# Runs the recorder in a process of its own, and says the greatest memory that it took, in kilobytes. The kernel gives
+# it as VmHWM: `ru_maxrss` counts the memory of the process that started this one, too.
 MEASURED = """
-import resource, sys
+import re, sys
 sys.path.insert(0, sys.argv.pop(1))
 from recorder.main import main
 status = main(sys.argv[1:])
-print("kilobytes", resource.getrusage(resource.RUSAGE_SELF).ru_maxrss)
+with open("/proc/self/status") as file:
+    print("kilobytes", re.search(r"VmHWM:\\s+(\\d+) kB", file.read()).group(1))
 sys.exit(status)
 """
 

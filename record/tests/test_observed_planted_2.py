@@ -18,7 +18,7 @@ REFUSED = refusal("own")
 # What no order of commands changes, and what the recorder does not read.
 # Findings whose page names other files than the manifest.
 DUE = {"g25_mkdir_without_p": ["mkdir gen a.txt b.txt"]}
-LEFT_OUT = {"g23_date_in_output": "it writes the time", "g15_dyndep": "dyndep is not read"}
+LEFT_OUT = {"g23_date_in_output": "it writes the time"}
 
 
 def record(project: pathlib.Path, room: pathlib.Path, jobs: int) -> observed_2.Observation:

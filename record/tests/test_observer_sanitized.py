@@ -11,6 +11,7 @@ import unittest
 
 import builds
 from observed_calls import NO_SUCH_CALL, built, observed
+from recorder.observed.calls import Kind
 from recorder.observed.own import SOURCE, Own
 
 REFUSED = builds.missing_tools("cc") or Own().refusal()
@@ -54,6 +55,22 @@ for _ in range(20):
 """
 
 
+# Commands as Ninja starts them, side by side, with one that changes many files and one that a signal ends. Each file is
+# another one as soon as its command has ended.
+COMMANDS = '''
+import os, subprocess
+def start(text):
+    return subprocess.Popen(["/bin/sh", "-c", text])
+for first in range(0, 40, 4):
+    for number, it in [(it, start(f"sh -c 'echo 1 > o{it}'; cat a")) for it in range(first, first + 4)]:
+        it.wait()
+        with open(f"o{number}", "a") as file:
+            file.write("more")
+start("for i in `seq 0 299`; do echo > many$i; echo >> many$i; done").wait()
+start("kill -9 $$").wait()
+'''
+
+
 @unittest.skipIf(REFUSED, REFUSED)
 class Sanitized(unittest.TestCase):
     def setUp(self):
@@ -74,8 +91,10 @@ class Sanitized(unittest.TestCase):
         (self.folder / "a").write_text("1")
         (self.folder / "d/a").write_text("2")
 
-    def run_observed(self, words):
-        found = observed(Own(self.program), words, self.folder)
+    def run_observed(self, words, looks=False):
+        observer = Own(self.program)
+        observer.looks = looks
+        found = observed(observer, words, self.folder)
         self.assertEqual([it.read_text() for it in self.room.glob("found*")], [])
         self.assertGreater(len(found.events), 0)
         return found
@@ -99,6 +118,19 @@ class Sanitized(unittest.TestCase):
     def test_ten_thousand_threads(self):
         found = self.run_observed([sys.executable, "-c", THREADS])
         self.assertEqual(found.status, 0)
+
+    def test_looks_at_the_ends_of_commands(self):
+        found = self.run_observed([sys.executable, "-c", COMMANDS], looks=True)
+        self.assertEqual(found.status, 0)
+        looks = [call for _, call in found.events if call.kind is Kind.LOOKED]
+        paths = [it.text for it in looks if it.text]
+        self.assertEqual(sum(not it.text for it in looks), 42)  # one at each beginning
+        self.assertEqual(len(set(paths)), len(paths))
+        folder = os.fsencode(self.folder)
+        self.assertEqual(set(paths), {*(b"%s/o%d" % (folder, it) for it in range(40)),
+                                      *(b"%s/many%d" % (folder, it) for it in range(300))})
+        sizes = {it.text: int(it.name.split(b" ")[2]) for it in looks if it.text}
+        self.assertEqual({sizes[b"%s/o%d" % (folder, it)] for it in range(40)}, {2})
 
 
 if __name__ == "__main__":

@@ -169,9 +169,14 @@ class Useless(Kept):
         self.assertEqual((status, (self.build / "o").exists()), (0, True), said[-500:])
         self.assertIn(b"start o 0", (self.out / "trace").read_bytes())
 
-    def test_dyndep(self):
+    def test_a_dyndep_of_a_whole_file(self):
+        self.record_first()
         (self.build / "dd").write_text("ninja_dyndep_version = 1\nbuild o: dyndep\n")
-        self.refused(TOUCH + "build o: touch s || dd\n  dyndep = dd\n", 22)
+        self.write("dyndep = dd\n" + TOUCH + "build o: touch s || dd\n")
+        (self.build / "o").unlink(missing_ok=True)
+        status, said = self.run_recorder(own=["--anyway"])
+        self.assertEqual((status, "(22)" in said, (self.build / "o").exists()), (2, True, False), said[-500:])
+        self.assert_kept()
 
     def test_a_value_above_the_limit(self):
         text = "rule r\n  command = touch $out\n  rspfile = r\n  rspfile_content = " + "x" * 1_048_577 + "\n"

@@ -10,12 +10,14 @@ import socket
 import subprocess
 import tempfile
 import unittest
+import unittest.mock
 
 from builds import missing_tools
 from recorder.manifest import Manifest
-from recorder.provoke.copies import Refused
+from recorder.provoke.copies import Refused, in_process
+from recorder.shuffle import rooms
 from recorder.shuffle.commands import NoBuild, commands_of, read_dyndep
-from recorder.shuffle.patching import chained, with_orders, with_waits
+from recorder.shuffle.patching import blocked, chained, with_orders, with_waits
 from recorder.shuffle.rooms import layers_of_room, outermost
 from recorder.shuffle.words import BadWords, HelpWanted, read_words
 from shuffled import NOBODY, RULES, SHUFFLE, Shuffled, statement
@@ -37,6 +39,49 @@ SYSTEM = "/usr/bin:/bin"
 HIDDEN = statement("v.h", "echo 1 > v.h") + statement("m.o", "cat v.h > m.o")
 SOFT = statement("a", "echo x > f; touch a") + statement("b", "cat f > b 2>/dev/null || echo none > b")
 SOUND = statement("v.h", "echo 1 > v.h") + statement("m.o", "cat v.h > m.o", "|| v.h") + statement("n", "echo n > n")
+
+
+@unittest.skipIf(LACKING, LACKING)
+class RoomsBesideOthers(unittest.TestCase):
+    """Others' folders of temporaries come and go while a room is made."""
+
+    def made_while_removed(self, *names: str, removed: str, is_mount: bool = False) -> None:
+        """Makes a room with copies of these folders, one of which is removed after it was opened. Raises Refused."""
+        with tempfile.TemporaryDirectory() as top:
+            folders = [pathlib.Path(os.path.realpath(top), it) for it in names]
+            for it in folders:
+                it.mkdir()
+            place = folders[0].parent / removed
+            if is_mount:
+                subprocess.run(["mount", "-t", "tmpfs", "rebug", place], check=True)
+            remove = f"umount {place} && rmdir {place}" if is_mount else f"rmdir {place}"
+            by = subprocess.Popen(["sh", "-c", f"read line; {remove} && echo removed"],
+                                  stdin=subprocess.PIPE, stdout=subprocess.PIPE)
+            opened = rooms._opened
+
+            def opened_before(layers):
+                found = opened(layers)
+                os.write(by.stdin.fileno(), b"now\n")
+                self.assertEqual(os.read(by.stdout.fileno(), 64), b"removed\n")
+                return found
+
+            layers = [rooms.Layer(os.fsencode(it), rooms.Kind.COPY) for it in folders]
+            try:
+                with unittest.mock.patch.object(rooms, "_opened", opened_before):
+                    in_process(lambda: os.close(rooms.enter(layers, 1 << 24)))
+            finally:
+                by.communicate()
+
+    def test_a_folder_below_another_is_left_out(self):
+        self.made_while_removed("top", "top/inner", removed="top/inner")
+
+    @unittest.skipIf(os.geteuid(), "needs root: it mounts a folder")
+    def test_a_mount_below_another_is_left_out(self):
+        self.made_while_removed("top", "top/inner", removed="top/inner", is_mount=True)
+
+    def test_a_folder_of_the_build_is_not(self):
+        with self.assertRaisesRegex(Refused, "twice: No such file or directory"):
+            self.made_while_removed("build", "source", removed="source")
 
 
 class Words(unittest.TestCase):
@@ -64,6 +109,9 @@ class Words(unittest.TestCase):
                             (["b", "--runs", "many"], "--runs many"), (["b", "--repeat", "1"], "--repeat 1"),
                             (["b", "--seed", "-1"], "--seed"), (["b", "-j", "0"], "-j 0"),
                             (["b", "--overla"], "--overla is not a word"),
+                            (["b", "--blocks", "1"], "--blocks 1: so many commands, from 2 on"),
+                            (["b", "--observe"], "--observe leaves recordings in OUT_DIR"),
+                            (["b", "o", "--observe", "--in-copy"], "--observe records builds at their own path"),
                             (["b", "--", "-t", "clean"], "-t runs a tool"),
                             (["b", "--", "-j4"], "-j stands in front of --"),
                             (["b", "--", "-n"], "-n runs no command")):
@@ -129,6 +177,19 @@ class Patches(unittest.TestCase):
             self.assertRegex(waits, rb"^sleep 0(\.\d{3})?$")
         self.assertEqual(after[2].binding(b"command"), b"sleep 0; echo file > c")  # its rule's name is the file's, too
         self.assertEqual(with_waits(read(text), 3, 0.5), with_waits(read(text), 3, 0.5))
+
+    def test_blocks_have_barriers_between_them(self):
+        manifest = read("rule r\n  command = c\nbuild a: r\nbuild b$ c: r\nbuild d: r || a\nbuild e: r\n"
+                        "build rebug_barrier_1: phony a")
+        commands = commands_of(manifest, b"build.ninja", [])
+        order = [commands.node_with(it) for it in (b"e", b"a", b"b c", b"d")]
+        self.assertEqual(blocked(commands, order, 2)[b"build.ninja"].decode(), (
+            "rule r\n  command = c\nbuild a: r\nbuild b$ c: r || rebug_barrier__1\n"
+            "build d: r || a rebug_barrier__1\nbuild e: r\nbuild rebug_barrier_1: phony a\n"
+            "build rebug_barrier__1: phony e a\n"))
+        made = blocked(commands, order, 1)[b"build.ninja"].decode()
+        self.assertIn("build rebug_barrier__3: phony rebug_barrier__2 b$ c\n", made)
+        self.assertEqual(blocked(commands, order, 4), {})
 
     def test_dyndep_files_add_inputs_and_outputs(self):
         manifest = read("rule r\n  command = c\nbuild a: r || dd\n  dyndep = dd\nbuild e$ f: r\nbuild dd: r\n")

@@ -20,7 +20,7 @@ NEEDS_ROOT = ("mount ", "/tmpfs")
 
 def lacking(it: Attempt) -> str:
     """What this machine lacks for an attempt."""
-    text = it.manifest() + it.setup + it.root
+    text = it.build.manifest + it.build.setup + it.build.root
     if os.geteuid() and any(word in text for word in NEEDS_ROOT):
         return "root"
     return next((tool for tool, words in NEEDED.items() if any(word in text for word in words)
@@ -32,18 +32,18 @@ class Made(Shuffled):
 
     def __init__(self, it: Attempt) -> None:
         super().__init__("")
-        self.attempt = it
-        self.build = pathlib.Path(self.placed(it.root or "@ROOM@")) / it.name
-        if it.root.endswith("/tmpfs"):
+        self.attempt = it.build
+        self.build = pathlib.Path(self.placed(it.build.root or "@ROOM@")) / it.build.name
+        if it.build.root.endswith("/tmpfs"):
             self.build.parent.mkdir()
             subprocess.run(["mount", "-t", "tmpfs", "rebug", self.build.parent], check=True)
         self.build.mkdir(parents=True, exist_ok=True)
-        for name, text in {**it.files, "build.ninja": it.manifest()}.items():
+        for name, text in {**it.build.files, "build.ninja": it.manifest()}.items():
             path = self.build / name
             path.parent.mkdir(parents=True, exist_ok=True)
             path.write_text(self.placed(text))
             path.chmod(0o755 if text.startswith("#!") else 0o644)
-        self.shell(it.setup)
+        self.shell(it.build.setup)
 
     def placed(self, text: str) -> str:
         return text.replace("@ROOM@", str(self.room))
@@ -67,8 +67,8 @@ def shuffled(it: Attempt) -> tuple[Answer, bool]:
     try:
         before = made.everything()
         words = ["--overlap", "-j", "1"] if it.due is Due.OVERLAP else []
-        how = {"stdin": (made.build / it.stdin).open("rb")} if it.stdin else {}
-        found = made.shuffle(*words, "--", *it.targets, **how)
+        how = {"stdin": (made.build / stdin).open("rb")} if (stdin := it.build.standard_input) else {}
+        found = made.shuffle(*words, "--", *it.build.targets, **how)
         return found, made.everything() == before
     finally:
         made.remove()
@@ -78,13 +78,13 @@ def shuffled(it: Attempt) -> tuple[Answer, bool]:
 class Attempts(unittest.TestCase):
     def test_each_is_shown_as_it_is_due(self):
         chosen = [it for it in ATTEMPTS if not lacking(it)]
-        left_out = [f"{it.name} ({lacking(it)})" for it in ATTEMPTS if lacking(it)]
+        left_out = [f"{it.build.name} ({lacking(it)})" for it in ATTEMPTS if lacking(it)]
         if left_out:
             print(f"left out, for lack of what stands behind: {', '.join(left_out)}")
         with concurrent.futures.ThreadPoolExecutor(len(os.sched_getaffinity(0))) as pool:
             answers = list(pool.map(shuffled, chosen))
         for it, (found, is_as_before) in zip(chosen, answers):
-            with self.subTest(it.name, what=it.what):
+            with self.subTest(it.build.name, what=it.build.what):
                 is_shown = it.due in (Due.ORDER, Due.OVERLAP)
                 due = DIFFERS if is_shown else 0
                 self.assertEqual((found.status, is_as_before), (due, True), (found.said, found.objects))

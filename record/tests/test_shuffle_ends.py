@@ -16,11 +16,13 @@ import unittest
 import uuid
 
 from builds import wait_until
+from recorder.observed.observers import chosen
 from shuffled import RULES, Shuffled, statement
 from test_shuffle import HIDDEN, LACKING, SOFT, SOUND, Case
 
 SEED = 5
 KILLS = 60
+KILLS_OF_RECORDERS = 20
 SIGNALS = (signal.SIGKILL, signal.SIGTERM, signal.SIGINT, signal.SIGHUP)
 MARK = "REBUG_TEST_MARK"
 
@@ -202,6 +204,23 @@ class Ends(Case):
             self.assertIn(status, (4, -number, 128 + number))
             at_work += status != 4
         self.assertGreater(at_work, KILLS // 2)
+
+    @unittest.skipIf(chosen(None)[1], "no observer")
+    def test_signals_while_orders_are_recorded(self):
+        """Nothing of the build changes, and nothing goes on, also none of the observers."""
+        it = self.made(HIDDEN + SOFT + statement("n", "sleep 0.1; echo n > n"))
+        above = tempfile.TemporaryDirectory(prefix="rebug-out-")
+        self.addCleanup(above.cleanup)
+        begun = time.monotonic()
+        self.assertEqual(it.shuffle(f"{above.name}/whole", "--observe").status, 4)
+        undisturbed = time.monotonic() - begun
+        for number in range(KILLS_OF_RECORDERS):
+            out = pathlib.Path(above.name, str(number))
+            which = self.chance.choice(SIGNALS)
+            status = self.ended(it, which, self.chance.uniform(0.2, 1) * undisturbed, str(out), "--observe")
+            self.assertIn(status, (4, -which, 128 + which))
+            if status != 4 and out.exists():  # the signal came as the folder was written
+                self.assertLessEqual({them.name for them in out.iterdir()}, set(os.listdir(f"{above.name}/whole")))
 
     def test_a_command_that_goes_on_is_ended(self):
         """A process that a command leaves behind, and that takes no signal that can be refused."""

@@ -12,7 +12,7 @@ import textwrap
 import time
 import unittest
 
-from recorder.shuffle.orders import Cycle, Graph, Pairs, chosen
+from recorder.shuffle.orders import Cycle, Graph, Pairs, blocks_of, chosen
 from recorder.shuffle.pairing import Pair, Swaps, bisected, walked
 
 SEED = 11
@@ -86,12 +86,30 @@ class Orders(unittest.TestCase):
             for turn in range(4):
                 order = graph.at_random(1000 * number + turn)
                 order = order[: self.chance.randrange(len(order) + 1)] if order else order
-                pairs.take(order)
+                pairs.take(blocks_of(order, 1))
                 orders.append(order)
                 left = left_by(orders, graph, waits)
                 self.assertEqual(pairs.left, len(left))
                 for a, b in itertools.combinations(graph.commands, 2):
                     self.assertEqual(pairs.is_left(a, b), (a, b) in left, (graph.before, orders, a, b))
+
+    def test_two_of_one_block_stand_neither_way(self):
+        for number in range(GRAPHS):
+            graph, size = random_graph(self.chance), self.chance.randrange(2, 5)
+            waits, first = reached(graph), graph.at_random(number)
+            stood = {pair for pair in itertools.permutations(first, 2) if first.index(pair[0]) < first.index(pair[1])}
+            pairs = Pairs(graph, first)
+            for turn in range(3):
+                order = graph.at_random(1000 * number + turn)
+                block_of = {node: at // size for at, node in enumerate(order)}
+                stood |= {(a, b) for a, b in itertools.permutations(order, 2) if block_of[a] < block_of[b]}
+                due = {(a, b) for a, b in itertools.combinations(first, 2) if not {(a, b), (b, a)} <= stood
+                       and not {(a, b), (b, a)} & waits}
+                self.assertEqual(pairs.left_with(order, size), len(due), (graph.before, order, size))
+                pairs.take(blocks_of(order, size))
+                self.assertEqual(pairs.left, len(due))
+                self.assertTrue(all(pairs.is_left(a, b) for a, b in due))
+            self.assertTrue(all(it.left >= 0 for it in chosen(graph, first, 5, size)))
 
     def test_what_is_no_order_is_told_from_one(self):
         for number in range(GRAPHS):

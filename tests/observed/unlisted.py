@@ -84,8 +84,10 @@ ROWS = (
     Row("build app: c a.c /b/a.h", "edge app; reads a.c a.h; writes app"),
     Row("build app: cc a.c", "edge app; reads a.c a.h; writes app", listed="a.c /b/a.h"),
     Row("build a.o: c a.c /b/a.h; build app: c a.o", "edge app; reads a.h a.o; writes app"),
-    # A link counts with the file to which it leads.
+    # A link counts with the file to which it leads. The file does not count with a link that leads to it: the link can
+    # lead elsewhere tomorrow.
     Row("build app: c a.c lib.a", "edge app; reads a.c lib.a log; writes app"),
+    Row("build app: c a.c log", "edge app; reads a.c lib.a log; writes app", due="lib.a"),
 )
 # Each has the file to which it leads: /b/a.h is a.h by its absolute path, and lib.a is a link to log.
 OTHER_NAMES = {"/b/a.h": "a.h", "lib.a": "log"}
@@ -99,13 +101,22 @@ def events_of(build: str, listed: str) -> str:
     return f"start {output} 0\nfinish {output} 2{f' list {listed}' if rule == 'cc' else ''}\n"
 
 
+def sources_of(builds: list[str]) -> list[str]:
+    """The files that build lines name and no build line makes, and the headers that lists have."""
+    words = [build.removeprefix("build ").replace(":", "").split(" ") for build in builds]
+    named = {word for _, _, *inputs in words for word in inputs} - {"|", "||"} - {output for output, *_ in words}
+    return sorted(named | {"a.c", "a.h"})
+
+
 def write_recording(folder: pathlib.Path, row: Row) -> None:
     """A recording of a build whose commands all ran, each behind those before it, and did what was seen."""
     builds = row.builds.split("; ")
     events = "".join(events_of(build, row.listed) for build in builds)
+    stamps = "".join(f"stamp {source} 1\n" for source in sources_of(builds))
+    outputs = " ".join(build.removeprefix("build ").partition(":")[0] for build in builds)
     files = {
         "build.ninja": RULES + "\n".join([*builds, ""]),
-        "trace": f"rebug-trace 1\nstamp a.c 1\nstamp a.h 1\nlane 0\nplan app\n{events}",
+        "trace": f"rebug-trace 1\n{stamps}lane 0\nplan {outputs}\n{events}",
         "observed": observed(row.seen, PATHS),
         "names": "".join(["rebug-names 1\n", *(f"{other} {own}\n" for other, own in OTHER_NAMES.items())]),
     }

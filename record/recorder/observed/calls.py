@@ -55,6 +55,8 @@ changed, and what stands behind it works faster with calls that it has met befor
                  one
     TRACE        -                      -                    -               0 or -errno (ptrace with PTRACE_ATTACH,
                                                                              PTRACE_SEIZE or PTRACE_TRACEME)
+    LOOKED       -                      -                    -               - (no call: a look of the observer's at the
+                                                                             beginning or the end of a command)
 """
 
 from collections.abc import Iterator
@@ -115,6 +117,7 @@ class Kind(IntEnum):
     DEEP = auto()
     UNKNOWN = auto()
     TRACE = auto()
+    LOOKED = auto()
 
 
 @dataclass(eq=False, slots=True)

@@ -83,6 +83,9 @@ class Build:
 
     # processes
 
+    def _on_looked(self, process: Process, call: Call) -> None:
+        """What the observer saw at the beginning or the end of a command is nothing that the command did."""
+
     def _on_spawn(self, parent: Process, call: Call) -> None:
         if call.result > 0:
             child, early = self.processes.spawned(parent, call)

@@ -6,7 +6,8 @@ from .calls import Observer
 from .own import Own
 from .strace import Strace
 
-OBSERVERS = {"own": Own, "strace": Strace}
+OWN = "own"
+OBSERVERS = {OWN: Own, "strace": Strace}
 """Each observer by the word that asks for it, in the order in which they are tried."""
 
 

@@ -20,6 +20,7 @@ from typing import Any, BinaryIO
 from ..fields import shown
 from ..folders import OPTIONAL
 from ..held import HeldFolder
+from ..contents.contents import FILE as CONTENTS, Contents, Names as OfBuild
 from ..other_names import in_order, outputs_in_order
 from .caches import Caches, known_folders
 from .calls import Observer
@@ -70,12 +71,14 @@ class Unobserved:
 class Observation:
     """Observes one run of Ninja. Used by `with`, which leaves no file behind."""
 
-    def __init__(self, observer: Observer, build: bytes, manifest: Any, keep_log: BinaryIO | None = None) -> None:
+    def __init__(self, observer: Observer, build: bytes, manifest: Any, keep_log: BinaryIO | None = None,
+                 with_contents: bool = False) -> None:
         self.observer, self.manifest, self.folder = observer, manifest, os.path.realpath(build)
         self.places = Places()
         self._missing: set[int] = set()
         self.texts = {text_of(it) for it in manifest.edges if not it.phony}
         self.build = Build(self.texts, self.folder, self.places, self._present(), observer.is_late)
+        self.contents = Contents(self.build.processes, self.places) if with_contents else None
         self.notes: list[str] = []
         self.seconds = 0.0
         self._pipe = LogPipe()
@@ -125,7 +128,8 @@ class Observation:
     def _read(self) -> None:
         log = self._pipe.log(self._copy)
         try:
-            if not self.build.take_all(self.observer.events(io.BufferedReader(log, BUFFER))):
+            events = self.observer.events(io.BufferedReader(log, BUFFER))
+            if not self.build.take_all(events if self.contents is None else self.contents.events(events)):
                 self.notes.append("the observer ended before Ninja did: what came after that was not observed")
         except Exception as why:  # the build goes on; what was seen until then is told
             self.notes.append(f"a fault of the recorder while it read what was observed, {type(why).__name__}: {why}")
@@ -160,7 +164,9 @@ class Observation:
         flag_what_two_share([it for _, it in pairs], changes)
         observed = Observed(pairs, self.places, names)
         with folder.create(OBSERVED) as file:
-            if VERSION == 1:
+            if self.contents is not None:
+                named = self._write_contents(folder, file, self._version_2(pairs, names, changes), sources)
+            elif VERSION == 1:
                 named = observed.write(file, self.observer.name)
             else:
                 named = self._version_2(pairs, names, changes).write(file)
@@ -170,8 +176,21 @@ class Observation:
         recording.notes += [*self.notes, *_of_inner_ninjas(logs), *self._notes(pairs, recording.runs)]
         recording.remarks.append(f"{len(pairs)} commands were observed, with {self.build.processes.count:,} processes; "
                                  f"reading that took {self.seconds:.2f} s of processor time")
+        if self.contents is not None:
+            recording.remarks.append(self.contents.remark())
         if left:
             recording.remarks.append(f"{len(left)} commands were observed of which no edge could be told")
+
+    def _write_contents(self, folder: HeldFolder, file: BinaryIO, told: Version2, sources: list[bytes]) -> list[bytes]:
+        """Writes `observed`, and `contents` beside it, which goes with it alone; gives the paths that `observed` names."""
+        assert self.contents is not None
+        text = io.BytesIO()
+        named = told.write(text)
+        file.write(text.getbuffer())
+        digest = text.getvalue().rpartition(b" ")[2].strip()
+        with folder.create(CONTENTS) as other:
+            self.contents.write(other, told, self._ninja(), OfBuild(self.folder, sources, digest))
+        return named
 
     def _changes(self, pairs: list[tuple[Any, Command]], names: Names) -> Changes:
         """What the commands, and Ninja, change, and what the manifest declares."""

@@ -32,7 +32,7 @@ class Own:
     is_late = False
 
     def __init__(self, program: pathlib.Path | None = None):
-        self.unread, self._program = 0, program
+        self.unread, self.looks, self._program = 0, False, program
         self.release, self.machine = release_of(SOURCE), machine()
 
     def program(self) -> pathlib.Path:
@@ -54,8 +54,8 @@ class Own:
         return os.fsdecode(tried.stdout).strip() or f"a trial of ptrace ended with status {tried.returncode}"
 
     def words(self, log: bytes, ninja: list[bytes]) -> list[bytes]:
-        """The words that run Ninja observed, writing to `log`."""
-        return [os.fsencode(self.program()), log, *ninja]
+        """The words that run Ninja observed, writing to `log`; with a look at the end of each command, where `looks`."""
+        return [os.fsencode(self.program()), *([b"--looks"] if self.looks else []), log, *ninja]
 
     def events(self, log: BinaryIO) -> Iterator[Event]:
         """The events of a log, as they come. What cannot be read is left out and counted in `unread`."""

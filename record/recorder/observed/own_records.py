@@ -28,7 +28,8 @@ from .ways import Standing, Way
 KINDS = (Kind.SPAWN, Kind.EXEC, Kind.EXIT, Kind.UNSHARE, Kind.OPEN, Kind.STAT, Kind.LIST, Kind.LINK, Kind.SYMLINK,
          Kind.RENAME, Kind.EXCHANGE, Kind.UNLINK, Kind.RMDIR, Kind.MKDIR, Kind.MKNOD, Kind.TRUNCATE, Kind.META,
          Kind.SOCKET, Kind.URING, Kind.NAMESPACE, Kind.UNRESOLVED, Kind.TRACE, Kind.CHDIR, Kind.READLINK, Kind.LOAD,
-         Kind.MODE, Kind.BIND, Kind.IPC, Kind.LOCK, Kind.SIGNAL, Kind.ATTRIBUTES, Kind.NOTIFIED, Kind.UNKNOWN, Kind.DEEP)
+         Kind.MODE, Kind.BIND, Kind.IPC, Kind.LOCK, Kind.SIGNAL, Kind.ATTRIBUTES, Kind.NOTIFIED, Kind.UNKNOWN, Kind.DEEP,
+         Kind.LOOKED)
 """The kinds of calls, as the observer numbers them (`enum kind`)."""
 
 FIRST_LINE = b"rebug-observer 2 "

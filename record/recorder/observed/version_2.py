@@ -11,8 +11,8 @@ from typing import Any, BinaryIO
 
 from ..fields import field
 from .caches import Caches
-from .footprints import (AFTER, FOLDER, IMPORTED, LISTED, MISSING, MODE, NEEDED, PASSED, READ, STATUS, THERE, WANTED,
-                         Packed)
+from .footprints import (AFTER, FOLDER, IMPORTED, LINK_EDITED, LINK_READ, LINK_SEEN, LINK_WRITTEN, LISTED, MISSING, MODE,
+                         NEEDED, PASSED, READ, STATUS, THERE, WANTED, Packed)
 from .naming import Names
 from .places import Places
 from .processes import Command
@@ -20,7 +20,8 @@ from .programs import can_be_module
 from .shares import Changes
 from .writing import ranges
 
-_LOOKS = (("read", READ), ("status", STATUS), ("mode", MODE), ("there", THERE), ("folder", FOLDER | NEEDED),
+_LOOKS = (("read", READ | LINK_READ), ("status", STATUS), ("mode", MODE),
+          ("there", THERE | LINK_SEEN | LINK_WRITTEN | LINK_EDITED), ("folder", FOLDER | NEEDED),
           ("missing", MISSING | WANTED))
 WORDS = ("cached", "read", "status", "mode", "there", "folder", "link", "missing", "passed", "listed", "own", "searched",
          "after", "left", "edited", "taken", "temps", "linked", "made", "found", "ensured", "removed", "prepared")
@@ -123,7 +124,7 @@ class Blocks:
                 is_stamp = bool(look & FOLDER) and place in self._busy  # it changes with each entry that comes and goes
                 if is_stamp and word == "folder" or matters and not self._is_quiet(place, prepared):
                     block.add(word, place)
-            elif matters or word == "read" or not look & READ:
+            elif matters or word == "read" or not look & (READ | LINK_READ):
                 block.add(word, place)
 
     def _compiled(self, block: Block, packed: Packed, place: int) -> None:

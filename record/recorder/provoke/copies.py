@@ -73,12 +73,13 @@ def in_copy(folders: list[bytes], work: Callable[[], Any]) -> Any:
 
 
 def in_process(work: Callable[[], Any], at_end: Callable[[], None] = lambda: None,
-               meanwhile: Callable[[], None] = lambda: None) -> Any:
+               meanwhile: Callable[[], None] = lambda: None, before: Callable[[], None] = lambda: None) -> Any:
     """Does the work in a process of its own, and gives what it gives.
 
     When it has ended, or this process has, all that it started is ended too; then `at_end` is done. That is seen to by
-    a process in between, to which processes come whose parent has ended. It does `meanwhile` again and again until the
-    work has ended.
+    a process in between, to which processes come whose parent has ended. That process does `before` first, so that
+    nothing ends this process between `before` and the process that sees to `at_end`. It does `meanwhile` again and
+    again until the work has ended. Raises what `before` raises, and the work is not begun then.
     """
     reader, writer = os.pipe()
     watched, alive = os.pipe()
@@ -89,7 +90,7 @@ def in_process(work: Callable[[], Any], at_end: Callable[[], None] = lambda: Non
     if not keeper:
         os.close(reader)
         os.close(alive)
-        _keep(watched, writer, work, at_end, meanwhile)
+        _keep(watched, writer, work, at_end, meanwhile, before)
     try:
         os.close(writer)
         os.close(watched)
@@ -110,28 +111,51 @@ def in_process(work: Callable[[], Any], at_end: Callable[[], None] = lambda: Non
 
 
 def _keep(watched: int, writer: int, work: Callable[[], Any], at_end: Callable[[], None],
-          meanwhile: Callable[[], None]) -> NoReturn:
+          meanwhile: Callable[[], None], before: Callable[[], None]) -> NoReturn:
     """What the process in between does."""
     try:
         os.setsid()
         for number in _SIGNALS:
             signal.signal(number, signal.SIG_IGN)
         _libc().prctl(_TAKE_ORPHANS, 1, 0, 0, 0)
-        me, worker = os.getpid(), os.fork()
-        if not worker:
-            _work(me, writer, work)
-        os.close(writer)
-        is_alone, ends = False, _ends_of(worker)
-        while not is_alone and not os.waitpid(worker, os.WNOHANG)[0]:
-            meanwhile()
-            is_alone = watched in select.select([watched, *ends], [], [], _POLL_SECONDS)[0]
-        if is_alone:
-            os.kill(worker, signal.SIGTERM)
-            _wait_shortly(worker)
-        _end_all()
+        if _began(writer, before):
+            _watch(watched, writer, work, meanwhile)
         at_end()
     finally:
         os._exit(0)
+
+
+def _watch(watched: int, writer: int, work: Callable[[], Any], meanwhile: Callable[[], None]) -> None:
+    """Has the work done, and ends all that it started once it has ended, or once nobody waits for it."""
+    me, worker = os.getpid(), os.fork()
+    if not worker:
+        _work(me, writer, work)
+    os.close(writer)
+    is_alone, ends = False, _ends_of(worker)
+    while not is_alone and not os.waitpid(worker, os.WNOHANG)[0]:
+        meanwhile()
+        is_alone = watched in select.select([watched, *ends], [], [], _POLL_SECONDS)[0]
+    if is_alone:
+        os.kill(worker, signal.SIGTERM)
+        _wait_shortly(worker)
+    _end_all()
+
+
+def _began(writer: int, before: Callable[[], None]) -> bool:
+    """Whether what comes before the work was done. Where it was not, the process that waits is told why."""
+    try:
+        before()
+        return True
+    except Exception as why:
+        with contextlib.suppress(OSError):  # nobody may wait any more
+            _tell(writer, (False, why))
+        return False
+
+
+def _tell(writer: int, found: tuple[bool, Any]) -> None:
+    """Gives the process that waits what was found, or what was raised."""
+    with os.fdopen(writer, "wb") as file:
+        file.write(pickle.dumps(found))
 
 
 def _ends_of(process: int) -> list[int]:
@@ -152,8 +176,7 @@ def _work(keeper: int, writer: int, work: Callable[[], Any]) -> NoReturn:
             found: tuple[bool, Any] = True, work()
         except Exception as why:
             found = False, why
-        with os.fdopen(writer, "wb") as file:
-            file.write(pickle.dumps(found))
+        _tell(writer, found)
     except Ended:
         pass
     finally:

@@ -46,12 +46,16 @@ def in_place(build: bytes, folders: list[bytes], work: Callable[[], Any]) -> Any
     put back when all that the work started has ended, whatever comes. Raises Blocked, and what the work raises."""
     with _alone_in([build, *(it for it in folders if it != build)]):
         _put_back(build, is_later=True)
-        try:
+        asides: list[tuple[Aside, Callable[[], None]]] = []
+
+        def begin() -> None:
+            """Makes the folder of ours in the process that takes it away, so that a kill of this one leaves none."""
             aside = Aside.made(build, _worked(build, folders))
-            try:
-                return in_process(lambda: aside.on_copies(work), lambda: _put_back(build, is_later=False), aside.sign())
-            finally:
-                aside.close()
+            asides.append((aside, aside.sign()))
+
+        try:
+            return in_process(lambda: asides[0][0].on_copies(work), lambda: _put_back(build, is_later=False),
+                              lambda: asides[0][1](), begin)
         except (OSError, BadState) as why:
             raise Blocked(f"the folders cannot be worked in: {why}. What stood there is there") from why
         finally:
@@ -131,11 +135,6 @@ class Aside:
             state = State(os.geteuid(), Process.own(), tuple(asides), tuple(worked))
             state.write(own)
             return Aside(own, state, alive)
-
-    def close(self) -> None:
-        """Gives the descriptors back."""
-        self.own.close()
-        os.close(self.alive)
 
     def sign(self) -> Callable[[], None]:
         """What gives a sign of life where the last one is a second old."""

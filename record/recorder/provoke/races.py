@@ -10,6 +10,7 @@ import subprocess
 from dataclasses import dataclass, field
 from typing import Any, Collection
 
+from ..dyndep.kept import NOTES, ORIGINALS
 from ..regular import read_regular
 from ..replaying import words_of_replay
 
@@ -133,13 +134,15 @@ class Recording:
         return os.fsencode(name)
 
     def files(self) -> dict[bytes, bytes]:
-        """The recorded files of the manifest, by their names in the recording."""
+        """The recorded files of the manifest, by their names in the recording: the user's own, where what dyndep files
+        say was put into those that stand there."""
         words, found = self._words(), {}
+        folder = os.fsdecode(ORIGINALS) if self._content(os.fsdecode(NOTES)) is not None else ""
         names = [words[0].removeprefix("--manifest="), *words[words.index("--") + 1 :]] if words else ["build.ninja"]
         for name in names:
-            content = self._content(name)
+            content = self._content(folder + name)
             if content is None:
-                raise NotAsked(f"cannot read {self.place}/{name}: it is not there", 3)
+                raise NotAsked(f"cannot read {self.place}/{folder}{name}: it is not there", 3)
             found[os.fsencode(name)] = content
         return found
 

@@ -10,10 +10,11 @@ from typing import Callable, Hashable, Sequence
 from ..fields import canonical
 from ..manifest import Edge, Manifest
 from .commands import Commands, NoBuild, commands_of, read_dyndep
-from .orders import MOST_ORDERS, Chosen, Pairs, chosen
+from .orders import MOST_ORDERS, Pairs, blocks_of, chosen
 from .pairing import Pair, bisected, up_to, walked
-from .patching import chained, with_orders, with_waits
+from .patching import blocked, chained, with_orders, with_waits
 from .places import Prepared
+from .recorded import Recording
 from .running import Ran, Task
 from .side_by_side import Bench
 from .states import MISSING, differing
@@ -24,6 +25,7 @@ _IMPOSSIBLE = (b"dependency cycle", b"multiple rules generate")
 _OVERLAPS, _LONGEST_WAIT = 4, 0.2
 _FIRST_OVERLAP, _MOST_KEPT = 1000, 200
 _SPARE_MILLISECONDS = 1000
+_TIMES_LONGER_OBSERVED = 10
 
 
 class Unfit(Exception):
@@ -32,22 +34,26 @@ class Unfit(Exception):
 
 @dataclass
 class Outcome:
-    """A run of all: the number and the name of its order. Where the commands overlapped there is no order, and a
-    seed."""
+    """A run of all: the number and the name of its order, and the size of the blocks that ran side by side. Where the
+    commands overlapped everywhere there is no order, and a seed."""
 
     number: int
     name: str
     order: list[int] | None
     ran: Ran
     seed: int | None = None
+    size: int = 1
     is_possible: bool = True
     contents: dict[bytes, bytes] = field(default_factory=dict)
+    recording: Recording = field(default_factory=dict)
+    not_recorded: str = ""
 
 
 @dataclass
 class Finding:
     """A difference: between which two outcomes, at which paths, in which command first, and the pair that it comes
-    from. `beside` has the commands that overlapped with the user. `is_mended` says whether the user does the same once
+    from. `beside` has the commands that overlapped with the user, and `is_overlap` says that it comes from an overlap
+    in a block. `is_mended` says whether the user does the same once
     the order is put in, and `left` has the paths that differ still."""
 
     own: Outcome
@@ -58,6 +64,7 @@ class Finding:
     maker: Edge | None = None
     user: Edge | None = None
     beside: list[Edge] = field(default_factory=list)
+    is_overlap: bool = False
     is_mended: bool | None = None
     left: list[bytes] = field(default_factory=list)
     other_orders: list[int] = field(default_factory=list)
@@ -112,6 +119,8 @@ class Judge:
             raise Unfit(self._why_not(first))
         self._count(own, outcomes)
         self.report.outcomes = outcomes
+        if self.options.observe:
+            self._record(outcomes)
         turns = 0
         while True:
             finding = self._first_finding(reference, outcomes)
@@ -137,12 +146,13 @@ class Judge:
                         f"seen is of no single build")
         return self.report
 
-    def _task(self, order: Sequence[int] | None = None, **more: object) -> Task:
-        """A run in this order, or in the manifest's own, from nothing."""
+    def _task(self, order: Sequence[int] | None = None, size: int = 1, **more: object) -> Task:
+        """A run in this order, in blocks of this size, or in the manifest's own, from nothing."""
         files = self._mended() if self.mends else {}
         if order is not None:
-            files = {**files, **chained(self.commands, order)}
-        return Task(files=files, targets=self.build.targets, away=self.away,
+            put = chained(self.commands, order) if size == 1 else blocked(self.commands, order, size)
+            files = {**files, **put}
+        return Task(files=files, targets=self.build.targets, away=self.away, jobs=size,
                     length=len(self.commands.graph.commands if order is None else order),
                     **more)  # type: ignore[arg-type]
 
@@ -219,13 +229,14 @@ class Judge:
             orders = [it for it in orders if it[0] == self.options.repeat]
             if not orders and not self.options.overlap:
                 raise NoBuild(f"there is no order {self.options.repeat}: a call without --repeat tells the numbers")
-        tasks = [self._task(order, seconds=self.limit) for _, _, order in orders]
+        size = self.options.blocks
+        tasks = [self._task(order, size, seconds=self.limit) for _, _, order in orders]
         if self.options.overlap:
             tasks += [self._overlapped(seed) for seed in self._seeds()]
         self.tell(f"{len(tasks)} other orders" if len(tasks) != 1 else "1 other order")
         ran = self.bench.run_all([*tasks, *([self._task()] if again is None else [])])
         self._note_unsteady(own.ran, again or ran.pop())
-        found = [Outcome(number, name, order, it) for (number, name, order), it in zip(orders, ran)]
+        found = [Outcome(number, name, order, it, size=size) for (number, name, order), it in zip(orders, ran)]
         for number, (seed, it) in enumerate(zip(self._seeds(), ran[len(orders) :]), 1):
             found.append(Outcome(_FIRST_OVERLAP + number, f"commands that overlap, by seed {seed}", None, it, seed))
         for outcome in found:
@@ -237,7 +248,8 @@ class Judge:
         most = self.options.runs or MOST_ORDERS
         with_chance = len(own) > 2 and most > 2
         found = [(number, f"order {number}", it.order)
-                 for number, it in enumerate(chosen(self.commands.graph, own, most - with_chance), 1)]
+                 for number, it in enumerate(chosen(self.commands.graph, own, most - with_chance,
+                                                    self.options.blocks), 1)]
         number = len(found) + 1
         if with_chance:
             by_chance = self.commands.graph.at_random(self.options.seed)
@@ -254,17 +266,34 @@ class Judge:
         return Task(files=files, targets=self.build.targets, away=self.away, jobs=jobs, seconds=self.limit,
                     length=len(self.commands.graph.commands), read_anew=True)
 
+    def _record(self, outcomes: list[Outcome]) -> None:
+        """Runs each order once more, under the recorder."""
+        wanted = [it for it in outcomes if it.order is not None and it.is_possible]
+        self.tell(f"recordings of {len(wanted)} orders")
+        seconds = _TIMES_LONGER_OBSERVED * self.limit
+        tasks = [self._task(it.order if it.number > 1 else None, seconds=seconds, is_recorded=True) for it in wanted]
+        for outcome, ran in zip(wanted, self.bench.run_all(tasks)):
+            outcome.recording, outcome.not_recorded = ran.recording, ran.not_recorded
+
     def _count(self, own: Outcome, outcomes: list[Outcome]) -> None:
         """Counts the pairs that stood both ways, by the commands that ran and the order in which they did."""
         assert own.order is not None
         pairs = Pairs(self.commands.graph, own.order)
         self.report.unordered = pairs.unordered
-        pairs.take(self._ran(own.ran))
+        pairs.take(blocks_of(self._ran(own.ran), 1))
         for it in outcomes[1:]:
             if it.is_possible and it.order is not None:
-                pairs.take(self._ran(it.ran))
+                pairs.take(self._blocks(it.order, it.ran, it.size))
         self.report.left = pairs.left
         self.report.builds = 1 + sum(it.is_possible for it in outcomes[1:])
+
+    def _blocks(self, order: list[int], ran: Ran, size: int) -> list[list[int]]:
+        """The commands that ran, in blocks of which each ran before the next one."""
+        ended = self._ran(ran)
+        if size == 1:
+            return [[it] for it in ended]
+        known = set(ended)
+        return [[it for it in block if it in known] for block in blocks_of(order, size)]
 
     def _ran(self, ran: Ran) -> list[int]:
         nodes = (self.commands.node_with(it) for it in ran.order)
@@ -298,7 +327,8 @@ class Judge:
                 continue  # by what is known to be unsteady since
             self.tell(f"{it.name} again")
             wanted = tuple(self._steady(own.ran, it.ran)[:_MOST_KEPT]) if self.options.out else ()
-            tasks = [self._task(order, seconds=self.limit, wanted=wanted) for order in (own.order, it.order) if order]
+            tasks = [self._task(them.order, them.size, seconds=self.limit, wanted=wanted)
+                     for them in (own, it) if them.order]
             once_more, *other = self.bench.run_all(tasks)
             self._note_unsteady(own.ran, once_more)
             for outcome, ran in zip((own, it), (once_more, *other)):
@@ -328,7 +358,7 @@ class Judge:
         user = self._user(finding)
         own, other = finding.own.order, finding.other.order
         assert own is not None
-        if other is None:
+        if other is None or self._is_overlap(finding, other):
             self._note_beside(finding, user)
             return
         pair = None
@@ -341,6 +371,15 @@ class Judge:
         if pair is not None:
             finding.maker, finding.user = (self.commands.edges[it] for it in (pair.first, pair.second))
             self._try_mend(finding, pair, user)
+
+    def _is_overlap(self, finding: Finding, order: list[int]) -> bool:
+        """Whether an order whose blocks leave something else leaves the same where one command runs after the other:
+        then it comes from commands of one block, which overlapped."""
+        if finding.other.size == 1:
+            return False
+        self.tell(f"{finding.other.name}, one command after the other")
+        finding.is_overlap = not self._differs(finding.own.ran, self.bench.run(self._task(order, seconds=self.limit)))
+        return finding.is_overlap
 
     def _user(self, finding: Finding) -> int | None:
         """The command that failed, or never ended, or the first cause."""

@@ -3,6 +3,7 @@
 from __future__ import annotations
 
 import os
+import stat
 from dataclasses import dataclass
 
 from ..fields import line, shown
@@ -37,13 +38,15 @@ class Out:
         return Out(folder)
 
     def write(self, report: Report, build: Prepared, judge: Judge) -> None:
-        """Writes `order-N`, with a first output a line. For each difference it writes a folder with the files of both
-        runs, and what the failed command wrote."""
+        """Writes `order-N`, with a first output a line, and the folder `recording-N` where the order was recorded. For
+        each difference it writes a folder with the files of both runs, and what the failed command wrote."""
         os.makedirs(self.folder, exist_ok=True)
         for it in report.outcomes:
             if it.order:
                 outputs = [line(judge.commands.first_output(node)) for node in it.order]
                 self._write(b"order-%d" % it.number, b"\n".join(outputs) + b"\n")
+            for name, content in it.recording.items():
+                self._write(os.path.join(b"recording-%d" % it.number, name), content, is_program=name == b"replay")
         for number, finding in enumerate(report.findings, 1):
             name = b"difference-%d" % number
             for outcome in (finding.own, finding.other):
@@ -52,11 +55,13 @@ class Out:
             if finding.failed:
                 self._write(os.path.join(name, b"written"), finding.failed[1])
 
-    def _write(self, name: bytes, content: bytes) -> None:
+    def _write(self, name: bytes, content: bytes, is_program: bool = False) -> None:
         path = os.path.join(self.folder, name)
         os.makedirs(os.path.dirname(path), exist_ok=True)
         with open(path, "xb") as file:
             file.write(content)
+            if is_program:
+                os.fchmod(file.fileno(), stat.S_IMODE(os.fstat(file.fileno()).st_mode) | 0o111)
 
 
 def _below(path: bytes, build: Prepared) -> bytes:

@@ -16,6 +16,7 @@ from .commands import NoBuild
 from .judging import Judge, Report, Unfit
 from .keeping import BadOut, Out
 from .places import prepared
+from .recorded import check_recordings
 from .side_by_side import Bench, NoRoom
 from .telling import lines_of, objects_of
 from .words import NAME, BadWords, HelpWanted, Options, read_words
@@ -104,6 +105,8 @@ def _run(options: Options, voice: Voice) -> int:
         voice.say(f"the builds run in {os.fsdecode(copies + build.place.build)}, one after the other; what commands do "
                   f"elsewhere is done")
     out = Out.checked(options.out, build) if options.out is not None else None
+    if options.observe:
+        check_recordings(build.commands)
     bench = Bench(build.place, options.side_by_side, voice.progress, options.most_memory)
     judge = Judge(options, build, bench, voice.tell)
     bench.check_room(judge.declared)
@@ -111,6 +114,9 @@ def _run(options: Options, voice: Voice) -> int:
     voice.clear()
     if out:
         out.write(report, build, judge)
+    for outcome in report.outcomes:
+        if outcome.not_recorded:
+            voice.say(f"{outcome.name} was not recorded: {outcome.not_recorded}")
     for line in (objects_of if options.json else lines_of)(report, build):
         voice.show(line)
     return 4 if report.findings else 0

@@ -158,6 +158,11 @@ class Graph:
         return all(latest[node] < place[node] for node in order)
 
 
+def blocks_of(order: Sequence[int], size: int) -> list[Sequence[int]]:
+    """The order cut into blocks of this size, of which the last one may be smaller."""
+    return [order[at : at + size] for at in range(0, len(order), size)]
+
+
 class Pairs:
     """The unordered pairs of commands: of which neither waits for the other. A pair is left as long as its commands
     have stood one way alone, in the first order and in all that were taken.
@@ -189,42 +194,49 @@ class Pairs:
             found[node] = mine
         return [found[node] for node in self.first]
 
-    def left_with(self, order: Sequence[int]) -> int:
-        """How many pairs would be left behind this order of all commands."""
+    def left_with(self, order: Sequence[int], size: int = 1) -> int:
+        """How many pairs would be left behind this order of all commands, in blocks of this size."""
         seen = total = 0
         place, before = self.place, self._before
-        for node in order:
-            at = place[node]
-            total += (before[at] & seen).bit_count()
-            seen |= 1 << at
+        for block in blocks_of(order, size):
+            seen |= self._bits_of(block)
+            for node in block:
+                total += (before[place[node]] & seen).bit_count()
         return total
 
-    def take(self, order: Sequence[int]) -> None:
-        """Notes that the commands ran in this order. One that is not in it did not run, and its pairs are left."""
-        ran = 0
-        for node in order:
-            ran |= 1 << self.place[node]
-        others, seen = self._all & ~ran, 0
-        for node in order:
-            at = self.place[node]
-            self._before[at] &= seen | others
-            seen |= 1 << at
-            self._behind[at] &= self._all & ~seen | others
+    def take(self, blocks: Sequence[Sequence[int]]) -> None:
+        """Notes that the commands of each block ran before those of the next one. Two of one block stood neither way. A
+        command that is in no block did not run, and its pairs are left."""
+        order = [node for block in blocks for node in block]
+        others, seen = self._all & ~self._bits_of(order), 0
+        for block in blocks:
+            here = self._bits_of(block)
+            for node in block:
+                at = self.place[node]
+                self._before[at] &= seen | here | others
+                self._behind[at] &= self._all & ~seen | others
+            seen |= here
         self.left = sum(map(int.bit_count, self._before))
-        self.taken.append(list(order))
+        self.taken.append(order)
+
+    def _bits_of(self, nodes: Sequence[int]) -> int:
+        found = 0
+        for node in nodes:
+            found |= 1 << self.place[node]
+        return found
 
     def is_left(self, one: int, other: int) -> bool:
         """Whether this is an unordered pair that stood one way alone."""
         here, there = sorted((self.place[one], self.place[other]))
         return bool(self._before[there] >> here & 1)
 
-    def next_order(self) -> list[int]:
-        """The order that leaves the fewest pairs, of those that are tried."""
+    def next_order(self, size: int = 1) -> list[int]:
+        """The order that leaves the fewest pairs, of those that are tried, in blocks of this size."""
         best: list[int] = []
         least = -1
         for make in self._candidates():
             order = make()
-            count = self.left_with(order)
+            count = self.left_with(order, size)
             if least < 0 or count < least:
                 best, least = order, count
             if not least:
@@ -294,17 +306,17 @@ class Chosen:
     left: int
 
 
-def chosen(graph: Graph, first: Sequence[int], most: int = MOST_ORDERS) -> Iterator[Chosen]:
-    """The first order, and each next one as the one that leaves fewest pairs, until none is left, or no order that is
-    tried leaves fewer, or there are so many."""
+def chosen(graph: Graph, first: Sequence[int], most: int = MOST_ORDERS, size: int = 1) -> Iterator[Chosen]:
+    """The first order, and each next one, in blocks of this size, as the one that leaves fewest pairs, until none is
+    left, or no order that is tried leaves fewer, or there are so many."""
     pairs = Pairs(graph, first)
     yield Chosen(pairs.first, pairs.left)
     for _ in range(most - 1):
         before = pairs.left
         if not before:
             return
-        order = pairs.next_order()
-        if pairs.left_with(order) == before:
+        order = pairs.next_order(size)
+        if pairs.left_with(order, size) == before:
             return
-        pairs.take(order)
+        pairs.take(blocks_of(order, size))
         yield Chosen(order, pairs.left)

@@ -10,11 +10,13 @@ from typing import Callable, Sequence
 from ..fields import canonical, shown
 from ..manifest import Edge, Manifest
 from .commands import Commands, NoBuild
+from .orders import blocks_of
 
 _TOKEN = re.compile(rb"\$\r?\n|\$.|[^$\r\n|]+|\|\||\|@|\||\r", re.S)
 _TO_ESCAPE = re.compile(rb"[$ :]")
 _Put = Callable[[bytes, int], tuple[int, bytes]]
 _COMMAND = re.compile(rb"(?m)^( +command *= *)")
+_BARRIER = b"rebug_barrier_"
 WAIT = b"rebug_wait"
 """The variable that has the seconds which a command waits before it begins."""
 
@@ -24,6 +26,31 @@ def chained(commands: Commands, order: Sequence[int]) -> dict[bytes, bytes]:
     first_output = commands.first_output
     return with_orders(commands.manifest, {commands.edges[node].number: first_output(before)
                                            for before, node in zip(order, order[1:])})
+
+
+def blocked(commands: Commands, order: Sequence[int], size: int) -> dict[bytes, bytes]:
+    """The manifest's files that change, so that the commands run in blocks of this size in this order: those of one
+    block side by side, and each behind all of the blocks before."""
+    blocks, name = blocks_of(order, size), _free_name(commands.manifest)
+    behind, lines = {}, []
+    for number, (before, block) in enumerate(zip(blocks, blocks[1:]), 1):
+        barrier = b"%b%d" % (name, number)
+        above = [b"%b%d" % (name, number - 1)] if number > 1 else []
+        outputs = [*above, *map(commands.first_output, before)]
+        lines.append(b"build %b: phony %b\n" % (barrier, b" ".join(_escaped(it) for it in outputs)))
+        behind.update({commands.edges[node].number: barrier for node in block})
+    changed = with_orders(commands.manifest, behind)
+    first = canonical(commands.manifest.files[0][0])
+    content = changed.get(first) or commands.manifest.files[0][1]
+    return {**changed, first: content + b"\n" + b"".join(lines)} if lines else changed
+
+
+def _free_name(manifest: Manifest) -> bytes:
+    """A name with which no path of the manifest begins."""
+    name = _BARRIER
+    while any(path.startswith(name) for edge in manifest.edges for path in (*edge.outputs, *edge.inputs)):
+        name += b"_"
+    return name
 
 
 def with_orders(manifest: Manifest, behind: dict[int, bytes]) -> dict[bytes, bytes]:
@@ -109,8 +136,12 @@ def _order(path: bytes, content: bytes, at: int) -> tuple[int, bytes]:
         stripped = token if token.startswith(b"$") else token.rstrip(b" ")
         if stripped:
             last = found.start() + len(stripped)
-    text = (b" " if has_orders else b" || ") + _TO_ESCAPE.sub(lambda it: b"$" + it[0], path)
+    text = (b" " if has_orders else b" || ") + _escaped(path)
     return last, text + (b" " if content.startswith(b"|@", last) else b"")
+
+
+def _escaped(path: bytes) -> bytes:
+    return _TO_ESCAPE.sub(lambda it: b"$" + it[0], path)
 
 
 def _wait(seconds: float, content: bytes, at: int) -> tuple[int, bytes]:

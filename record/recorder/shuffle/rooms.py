@@ -151,20 +151,39 @@ def enter(layers: Sequence[Layer], most_bytes: int) -> int:
     memory = os.open(first, os.O_RDONLY | os.O_DIRECTORY)
     os.fchdir(memory)
     for number, (layer, handle) in enumerate(zip(layers, handles)):
-        it = b"/proc/self/fd/%d" % handle
-        if layer.kind is Kind.COPY:
-            _lay_over(layer.place, it, handle, number)
-        elif layer.kind is Kind.EMPTY:
-            os.mkdir(b"empty%d" % number, 0o1777)
-            os.chmod(b"empty%d" % number, 0o1777)
-            _mount("it does not mount a folder twice", b"empty%d" % number, layer.place, None, _BIND)
-        elif layer.kind is Kind.SAME:
-            _mount("it does not mount a folder twice", layer.source, layer.place, None, _BIND)
-        else:
-            _mount("it does not mount what stands below a folder", it, layer.place, None, _BIND | _RECURSIVE)
+        try:
+            _mount_layer(layer, handle, number)
+        except Refused:
+            if not _is_below_another(layer, layers) or not _is_removed(layer, handle):
+                raise
         os.close(handle)
     _start_network()
     return memory
+
+
+def _mount_layer(layer: Layer, handle: int, number: int) -> None:
+    """Mounts a layer at its place. `handle` is of what stands there. Raises Refused."""
+    it = b"/proc/self/fd/%d" % handle
+    if layer.kind is Kind.COPY:
+        _lay_over(layer.place, it, handle, number)
+    elif layer.kind is Kind.EMPTY:
+        os.mkdir(b"empty%d" % number, 0o1777)
+        os.chmod(b"empty%d" % number, 0o1777)
+        _mount("it does not mount a folder twice", b"empty%d" % number, layer.place, None, _BIND)
+    elif layer.kind is Kind.SAME:
+        _mount("it does not mount a folder twice", layer.source, layer.place, None, _BIND)
+    else:
+        _mount("it does not mount what stands below a folder", it, layer.place, None, _BIND | _RECURSIVE)
+
+
+def _is_below_another(layer: Layer, layers: Sequence[Layer]) -> bool:
+    return any(layer.place.startswith(it.place + b"/") for it in layers)
+
+
+def _is_removed(layer: Layer, handle: int) -> bool:
+    """Whether somebody has removed a folder since its handle was opened: others' folders of temporaries come and go.
+    The system also takes away what is mounted at a folder that is removed, here as for all others."""
+    return not os.fstat(handle).st_nlink or not os.path.lexists(layer.place)
 
 
 def _opened(layers: Sequence[Layer]) -> tuple[list[Layer], list[int]]:

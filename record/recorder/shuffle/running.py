@@ -24,6 +24,7 @@ from ..manifest import Manifest
 from ..provoke.copies import end_with_parent
 from ..said import BEGIN, END, Said
 from .copying import Copying
+from .recorded import Recording, record
 from .rooms import Layer, enter
 from .states import Before, changed
 
@@ -57,7 +58,8 @@ class Place:
 @dataclass(frozen=True)
 class Task:
     """A run: the manifest's files that are others, the targets, how many jobs, further paths that go before, and after
-    how many seconds it is ended. Of the paths `wanted` the bytes are given. `length` is the number of commands."""
+    how many seconds it is ended. Of the paths `wanted` the bytes are given. `length` is the number of commands.
+    A task that `is_recorded` runs under the recorder, and gives a recording or why there is none, and nothing else."""
 
     files: dict[bytes, bytes] = field(default_factory=dict)
     targets: tuple[bytes, ...] = ()
@@ -67,6 +69,7 @@ class Task:
     wanted: tuple[bytes, ...] = ()
     length: int = 0
     read_anew: bool = False
+    is_recorded: bool = False
 
 
 @dataclass
@@ -91,6 +94,8 @@ class Ran:
     is_full: bool = False
     is_late: bool = False
     is_manifest_kept: bool = True
+    recording: Recording = field(default_factory=dict)
+    not_recorded: str = ""
 
     @property
     def is_good(self) -> bool:
@@ -110,6 +115,8 @@ def run_in_room(place: Place, task: Task, most_bytes: int, progress: mmap.mmap) 
         with contextlib.suppress(ValueError, OSError):
             _, most = resource.getrlimit(resource.RLIMIT_STACK)
             resource.setrlimit(resource.RLIMIT_STACK, (_STACK, most))
+    if task.is_recorded:
+        return _recorded(place, task)
     found = _run(place, task, progress)
     found.is_manifest_kept = all(_read(name) == task.files.get(canonical(name), content) and os.stat(name).st_mtime_ns
                                  == stamps[name] for name, content in contents.items())
@@ -121,6 +128,14 @@ def run_in_room(place: Place, task: Task, most_bytes: int, progress: mmap.mmap) 
     found.used = 0 if place.copying else (room.f_blocks - room.f_bfree) * room.f_frsize
     found.is_full = room.f_bavail * room.f_frsize < _LEAST_ROOM or any(_NO_SPACE in text for _, text in found.failed)
     return found
+
+
+def _recorded(place: Place, task: Task) -> Ran:
+    begin, used = time.monotonic(), resource.getrusage(resource.RUSAGE_CHILDREN)
+    recording, why_not = record(os.getcwdb(), place.ninja, task.targets, place.manifest, task.seconds)
+    after = resource.getrusage(resource.RUSAGE_CHILDREN)
+    return Ran(0, recording=recording, not_recorded=why_not, seconds=time.monotonic() - begin,
+               processor=after.ru_utime - used.ru_utime + after.ru_stime - used.ru_stime)
 
 
 def _enter(place: Place, most_bytes: int) -> int:

@@ -65,6 +65,8 @@ def _lines_of_finding(it: Finding, build: Prepared) -> Iterator[str]:
             yield f"    tried: with it {_edge(it.user)} is the same, and something else differs still"
         else:
             yield f"    tried: with it {it.other.name} leaves something else still"
+    elif it.is_overlap:
+        yield "  in the same order, one command after the other, it leaves the same: commands overlapped"
     elif it.other.order:
         yield "  which two commands it comes from was not found"
     if it.other_orders:

@@ -12,8 +12,9 @@ from ..words import NinjaWords
 from ..words import read_words as read_ninja_words
 
 NAME = "rebug shuffle"
-_USAGE = """%(prog)s BUILD_DIR [OUT_DIR] [--runs N] [--repeat ORDER] [--seed S] [--overlap] [--mend-all] [-j N] [--json]
-                     [--limit SECONDS] [--budget N] [--most-memory MB] [--in-copy] [-- TARGETS...]"""
+_USAGE = """%(prog)s BUILD_DIR [OUT_DIR] [--runs N] [--repeat ORDER] [--seed S] [--overlap] [--blocks N] [--mend-all]
+                     [-j N] [--json] [--limit SECONDS] [--budget N] [--most-memory MB] [--observe] [--in-copy]
+                     [-- TARGETS...]"""
 _ABOUT = """Builds BUILD_DIR from nothing in Ninja's own order and in orders that reverse it, in copies that are thrown
 away, and compares what they leave: status, files, bytes, links and modes. Where two differ it names the command in
 which they do first, the two commands whose order it comes from, and the line that mends it. OUT_DIR gets the orders,
@@ -52,7 +53,9 @@ class Options:
     repeat: int | None = None
     seed: int = 1
     overlap: bool = False
+    blocks: int = 1
     in_copy: bool = False
+    observe: bool = False
     mend_all: bool = False
     jobs: int | None = None
     limit: int | None = None
@@ -63,7 +66,7 @@ class Options:
 
     @property
     def side_by_side(self) -> int:
-        return self.jobs or len(os.sched_getaffinity(0))
+        return self.jobs or max(1, len(os.sched_getaffinity(0)) // self.blocks)
 
 
 class _Parser(argparse.ArgumentParser):
@@ -95,9 +98,15 @@ def _words() -> argparse.ArgumentParser:
     words.add_argument("--overlap", action="store_true",
                        help="run the build with many jobs as well, and with small waits before its commands: for what "
                             "shows only while two commands overlap")
+    words.add_argument("--blocks", metavar="N", type=_number("--blocks", 2, "so many commands, from 2 on"), default=1,
+                       help="run the commands of an order N side by side, and the next N when these have ended, where "
+                            "one after the other takes too long; two of one block stand neither way")
     words.add_argument("--mend-all", action="store_true",
                        help="put each order that is found into the manifest of the copies, and go on until nothing "
                             "differs")
+    words.add_argument("--observe", action="store_true",
+                       help="run each order once more, under the recorder and its observer, and leave the recordings "
+                            "in OUT_DIR")
     words.add_argument("--in-copy", action="store_true",
                        help="build in copies in another path, one at a time, where this system refuses those at the "
                             "same path: what commands do elsewhere is done then")
@@ -137,7 +146,12 @@ def read_words(words: Sequence[str]) -> Options:
         for_ninja = read_ninja_words(behind)
     except BadNinjaWords as why:
         raise BadWords(f"{why} (behind --)") from why
+    if found.observe and out is None:
+        raise BadWords("--observe leaves recordings in OUT_DIR: name a new folder behind BUILD_DIR")
+    if found.observe and found.in_copy:
+        raise BadWords("--observe records builds at their own path, and --in-copy builds in another one")
     if for_ninja.jobs is not None:
         raise BadWords("-j stands in front of --: the commands of an order run one after the other")
-    return Options(build, out, found.runs, found.repeat, found.seed, found.overlap, found.in_copy, found.mend_all,
-                   found.jobs, found.limit, found.budget, found.most_memory, found.json, for_ninja)
+    return Options(build, out, found.runs, found.repeat, found.seed, found.overlap, found.blocks, found.in_copy,
+                   found.observe, found.mend_all, found.jobs, found.limit, found.budget, found.most_memory, found.json,
+                   for_ninja)

@@ -1,0 +1,8 @@
+use Rattle.std.proofs.Common.{◌≡◌, ◌++◌, take}
+use Rattle.std.specs.List.{flat_map}
+use Rattle.rev_document_words.specs.Escape.{name_byte}
+use Rattle.rev_document_words.proofs.escape.push_name.Given as goal
+
+-- the bytes so far were added
+abbrev pub invariant-loop-byte : goal.invariant-loop-byte
+invariant-loop-byte l = l.text.items ≡ l.initial.text.items ++ flat_map name_byte (take l.byte-index l.name)

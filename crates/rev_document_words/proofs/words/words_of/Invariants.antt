@@ -1,0 +1,8 @@
+use Rattle.std.proofs.Common.{◌≡◌, take}
+use Rattle.std.specs.List.{flat_map}
+use Rattle.rev_document_words.specs.Words.{part_words}
+use Rattle.rev_document_words.proofs.words.words_of.Given as goal
+
+-- the parts so far were added
+abbrev pub invariant-loop-part : goal.invariant-loop-part
+invariant-loop-part l = l.text.items ≡ flat_map (part_words l.look) (take l.part-index l.part-items)

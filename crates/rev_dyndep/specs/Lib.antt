@@ -1,0 +1,4 @@
+pub mod Answers
+pub mod Fault
+pub mod Resolved
+pub mod Told

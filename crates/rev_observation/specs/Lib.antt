@@ -1,0 +1,9 @@
+pub mod Blocks
+pub mod Deeds
+pub mod Ends
+pub mod Entries
+pub mod Faults
+pub mod Lines
+pub mod Observations
+pub mod Says
+pub mod Words

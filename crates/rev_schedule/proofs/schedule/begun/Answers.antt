@@ -1,0 +1,49 @@
+use Rattle.std.proofs.Common.{List, get_or, subst, sym, ◌∙◌}
+use Rattle.std.proofs.lemmas.List.{take_all, take_more}
+use Rattle.rev_schedule.specs.Going.{moment_of}
+use Rattle.rev_schedule.specs.Ninja.{ArriveAll, ArriveAll.nobody, ArriveAll.one_more}
+use Rattle.rev_schedule.specs.Turns.{Turn}
+use Rattle.rev_schedule.proofs.InsideLemmas.{all-arrive-inside, fresh-inside, in-same, inputs-same}
+use Rattle.rev_schedule.proofs.schedule.begun.Goals as goal
+
+pub loop-turn-init : goal.loop-turn-init
+loop-turn-init c = record { pools = c.in_ok-going.ensures.pools; inputs = c.in_ok-going.ensures.inputs; arrive = nobody }
+
+pub arrive-requires-clause-edge : goal.arrive-requires-clause-edge
+arrive-requires-clause-edge c =
+    (c.in_ok-turns.ensures.only _ (in-same c.deref-turn-items.result.now c.in_ok-turns.turns.items c.loop-turn.turn-index (0, 0) c.deref-turn-items.ensures.value c.loop-turn-test.true)).0
+
+pub arrive-requires-clause-pools : goal.arrive-requires-clause-pools
+arrive-requires-clause-pools c = c.loop-turn.invariant.pools
+
+pub loop-turn-preserved : goal.loop-turn-preserved
+loop-turn-preserved c = record {
+  pools = c.in_ok-arrive.ensures.pools;
+  inputs = inputs-same c.args.build.now c.loop-turn.going c.arrive.new.self c.in_ok-arrive.ensures.known c.loop-turn.invariant.inputs;
+  arrive = subst (λ (ts : List Turn). ArriveAll c.args.build.now (moment_of c.in_ok-going.going) ts (moment_of c.arrive.new.self))
+      (sym (take_more c.deref-turn-items.result.now c.loop-turn.turn-index (0, 0) c.loop-turn-test.true))
+      (one_more (get_or c.deref-turn-items.result.now c.loop-turn.turn-index (0, 0)) c.loop-turn.invariant.arrive c.in_ok-arrive.ensures.arrives);
+}
+
+pub returns-clause-begun : goal.returns-clause-begun
+returns-clause-begun c = record {
+  fresh = moment_of c.in_ok-going.going;
+  is_fresh = c.in_ok-going.ensures.fresh;
+  turns = c.in_ok-turns.turns.items;
+  come = c.in_ok-turns.ensures;
+  arrive = subst (λ (ts : List Turn). ArriveAll c.args.build.now (moment_of c.in_ok-going.going) ts (moment_of c.loop-turn.going))
+      (take_all c.loop-turn.turn-index c.deref-turn-items.result.now c.loop-turn-test.false ∙ c.deref-turn-items.ensures.value) c.loop-turn.invariant.arrive;
+}
+
+pub returns-clause-inside : goal.returns-clause-inside
+returns-clause-inside c =
+    all-arrive-inside c.args.build.now (moment_of c.in_ok-going.going) (λ t h. (c.in_ok-turns.ensures.only t h).0)
+    (fresh-inside c.args.build.now (moment_of c.in_ok-going.going) c.in_ok-going.ensures.fresh)
+    (subst (λ (ts : List Turn). ArriveAll c.args.build.now (moment_of c.in_ok-going.going) ts (moment_of c.loop-turn.going))
+    (take_all c.loop-turn.turn-index c.deref-turn-items.result.now c.loop-turn-test.false ∙ c.deref-turn-items.ensures.value) c.loop-turn.invariant.arrive)
+
+pub returns-clause-inputs : goal.returns-clause-inputs
+returns-clause-inputs c = c.loop-turn.invariant.inputs
+
+pub returns-clause-pools : goal.returns-clause-pools
+returns-clause-pools c = c.loop-turn.invariant.pools

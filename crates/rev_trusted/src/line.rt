@@ -1,0 +1,121 @@
+//! One line of a file of trusted flags.
+use crate::kinds::kind_of;
+use rev_fields::parts_at;
+use rev_filters::{Filters, is_hidden, matches};
+use rev_observation::{Flag, FlagKind};
+use std::alloc::{AllocError, Global};
+
+// The pattern of each text, an empty one too.
+const ANY: &[u8] = b"*";
+
+/// What a line trusts, and why.
+pub(crate) struct Line {
+    kind: FlagKind,
+    program: Vec<u8>,
+    is_any: bool,
+    texts: Vec<Filters>,
+    reason: Vec<u8>,
+}
+
+// Written, since a derived drop is proved again at each exit of each caller.
+impl Drop for Line {
+    fn drop(self) {
+        let Line {
+            kind: _kind,
+            program: _program,
+            is_any: _is_any,
+            texts: _texts,
+            reason: _reason,
+        } = self;
+    }
+}
+
+// The words of a line that trusts.
+#[derive(Clone, Copy)]
+struct Words<'a> {
+    kind: FlagKind,
+    program: &'a [u8],
+    pattern: &'a [u8],
+    reason: &'a [u8],
+}
+
+// What stands behind a word and the space after it.
+fn behind<'a>(text: &'a [u8], word: &[u8]) -> &'a [u8] {
+    let after = usize::saturating_add(word.len(), 1);
+    text.get(after..).unwrap_or(b"")
+}
+
+// The words of a line: a flag, a pattern of programs, a pattern of texts and a reason, with a space between each two.
+fn words_of<'a>(alloc: Global, line: &'a [u8]) -> Result<Option<Words<'a>>, AllocError> {
+    let parts = parts_at(alloc, line, b' ')?;
+    let [flag, program, pattern, ..] = parts.as_slice() else {
+        return Ok(None);
+    };
+    let Some(kind) = kind_of(flag) else {
+        return Ok(None);
+    };
+    let reason = behind(behind(behind(line, flag), program), pattern);
+    let is_blank = reason.iter().all(|byte| *byte == b' ');
+    if program.is_empty() || pattern.is_empty() || is_blank {
+        return Ok(None);
+    }
+    Ok(Some(Words {
+        kind,
+        program,
+        pattern,
+        reason,
+    }))
+}
+
+/// Whether a line says nothing: it is empty, or begins with `#`.
+pub(crate) fn is_remark(line: &[u8]) -> bool {
+    match line {
+        [] => true,
+        [first, ..] => *first == b'#',
+    }
+}
+
+impl Line {
+    /// What a line trusts; none where it may not stand in a file of trusted flags.
+    ///
+    /// # Errors
+    /// [`AllocError`] only where an allocation was refused.
+    pub(crate) fn read(alloc: Global, line: &[u8]) -> Result<Option<Line>, AllocError> {
+        let Some(words) = words_of(alloc, line)? else {
+            return Ok(None);
+        };
+        let filters = match rev_filters::read(alloc, words.pattern) {
+            Ok(filters) => filters,
+            Err(rev_filters::ReadFault::Memory) => return Err(AllocError),
+            Err(rev_filters::ReadFault::Numbered(_)) => return Ok(None),
+        };
+        let mut texts = Vec::new(alloc);
+        texts.push(filters)?;
+        Ok(Some(Line {
+            kind: words.kind,
+            program: Vec::from_slice(alloc, words.program)?,
+            is_any: words.pattern == ANY,
+            texts,
+            reason: Vec::from_slice(alloc, words.reason)?,
+        }))
+    }
+
+    /// Whether it trusts a flag: one of its kind, by a program and with a text that its patterns match.
+    ///
+    /// # Errors
+    /// [`AllocError`] only where an allocation was refused.
+    pub(crate) fn trusts(&self, alloc: Global, flag: &Flag) -> Result<bool, AllocError> {
+        if flag.kind != self.kind || !matches(alloc, &self.program, flag.program.as_bytes())? {
+            return Ok(false);
+        }
+        if self.is_any {
+            return Ok(true);
+        }
+        is_hidden(alloc, &self.texts, flag.text.as_bytes())
+    }
+
+    /// Why it trusts.
+    pub(crate) fn reason(&self) -> &[u8] {
+        &self.reason
+    }
+}

@@ -1,0 +1,9 @@
+pub mod StepLemmas
+pub mod WorldLemmas
+pub mod OutcomeLemmas
+pub mod PremiseLemmas
+pub mod WayLemmas
+pub mod ObservedLemmas
+pub mod MakingLemmas
+pub mod SearchingLemmas
+pub mod PoolPremiseLemmas

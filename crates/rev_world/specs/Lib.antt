@@ -1,0 +1,9 @@
+pub mod Commands
+pub mod Schedules
+pub mod Laws
+pub mod Premises
+pub mod Ways
+pub mod Observed
+pub mod Making
+pub mod Searching
+pub mod Pools
