@@ -82,7 +82,7 @@ PROJECTS = (
             "build a.out: shell\n  do = echo a > work.tmp; cat work.tmp > a.out; rm -f work.tmp\n"
             "build b.out: shell\n  do = echo b > work.tmp; cat work.tmp > b.out; rm -f work.tmp\n",
             changes=("a.out temps|writes|deletes work.tmp", "b.out temps|writes|deletes work.tmp"),
-            found=("clash - - work.tmp a.out b.out",)),
+            found=("clash|race * * work.tmp a.out b.out",)),
     Project("change_in_place", "a command changes another's output in place, and a third reads it at any time",
             "build lib.txt: shell\n  do = echo library > lib.txt\n"
             "build strip.stamp: shell lib.txt\n  do = echo stripped >> lib.txt; touch strip.stamp\n"
