@@ -122,14 +122,12 @@ fn push_flag(text: &mut Vec<u8>, flags: &[Flag], word: &[u8]) -> Result<(), Allo
     Ok(())
 }
 
-// `edge OUT [FLAG...]`. Of an incomplete observation each command is `cut`, since lines of it may be missing.
-fn push_edge(text: &mut Vec<u8>, command: &Command, is_complete: bool) -> Result<(), AllocError> {
+// `edge OUT [FLAG...]`
+fn push_edge(text: &mut Vec<u8>, command: &Command) -> Result<(), AllocError> {
     let flags = command.flags();
     text.extend_from_slice(b"edge")?;
     next_field(text, command.output().as_bytes())?;
-    if !is_complete || has_word(flags, b"cut") {
-        next_field(text, b"cut")?;
-    }
+    push_flag(text, flags, b"cut")?;
     push_flag(text, flags, b"server")?;
     push_flag(text, flags, b"namespace")?;
     push_flag(text, flags, b"uring")?;
@@ -151,14 +149,9 @@ fn push_looks(alloc: Global, text: &mut Vec<u8>, lines: &[Line]) -> Result<(), A
 }
 
 // The lines of a command.
-fn push_command(
-    alloc: Global,
-    text: &mut Vec<u8>,
-    command: &Command,
-    is_complete: bool,
-) -> Result<(), AllocError> {
+fn push_command(alloc: Global, text: &mut Vec<u8>, command: &Command) -> Result<(), AllocError> {
     let lines = command.lines();
-    push_edge(text, command, is_complete)?;
+    push_edge(text, command)?;
     push_looks(alloc, text, lines)?;
     push_deeds(alloc, text, b"misses", lines, MISSES)?;
     push_deeds(alloc, text, b"lists", lines, LISTS)?;
@@ -186,9 +179,8 @@ fn text_of(alloc: Global, observation: &Observation) -> Result<Vec<u8>, AllocErr
         next_field(&mut text, paths.path(place).as_bytes())?;
         text.push(b'\n')?;
     }
-    let is_complete = observation.is_complete();
     for command in observation.commands() {
-        push_command(alloc, &mut text, command, is_complete)?;
+        push_command(alloc, &mut text, command)?;
     }
     Ok(text)
 }
@@ -215,8 +207,7 @@ fn have_outputs(words: &[rev_observed::Command], commands: &[Command]) -> bool
 }
 
 /// The observation as version 1 says it (docs/FORMATS.md, "As words of version 1"): its paths under their numbers, and
-/// its commands in their order. Where the observation is not complete, no command of it was observed whole. It takes
-/// time linear in the observation, up to sorting the ranges of a command.
+/// its commands in their order. It takes time linear in the observation, up to sorting the ranges of a command.
 ///
 /// # Errors
 /// [`ReadFault::Memory`] only where an allocation was refused. The call reads the text that it writes. It gives

@@ -9,8 +9,7 @@ use std::alloc::{AllocError, Global};
 const ANY: &[u8] = b"*";
 
 /// What a line trusts, and why.
-pub struct Line {
-    number: u64,
+pub(crate) struct Line {
     kind: FlagKind,
     program: Vec<u8>,
     is_any: bool,
@@ -22,7 +21,6 @@ pub struct Line {
 impl Drop for Line {
     fn drop(self) {
         let Line {
-            number: _number,
             kind: _kind,
             program: _program,
             is_any: _is_any,
@@ -78,15 +76,11 @@ pub(crate) fn is_remark(line: &[u8]) -> bool {
 }
 
 impl Line {
-    /// What the line of a number trusts; none where it may not stand in a file of trusted flags.
+    /// What a line trusts; none where it may not stand in a file of trusted flags.
     ///
     /// # Errors
     /// [`AllocError`] only where an allocation was refused.
-    pub(crate) fn read(
-        alloc: Global,
-        line: &[u8],
-        number: u64,
-    ) -> Result<Option<Line>, AllocError> {
+    pub(crate) fn read(alloc: Global, line: &[u8]) -> Result<Option<Line>, AllocError> {
         let Some(words) = words_of(alloc, line)? else {
             return Ok(None);
         };
@@ -98,7 +92,6 @@ impl Line {
         let mut texts = Vec::new(alloc);
         texts.push(filters)?;
         Ok(Some(Line {
-            number,
             kind: words.kind,
             program: Vec::from_slice(alloc, words.program)?,
             is_any: words.pattern == ANY,
@@ -121,13 +114,8 @@ impl Line {
         is_hidden(alloc, &self.texts, flag.text.as_bytes())
     }
 
-    /// Its number in the file, from 1.
-    pub fn number(&self) -> u64 {
-        self.number
-    }
-
     /// Why it trusts.
-    pub fn reason(&self) -> &[u8] {
+    pub(crate) fn reason(&self) -> &[u8] {
         &self.reason
     }
 }

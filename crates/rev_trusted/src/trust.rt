@@ -33,10 +33,12 @@ fn lines_of(alloc: Global, texts: &[&[u8]]) -> Result<Vec<Line>, ReadFault> {
         if is_remark(text) {
             continue;
         }
-        let number = u64::saturating_add(place as u64, 2);
-        match Line::read(alloc, text, number)? {
+        match Line::read(alloc, text)? {
             Some(line) => lines.push(line)?,
-            None => return Err(fault(FaultKind::Syntax, number)),
+            None => {
+                let number = u64::saturating_add(place as u64, 2);
+                return Err(fault(FaultKind::Syntax, number));
+            }
         }
     }
     Ok(lines)
@@ -74,20 +76,15 @@ impl Trust {
         })
     }
 
-    /// The lines that trust, in their order.
-    pub fn lines(&self) -> &[Line] {
-        self.lines.as_slice()
-    }
-
-    /// Which line trusts a flag: the place of the first one among [`Trust::lines`]; none where no line does. It takes
-    /// time linear in the bytes of the file times those of the flag.
+    /// Why a flag is trusted: the reason of the first line that trusts it; none where no line does. It takes time linear in
+    /// the bytes of the file times those of the flag.
     ///
     /// # Errors
     /// [`AllocError`] only where an allocation was refused.
-    pub fn line_of(&self, alloc: Global, flag: &Flag) -> Result<Option<usize>, AllocError> {
-        for (place, line) in self.lines.iter().enumerate() {
+    pub fn reason(&self, alloc: Global, flag: &Flag) -> Result<Option<&[u8]>, AllocError> {
+        for line in &self.lines {
             if line.trusts(alloc, flag)? {
-                return Ok(Some(place));
+                return Ok(Some(line.reason()));
             }
         }
         Ok(None)

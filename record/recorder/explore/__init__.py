@@ -1,1 +1,0 @@
-"""`rebug explore`: one page in which a recorded build is looked at, asked and undone."""
