@@ -4,25 +4,30 @@ _rebug() {
   if [ "$first" = --try ]; then first=${COMP_WORDS[2]} place=2; fi
   COMPREPLY=()
   if [ "$COMP_CWORD" -le "$place" ]; then
-    COMPREPLY=($(compgen -W "record provoke mend shuffle help races certify replay ask picture timeline compare --try --manifest --trace --script --workers --migrate --help --version" -- "$word"))
+    COMPREPLY=($(compgen -W "record provoke mend shuffle rerun summary flakes explore help races certify replay ask picture timeline compare schedule --try --manifest --trace --script --workers --migrate --help --version" -- "$word"))
     return
   fi
   if [ "$first" = help ]; then
-    COMPREPLY=($(compgen -W "record provoke shuffle mend races certify replay ask picture timeline compare" -- "$word"))
+    COMPREPLY=($(compgen -W "record provoke shuffle mend explore rerun summary flakes races certify replay ask picture timeline compare schedule" -- "$word"))
     return
   fi
   case $word in -*) ;; *) return ;; esac
   case $first in
     races) COMPREPLY=($(compgen -W "--all --json --mend --witness --provoke --filters --format --baseline --write-baseline --color" -- "$word")) ;;
-    certify) COMPREPLY=($(compgen -W "--json --filters --format --baseline --write-baseline --color" -- "$word")) ;;
+    certify) COMPREPLY=($(compgen -W "--all --json --strict --trust --filters --format --baseline --write-baseline --color" -- "$word")) ;;
     replay) COMPREPLY=($(compgen -W "--color" -- "$word")) ;;
     ask) COMPREPLY=($(compgen -W "--json --color" -- "$word")) ;;
     picture) COMPREPLY=($(compgen -W "--html --event" -- "$word")) ;;
     compare) COMPREPLY=($(compgen -W "--all --json" -- "$word")) ;;
+    schedule) COMPREPLY=($(compgen -W "-j --faster --pool --without --json" -- "$word")) ;;
     record) COMPREPLY=($(compgen -W "--check --rebug --help -j --from-logs --jobs-as-run --lanes --anyway --force --verbose --output --observe --observe=if-possible --observer --keep-log --contents" -- "$word")) ;;
     provoke) COMPREPLY=($(compgen -W "--help --all --stale --in-place --rebug" -- "$word")) ;;
     shuffle) COMPREPLY=($(compgen -W "--help --runs --repeat --seed --overlap --blocks --mend-all --observe --in-copy --budget --limit --most-memory -j --json" -- "$word")) ;;
     mend) COMPREPLY=($(compgen -W "--help --apply --json --rebug" -- "$word")) ;;
+    explore) COMPREPLY=($(compgen -W "--help --compare --rebug" -- "$word")) ;;
+    rerun) COMPREPLY=($(compgen -W "--help --stamps --date --folder --user -f -j --limit --json" -- "$word")) ;;
+    summary) COMPREPLY=($(compgen -W "--help --label --without-findings" -- "$word")) ;;
+    flakes) COMPREPLY=($(compgen -W "--help --anchor --partial --json" -- "$word")) ;;
     -*) COMPREPLY=($(compgen -W "--try --manifest --trace --script --workers --migrate --help --version" -- "$word")) ;;
   esac
 }

@@ -61,9 +61,10 @@ def fits(value: Any, schema: Any, root: Any) -> bool:
     if isinstance(value, list):
         return all(fits(it, schema["items"], root) for it in value)
     if isinstance(value, dict):
-        known = schema["properties"]
-        return (all(name in value for name in schema["required"]) and all(name in known for name in value)
-                and all(fits(it, known[name], root) for name, it in value.items()))
+        known, others = schema.get("properties", {}), schema["additionalProperties"]
+        return all(name in value for name in schema.get("required", ())) and all(
+            fits(it, known[name], root) if name in known else bool(others) and fits(it, others, root)
+            for name, it in value.items())
     return True
 
 

@@ -109,10 +109,10 @@ answer_wish() {
 }
 
 # Gives the files that a word names, one a line: also that of --manifest=FILE and the like, and those of a recording,
-# without the times, which pictures and timelines alone need.
+# without the times, which pictures, timelines and schedules alone need.
 files_of_word() {
   local file=$1 left_out=(! -name times)
-  if [ -n "$is_picture" ]; then left_out=(); fi
+  if [ -n "$needs_times" ]; then left_out=(); fi
   case $file in --*=*) file=${file#*=} ;; esac
   if [ "$name" = rebug_ask ] && [ -f "$file" ] && [ -f "$(dirname "$file")/trace" ]; then file=$(dirname "$file"); fi
   if [ "$name" = rebug_ask ] && [ -d "$file" ] && [ -f "$file/trace" ]; then

@@ -41,10 +41,13 @@ def placed(top: Path) -> list[Placed]:
              *(Placed(f"tools/{name}", f"{LIBEXEC}/{name}") for name in ("session", "colours.sed")),
              Placed("record/observer/observer.c", f"{LIBEXEC}/record/observer/observer.c")]
     found += [Placed(f"record/{name}", f"{LIBEXEC}/record/{name}")
-              for name in ("rebug-record", "rebug-provoke", "rebug-shuffle", "rebug-mend")]
-    found += [Placed(it, f"{LIBEXEC}/{it}") for it in below(top, "record/recorder") if it.endswith(".py")]
+              for name in ("rebug-record", "rebug-provoke", "rebug-shuffle", "rebug-mend", "rebug-explore",
+                           "rebug-rerun", "rebug-summary", "rebug-flakes")]
+    found += [Placed(it, f"{LIBEXEC}/{it}") for it in below(top, "record/recorder")
+              if it.endswith((".py", ".js", ".css", ".html"))]
     found += [Placed(f"completions/{name}", target) for name, target in COMPLETIONS.items()]
-    pages = [it for it in below(top, "docs") if it.endswith((".md", ".svg")) and not it.startswith(FOR_ENGINEERS)]
+    pages = [it for it in below(top, "docs")
+             if it.endswith((".md", ".svg", ".png")) and not it.startswith(FOR_ENGINEERS)]
     found += [Placed(it, f"{DOC}/{it}") for it in [*PAGES, *pages, *(it for one in FOLDERS for it in below(top, one))]]
     return sorted(found, key=lambda it: it.target)
 

@@ -51,7 +51,7 @@ class Observation:
 
 
 def text_of(word: bytes) -> bytes:
-    if not word or re.search(rb"\\(?![strn0\\])|[\t\r]", word) or b"\\0" in word.replace(b"\\\\", b"") and word != b"\\0":
+    if not re.fullmatch(rb"(?:[^\\\t\r ]|\\[strn\\])+|\\0", word):
         raise ValueError
     return re.sub(rb"\\[strn0\\]", lambda it: _BACK[it[0]], word)
 

@@ -11,10 +11,16 @@ import unittest
 from collections.abc import Callable, Iterable, Mapping
 from dataclasses import dataclass, field
 
+import observed_2
 from builds import RECORDER
 from recorder.observed.observers import OBSERVERS
 
 KINDS = ("reads", "stats", "misses", "lists", "writes", "edits", "deletes", "temps", "folders")
+# The words of version 2 that each kind of version 1 is (docs/FORMATS.md, "As words of version 1").
+WORDS = {"reads": ("read",), "stats": ("status", "mode", "there", "folder"), "misses": ("missing",),
+         "lists": ("listed",), "writes": ("left", "edited", "linked"), "edits": ("edited",),
+         "deletes": ("taken", "removed"), "temps": ("temps",), "folders": ("made",)}
+FLAGS = {"cut": "cut", "socket": "server", "namespace": "namespace", "uring": "uring", "twin": "twin"}
 _BACK = {b"\\s": b" ", b"\\t": b"\t", b"\\n": b"\n", b"\\r": b"\r", b"\\\\": b"\\", b"\\0": b"\0"}
 
 
@@ -36,7 +42,11 @@ class Footprint:
 
 
 def read_observed(path: pathlib.Path) -> dict[bytes, Footprint]:
-    """The footprints of a file `observed`, by the edges' first outputs, in the order of the file."""
+    """The footprints of a file `observed` of either version, by the edges' first outputs, in the order of the file."""
+    if path.read_bytes().startswith(b"rebug-observed 2\n"):
+        found = observed_2.read(path)
+        assert found.is_whole, path
+        return {name: _footprint(it) for name, it in found.blocks.items() if name}
     lines = [it.split(b" ") for it in path.read_bytes().split(b"\n")[:-1]]
     assert lines[0] == [b"rebug-observed", b"1"] and lines[1][0] == b"by", lines[:2]
     paths: list[bytes] = []
@@ -50,6 +60,16 @@ def read_observed(path: pathlib.Path) -> dict[bytes, Footprint]:
             last.outside = int(rest[0])
         else:
             getattr(last, word.decode()).update(paths[it] for it in _numbers(rest))
+    return found
+
+
+def _footprint(block: observed_2.Block) -> Footprint:
+    """What a block of version 2 is in the words of version 1."""
+    causes = {(it[0].decode(), it[1]) for it in block.flags} - {("unknown", b"statfs")}
+    found = Footprint({FLAGS.get(flag, "unresolved") for flag, _ in causes}, block.outside)
+    for kind, words in WORDS.items():
+        getattr(found, kind).update(*(block.of(word) for word in words))
+    found.stats -= found.reads | found.lists
     return found
 
 
@@ -111,7 +131,7 @@ class Room:
 
     def record(self, observer: str, folder: pathlib.Path, *, words: Iterable[str] = (), own: Iterable[str] = (),
                environment: Mapping[str, str] = {}, timeout: float = 900, read: bool = True) -> Build:
-        """Records a build in a folder that is there, observed. `read`: its file, of version 1, is read."""
+        """Records a build in a folder that is there, observed. `read`: its file is read."""
         out = folder.parent / "out"
         line = [sys.executable, RECORDER, folder, out, "--observe", "--observer", observer, *own, "--", *words]
         with open(folder.parent / "said", "w+b") as said:  # a file, since what lives on may keep it open

@@ -9,7 +9,8 @@ import unittest
 import unittest.mock
 
 import builds
-from observing import Room, WithRoom, read_observed
+import observed_2
+from observing import Room, WithRoom
 from recorder.observed import log_pipe
 from versions import NINJA
 
@@ -88,7 +89,7 @@ class Cases(WithRoom):
         it = self.one("mkdir -p d && cd d && mkdir -p e && cat ../a > e/x && mv e g && cd g && cat x ../../b > "
                       "../../out", {"a": "1", "b": "2"})
         self.assertEqual((it.reads, it.writes, it.folders, it.temps),
-                         ({b"a", b"b"}, {b"out", b"d/g/x"}, {b"d", b"d/g"}, {b"d/e/x"}))
+                         ({b"a", b"b"}, {b"out", b"d/g/x"}, {b"d", b"d/g"}, {b"d/e", b"d/e/x"}))
 
     def test_a_ninja_within_a_command(self):
         it = self.one("ninja -f inner.ninja && touch $out",
@@ -154,14 +155,17 @@ class Cases(WithRoom):
         self.assertTrue(any(it.endswith(b".pyc") for it in found.commands[b"two"].reads))
 
     def test_places_outside_are_counted_and_not_named(self):
-        other = self.room.path / "other"
-        other.mkdir(exist_ok=True)
-        (other / "private").write_text("1")
-        found = self.room.build(self.observer, ONE.format(f"cat {other}/private a > out; : > {other}/left"), {"a": "1"})
-        it = found.commands[b"out"]
+        """Those of a folder in which a command changes an entry are named, as all that is below the build folder."""
+        other, busy = self.room.path / "other", self.room.path / "busy"
+        for folder, name in ((other, "private"), (busy, "beside")):
+            folder.mkdir(exist_ok=True)
+            (folder / name).write_text("1")
+        command = f"cat {other}/private {busy}/beside a > out; : > {busy}/left"
+        found = self.room.build(self.observer, ONE.format(command), {"a": "1"})
+        it, busy = found.commands[b"out"], os.fsencode(os.path.realpath(busy))
         self.assertNotIn(b"private", (found.out / "observed").read_bytes())
-        self.assertEqual(it.reads, {b"a"})
-        self.assertEqual(it.writes, {b"out", os.fsencode(os.path.realpath(other)) + b"/left"})
+        self.assertEqual(it.reads, {b"a", busy + b"/beside"})
+        self.assertEqual(it.writes, {b"out", busy + b"/left"})
         self.assertGreater(it.outside, 0)
 
     # builds that fail, and builds that go on
@@ -236,22 +240,25 @@ class Cases(WithRoom):
         process.wait()
         self.assertEqual(os.listdir(rest), [])
 
-    def test_paths_stand_once_and_rise(self):
+    def test_entries_stand_once_and_are_named(self):
         found = self.room.build(self.observer, MANY, {"a1": "1", "a2": "2", "a3": "3"})
-        text = (found.out / "observed").read_bytes()
-        lines = text.splitlines()
-        paths = [it for it in lines if it.startswith(b"path ")]
-        self.assertEqual(len(set(paths)), len(paths))
-        first, mentioned = lines.index(next(it for it in lines if it.startswith(b"edge "))), []
-        self.assertEqual(lines[2:first], paths)
-        for line in lines[first:]:
-            word, *rest = line.split(b" ")
-            if word not in (b"edge", b"outside"):
-                numbers = [n for it in rest for n in range(int(it.split(b"-")[0]), int(it.split(b"-")[-1]) + 1)]
-                self.assertEqual(numbers, sorted(set(numbers)))
-                mentioned += numbers
-        self.assertEqual(list(dict.fromkeys(mentioned)), list(range(len(paths))))
-        self.assertEqual(read_observed(found.out / "observed").keys(), found.commands.keys())
+        whole = observed_2.read(found.out / "observed")
+        self.assertTrue(whole.is_whole)
+        named = {path for block in whole.blocks.values() for _, _, path in block.texts}
+        above = {whole.paths[it] for it in whole.folders if it is not None}
+        self.assertEqual(named | above, set(whole.paths))
+        self.assertEqual([it for it in whole.blocks if it], list(found.commands))
+
+    def test_version_1_says_the_same(self):
+        """The file of version 1, which a test alone asks for, has the footprints that version 2 has in its words."""
+        files = {"a1": "1", "a2": "2", "a3": "3"}
+        found = self.room.build(self.observer, MANY, files)
+        before = self.room.build(self.observer, MANY, files, environment={"REBUG_OBSERVED_VERSION": "1"})
+        self.assertTrue((before.out / "observed").read_bytes().startswith(b"rebug-observed 1\n"))
+        self.assertEqual(before.commands.keys(), found.commands.keys())
+        for kind in ("flags", "reads", "misses", "lists", "writes", "edits", "deletes", "temps", "folders"):
+            of_each = [{name: getattr(it, kind) for name, it in its.commands.items()} for its in (before, found)]
+            self.assertEqual(*of_each, kind)
 
 
 def plain(text: bytes) -> bytes:

@@ -24,7 +24,7 @@ class Links(WithRoom, unittest.TestCase):
                  for it in range(TIMES) for name, its in (("o", text), ("busy", BUSY))]
         files = {"x": "1\n", "d/x": "2\n", "r1/x": "3\n", "r2/x": "4\n"}
         found = self.room.build("own", RULES + "".join(lines), files, words=("-j", "8"),
-                                environment={"REBUG_OBSERVED_VERSION": "2"}, read=False)
+                                read=False)
         self.assertEqual(found.status, 0, found.said)
         blocks = observed_2.read(found.out / "observed").blocks
         return {name: it for name, it in blocks.items() if name.startswith(b"o")}

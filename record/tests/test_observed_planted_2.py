@@ -32,7 +32,7 @@ def record(project: pathlib.Path, room: pathlib.Path, jobs: int) -> observed_2.O
     words = [sys.executable, builds.RECORDER, build, folder / "out", "--observe", "--observer", "own", "-j", str(jobs),
              "--", "-k", "0"]
     ran = subprocess.run(words, stdin=subprocess.DEVNULL, capture_output=True, timeout=builds.LONGEST_SECONDS,
-                         env={**os.environ, "REBUG_OBSERVED_VERSION": "2", "PYTHONDONTWRITEBYTECODE": "1"})
+                         env={**os.environ, "PYTHONDONTWRITEBYTECODE": "1"})
     assert (folder / "out/observed").exists(), ran.stderr.decode()
     return observed_2.read(folder / "out/observed")
 

@@ -75,8 +75,7 @@ class Room:
                  "-j", str(jobs), "--", *attempt.targets]
         given = folder / attempt.standard_input if attempt.standard_input else pathlib.Path(os.devnull)
         with open(given, "rb") as file:
-            ran = subprocess.run(words, stdin=file, capture_output=True, timeout=builds.LONGEST_SECONDS,
-                                 env={**os.environ, "REBUG_OBSERVED_VERSION": "2"})
+            ran = subprocess.run(words, stdin=file, capture_output=True, timeout=builds.LONGEST_SECONDS)
         assert (out / "observed").exists(), ran.stderr.decode()
         return observed_2.read(out / "observed")
 

@@ -114,6 +114,20 @@ class Orders(unittest.TestCase):
         self.assertEqual(found.written_by(b"a b"), [b"a b", b"c", b"d", b"e"])
         self.assertEqual(found.left_by(b"c"), [])
 
+    def test_an_observation_of_version_2(self):
+        found = Observed.read(b"rebug-observed 2\nby x 6.1 x86-64\npath .\npath a\\sb 0\npath c 0\npath d 0\npath e 0\n"
+                              b"path f 0\nninja\nleft 4\nedge a\\sb\nflag cut \\0 sh \\0\nread 2\nleft 1 4\nedited 3\n"
+                              b"linked to\\sd 5\nedge c\ntaken 3\ntemps 4\nremoved 5\noutside 7\n"
+                              b"edge d\nread 1-4294967295\nend 6 3 19 0\n")
+        self.assertEqual(found.left_by(b"a b"), [b"a b", b"e", b"f"])
+        self.assertEqual(found.written_by(b"a b"), [b"a b", b"d", b"e", b"f"])
+        self.assertEqual(found.changed_by(b"c"), [b"d", b"f"])
+        self.assertEqual(found.left_alone_by([b"a b"]), [b"a b"])
+        self.assertEqual(found.leaving(b"e"), [b"a b"])
+        many = b"".join(b"linked %d 0-4294967295\n" % it for it in range(10_000))
+        found = Observed.read(b"".join(b"path %d\n" % it for it in range(10_000)) + b"edge f\n" + many)
+        self.assertEqual(len(found.written_by(b"f")), 10_000)
+
     def test_an_observation_that_names_more_than_it_says(self):
         """Ten thousand commands that each leave ten thousand files, in a text of 200 kB; and ranges without an end."""
         lines = [b"rebug-observed 1", b"by test", *(b"path %d" % it for it in range(10_000))]

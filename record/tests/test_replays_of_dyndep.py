@@ -52,6 +52,21 @@ class ReplaysOfDyndep(unittest.TestCase):
     def test_no_event_of_modules_is_refused(self):
         self.replay(self.folder(RECORDINGS), 3)
 
+    def test_each_resolved_manifest_is_that_of_its_files(self):
+        for name in ("dyndep", RECORDINGS):
+            found = [it.parents[1] for it in sorted(self.folder(name).rglob("dyndep/notes"))]
+            # Lanes without a plan are for the first program, which runs them side by side.
+            found = [it for it in found if b"\nplan\n" in (it / "trace").read_bytes()]
+            self.assertTrue(found)
+            for recording in found:
+                # Ninja refused some builds before it began a command, and so does the program.
+                due = ("none refused\n",)
+                if (recording / "trace").read_bytes().endswith(b"\nplan\n"):
+                    due = ("none refused\n", "1 command, 1 refused\n")
+                with self.subTest(recording=str(recording)):
+                    status, said = self.asked("replay", recording)
+                    self.assertEqual((status, said.endswith(due)), (0, True), said)
+
     def test_an_order_that_ninja_does_not_keep_is_not_certain(self):
         folder = self.folder(RECORDINGS)
         for jobs in JOBS:

@@ -2,6 +2,8 @@
 
 import os
 
+from observation import ended
+
 # Lines that get answers of every kind, whatever stands in names.
 MANY = b"""help
 slowest
@@ -190,6 +192,13 @@ edits 2
         "build.ninja": "rule c\n  command = c\nbuild a: c i\nbuild b: c i\n",
         "trace": "rebug-trace 1\njobs 2\nstamp i 1\nlane 0\nplan\nstart a 0\nstart a 1\n",
         "observed": "rebug-observed 1\nby ptrace\n",
+    },
+    "flagged": {
+        "build.ninja": "rule c\n  command = c\nbuild a: c i\nbuild b: c i\n",
+        "trace": "rebug-trace 1\njobs 2\nstamp i 1\nlane 0\nplan\nstart a 0\nfinish a 2\nstart b 0\nfinish b 3\n",
+        "observed": ended("rebug-observed 2\nby ptrace 6.1 x86-64\npath .\npath a 0\npath b 0\nedge a\n"
+                          "flag uring io_uring_setup c \\0\nleft 1\nedge b\nflag socket connect c 10.0.0.1:80\nleft 2\n"),
+        "trusted": "rebug-trust 1\nuring c * it copies its own files\n",
     },
     "named": {
         "build.ninja": "rule c\n  command = c\n  deps = gcc\nbuild v.h: c i\nbuild m.o: c i\n",

@@ -3,7 +3,13 @@ script with every word, and lanes on threads. The second has its words with ever
 
 from __future__ import annotations
 
+import pathlib
+import sys
 from dataclasses import dataclass
+
+sys.path.insert(0, str(pathlib.Path(__file__).resolve().parents[1]))
+
+from observation import ended  # noqa: E402
 
 # FOR THE FIRST PROGRAM
 
@@ -197,7 +203,15 @@ OUTPUT = "rebug-output 1\nfailed user.o 4 0 user.c:1:10:\\sfatal\\serror:\\sgen.
 # Nothing is wrong here.
 CERTAIN = "rule make\n  command = make $out\nbuild gen.h: make\nbuild all: phony gen.h\n"
 CERTAIN_TRACE = "rebug-trace 1\njobs 1\nlane 0\nplan all\nstart gen.h 0\nfinish gen.h 20\npass all\n"
-CERTAIN_OBSERVED = "rebug-observed 1\nby ptrace\npath gen.h\nedge gen.h\nwrites 0\n"
+CERTAIN_OBSERVED = ended("""\
+rebug-observed 2
+by ptrace 6.1 x86-64
+path .
+path gen.h 0
+edge gen.h
+folder 0
+left 1
+""")
 
 
 def times(events: int) -> str:
@@ -205,13 +219,21 @@ def times(events: int) -> str:
     return "rebug-times 1\n" + "".join(f"0:{place} {place}\n" for place in range(1, events + 1))
 
 
+# One command after the other, with nothing between two, so that Ninja's rules give the recorded end. An order of it can
+# be left out.
+TIMED = BUILD.replace("build stage: make | gen.h", "build stage: make || gen.h")
+AFTER_EACH_OTHER = "rebug-times 1\n" + "".join(f"0:{place} {(place - 1) // 2 * 100}\n" for place in range(1, 11))
+
+
 RECORDINGS = {
+    "timed": {"build.ninja": TIMED, "trace": PASSED, "times": AFTER_EACH_OTHER, "orders": "stage gen.h\n"},
     "scripted": SCRIPTED,
     "observed": {"build.ninja": BUILD, "trace": PASSED, "observed": OBSERVED, "filters": "cache\n", "times": times(10),
                  "names": "rebug-names 1\nlink.h gen.h\n", "output": "rebug-output 1\n",
                  "known": "rebug-baseline 1\n8b3a8a8c4a29cdc0 race gen.h gen.h user.o\n"},
     "failed": {"build.ninja": BUILD, "trace": FAILED, "output": OUTPUT, "times": times(8)},
-    "certain": {"build.ninja": CERTAIN, "trace": CERTAIN_TRACE, "observed": CERTAIN_OBSERVED, "filters": "cache\n"},
+    "certain": {"build.ninja": CERTAIN, "trace": CERTAIN_TRACE, "observed": CERTAIN_OBSERVED, "filters": "cache\n",
+                "trusted": "rebug-trust 1\nuring c * it copies its own files\n"},
 }
 
 # Every question of the prompt.
@@ -335,6 +357,7 @@ PARTS: dict[str, tuple[str, Part]] = {
     "no certificate": ("observed", found("certify", ".", "--filters", "filters", "--baseline", "known")),
     "no certificate as JSON": ("observed", found("certify", ".", "--json")),
     "a certificate": ("certain", asked("certify", ".")),
+    "a strict certificate": ("certain", asked("certify", ".", "--all", "--strict", "--trust", "trusted")),
     "a certificate as SARIF": ("certain", asked("certify", ".", "--format", "sarif", "--write-baseline", "new",
                                                 writes="new")),
     "a replay": ("observed", asked("replay", ".")),
@@ -344,6 +367,10 @@ PARTS: dict[str, tuple[str, Part]] = {
     "a page": ("observed", asked("picture", ".", "--html")),
     "a picture in a file": ("observed", asked("picture", ".", "drawn.svg", writes="drawn.svg")),
     "a timeline": ("observed", asked("timeline", ".")),
+    "a schedule": ("timed", asked("schedule", ".", "-j", "1,3", "--faster", "gen.h=2", "--pool", "one=2", "--without",
+                                  "orders")),
+    "a schedule as JSON": ("timed", asked("schedule", ".", "--json")),
+    "no schedule": ("observed", found("schedule", ".")),
     "a comparison": ("observed", found("compare", "--all", ".", "../failed")),
     "a comparison as JSON": ("observed", found("compare", "--json", ".", "../failed")),
     "help": ("observed", asked("help", "races")),

@@ -6,6 +6,7 @@ history and the answers. `damaged` changes bytes without regard to what they say
 
 from __future__ import annotations
 
+import hashlib
 import pathlib
 import random
 import re
@@ -294,32 +295,52 @@ def vary_script(rng: random.Random, case: Case) -> None:
     case.files["script"] = b"\n".join([*([b"run"] if rng.random() < 0.8 else []), *asked, b""])
 
 
-def observe(case: Case) -> None:
-    """Gives a case what an observer could have seen: each command read its list, and left its output."""
+def observe(rng: random.Random, case: Case) -> None:
+    """Gives a case what an observer could have seen, in one of the two versions: each command read its list, and left
+    its output."""
     paths: dict[bytes, int] = {}
     lines = []
+    is_2 = rng.random() < 0.7
     for words in (it.split(b" ") for it in case.files["trace"].split(b"\n") if it.startswith(b"finish ")):
         output, listed = words[1], words[4:] if words[3:4] == [b"list"] else []
         if b"edge " + output in lines:
             continue
         lines.append(b"edge " + output)
-        for kind, its in ((b"reads", listed), (b"writes", [output])):
+        for kind, its in ((b"read" if is_2 else b"reads", listed), (b"left" if is_2 else b"writes", [output])):
             numbers = sorted({paths.setdefault(it, len(paths)) for it in its})
             if numbers:
                 lines.append(b" ".join([kind, *(b"%d" % it for it in numbers)]))
-    text = [b"rebug-observed 1", b"by ptrace", *(b"path " + it for it in paths), *lines, b""]
-    case.files["observed"] = b"\n".join(text)
+    first = [b"rebug-observed 2", b"by ptrace 6.10 x86-64"] if is_2 else [b"rebug-observed 1", b"by ptrace"]
+    text = [*first, *(b"path " + it for it in paths), *lines]
+    case.files["observed"] = b"\n".join([*(sealed(text) if is_2 else text), b""])
     case.files["filters"] = b"# caches\n__pycache__\n*.pyc\n/dev\nlogs/*.txt\n"
 
 
+def sealed(lines: list[bytes]) -> list[bytes]:
+    """The lines of an observation of version 2, with the last line that is due in the place of each other one."""
+    lines = [it for it in lines if it and not it.startswith(b"end ")]
+    counts = tuple(sum(it.startswith(word) for it in lines) for word in (b"path ", b"edge "))
+    digest = hashlib.sha256(b"".join(it + b"\n" for it in lines)).hexdigest().encode()
+    return [*lines, b"end %d %d %d %b" % (*counts, len(lines), digest)]
+
+
 KINDS = [b"reads", b"stats", b"misses", b"lists", b"writes", b"edits", b"deletes", b"temps", b"folders"]
+KINDS_2 = [b"cached", b"read", b"status", b"mode", b"there", b"folder", b"missing", b"passed", b"listed", b"own",
+           b"after", b"left", b"edited", b"taken", b"temps", b"made", b"found", b"removed", b"prepared"]
 FLAGS = [b"cut", b"server", b"namespace", b"uring", b"unresolved", b"twin"]
+FLAGS_2 = [b"cut", b"late", b"socket", b"unknown", b"twin", b"other"]
+EXTRA = [b"path extra", b"edge app", b"outside 3", b"#", b"*", b"a//b", b"reads 0-2"]
+EXTRA_2 = [b"path extra 0", b"also extra 0", b"same 0-1", b"opening 0-2", b"hidden /dev/null 2", b"ninja", b"edge app",
+           b"read 0-2", b"link v1 0", b"linked v1 1", b"searched cc1 0", b"ensured mkdir 0", b"outside 3",
+           b"end 1 1 1 x"]
 
 
 def vary_beside(rng: random.Random, case: Case) -> None:
-    """Changes lines of a file beside the trace, where there is one."""
+    """Changes lines of a file beside the trace, where there is one. Most observations of version 2 end as is due."""
     name = rng.choice([it for it in BESIDE if it in case.files] or ["none"])
     first, *lines = case.files.get(name, b"").split(b"\n")
+    is_2 = first == b"rebug-observed 2"
+    kinds, flags = (KINDS_2, FLAGS_2) if is_2 else (KINDS, FLAGS)
     for _ in range(rng.choice([1, 1, 3])):
         at = rng.randrange(len(lines) + 1)
         kind = rng.randrange(6)
@@ -333,12 +354,18 @@ def vary_beside(rng: random.Random, case: Case) -> None:
         elif kind == 3 and lines:
             at %= len(lines)
             word, _, rest = lines[at].partition(b" ")
-            lines[at] = (rng.choice(KINDS) if word in KINDS else word) + b" " + rest
+            lines[at] = (rng.choice(kinds) if word in kinds else word) + b" " + rest
         elif kind == 4 and lines:
             at %= len(lines)
-            lines[at] += b" " + rng.choice(FLAGS if lines[at].startswith(b"edge ") else [b"0-1", b"3", b"x"])
+            is_edge = lines[at].startswith(b"edge ")
+            if is_edge and is_2:
+                lines.insert(at + 1, b"flag %b openat sh \\0" % rng.choice(flags))
+            else:
+                lines[at] += b" " + rng.choice(flags if is_edge else [b"0-1", b"3", b"x"])
         else:
-            lines.insert(at, rng.choice([b"path extra", b"edge app", b"outside 3", b"#", b"*", b"a//b", b"reads 0-2"]))
+            lines.insert(at, rng.choice(EXTRA_2 if is_2 else EXTRA))
+    if is_2 and rng.random() < 0.7:
+        first, *lines = [*sealed([first, *lines]), b""]
     if name in case.files:
         case.files[name] = b"\n".join([first, *lines])
 
@@ -346,7 +373,7 @@ def vary_beside(rng: random.Random, case: Case) -> None:
 def varied(rng: random.Random, case: Case) -> None:
     """Some changes of what a case says."""
     if "observed" not in case.files and rng.random() < 0.3:
-        observe(case)
+        observe(rng, case)
     for vary in rng.sample([vary_manifest, vary_trace, vary_script, vary_beside], rng.choice([1, 2, 3])):
         vary(rng, case)
 

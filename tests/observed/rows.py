@@ -3,6 +3,7 @@ observation")."""
 
 from __future__ import annotations
 
+import hashlib
 import pathlib
 
 # b.o waits for gen.h, and all for each of the others. What makes the manifest runs before all else.
@@ -71,19 +72,51 @@ def line_of(said: str, paths: tuple[str, ...]) -> str:
 
 
 def observed(seen: str, paths: tuple[str, ...]) -> str:
-    """The file `observed` that says these paths, and what commands were seen to do with them."""
+    """The file `observed`, of version 1, that says these paths, and what commands were seen to do with them."""
     named = "".join(f"path {path}\n" for path in paths)
     return f"rebug-observed 1\nby hand\n{named}{''.join(line_of(said, paths) for said in seen.split('; '))}"
 
 
-def write_recording(folder: pathlib.Path, seen: str) -> None:
-    """A recording of a build in which all commands ran, and did what was seen."""
+# The words of version 2 for the kinds of the rows, in the order of the lines.
+WORDS = {"reads": "read", "stats": "there", "misses": "missing", "lists": "listed", "writes": "left", "edits": "edited",
+         "deletes": "taken", "temps": "temps"}
+
+
+def sealed(lines: str) -> str:
+    """A file of version 2 with the last line that is due behind these lines."""
+    each = lines.splitlines()
+    paths, edges = (sum(it.startswith(word) for it in each) for word in ("path ", "edge "))
+    return f"{lines}end {paths} {edges} {len(each)} {hashlib.sha256(lines.encode()).hexdigest()}\n"
+
+
+def unsealed(text: str) -> str:
+    """The lines of a file of version 2 without its last one."""
+    return text[:text.rindex("end ")]
+
+
+def observed_2(seen: str, paths: tuple[str, ...]) -> str:
+    """The same in version 2. Each path but the first is an entry of the first."""
+    lines = [f"path {path}{' 0' if number else ''}" for number, path in enumerate(paths)]
+    for block in f"; {seen}".split("; edge ")[1:]:
+        output, *said = block.split("; ")
+        did = {kind: set(names) for kind, *names in (it.split(" ") for it in said)}
+        if "writes" in did:
+            did["writes"] -= did.get("edits", set())
+        lines.append(f"edge {output}")
+        for kind, word in WORDS.items():
+            if did.get(kind):
+                lines.append(f"{word} {' '.join(map(str, sorted(map(paths.index, did[kind]))))}")
+    return sealed("rebug-observed 2\nby hand 0 x86-64\n" + "".join(f"{it}\n" for it in lines))
+
+
+def write_recording(folder: pathlib.Path, text: str) -> None:
+    """A recording of a build in which all commands ran, and did what this file `observed` says."""
     runs = "".join(f"start {output} 0\nfinish {output} 2\n" for output in OUTPUTS)
     stamps = "".join(f"stamp {source} 1\n" for source in SOURCES)
     files = {
         "build.ninja": MANIFEST,
         "trace": f"rebug-trace 1\n{stamps}lane 0\nplan {' '.join(OUTPUTS)}\n{runs}",
-        "observed": observed(seen, PATHS),
+        "observed": text,
     }
     folder.mkdir()
     for name, text in files.items():

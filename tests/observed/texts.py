@@ -6,6 +6,8 @@ import pathlib
 from collections.abc import Iterator
 from dataclasses import dataclass
 
+from rows import sealed
+
 # What the recorder wrote of examples/flaky, with strace 6.1 and four jobs.
 RECORDED = """\
 rebug-observed 1
@@ -107,13 +109,15 @@ finish b 2
 start c 0
 finish c 2
 """
-FLAGGED = "rebug-observed 1\nby x\nedge a cut server\nedge b twin\nedge c\n"
-NOT_WHOLE = [("a", ["cut", "server"]), ("b", ["twin"])]
+FLAGGED = sealed("rebug-observed 2\nby x 6.1 x86-64\nedge a\nflag cut \\0 x \\0\nflag socket connect x s\nedge b\n"
+                 "flag twin \\0 \\0 \\0\nedge c\n")
+NOT_WHOLE = [("a", "cut"), ("a", "socket"), ("b", "twin")]
 
 # Texts of `observed`, with the number of their first fault and its line.
 FAULTS = {
     "": (104, 1),
-    "rebug-observed 2\nby x\n": (104, 1),
+    "rebug-observed 3\nby x\n": (104, 1),
+    "rebug-observed 20\nby x 6.1 x86-64\n": (104, 1),
     "rebug-observed 1\n": (100, 2),
     "rebug-observed 1\nby x y\n": (100, 2),
     "rebug-observed 1\nby x\npath a\n\n": (100, 4),
@@ -126,6 +130,31 @@ FAULTS = {
     "rebug-observed 1\nby x\npath a\nedge a\nreads 0 0\n": (105, 5),
     "rebug-observed 1\nby x\npath a\nedge a\nreads\n": (100, 5),
     "rebug-observed 1\nby x\nedge a\nedge a\n": (103, 4),
+}
+# The same of version 2, each behind the first two lines, and with the last line that is due.
+FAULTS_2 = {
+    "path a\npath ./a\n": (103, 4),
+    "path a\nalso a 0\n": (103, 4),
+    "path a 0\n": (105, 3),
+    "path a\nalso b 1\n": (105, 4),
+    "path a\nsame 0\n": (100, 4),
+    "path a\nopening 0\npath b\n": (100, 5),
+    "edge a\npath b\n": (100, 4),
+    "edge a\nflag whole \\0 \\0 \\0\n": (100, 4),
+    "edge a cut\n": (100, 3),
+    "path a\nedge a\nleft 0\nread 0\n": (100, 6),
+    "path a\nedge a\nread 0\nread 0\n": (100, 6),
+    "path a\nedge a\nreads 0\n": (100, 5),
+    "path a\nedge a\nread 0 x\n": (101, 5),
+    "path a\nedge a\nread 0-1\n": (105, 5),
+    "path a\nedge a\nread 0 0\n": (105, 5),
+    "path a\nedge a\nread\n": (100, 5),
+    "path a\nedge a\nlink 0\n": (100, 5),
+    "path a\nninja\nread 0\n": (100, 5),
+    "edge a\nninja\n": (100, 4),
+    "edge a\nedge a\n": (103, 4),
+    "edge a\nedge nobody\n": (60, 4),
+    "edge a\nend 0 1 3 x\nedge b\n": (100, 5),
 }
 
 
@@ -173,6 +202,8 @@ def reading(path: str) -> str:
 
 def faulty() -> Iterator[tuple[str, str, int, int]]:
     """Files of a recording that have a fault: the name, the text, and the number and the line of the first fault."""
-    for name, faults in (("observed", FAULTS), ("filters", FILTER_FAULTS)):
+    faults_2 = {sealed(f"rebug-observed 2\nby x 6.1 x86-64\n{text}"): fault for text, fault in FAULTS_2.items()}
+    faults_2 |= {sealed("rebug-observed 2\n"): (100, 2), sealed("rebug-observed 2\nby x\n"): (100, 2)}
+    for name, faults in (("observed", FAULTS | faults_2), ("filters", FILTER_FAULTS)):
         for text, (code, line) in faults.items():
             yield name, text, code, line

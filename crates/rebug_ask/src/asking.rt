@@ -3,7 +3,7 @@ ghost use Rattle.std.specs.Prelude.{◌≤◌, length};
 
 use crate::replies::{Answered, Style, told, told_with, written_for};
 use crate::several::written_for_each;
-use crate::told::{EndedDesk, leave, manifest_of, races_in, refuse, trace_of, write};
+use crate::told::{EndedDesk, leave, manifest_of, races_in, refuse, say_notes, trace_of, write};
 use indexmap::IndexMap;
 use rev_answers::{
     meant_word, not_asked_words, objects_json, opening_json, opening_words, screen_of,
@@ -12,7 +12,7 @@ use rev_desk::Desk;
 use rev_findings::names_in;
 use rev_folder::{
     KnownTimes, LabelTime, Observed, Place, Recording, label_times, observed_in, place_of,
-    read_names, read_observed, read_recording, read_times,
+    read_names, read_observed, read_recording, read_times, say_incomplete,
 };
 use rev_manifest::Manifest;
 use rev_observed::Observation;
@@ -533,7 +533,9 @@ pub fn ask<'a, R: Files + Input + Print + Eprint + AllocGlobal>(
 ) -> Result<u8, ProgramFault<'a>> {
     let place = place_of(rt, recording);
     let read = read_recording(rt, recording, place)?;
+    say_notes(rt, &read)?;
     let observed = read_observed(rt, recording, place)?;
+    say_incomplete(rt, observed.as_deref())?;
     let times = read_times(rt, recording, place)?;
     let labels = label_times(rt.alloc(), &times)?;
     let names = names_in(rt.alloc(), &read_names(rt, recording, place)?)?;

@@ -6,6 +6,7 @@ mod comparing;
 mod page;
 mod picturing;
 mod replies;
+mod scheduling;
 mod several;
 mod timelining;
 mod told;
@@ -17,6 +18,7 @@ use rev_asking::{Request, Word, read_words};
 use rev_fields::wide_number;
 use rev_program::{ProgramFault, USAGE, explain, fail, words};
 use rev_verdicts::Form;
+use scheduling::schedule;
 use std::io::IsTerminal;
 use std::process::ExitCode;
 use std::rt::Files;
@@ -74,6 +76,17 @@ fn asked_of_races(asked: &Request<'_>) -> Result<OfRaces, &'static str> {
     Ok(OfRaces::All(form))
 }
 
+// What is asked of a certificate, or a sentence that says why that is not asked well.
+fn asked_of_certificate(asked: &Request<'_>) -> Result<How, &'static str> {
+    match form_of(asked) {
+        Ok(form) => Ok(How::Certify {
+            form,
+            is_strict: asked.strict,
+        }),
+        Err(sentence) => Err(sentence),
+    }
+}
+
 // Writes what is asked of a recording in one go, or a sentence that says why that is not asked well, and gives the
 // status.
 fn tell_how<'a, R: Files + Print + Eprint + AllocGlobal>(
@@ -90,6 +103,7 @@ fn tell_how<'a, R: Files + Print + Eprint + AllocGlobal>(
                 filters: asked.filters,
                 baseline: asked.baseline,
                 write_baseline: asked.write_baseline,
+                trust: asked.trust,
             },
         ),
         Err(sentence) => {
@@ -99,15 +113,16 @@ fn tell_how<'a, R: Files + Print + Eprint + AllocGlobal>(
     }
 }
 
-// Answers what is asked, and gives the status.
+// Answers what is asked by some words, and gives the status.
 fn answer<'a, R: Files + Input + Print + Eprint + AllocGlobal>(
     rt: &R,
     asked: Request<'a>,
+    words: &'a [String],
     is_terminal: bool,
 ) -> Result<u8, ProgramFault<'a>> {
     match asked.word {
         Word::Races => tell_how(rt, &asked, asked_of_races(&asked).map(|of| How::Races(of))),
-        Word::Certify => tell_how(rt, &asked, form_of(&asked).map(|form| How::Certify(form))),
+        Word::Certify => tell_how(rt, &asked, asked_of_certificate(&asked)),
         Word::Replay => tell_how(rt, &asked, Ok(How::Replay)),
         Word::Ask => {
             let manner = Manner {
@@ -119,6 +134,7 @@ fn answer<'a, R: Files + Input + Print + Eprint + AllocGlobal>(
         Word::Picture => picture(rt, &asked),
         Word::Timeline => timelined(rt, &asked),
         Word::Compare => compare(rt, &asked),
+        Word::Schedule => schedule(rt, &asked, words),
     }
 }
 
@@ -132,7 +148,7 @@ fn main(rt: HostRuntime) -> ExitCode {
         Err(error) => return explain(&rt, &error),
     };
     let is_terminal = rt.reader().is_terminal();
-    match answer(&rt, asked, is_terminal) {
+    match answer(&rt, asked, &words, is_terminal) {
         Ok(status) => ExitCode::from(status),
         Err(fault) => fail(&rt, fault),
     }

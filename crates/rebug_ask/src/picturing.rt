@@ -10,7 +10,7 @@ use rev_desk::Desk;
 use rev_fields::number;
 use rev_folder::{
     Observed, Recording, hidden_in, observed_in, place_of, read_filters, read_observed,
-    read_recording, read_times, times_in,
+    read_recording, read_times, say_incomplete, times_in,
 };
 use rev_history::History;
 use rev_manifest::Manifest;
@@ -72,7 +72,7 @@ impl DrawnFiles {
 ///
 /// # Errors
 /// As [`read_recording`], and as [`read_times`] of the files beside the trace.
-pub fn read_drawn<'a, R: Files + AllocGlobal>(
+pub fn read_drawn<'a, R: Files + Eprint + AllocGlobal>(
     rt: &R,
     recording: &'a str,
 ) -> Result<DrawnFiles, ProgramFault<'a>> {
@@ -80,6 +80,7 @@ pub fn read_drawn<'a, R: Files + AllocGlobal>(
     let read = read_recording(rt, recording, place)?;
     let times = read_times(rt, recording, place)?;
     let observed = read_observed(rt, recording, place)?;
+    say_incomplete(rt, observed.as_deref())?;
     let filters = read_filters(rt, recording, place)?;
     Ok(DrawnFiles {
         read,

@@ -35,8 +35,8 @@ enum Made {
     NoTimes,
 }
 
-// The number of the last kept plan, or 0.
-fn last_plan(history: &History) -> u32 {
+/// The number of the last kept plan, or 0.
+pub fn last_plan(history: &History) -> u32 {
     let last = history.last();
     for passed in 0..last {
         let number = last - passed;

@@ -5,11 +5,11 @@ use rev_conflicts_text::{Finding, pair_of};
 use rev_desk::Desk;
 use rev_findings::{
     Basis, Origin, Sight, add_hints, count_findings, hidden_places, last_runs, names_in,
-    output_names, replayed_of, report_of, seen_findings, sight_in, witness_of,
+    output_names, report_of, seen_findings, sight_in, witness_of,
 };
 use rev_folder::{
     FilterTexts, Place, Recording, observed_sentence, place_of, read_beside, read_filters,
-    read_names, read_observed, read_recording,
+    read_names, read_observed, read_recording, say_incomplete,
 };
 use rev_history::History;
 use rev_manifest::Manifest;
@@ -21,7 +21,7 @@ use rev_recording::{RecordingFault, fault_line, open, replay, replay_text};
 use rev_script::send;
 use rev_sentences::{Inputs, sentence};
 use rev_trace::Trace;
-use rev_verdicts::{Answer, Choice, Form, Grounds, Leaving, Written, certified, written_report};
+use rev_verdicts::{Answer, Choice, Form, Leaving, Wish, Written, certified, written_report};
 use std::alloc::{AllocError, Global};
 use std::rt::Files;
 use std::{fs, io, mem};
@@ -54,8 +54,13 @@ pub enum How {
     Races(OfRaces),
     /// How many commands there were, and the first that was refused.
     Replay,
-    /// Whether no schedule gives the commands other inputs, in a form.
-    Certify(Form),
+    /// Whether no order gives the commands other inputs, in a form.
+    Certify {
+        /// The form.
+        form: Form,
+        /// Whether each assumption but two stands in the way.
+        is_strict: bool,
+    },
 }
 
 /// A question about a recording, with the files by which findings are left out.
@@ -71,6 +76,8 @@ pub struct Question<'a> {
     pub baseline: Option<&'a str>,
     /// The file for a baseline that knows all that is found, if it was named.
     pub write_baseline: Option<&'a str>,
+    /// The file of trusted flags, if it was named.
+    pub trust: Option<&'a str>,
 }
 
 // What is asked of the bytes of a recording, the file of other names, that of what failed commands printed, and that of
@@ -82,7 +89,17 @@ struct Inquiry<'a> {
     printed: &'a [u8],
     observed: Option<&'a [u8]>,
     choice: Choice<'a>,
+    trust: Option<&'a [u8]>,
     how: How,
+}
+
+// What is asked of what is found in a recording.
+#[derive(Clone, Copy)]
+enum Asked {
+    // The races.
+    Races(OfRaces),
+    // A certificate, in a form, and whether a strict one.
+    Certificate(Form, bool),
 }
 
 /// The names of the files that the manifest was read from.
@@ -98,11 +115,47 @@ pub fn names_of(alloc: Global, files: &[(Vec<u8>, Vec<u8>)]) -> Result<Vec<Name>
     Ok(names)
 }
 
-// The answer about the races of a recording that was replayed, whose trace has so many commands.
+// The certificate of a recording, as it is written.
+fn certificate_answer<'a>(
+    alloc: Global,
+    inquiry: Inquiry<'_>,
+    form: Form,
+    is_strict: bool,
+    desk: &'a Desk,
+    basis: &Basis<'a>,
+) -> Result<Answer, RecordingFault> {
+    let wish = Wish {
+        form,
+        is_strict,
+        trust: inquiry.trust,
+        choice: inquiry.choice,
+    };
+    let written = certified(alloc, desk, basis, wish)?;
+    Ok(Answer::Written(written))
+}
+
+// The answer about what is found in a recording that was replayed.
+fn answer_by_basis<'a>(
+    alloc: Global,
+    inquiry: Inquiry<'_>,
+    asked: Asked,
+    manifest: &Manifest,
+    desk: &'a Desk,
+    basis: &Basis<'a>,
+) -> Result<Answer, RecordingFault> {
+    match asked {
+        Asked::Races(asked) => found_answer(alloc, inquiry.choice, asked, manifest, desk, basis),
+        Asked::Certificate(form, is_strict) => {
+            certificate_answer(alloc, inquiry, form, is_strict, desk, basis)
+        }
+    }
+}
+
+// The answer about a recording that was replayed, whose trace has so many commands.
 fn answer_of(
     alloc: Global,
     inquiry: Inquiry<'_>,
-    asked: OfRaces,
+    asked: Asked,
     manifest: &Manifest,
     desk: &Desk,
     sight: Option<&Sight>,
@@ -125,7 +178,7 @@ fn answer_of(
         sight,
         commands,
     };
-    found_answer(alloc, inquiry.choice, asked, manifest, desk, &basis)
+    answer_by_basis(alloc, inquiry, asked, manifest, desk, &basis)
 }
 
 // The answer that has a race of a user and a maker happen, or the sentence that says why there is none.
@@ -303,33 +356,6 @@ fn sight_of(
     }
 }
 
-// What is written of whether it is certain that no schedule gives the commands of a desk other inputs, in a form.
-fn certificate_written(
-    alloc: Global,
-    inquiry: Inquiry<'_>,
-    manifest: &Manifest,
-    desk: &Desk,
-    commands: u64,
-    form: Form,
-) -> Result<Written, RecordingFault> {
-    let files = names_of(alloc, &inquiry.read.files)?;
-    let runs = last_runs(alloc, desk.history())?;
-    let names = names_in(alloc, inquiry.names)?;
-    let grounds = Grounds {
-        sources: Sources {
-            builds: manifest.builds(),
-            files: &inquiry.read.files,
-            runs: &runs,
-        },
-        files: &files,
-        names: &names,
-        replayed: replayed_of(desk, &runs, commands),
-        form,
-        choice: inquiry.choice,
-    };
-    certified(alloc, desk, grounds, inquiry.observed.unwrap_or(b""))
-}
-
 /// The desk of a recording after its last command, with the manifest and the count of its commands.
 #[derive(Clone, Copy)]
 pub struct EndedDesk<'a, 'b> {
@@ -341,11 +367,11 @@ pub struct EndedDesk<'a, 'b> {
     pub commands: u64,
 }
 
-// The answer about the races of a recording that was replayed.
-fn races_answer(
+// The answer about what is found in a recording that was replayed.
+fn found_in(
     alloc: Global,
     inquiry: Inquiry<'_>,
-    asked: OfRaces,
+    asked: Asked,
     ended: EndedDesk<'_, '_>,
 ) -> Result<Answer, RecordingFault> {
     let EndedDesk {
@@ -380,9 +406,13 @@ fn answer_from(
     let commands = command_count(trace);
     match inquiry.how {
         How::Replay => Ok(Answer::text(replay_text(alloc, desk)?, 0)),
-        How::Certify(form) => {
-            let written = certificate_written(alloc, inquiry, manifest, desk, commands, form)?;
-            Ok(Answer::Written(written))
+        How::Certify { form, is_strict } => {
+            let ended = EndedDesk {
+                manifest,
+                desk,
+                commands,
+            };
+            found_in(alloc, inquiry, Asked::Certificate(form, is_strict), ended)
         }
         How::Races(asked) => {
             let ended = EndedDesk {
@@ -390,7 +420,7 @@ fn answer_from(
                 desk,
                 commands,
             };
-            races_answer(alloc, inquiry, asked, ended)
+            found_in(alloc, inquiry, Asked::Races(asked), ended)
         }
     }
 }
@@ -482,6 +512,25 @@ pub fn refuse<'a, R: Eprint + AllocGlobal>(
     Ok(FAULT)
 }
 
+// Says what the recorder said of dyndep files.
+fn say_note<R: Eprint + AllocGlobal>(rt: &R, note: &[u8]) -> Result<(), AllocError> {
+    let mut text = Vec::from_slice(rt.alloc(), b"note: ")?;
+    text.extend_from_slice(note)?;
+    rev_program::say(rt, &text);
+    Ok(())
+}
+
+/// Says what the recorder of a recording said of dyndep files: what the recorded manifest has otherwise than Ninja had it.
+///
+/// # Errors
+/// [`AllocError`] only where an allocation was refused.
+pub fn say_notes<R: Eprint + AllocGlobal>(rt: &R, read: &Recording) -> Result<(), AllocError> {
+    for note in &read.notes {
+        say_note(rt, note)?;
+    }
+    Ok(())
+}
+
 /// Writes bytes to the standard output.
 pub fn write<'a, R: Print>(rt: &R, bytes: &[u8]) -> Result<(), ProgramFault<'a>> {
     Ok(send(&mut io::writer(rt), bytes)?)
@@ -502,8 +551,8 @@ fn put<'a, R: Files + Print>(
     Ok(written.status)
 }
 
-// The bytes of a file that the command line names, if it does.
-fn read_choice<'a, R: Files + AllocGlobal>(
+/// The bytes of a file that the command line names, if it does.
+pub fn read_choice<'a, R: Files + AllocGlobal>(
     rt: &R,
     name: Option<&'a str>,
 ) -> Result<Option<Vec<u8>>, ProgramFault<'a>> {
@@ -570,6 +619,7 @@ fn inquiry_of<'a>(
     how: How,
     filters: Option<&'a [u8]>,
     baseline: Option<&'a [u8]>,
+    trust: Option<&'a [u8]>,
     writes: bool,
 ) -> Inquiry<'a> {
     let filters = FilterTexts {
@@ -586,6 +636,7 @@ fn inquiry_of<'a>(
             baseline,
             writes,
         },
+        trust,
         how,
     }
 }
@@ -593,7 +644,7 @@ fn inquiry_of<'a>(
 // What is asked of a recording by `races`, without a baseline.
 fn races_inquiry<'a>(read: &'a Recording, beside: &'a Sidecars, form: Form) -> Inquiry<'a> {
     let how = How::Races(OfRaces::All(form));
-    inquiry_of(read, beside, how, None, None, false)
+    inquiry_of(read, beside, how, None, None, None, false)
 }
 
 // The answer about a recording: by a desk that was replayed, where there is one.
@@ -604,7 +655,7 @@ fn answer_by(
     ended: Option<EndedDesk<'_, '_>>,
 ) -> Result<Answer, RecordingFault> {
     match ended {
-        Some(ended) => races_answer(alloc, inquiry, OfRaces::All(form), ended),
+        Some(ended) => found_in(alloc, inquiry, Asked::Races(OfRaces::All(form)), ended),
         None => answer_about(alloc, inquiry),
     }
 }
@@ -645,16 +696,27 @@ fn tell_of<'a, R: Files + Print + Eprint + AllocGlobal>(
 ) -> Result<u8, ProgramFault<'a>> {
     let filters = read_choice(rt, question.filters)?;
     let baseline = read_choice(rt, question.baseline)?;
+    let trust = read_choice(rt, question.trust)?;
     let writes = question.write_baseline.is_some();
     let (filters, baseline) = (filters.as_deref(), baseline.as_deref());
-    let inquiry = inquiry_of(read, beside, question.how, filters, baseline, writes);
+    let trust = trust.as_deref();
+    let inquiry = inquiry_of(read, beside, question.how, filters, baseline, trust, writes);
+    put_answer(rt, question, inquiry)
+}
+
+// Writes the answer to what is asked, and gives the program's status.
+fn put_answer<'a, R: Files + Print + Eprint + AllocGlobal>(
+    rt: &R,
+    question: Question<'a>,
+    inquiry: Inquiry<'_>,
+) -> Result<u8, ProgramFault<'a>> {
     match answer_about(rt.alloc(), inquiry) {
         Ok(Answer::Written(written)) => put(rt, question, &written),
         Ok(Answer::NotUnderstood(sentence)) => {
             say(rt, sentence);
             Ok(USAGE)
         }
-        Err(fault) => refuse(rt, read, &fault),
+        Err(fault) => refuse(rt, inquiry.read, &fault),
     }
 }
 
@@ -666,8 +728,10 @@ pub fn tell<'a, R: Files + Print + Eprint + AllocGlobal>(
     let recording = question.recording;
     let place = place_of(rt, recording);
     let read = read_recording(rt, recording, place)?;
+    say_notes(rt, &read)?;
     let beside = read_sidecars(rt, recording, place)?;
-    if beside.observed.is_none() && matches!(question.how, How::Certify(_)) {
+    say_incomplete(rt, beside.observed.as_deref())?;
+    if beside.observed.is_none() && matches!(question.how, How::Certify { .. }) {
         return Err(ProgramFault::NotObserved(recording));
     }
     tell_of(rt, question, &read, &beside)

@@ -1,10 +1,10 @@
 -- What the words of a command line ask for.
 use Rattle.std.specs.Prelude.{true, codes, bytes_eq, if◌then◌else◌, List, [], ◌∷◌, Option, Some, unwrap_or, option_map}
-use Rattle.clap.specs.Words.{App, Row, Rule, Shape, Text, first_of, new_app, new_rule, subcommand_of, with_rule, with_subcommand}
+use Rattle.clap.specs.Words.{App, Row, Rule, Shape, Text, all_of, first_of, new_app, new_rule, subcommand_of, with_rule, with_subcommand}
 use Rattle.clap.specs.Simple.{new_shape, on_top}
-use Rattle.clap.specs.declared.builder.action.ArgAction.TheVariants.{Set, SetTrue}
+use Rattle.clap.specs.declared.builder.action.ArgAction.TheVariants.{Append, Set, SetTrue}
 use Rattle.rev_asking.specs.declared.words.Word.{Word}
-use Rattle.rev_asking.specs.declared.words.Word.TheVariants.{Ask, Certify, Compare, Picture, Races, Replay, Timeline}
+use Rattle.rev_asking.specs.declared.words.Word.TheVariants.{Ask, Certify, Compare, Picture, Races, Replay, Schedule, Timeline}
 
 -- the recording, which has to be given
 abbrev pub recording_rule : Rule
@@ -17,6 +17,14 @@ flag_rule name = record (new_rule name) { long = Some name; action = Some SetTru
 -- `--NAME VALUE`
 abbrev pub value_rule : Text → Rule
 value_rule name = record (new_rule name) { long = Some name; value_names = 1; action = Some Set }
+
+-- `--NAME VALUE`, which may be given several times
+abbrev pub repeated_rule : Text → Rule
+repeated_rule name = record (new_rule name) { long = Some name; value_names = 1; action = Some Append }
+
+-- `-j N,..`: 106 is the letter j
+abbrev pub jobs_rule : Rule
+jobs_rule = record (new_rule (codes "jobs")) { short = Some 106; value_names = 1; action = Some Set }
 
 -- a command of this name with these arguments
 abbrev pub shape_with : Text → List Rule → Shape
@@ -46,9 +54,16 @@ bare_races =
 abbrev pub races_shape : Shape
 races_shape = (with_findings bare_races).top
 
--- `certify [--json] RECORDING`, and what both take
+-- `certify [--all] [--json] [--strict] [--trust FILE] RECORDING`, and what both take
 abbrev pub bare_certify : App
-bare_certify = with_rule (with_rule (new_app (codes "certify")) (flag_rule (codes "json"))) recording_rule
+bare_certify =
+    with_rule
+    (with_rule
+    (with_rule
+    (with_rule (with_rule (new_app (codes "certify")) (flag_rule (codes "all"))) (flag_rule (codes "json")))
+    (flag_rule (codes "strict")))
+    (value_rule (codes "trust")))
+    recording_rule
 
 abbrev pub certify_shape : Shape
 certify_shape = (with_findings bare_certify).top
@@ -85,6 +100,13 @@ compare_shape =
     shape_with (codes "compare")
     (flag_rule (codes "all") ∷ flag_rule (codes "json") ∷ recording_rule ∷ other_rule ∷ [])
 
+-- `schedule [-j N,..] [--faster OUT=FACTOR].. [--pool NAME=DEPTH].. [--without FILE] [--json] RECORDING`
+abbrev pub schedule_shape : Shape
+schedule_shape =
+    shape_with (codes "schedule")
+    (jobs_rule ∷ repeated_rule (codes "faster") ∷ repeated_rule (codes "pool") ∷ value_rule (codes "without")
+    ∷ flag_rule (codes "json") ∷ recording_rule ∷ [])
+
 -- the program without its words: one has to be given
 abbrev pub bare_program : App
 bare_program = on_top (λ s. record s { has_version = true; subcommand_required = true }) (new_app (codes "rebug"))
@@ -95,11 +117,13 @@ program =
     with_subcommand
     (with_subcommand
     (with_subcommand
+    (with_subcommand
     (with_subcommand (with_subcommand (with_subcommand (with_subcommand bare_program races_shape) certify_shape)
     replay_shape) ask_shape)
     picture_shape)
     timeline_shape)
-    compare_shape
+    compare_shape)
+    schedule_shape
 
 -- the word that a name is
 abbrev pub word_named : Text → Word
@@ -109,7 +133,8 @@ word_named name =
     if bytes_eq name (codes "certify") then Certify else
     if bytes_eq name (codes "picture") then Picture else
     if bytes_eq name (codes "timeline") then Timeline else
-    if bytes_eq name (codes "compare") then Compare else Races
+    if bytes_eq name (codes "compare") then Compare else
+    if bytes_eq name (codes "schedule") then Schedule else Races
 
 -- the word that was given, and what was given to it
 abbrev pub given_name : List Text → Text
@@ -121,3 +146,7 @@ given_rows words = unwrap_or (option_map (λ p. p.1) (subcommand_of program word
 -- the value of an argument of that word, if it was given one
 abbrev pub value_in : List Text → Text → Option Text
 value_in words name = first_of name (given_rows words)
+
+-- the values of an argument of that word that may be given several times, in their order
+abbrev pub values_in : List Text → Text → List Text
+values_in words name = unwrap_or (all_of name (given_rows words)) []

@@ -2,7 +2,7 @@
 ghost use Rattle.std.specs.Prelude.{◌≡◌, codes, false, IfOk, IsOkAnd};
 ghost use Rattle.clap.specs.Words.{AddsSubcommand, app_of, rule_of, shape_of};
 ghost use Rattle.clap.specs.declared.builder.command.Command.TheViews.{out-Command};
-ghost use Rattle.rev_asking.specs.Asking.{ask_shape, bare_certify, bare_program, bare_races, certify_shape, compare_shape, flag_rule, other_rule, out_rule, picture_shape, program, races_shape, recording_rule, replay_shape, timeline_shape, value_rule, with_findings};
+ghost use Rattle.rev_asking.specs.Asking.{ask_shape, bare_certify, bare_program, bare_races, certify_shape, compare_shape, flag_rule, jobs_rule, other_rule, out_rule, picture_shape, program, races_shape, recording_rule, repeated_rule, replay_shape, schedule_shape, timeline_shape, value_rule, with_findings};
 
 use clap::{Arg, ArgAction, Command};
 use std::alloc::{AllocError, Global};
@@ -60,6 +60,30 @@ fn valued<'a>(alloc: Global, name: &'a str, value: &'a str, help: &'a str) -> Ar
         .long(name)
         .value_name(value)
         .help(help)
+        .action(ArgAction::Set)
+}
+
+// An option that takes a value, and may be given several times.
+fn repeated<'a>(alloc: Global, name: &'a str, value: &'a str, help: &'a str) -> Arg<'a>
+    ensures rule { rule_of result ≡ repeated_rule name.entry.now }
+    ensures alone { result.global ≡ false }
+{
+    Arg::new(alloc, name)
+        .long(name)
+        .value_name(value)
+        .help(help)
+        .action(ArgAction::Append)
+}
+
+// `-j N,..`
+fn jobs<'a>(alloc: Global) -> Arg<'a>
+    ensures rule { rule_of result ≡ jobs_rule }
+    ensures alone { result.global ≡ false }
+{
+    Arg::new(alloc, "jobs")
+        .short('j')
+        .value_name("N,..")
+        .help("With how many jobs; else with as many as the recording had, and with 1 to 64")
         .action(ArgAction::Set)
 }
 
@@ -140,16 +164,32 @@ fn races<'a>(alloc: Global) -> Result<Command<'a>, AllocError>
     with_findings(alloc, races)
 }
 
-// `certify [--json] RECORDING`, but for what `races` takes too.
+// `certify [--all] [--json] [--strict] [--trust FILE] RECORDING`, but for what `races` takes too.
 fn bare_certify<'a>(alloc: Global) -> Result<Command<'a>, AllocError>
     ensures shape { IfOk result (λ c. app_of c ≡ bare_certify) }
     ensures local { IfOk result (λ c. (out-Command c).has_globals ≡ false) }
 {
     Command::new(alloc, "certify")
         .about(
-            "Whether no schedule of the build gives a command other inputs, by what its commands were seen to do",
+            "Whether no order of the build gives a command other inputs, by what its commands were seen to do",
         )
+        .arg(flag(
+            alloc,
+            "all",
+            "Tells all that stands in the way and all that is assumed",
+        ))?
         .arg(json(alloc))?
+        .arg(flag(
+            alloc,
+            "strict",
+            "Refuses each assumption but the targets and that a command that sees the same does the same",
+        ))?
+        .arg(valued(
+            alloc,
+            "trust",
+            "FILE",
+            "Counts commands as observed whole whose flags the lines of this file name, each with a reason",
+        ))?
         .arg(recording(alloc))
 }
 
@@ -260,6 +300,38 @@ fn compare<'a>(alloc: Global) -> Result<Command<'a>, AllocError>
         .arg(other(alloc))
 }
 
+// `schedule [-j N,..] [--faster OUT=FACTOR].. [--pool NAME=DEPTH].. [--without FILE] [--json] RECORDING`
+fn schedule<'a>(alloc: Global) -> Result<Command<'a>, AllocError>
+    ensures shape { IfOk result (λ c. shape_of c ≡ schedule_shape) }
+    ensures local { IfOk result (λ c. (out-Command c).has_globals ≡ false) }
+{
+    Command::new(alloc, "schedule")
+        .about(
+            "How long the build takes with other jobs, by Ninja's own rules and the times of the recording",
+        )
+        .arg(jobs(alloc))?
+        .arg(repeated(
+            alloc,
+            "faster",
+            "OUT=FACTOR",
+            "The command that makes OUT is so many times as fast, as main.o=1.5",
+        ))?
+        .arg(repeated(
+            alloc,
+            "pool",
+            "NAME=DEPTH",
+            "The pool has another depth, as link=2; 0 is no limit",
+        ))?
+        .arg(valued(
+            alloc,
+            "without",
+            "FILE",
+            "Without the orders of the file's lines OUT INPUT: OUT does not wait for who makes INPUT",
+        ))?
+        .arg(json(alloc))?
+        .arg(recording(alloc))
+}
+
 // The program without its words.
 fn bare_command<'a>(alloc: Global) -> Command<'a>
     ensures { app_of result ≡ bare_program }
@@ -293,5 +365,6 @@ pub(crate) fn command<'a>(alloc: Global) -> Result<Command<'a>, AllocError>
     let program = with_word(program, ask(alloc))?;
     let program = with_word(program, picture(alloc))?;
     let program = with_word(program, timeline(alloc))?;
-    with_word(program, compare(alloc))
+    let program = with_word(program, compare(alloc))?;
+    with_word(program, schedule(alloc))
 }

@@ -4,4 +4,4 @@
 mod command;
 mod words;
 
-pub use words::{Request, Word, read_words};
+pub use words::{Request, Word, read_values, read_words};

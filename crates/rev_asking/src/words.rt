@@ -1,11 +1,11 @@
 //! The words of the command line, read.
 ghost use Rattle.std.specs.Prelude.{◌≡◌, ◌↔◌, [], codes, false, IfOk, IsTrue, None, Some, map, option_map, string_bytes, unwrap_or};
-ghost use Rattle.clap.specs.Words.{FailsBy, fault_of, first_value, found_of, subcommand_of, subcommand_rows_of};
-ghost use Rattle.rev_asking.specs.Asking.{given_name, program, value_in, word_named};
+ghost use Rattle.clap.specs.Words.{FailsBy, fault_of, first_value, found_of, matched_of, raw_values, subcommand_of, subcommand_rows_of};
+ghost use Rattle.rev_asking.specs.Asking.{given_name, program, value_in, values_in, word_named};
 
 use crate::command::command;
 use clap::{ArgMatches, Error};
-use std::alloc::Global;
+use std::alloc::{AllocError, Global};
 
 /// What is asked of a recording.
 #[derive(Clone, Copy, Debug, PartialEq, Eq)]
@@ -24,6 +24,8 @@ pub enum Word {
     Timeline,
     /// What differs between it and another recording.
     Compare,
+    /// How long its build takes by other schedules.
+    Schedule,
 }
 
 /// What the words of a command line ask for.
@@ -59,6 +61,14 @@ pub struct Request<'a> {
     pub baseline: Option<&'a str>,
     /// The file to write that knows all findings, if it was named.
     pub write_baseline: Option<&'a str>,
+    /// The numbers of jobs, as they were given, if they were.
+    pub jobs: Option<&'a str>,
+    /// The file of orders that are left out, if it was named.
+    pub without: Option<&'a str>,
+    /// Whether each assumption but two stands in the way of a certificate.
+    pub strict: bool,
+    /// The file of trusted flags, if it was named.
+    pub trust: Option<&'a str>,
 }
 
 /// What the words of a command line ask for, the first of which is the program's name.
@@ -96,12 +106,58 @@ pub fn read_words<'a>(alloc: Global, words: &'a [String]) -> Result<Request<'a>,
         ≡ value_in (map string_bytes words.entry.now) (codes "baseline")) }
     ensures write_baseline { IfOk result (λ a. option_map (λ s. s.now) a.write_baseline
         ≡ value_in (map string_bytes words.entry.now) (codes "write-baseline")) }
+    ensures jobs { IfOk result (λ a. option_map (λ s. s.now) a.jobs
+        ≡ value_in (map string_bytes words.entry.now) (codes "jobs")) }
+    ensures without { IfOk result (λ a. option_map (λ s. s.now) a.without
+        ≡ value_in (map string_bytes words.entry.now) (codes "without")) }
+    ensures strict { IfOk result (λ a. IsTrue a.strict
+        ↔ value_in (map string_bytes words.entry.now) (codes "strict") ≡ Some (codes "true")) }
+    ensures trust { IfOk result (λ a. option_map (λ s. s.now) a.trust
+        ≡ value_in (map string_bytes words.entry.now) (codes "trust")) }
     ensures fails { FailsBy (fault_of program (map string_bytes words.entry.now)) result }
 {
     let matches = matches_of(alloc, words)?;
     match matches.subcommand() {
         Some((name, given)) => Ok(asked_of(name, given)),
         None => Ok(nothing_asked()),
+    }
+}
+
+/// The values of an option that may be given several times, in their order. The words are those of [`read_words`].
+///
+/// # Errors
+/// As [`read_words`].
+pub fn read_values<'a>(
+    alloc: Global,
+    words: &'a [String],
+    name: &str,
+) -> Result<Vec<&'a str>, Error>
+    ensures values { IfOk result (λ vs. map (λ v. v.now) vs.items
+        ≡ values_in (map string_bytes words.entry.now) name.now) }
+    ensures fails { FailsBy (fault_of program (map string_bytes words.entry.now)) result }
+{
+    let matches = matches_of(alloc, words)?;
+    match matches.subcommand() {
+        Some((_, given)) => {
+            let values = values_of(alloc, given, name)?;
+            Ok(values)
+        }
+        None => Ok(Vec::new(alloc)),
+    }
+}
+
+// The values of an option among what was given.
+fn values_of<'a>(
+    alloc: Global,
+    given: &ArgMatches<'a>,
+    name: &str,
+) -> Result<Vec<&'a str>, AllocError>
+    ensures { IfOk result (λ vs. map (λ v. v.now) vs.items
+        ≡ unwrap_or (option_map raw_values (matched_of (found_of given.now) name.now)) []) }
+{
+    match given.get_strs(name) {
+        Some(values) => Vec::from_slice(alloc, values),
+        None => Ok(Vec::new(alloc)),
     }
 }
 
@@ -132,6 +188,10 @@ fn asked_of<'a>(name: &str, given: &ArgMatches<'a>) -> Request<'a>
     ensures format { option_map (λ s. s.now) result.format ≡ first_value (found_of given.now) (codes "format") }
     ensures baseline { option_map (λ s. s.now) result.baseline ≡ first_value (found_of given.now) (codes "baseline") }
     ensures write_baseline { option_map (λ s. s.now) result.write_baseline ≡ first_value (found_of given.now) (codes "write-baseline") }
+    ensures jobs { option_map (λ s. s.now) result.jobs ≡ first_value (found_of given.now) (codes "jobs") }
+    ensures without { option_map (λ s. s.now) result.without ≡ first_value (found_of given.now) (codes "without") }
+    ensures strict { IsTrue result.strict ↔ first_value (found_of given.now) (codes "strict") ≡ Some (codes "true") }
+    ensures trust { option_map (λ s. s.now) result.trust ≡ first_value (found_of given.now) (codes "trust") }
 {
     Request {
         word: word_named(name),
@@ -149,6 +209,10 @@ fn asked_of<'a>(name: &str, given: &ArgMatches<'a>) -> Request<'a>
         format: given.get_str("format"),
         baseline: given.get_str("baseline"),
         write_baseline: given.get_str("write-baseline"),
+        jobs: given.get_str("jobs"),
+        without: given.get_str("without"),
+        strict: is_on(given, "strict"),
+        trust: given.get_str("trust"),
     }
 }
 
@@ -169,6 +233,10 @@ fn nothing_asked<'a>() -> Request<'a>
     ensures format { result.format ≡ None }
     ensures baseline { result.baseline ≡ None }
     ensures write_baseline { result.write_baseline ≡ None }
+    ensures jobs { result.jobs ≡ None }
+    ensures without { result.without ≡ None }
+    ensures strict { result.strict ≡ false }
+    ensures trust { result.trust ≡ None }
 {
     Request {
         word: Word::Races,
@@ -186,6 +254,10 @@ fn nothing_asked<'a>() -> Request<'a>
         format: None,
         baseline: None,
         write_baseline: None,
+        jobs: None,
+        without: None,
+        strict: false,
+        trust: None,
     }
 }
 
@@ -215,6 +287,8 @@ fn word_named(name: &str) -> Word
         Word::Timeline
     } else if name == "compare" {
         Word::Compare
+    } else if name == "schedule" {
+        Word::Schedule
     } else {
         Word::Races
     }

@@ -127,6 +127,83 @@ fn add_orders(
     Ok(())
 }
 
+// Adds the folders of a deed.
+fn add_folders_of(
+    entries: &[Entry],
+    deed: &Deed,
+    count: u32,
+    folders: &mut Vec<u32>,
+) -> Result<(), AllocError> {
+    for number in deed.first..end_of(deed.last, count) {
+        if let Some(entry) = entries.get(number as usize) {
+            if let Some(folder) = entry.folder {
+                folders.push(folder)?;
+            }
+        }
+    }
+    Ok(())
+}
+
+// The folders in which a command changes entries, in their order.
+fn own_folders(
+    alloc: Global,
+    entries: &[Entry],
+    command: &Command,
+    count: u32,
+) -> Result<Vec<u32>, AllocError> {
+    let mut folders = Vec::new(alloc);
+    for deed in &command.deeds {
+        if is_doing(Doing::Changes, deed.word) {
+            add_folders_of(entries, deed, count, &mut folders)?;
+        }
+    }
+    folders.sort_unstable();
+    Ok(folders)
+}
+
+// Adds the folders of a range for which a user asks, in which others change entries, and in which the user does not.
+fn add_folder_stamps(
+    user: u32,
+    deed: &Deed,
+    changed: &[bool],
+    own: &[u32],
+    count: u32,
+    assumptions: &mut Vec<Assumption>,
+) -> Result<(), AllocError> {
+    for folder in deed.first..end_of(deed.last, count) {
+        if mark_of(changed, folder) && own.binary_search(&folder).is_err() {
+            assumptions.push(Assumption::Stamps {
+                entry: folder,
+                user,
+            })?;
+        }
+    }
+    Ok(())
+}
+
+// Adds the folders for whose stamps commands may ask.
+fn add_all_folder_stamps(
+    alloc: Global,
+    entries: &[Entry],
+    commands: &[Command],
+    changed: &[bool],
+    count: u32,
+    assumptions: &mut Vec<Assumption>,
+) -> Result<(), AllocError>
+    requires { length commands.now < 2 ^ 32 }
+{
+    for user in 0..commands.len() {
+        let command = &commands[user];
+        let own = own_folders(alloc, entries, command, count)?;
+        for deed in &command.deeds {
+            if matches!(deed.word, Word::Folder) {
+                add_folder_stamps(user as u32, deed, changed, &own, count, assumptions)?;
+            }
+        }
+    }
+    Ok(())
+}
+
 // Adds the stamps for which commands ask.
 fn add_all_stamps(
     commands: &[Command],
@@ -283,6 +360,14 @@ pub(crate) fn assumptions_of(
     assumptions.push(Assumption::SeesTheSame)?;
     add_ensured(alloc, commands, count, &mut assumptions)?;
     add_all_stamps(commands, &left, count, &mut assumptions)?;
+    add_all_folder_stamps(
+        alloc,
+        &scene.entries,
+        commands,
+        &folders,
+        count,
+        &mut assumptions,
+    )?;
     add_all_orders(commands, &folders, count, &mut assumptions)?;
     add_caches(observation, count, &mut assumptions)?;
     add_hidden_entries(&scene.entries, &changes, &mut assumptions)?;

@@ -14,9 +14,10 @@ pub enum Assumption {
         /// The folder.
         entry: u32,
     },
-    /// A command asks for the stamp of what another one leaves, and only the content matters to it.
+    /// A command asks for the stamp of what another one leaves, and only the content matters to it. Or it asks for a
+    /// folder in which others change entries, and only that the folder is there matters to it.
     Stamps {
-        /// The file.
+        /// The file, or the folder.
         entry: u32,
         /// Who asks.
         user: u32,

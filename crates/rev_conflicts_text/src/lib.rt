@@ -1,21 +1,19 @@
-//! The findings of an observation, and its certificate, in words and as JSON.
+//! The findings of an observation, in words and as JSON.
 #![tactic(auto)]
 
-mod certificate;
-mod certified;
 mod finding;
 mod json;
 mod lines;
 mod other_names;
+mod stale;
 mod told;
 mod words;
 
-pub use certificate::{CertainLine, Stale, Way};
-pub use certified::{Certified, NOT_CERTAIN};
 pub use finding::{Finding, Kind, Mending, Reverse};
 pub use json::findings_json;
 pub use lines::kind_word;
 pub use other_names::{build_folder, is_one_file, name_within};
+pub use stale::Stale;
 pub use told::{
     add_undeclared, add_unlisted, conflict_findings, conflicts_left, pair_of, races_left, seen_in,
 };

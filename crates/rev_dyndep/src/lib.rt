@@ -10,5 +10,5 @@ mod told;
 
 pub use fault::{DyndepFault, DyndepKind, ReadFault};
 pub use reading::read;
-pub use resolved::is_resolved;
+pub use resolved::{first_other, is_resolved};
 pub use told::Told;

@@ -1,5 +1,5 @@
 //! Whether a manifest is another one with what dyndep files say.
-ghost use Rattle.std.specs.Prelude.{◌≡◌, ◌++◌, ◌∷◌, ◌&&◌, List, bytes_eq, IfOk, OnOk};
+ghost use Rattle.std.specs.Prelude.{◌≡◌, ◌++◌, ◌∷◌, ◌&&◌, List, bytes_eq, is_none, IfOk, OnOk};
 ghost use Rattle.rev_manifest.specs.Builds.{BuildValue};
 ghost use Rattle.std.specs.List.{list_any};
 ghost use Rattle.rev_dyndep.specs.Resolved.{are_resolved, is_resolved, same_edge, same_flags, same_line, same_place, same_pool, same_texts, speaks_of, with_told};
@@ -163,31 +163,40 @@ fn step<'a>(
     Ok((same_edge(plain, found), told))
 }
 
-// Whether edges are others with what statements say of them.
-fn are_resolved(
+/// The place of the first edge that is not the one of its place among others with what a statement says of it; none
+/// where each edge is, and each statement speaks of one. It is the number of edges where edges or statements are left
+/// over. The statements stand in the order of the edges that they speak of.
+///
+/// # Errors
+/// [`AllocError`] only where an allocation was refused.
+pub fn first_other(
     alloc: Global,
     told: &[Told],
     plain: &[Build],
     found: &[Build],
-) -> Result<bool, AllocError>
-    ensures { IfOk result (λ it. it ≡ are_resolved told.now plain.now found.now) }
+) -> Result<Option<usize>, AllocError>
+    ensures { IfOk result (λ other. is_none other ≡ are_resolved told.now plain.now found.now) }
 {
     let mut statements = told;
     let mut edges = plain;
     let mut others = found;
     while let Some((edge, more)) = edges.split_first() {
+        let place = plain.len().saturating_sub(edges.len());
         let Some((other, left)) = others.split_first() else {
-            return Ok(false);
+            return Ok(Some(place));
         };
         let (is_same, behind) = step(alloc, statements, edge, other)?;
         if !is_same {
-            return Ok(false);
+            return Ok(Some(place));
         }
         statements = behind;
         edges = more;
         others = left;
     }
-    Ok(statements.is_empty() && others.is_empty())
+    if statements.is_empty() && others.is_empty() {
+        return Ok(None);
+    }
+    Ok(Some(plain.len()))
 }
 
 /// Whether a manifest is another one with what dyndep files say. Each edge that a statement speaks of has the
@@ -206,6 +215,6 @@ pub fn is_resolved(
 {
     Ok(
         plain.defaults() == found.defaults()
-            && are_resolved(alloc, told, plain.builds(), found.builds())?,
+            && first_other(alloc, told, plain.builds(), found.builds())?.is_none(),
     )
 }

@@ -669,7 +669,7 @@ fn push_clashes(
 
 /// The edges that have their depfile where an earlier one has its own, each with the first that has it there, and then
 /// the same of response files.
-pub fn told_clashes(alloc: Global, builds: &[Build]) -> Result<Vec<Clash>, AllocError> {
+pub(crate) fn told_clashes(alloc: Global, builds: &[Build]) -> Result<Vec<Clash>, AllocError> {
     let mut told = Vec::new(alloc);
     push_clashes(&mut told, alloc, SideFile::Depfile, builds)?;
     push_clashes(&mut told, alloc, SideFile::ResponseFile, builds)?;

@@ -10,10 +10,9 @@ mod reporting;
 mod seen;
 mod writers;
 
-pub use found::{last_runs, told_clashes, witness_of};
+pub use found::{last_runs, witness_of};
 pub use hinted::{names_in, output_names};
-pub use reporting::{Basis, add_hints, replayed_of, report_of};
+pub use reporting::{Basis, add_hints, report_of};
 pub use seen::{
-    Origin, Sight, conflict_findings_in, count_findings, hidden_count, hidden_places,
-    seen_findings, sight_in, stale_files, unfiltered, unlisted_count,
+    Origin, Sight, count_findings, hidden_places, seen_findings, sight_in, whole_marks,
 };

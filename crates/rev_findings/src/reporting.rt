@@ -36,7 +36,7 @@ fn running_count(runs: &[Option<Run>]) -> u64 {
 }
 
 /// How much of a recording counts, whose trace has so many commands.
-pub fn replayed_of(desk: &Desk, runs: &[Option<Run>], all: u64) -> Replayed {
+pub(crate) fn replayed_of(desk: &Desk, runs: &[Option<Run>], all: u64) -> Replayed {
     let commands = desk.journal().len() as u64;
     Replayed {
         commands,

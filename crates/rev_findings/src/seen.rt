@@ -136,7 +136,7 @@ fn spots_of(alloc: Global, conflicts: &[Conflict]) -> Result<Vec<Spot>, AllocErr
 ///
 /// # Errors
 /// [`AllocError`] only where an allocation was refused.
-pub fn unfiltered(
+pub(crate) fn unfiltered(
     alloc: Global,
     graph: &Graph,
     files: &[Name],
@@ -160,7 +160,11 @@ pub fn unfiltered(
 ///
 /// # Errors
 /// [`AllocError`] only where an allocation was refused.
-pub fn hidden_count(alloc: Global, all: &[Conflict], told: &[Conflict]) -> Result<u64, AllocError> {
+pub(crate) fn hidden_count(
+    alloc: Global,
+    all: &[Conflict],
+    told: &[Conflict],
+) -> Result<u64, AllocError> {
     let all = spots_of(alloc, all)?;
     let told = spots_of(alloc, told)?;
     Ok((all.len() as u64).saturating_sub(told.len() as u64))
@@ -323,7 +327,7 @@ fn ended_well(
 ///
 /// # Errors
 /// [`AllocError`] where an allocation was refused, or edges and paths together are 2^32 or more.
-pub fn stale_files(
+pub(crate) fn stale_files(
     alloc: Global,
     history: &History,
     origin: Origin<'_>,
@@ -472,7 +476,7 @@ fn story_told(story: Option<Story>, user_began: bool) -> Option<Story> {
 ///
 /// # Errors
 /// [`AllocError`] only where an allocation was refused.
-pub fn conflict_findings_in<'a>(
+pub(crate) fn conflict_findings_in<'a>(
     alloc: Global,
     history: &'a History,
     builds: &'a [Build],
@@ -541,21 +545,6 @@ pub fn whole_marks<'a>(sight: Option<&'a Sight>) -> &'a [bool] {
         Some(sight) => &sight.whole,
         None => &[],
     }
-}
-
-/// How many findings there are about unlisted inputs.
-///
-/// # Errors
-/// [`AllocError`] only where an allocation was refused.
-pub fn unlisted_count(
-    alloc: Global,
-    graph: &Graph,
-    observed: &Observed,
-    unlisted: &[Unlisted],
-) -> Result<u64, AllocError> {
-    let mut findings = Vec::new(alloc);
-    add_unlisted(alloc, graph, &observed.observation, unlisted, &mut findings)?;
-    Ok(findings.len() as u64)
 }
 
 // How many commands were observed whole.

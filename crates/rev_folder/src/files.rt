@@ -1,4 +1,5 @@
 //! The files of a recording, which are read from its folder alone.
+use crate::resolved::read_resolved;
 use rev_fields::{LineFault, read_fields};
 use rev_paths::{Name, PathFault};
 use rev_program::{
@@ -23,6 +24,8 @@ pub struct Recording {
     pub files: Vec<(Vec<u8>, Vec<u8>)>,
     /// The trace.
     pub trace: Vec<u8>,
+    /// What the recorder said of dyndep files.
+    pub notes: Vec<Vec<u8>>,
 }
 
 // Written, since a derived drop is proved again at each exit of each caller.
@@ -31,6 +34,7 @@ impl Drop for Recording {
         let Recording {
             files: _files,
             trace: _trace,
+            notes: _notes,
         } = self;
     }
 }
@@ -69,7 +73,7 @@ pub fn place_of<'a, R: Files>(rt: &R, recording: &'a str) -> Place<'a> {
 }
 
 // The path of a file of a recording.
-fn path_of(alloc: Global, place: Place<'_>, name: &str) -> Result<String, AllocError> {
+pub(crate) fn path_of(alloc: Global, place: Place<'_>, name: &str) -> Result<String, AllocError> {
     let mut path = String::new(alloc);
     if !name.starts_with('/') {
         path.push_str(place.folder)?;
@@ -80,7 +84,10 @@ fn path_of(alloc: Global, place: Place<'_>, name: &str) -> Result<String, AllocE
 }
 
 // The text of the folder of a recording.
-fn folder_of<R: Files + AllocGlobal>(rt: &R, place: Place<'_>) -> Result<Vec<u8>, ReadFault> {
+pub(crate) fn folder_of<R: Files + AllocGlobal>(
+    rt: &R,
+    place: Place<'_>,
+) -> Result<Vec<u8>, ReadFault> {
     let mut path = String::new(rt.alloc());
     path.push_str(place.folder)?;
     path.push_str(place.between)?;
@@ -104,7 +111,9 @@ fn read_file<R: Files + AllocGlobal>(
 /// # Errors
 /// [`ProgramFault::BuildFolder`] where there is a manifest and no trace; [`ProgramFault::Manifest`],
 /// [`ProgramFault::Included`] and [`ProgramFault::Trace`] with the reason where such a file is not read, and
-/// [`ProgramFault::Beside`] where the file `ninja` is not, which names the manifest; else [`ProgramFault::Memory`].
+/// [`ProgramFault::Beside`] where the file `ninja` is not, which names the manifest. Where the recording has a folder
+/// `dyndep`, [`ProgramFault::Dyndep`] where the manifest is not the user's own with what the loaded dyndep files say, and
+/// [`ProgramFault::Kept`] where a file there is not read. Else [`ProgramFault::Memory`].
 pub fn read_recording<'a, R: Files + AllocGlobal>(
     rt: &R,
     recording: &'a str,
@@ -116,7 +125,12 @@ pub fn read_recording<'a, R: Files + AllocGlobal>(
     }
     let trace = trace?;
     let files = read_manifest(rt, recording, place)?;
-    Ok(Recording { files, trace })
+    let notes = read_resolved(rt, recording, place, &files)?;
+    Ok(Recording {
+        files,
+        trace,
+        notes,
+    })
 }
 
 // Why a folder without a trace is not read.

@@ -1,12 +1,13 @@
 //! What is foretold of a recorded build.
-use crate::changes::{ChangeFault, make_depth, make_faster};
+use crate::changes::{ChangeFault, make_depths, make_faster, steps_without};
 use rev_graph::Graph;
 use rev_manifest::Manifest;
 use rev_paths::Name;
 use rev_recorded_build::{build_by_numbers, build_by_weights};
 use rev_schedule::Build;
-use rev_schedule_wishes::{Faster, Ninja, Order, PoolDepth};
+use rev_schedule_wishes::{Faster, Ninja, Order, PoolDepth, Waiting};
 use rev_scheduling::{Figures, Ran, Recorded, end_with, ends_with, figures_of, jobs_at_once};
+use rev_waits::steps;
 use std::alloc::{AllocError, Global};
 
 /// What is asked of another schedule.
@@ -14,10 +15,19 @@ use std::alloc::{AllocError, Global};
 pub struct Wishes<'a> {
     /// With how many jobs; where none are named, as many as the build had, and 1, 2, 4 and so on up to 64.
     pub jobs: &'a [u32],
-    /// The command that is to be faster.
-    pub faster: Option<Faster<'a>>,
-    /// The pool that is to have another depth.
-    pub pool: Option<PoolDepth<'a>>,
+    /// The commands that are to be faster.
+    pub faster: &'a [Faster<'a>],
+    /// The pools that are to have other depths.
+    pub pools: &'a [PoolDepth<'a>],
+    /// The edges that are not to wait for a maker.
+    pub without: &'a [Waiting],
+}
+
+impl Wishes<'_> {
+    // Whether another build is asked for than the one that was recorded.
+    fn is_of_another(&self) -> bool {
+        !self.faster.is_empty() || !self.pools.is_empty() || !self.without.is_empty()
+    }
 }
 
 /// What is foretold.
@@ -56,19 +66,21 @@ fn durations_of(
     Ok(durations)
 }
 
-// The build in which these commands ran, as a Ninja of this order takes it.
+// The build in which these commands ran, as a Ninja of this order takes it. `steps` has for each edge the edges that it
+// waits for.
 fn build_of(
     alloc: Global,
     manifest: &Manifest,
     graph: &Graph,
+    steps: &[Vec<u32>],
     runs: &[Ran],
     targets: &[Name],
     order: Order,
 ) -> Result<Build, AllocError> {
     let durations = durations_of(alloc, graph, runs)?;
     match order {
-        Order::Numbers => build_by_numbers(alloc, manifest, graph, &durations, targets),
-        Order::CriticalPath => build_by_weights(alloc, manifest, graph, &durations, targets),
+        Order::Numbers => build_by_numbers(alloc, manifest, graph, steps, &durations, targets),
+        Order::CriticalPath => build_by_weights(alloc, manifest, graph, steps, &durations, targets),
     }
 }
 
@@ -85,21 +97,38 @@ fn jobs_of(alloc: Global, wishes: &Wishes<'_>, recorded: u32) -> Result<Vec<u32>
     Ok(jobs)
 }
 
-// Changes a build as it is asked for.
-fn change(
+// The build in which these commands ran, as it was recorded.
+fn recorded_build(
     alloc: Global,
     manifest: &Manifest,
     graph: &Graph,
-    build: &mut Build,
+    runs: &[Ran],
+    targets: &[Name],
+    order: Order,
+) -> Result<Build, AllocError> {
+    let steps = steps(alloc, graph)?;
+    build_of(alloc, manifest, graph, &steps, runs, targets, order)
+}
+
+// The build that is asked for. `build` is the one that was recorded.
+fn changed_build(
+    alloc: Global,
+    manifest: &Manifest,
+    graph: &Graph,
+    runs: &[Ran],
+    targets: &[Name],
+    order: Order,
+    build: Build,
     wishes: &Wishes<'_>,
-) -> Result<(), ChangeFault> {
-    if let Some(faster) = wishes.faster {
-        make_faster(alloc, graph, build, faster)?;
+) -> Result<Build, ChangeFault> {
+    let mut build = build;
+    if !wishes.without.is_empty() {
+        let steps = steps_without(alloc, graph, wishes.without)?;
+        build = build_of(alloc, manifest, graph, &steps, runs, targets, order)?;
     }
-    if let Some(pool) = wishes.pool {
-        make_depth(manifest, build, pool)?;
-    }
-    Ok(())
+    make_faster(alloc, graph, &mut build, wishes.faster)?;
+    make_depths(manifest, &mut build, wishes.pools)?;
+    Ok(build)
 }
 
 // The ends of a build with these numbers of jobs, where another build is asked for.
@@ -109,7 +138,7 @@ fn unchanged_ends(
     wishes: &Wishes<'_>,
     jobs: &[u32],
 ) -> Result<Vec<u64>, AllocError> {
-    if wishes.faster.is_none() && wishes.pool.is_none() {
+    if !wishes.is_of_another() {
         return Ok(Vec::new(alloc));
     }
     ends_with(alloc, build, jobs)
@@ -119,8 +148,9 @@ fn unchanged_ends(
 /// links with the first number of jobs that is asked for, else with as many as the build had.
 ///
 /// # Errors
-/// [`ChangeFault::NoCommand`] where no command that ran makes the output that is to be faster, [`ChangeFault::NoPool`]
-/// where the manifest has no pool of the name, and [`ChangeFault::Memory`] only where an allocation was refused.
+/// [`ChangeFault::NoOrder`] where an edge does not wait for the maker by an order-only input. [`ChangeFault::NoCommand`]
+/// where no command that ran makes an output that is to be faster. [`ChangeFault::NoPool`] where the manifest has no pool
+/// of a name. [`ChangeFault::Memory`] only where an allocation was refused.
 pub fn foretell(
     alloc: Global,
     manifest: &Manifest,
@@ -130,7 +160,7 @@ pub fn foretell(
     ninja: &Ninja,
     wishes: &Wishes<'_>,
 ) -> Result<Foretold, ChangeFault> {
-    let mut build = build_of(alloc, manifest, graph, runs, targets, ninja.order)?;
+    let build = recorded_build(alloc, manifest, graph, runs, targets, ninja.order)?;
     let given = match ninja.jobs {
         Some(jobs) => jobs,
         None => jobs_at_once(alloc, runs)?,
@@ -138,7 +168,16 @@ pub fn foretell(
     let recorded = Recorded::new(runs, given, end_with(alloc, &build, given)?.unwrap_or(0));
     let jobs = jobs_of(alloc, wishes, given)?;
     let unchanged = unchanged_ends(alloc, &build, wishes, &jobs)?;
-    change(alloc, manifest, graph, &mut build, wishes)?;
+    let mut build = changed_build(
+        alloc,
+        manifest,
+        graph,
+        runs,
+        targets,
+        ninja.order,
+        build,
+        wishes,
+    )?;
     let at = wishes.jobs.first().copied().unwrap_or(given);
     let figures = if recorded.is_near() {
         figures_of(alloc, &mut build, &jobs, at)?

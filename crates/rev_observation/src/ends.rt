@@ -10,8 +10,8 @@ use rev_fields::next_number;
 use sha2::{Digest, Sha256};
 use std::alloc::{AllocError, Global};
 
-// The SHA-256 of lines, each with the LF at its end.
-fn digest_of(lines: &[&[u8]]) -> [u8; 32]
+/// The SHA-256 of lines, each with the LF at its end.
+pub(crate) fn digest_of(lines: &[&[u8]]) -> [u8; 32]
     ensures { result ≡ sha256 (flat_map ended (slices_of lines.now)) }
 {
     let mut hasher = Sha256::new();

@@ -25,7 +25,7 @@ pub use entries::{Entries, OtherNames};
 pub use faults::{Fault, FaultKind, ReadFault};
 pub use flag::{Flag, FlagKind};
 pub use head::{Hidden, Observer};
-pub use locating::{command_line, last_line};
+pub use locating::{command_line, incomplete_line, last_line};
 pub use look::{Change, Look};
 pub use observation::Observation;
 pub use reading::{is_version_2, read};

@@ -122,12 +122,14 @@ fn push_flag(text: &mut Vec<u8>, flags: &[Flag], word: &[u8]) -> Result<(), Allo
     Ok(())
 }
 
-// `edge OUT [FLAG...]`
-fn push_edge(text: &mut Vec<u8>, command: &Command) -> Result<(), AllocError> {
+// `edge OUT [FLAG...]`. Of an incomplete observation each command is `cut`, since lines of it may be missing.
+fn push_edge(text: &mut Vec<u8>, command: &Command, is_complete: bool) -> Result<(), AllocError> {
     let flags = command.flags();
     text.extend_from_slice(b"edge")?;
     next_field(text, command.output().as_bytes())?;
-    push_flag(text, flags, b"cut")?;
+    if !is_complete || has_word(flags, b"cut") {
+        next_field(text, b"cut")?;
+    }
     push_flag(text, flags, b"server")?;
     push_flag(text, flags, b"namespace")?;
     push_flag(text, flags, b"uring")?;
@@ -149,9 +151,14 @@ fn push_looks(alloc: Global, text: &mut Vec<u8>, lines: &[Line]) -> Result<(), A
 }
 
 // The lines of a command.
-fn push_command(alloc: Global, text: &mut Vec<u8>, command: &Command) -> Result<(), AllocError> {
+fn push_command(
+    alloc: Global,
+    text: &mut Vec<u8>,
+    command: &Command,
+    is_complete: bool,
+) -> Result<(), AllocError> {
     let lines = command.lines();
-    push_edge(text, command)?;
+    push_edge(text, command, is_complete)?;
     push_looks(alloc, text, lines)?;
     push_deeds(alloc, text, b"misses", lines, MISSES)?;
     push_deeds(alloc, text, b"lists", lines, LISTS)?;
@@ -179,8 +186,9 @@ fn text_of(alloc: Global, observation: &Observation) -> Result<Vec<u8>, AllocErr
         next_field(&mut text, paths.path(place).as_bytes())?;
         text.push(b'\n')?;
     }
+    let is_complete = observation.is_complete();
     for command in observation.commands() {
-        push_command(alloc, &mut text, command)?;
+        push_command(alloc, &mut text, command, is_complete)?;
     }
     Ok(text)
 }
@@ -207,7 +215,8 @@ fn have_outputs(words: &[rev_observed::Command], commands: &[Command]) -> bool
 }
 
 /// The observation as version 1 says it (docs/FORMATS.md, "As words of version 1"): its paths under their numbers, and
-/// its commands in their order. It takes time linear in the observation, up to sorting the ranges of a command.
+/// its commands in their order. Where the observation is not complete, no command of it was observed whole. It takes
+/// time linear in the observation, up to sorting the ranges of a command.
 ///
 /// # Errors
 /// [`ReadFault::Memory`] only where an allocation was refused. The call reads the text that it writes. It gives

@@ -1,5 +1,5 @@
 //! The words of a command line, and what a program writes to standard error.
-use crate::fault::ProgramFault;
+use crate::fault::{FAILURE, ProgramFault};
 use crate::visible::push_visible;
 use clap::error::ErrorKind;
 use std::alloc::Global;
@@ -9,8 +9,6 @@ use std::rt::Env;
 
 /// The status of a wrong command line.
 pub const USAGE: u8 = 2;
-/// The status of a run that could not read, write or get memory.
-pub const FAILURE: u8 = 3;
 
 // The words of the command line. The first is `rebug`, which people type for both programs.
 fn given_words<R: Env + Alloc<A = Global>>(rt: &R) -> io::Result<Vec<String>> {
@@ -53,11 +51,12 @@ pub fn say<R: Eprint + AllocGlobal>(rt: &R, text: &[u8]) {
 
 /// Writes why a program ends, and returns its status.
 pub fn fail<R: Eprint + AllocGlobal>(rt: &R, fault: ProgramFault<'_>) -> ExitCode {
+    let status = fault.status();
     match format!(in rt.alloc(); "{fault}") {
         Ok(text) => say(rt, text.as_bytes()),
         Err(_) => say(rt, b"out of memory"),
     }
-    ExitCode::from(FAILURE)
+    ExitCode::from(status)
 }
 
 // The text about a command line, as a terminal may have it.

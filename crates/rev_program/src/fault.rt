@@ -1,8 +1,14 @@
 //! Faults that end a program.
 use rev_script::RunFault;
 use std::alloc::{AllocError, AllocFailed};
+use std::fmt;
 use std::io::ErrorKind;
 use thiserror::Error;
+
+/// The status of a run that met a fault in what it read.
+pub const FAULT: u8 = 1;
+/// The status of a run that could not read, write or get memory.
+pub const FAILURE: u8 = 3;
 
 /// Why a file is not read.
 #[derive(Clone, Copy, Debug, PartialEq, Eq, Error)]
@@ -45,7 +51,40 @@ impl From<ErrorKind> for Unread {
     }
 }
 
-/// Why a program ends with status 3. Where a sentence has a reason, the reason stands on a line of its own.
+/// The first fault of what a recording keeps of dyndep files.
+#[derive(Debug)]
+pub struct DyndepFault {
+    /// The name of the file in the recording.
+    pub file: String,
+    /// The number of the line, from 1; 0 where the fault is about no line.
+    pub line: u64,
+    /// The number of the fault, as docs/CODES.md lists it.
+    pub code: u16,
+    /// What the number means.
+    pub words: &'static str,
+}
+
+// Written, since a derived drop is proved again at each exit of each caller.
+impl Drop for DyndepFault {
+    fn drop(self) {
+        let DyndepFault {
+            file: _file,
+            line: _line,
+            code: _code,
+            words: _words,
+        } = self;
+    }
+}
+
+impl fmt::Display for DyndepFault {
+    fn fmt<W: fmt::Write>(&self, f: &mut fmt::Formatter<W>) -> fmt::Result {
+        let (file, line, words, code) = (&self.file, self.line, self.words, self.code);
+        write!(f, "{file}:{line}: {words} ({code}, docs/CODES.md)")
+    }
+}
+
+/// Why a program ends with status 3, or with status 1 ([`ProgramFault::status`]). Where a sentence has a reason, the
+/// reason stands on a line of its own.
 #[derive(Debug, Drop, Error)]
 pub enum ProgramFault<'a> {
     /// The system refused memory.
@@ -72,6 +111,12 @@ pub enum ProgramFault<'a> {
     /// Another file of a recording could not be read.
     #[error("cannot read the file {1} of {0}\nrebug: {2}")]
     Beside(&'a str, &'static str, Unread),
+    /// A file that a recording keeps of dyndep files, or of the user's own manifest, could not be read.
+    #[error("cannot read the file {1} of {0}\nrebug: {2}")]
+    Kept(&'a str, String, Unread),
+    /// The manifest of a recording is not the user's own with what dyndep files say, or one of these files has a fault.
+    #[error("cannot take the resolved manifest of {0}\nrebug: {1}")]
+    Dyndep(&'a str, DyndepFault),
     /// A folder has a manifest and no trace.
     #[error("{0} is a build folder, and not a recording: record it first\nrebug: for example: rebug record {0} RECORDING")]
     BuildFolder(&'a str),
@@ -81,6 +126,16 @@ pub enum ProgramFault<'a> {
     /// The file of a picture could not be written.
     #[error("cannot write {0}")]
     Out(&'a str),
+}
+
+impl ProgramFault<'_> {
+    /// The status of the program: [`FAULT`] where a file was read that has a fault, and else [`FAILURE`].
+    pub fn status(&self) -> u8 {
+        match self {
+            ProgramFault::Dyndep(_, _) => FAULT,
+            _ => FAILURE,
+        }
+    }
 }
 
 impl From<AllocError> for ProgramFault<'_> {

@@ -2,7 +2,7 @@
 use rev_graph::Graph;
 use std::alloc::{AllocError, Global};
 
-/// The edges, each behind the edges that make its inputs.
+/// The edges: those that make an edge's inputs stand before it.
 ///
 /// # Errors
 /// [`AllocError`] only where an allocation was refused.

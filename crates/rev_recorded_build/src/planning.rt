@@ -6,7 +6,6 @@ use rev_graph::Graph;
 use rev_manifest::Manifest;
 use rev_paths::Name;
 use rev_schedule::{Build, Job};
-use rev_waits::steps;
 use std::alloc::{AllocError, Global};
 
 // The edges that make some paths.
@@ -59,6 +58,24 @@ fn target_edges(
         return made_by(alloc, graph, graph.defaults());
     }
     roots(alloc, graph, steps)
+}
+
+// Adds the edges that ran and that no target needs, as those of validations.
+fn with_validations(
+    alloc: Global,
+    graph: &Graph,
+    steps: &[Vec<u32>],
+    durations: &[Option<u32>],
+    targets: Vec<u32>,
+) -> Result<Vec<u32>, AllocError> {
+    let needed = places_in_plan(alloc, steps, &targets)?;
+    let mut targets = targets;
+    for edge in 0..graph.edges() {
+        if duration_of(durations, edge).is_some() && place_of(&needed, edge).is_none() {
+            targets.push(edge)?;
+        }
+    }
+    Ok(targets)
 }
 
 // Marks of the edges that Ninja had in mind: those that the targets need and that ran, or for which one ran.
@@ -193,13 +210,14 @@ struct Wanted {
 fn wanted_by(
     alloc: Global,
     graph: &Graph,
+    steps: &[Vec<u32>],
     durations: &[Option<u32>],
     targets: &[Name],
 ) -> Result<Wanted, AllocError> {
-    let steps = steps(alloc, graph)?;
-    let targets = target_edges(alloc, graph, &steps, targets)?;
-    let marks = wanted_marks(alloc, graph, &steps, durations, &targets)?;
-    let makers = marked_makers(alloc, graph, &steps, &marks)?;
+    let named = target_edges(alloc, graph, steps, targets)?;
+    let targets = with_validations(alloc, graph, steps, durations, named)?;
+    let marks = wanted_marks(alloc, graph, steps, durations, &targets)?;
+    let makers = marked_makers(alloc, graph, steps, &marks)?;
     Ok(Wanted { makers, targets })
 }
 
@@ -222,7 +240,8 @@ fn build_with(
 /// The build in which commands took so long, by the numbers of their edges: none of an edge that did not run. Edges that
 /// are ready start by their numbers, and come first to their pools in the order of the plan, as up to Ninja 1.11. The
 /// edges keep their numbers. An edge that did not run takes no time, and one waits for it only where it waits for one
-/// that ran. `targets` are those that were named. Pool 0 has no limit, and pool n + 1 is the manifest's pool n.
+/// that ran. `steps` has for each edge the edges that it waits for, and `targets` are those that were named. Pool 0 has
+/// no limit, and pool n + 1 is the manifest's pool n.
 ///
 /// # Errors
 /// [`AllocError`] only where an allocation was refused.
@@ -230,10 +249,11 @@ pub fn build_by_numbers(
     alloc: Global,
     manifest: &Manifest,
     graph: &Graph,
+    steps: &[Vec<u32>],
     durations: &[Option<u32>],
     targets: &[Name],
 ) -> Result<Build, AllocError> {
-    let wanted = wanted_by(alloc, graph, durations, targets)?;
+    let wanted = wanted_by(alloc, graph, steps, durations, targets)?;
     let turns = Turns {
         rank: Vec::new(alloc),
         planned: places_in_plan(alloc, &wanted.makers, &wanted.targets)?,
@@ -249,10 +269,11 @@ pub fn build_by_weights(
     alloc: Global,
     manifest: &Manifest,
     graph: &Graph,
+    steps: &[Vec<u32>],
     durations: &[Option<u32>],
     targets: &[Name],
 ) -> Result<Build, AllocError> {
-    let wanted = wanted_by(alloc, graph, durations, targets)?;
+    let wanted = wanted_by(alloc, graph, steps, durations, targets)?;
     let edges = makers_first(alloc, graph)?;
     let owns = own_weights(alloc, graph)?;
     let weights = weights(alloc, &edges, &wanted.makers, &owns)?;

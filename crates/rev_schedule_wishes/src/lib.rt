@@ -5,4 +5,7 @@ mod ninja;
 mod wishes;
 
 pub use ninja::{Ninja, Order, ninja_in};
-pub use wishes::{Factor, Faster, PoolDepth, WishFault, faster_in, jobs_in, pool_in, sooner};
+pub use wishes::{
+    Factor, Faster, PoolDepth, Waiting, WaitingFault, WishFault, faster_in, jobs_in, pool_in,
+    sooner, waits_in,
+};

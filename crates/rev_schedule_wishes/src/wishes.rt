@@ -1,7 +1,7 @@
 //! What is asked of a schedule, read from words.
 ghost use Rattle.std.specs.Prelude.{◌<◌, IfSome};
 
-use rev_fields::{LineFault, number, wide_numbers};
+use rev_fields::{LineFault, number, read_fields, wide_numbers};
 use std::alloc::{AllocError, Global};
 
 // The most numbers of jobs that one question may have: each takes a schedule.
@@ -153,4 +153,81 @@ pub fn pool_in(text: &[u8]) -> Option<PoolDepth<'_>> {
     let (name, digits) = around_last(text)?;
     let depth = number(digits).ok()?;
     Some(PoolDepth { name, depth })
+}
+
+/// An edge that is not to wait for a maker: both are named by an output.
+pub struct Waiting {
+    /// The line, from 1.
+    pub line: u64,
+    /// An output of the edge.
+    pub out: Vec<u8>,
+    /// An output of the maker.
+    pub input: Vec<u8>,
+}
+
+// Written, since a derived drop is proved again at each exit of each caller.
+impl Drop for Waiting {
+    fn drop(self) {
+        let Waiting {
+            line: _line,
+            out: _out,
+            input: _input,
+        } = self;
+    }
+}
+
+/// Why a text names no edges that are not to wait.
+#[derive(Clone, Copy, Debug, PartialEq, Eq)]
+pub enum WaitingFault {
+    /// The line of this number, from 1, does not have two fields.
+    Line(u64),
+    /// The system refused memory.
+    Memory,
+}
+
+impl From<AllocError> for WaitingFault {
+    fn from(_error: AllocError) -> WaitingFault {
+        WaitingFault::Memory
+    }
+}
+
+impl<T: Drop> From<std::alloc::AllocFailed<T>> for WaitingFault {
+    fn from(_error: std::alloc::AllocFailed<T>) -> WaitingFault {
+        WaitingFault::Memory
+    }
+}
+
+// What a line of this number names.
+fn waiting_in(alloc: Global, line: &[u8], number: u64) -> Result<Waiting, WaitingFault> {
+    let fields = match read_fields(alloc, line) {
+        Ok(fields) => fields,
+        Err(LineFault::Memory) => return Err(WaitingFault::Memory),
+        Err(_) => return Err(WaitingFault::Line(number)),
+    };
+    let [out, input] = fields.as_slice() else {
+        return Err(WaitingFault::Line(number));
+    };
+    Ok(Waiting {
+        line: number,
+        out: Vec::from_slice(alloc, out)?,
+        input: Vec::from_slice(alloc, input)?,
+    })
+}
+
+/// The edges that a text names, each in a line `OUT INPUT` of two fields: the edge of OUT is not to wait for the maker of
+/// INPUT. Empty lines and lines that begin with `#` name nothing.
+///
+/// # Errors
+/// [`WaitingFault::Line`] with the first line of another form; [`WaitingFault::Memory`] only where an allocation was
+/// refused.
+pub fn waits_in(alloc: Global, text: &[u8]) -> Result<Vec<Waiting>, WaitingFault> {
+    let mut waits = Vec::new(alloc);
+    let mut number: u64 = 0;
+    for line in text.split(|byte| *byte == b'\n') {
+        number = number.saturating_add(1);
+        if !line.is_empty() && !line.starts_with(b"#") {
+            waits.push(waiting_in(alloc, line, number)?)?;
+        }
+    }
+    Ok(waits)
 }

@@ -32,8 +32,8 @@ fn run_before(runs: &[Run], places: &[Option<usize>], run: &Run) -> Option<Run> 
     runs.get(place).copied()
 }
 
-/// The runs on which the end of a schedule depends, in the order in which they begin: the one that ends last, the one
-/// whose end began that one, and so on back to a run that began as the build did.
+/// The runs on which the end of a schedule depends, in the order in which they begin. The last one is the run that ends
+/// last. Each began when the one before it ended, and the first one began as the build did.
 ///
 /// # Errors
 /// [`AllocError`] only where an allocation was refused.

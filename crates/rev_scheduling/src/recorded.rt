@@ -30,6 +30,8 @@ pub struct Recorded {
     pub jobs: u32,
     /// How long it took, from the first start to the last end, in milliseconds.
     pub took: u64,
+    /// How long its commands took, one after the other, in milliseconds.
+    pub work: u64,
     /// When the schedule ends, in milliseconds.
     pub scheduled: u64,
 }
@@ -39,9 +41,14 @@ impl Recorded {
     pub fn new(runs: &[Ran], jobs: u32, scheduled: u64) -> Recorded {
         let first = runs.iter().map(|run| run.from).min().unwrap_or(0);
         let last = runs.iter().map(|run| run.to).max().unwrap_or(0);
+        let mut work: u64 = 0;
+        for run in runs {
+            work = work.saturating_add(u64::from(run.took()));
+        }
         Recorded {
             jobs,
             took: u64::from(last.saturating_sub(first)),
+            work,
             scheduled,
         }
     }
@@ -55,6 +62,12 @@ impl Recorded {
         } else {
             self.took - self.scheduled
         }
+    }
+
+    /// How many tenths of a command ran at once on average.
+    pub fn at_once(&self) -> u64 {
+        let tens = self.work.saturating_mul(10);
+        tens.checked_div(self.took).unwrap_or(0)
     }
 
     /// By how many thousandths of the time that it took its schedule ends at another time.

@@ -30,6 +30,8 @@ pub struct Answer<'a> {
     pub edges: &'a [Edge<'a>],
     /// What was recorded.
     pub recorded: Recorded,
+    /// How many runs have no times.
+    pub untimed: u64,
     /// The figures; none where schedules foretell nothing.
     pub figures: Option<&'a Figures>,
     /// The ends of the build as it was recorded, in the order of the figures' endings, where another build was asked
@@ -122,15 +124,44 @@ fn push_recorded(document: &mut Writer, answer: &Answer<'_>) {
     document.words(" apart)");
     document.line();
     document.flag(To::Json("foretold"), answer.figures.is_some());
-    document.number_if(To::Json("work"), answer.figures.map(|it| it.work));
+    document.number(To::Json("work"), recorded.work);
+    document.number(To::Json("untimed"), answer.untimed);
     document.number_if(To::Json("longest"), answer.figures.map(|it| it.longest));
     document.close();
+}
+
+// Adds how many runs have no times.
+fn push_untimed(document: &mut Writer, untimed: u64) {
+    if untimed == 0 {
+        return;
+    }
+    document.words("  ");
+    document.count(To::Words, untimed, "command");
+    document.words(" without a time: the schedules do not have them");
+    document.line();
+}
+
+// Adds what no schedule knows, with the figure that the recording has.
+fn push_unknown(document: &mut Writer, recorded: Recorded) {
+    let at_once = recorded.at_once();
+    document.words("  each command takes as long as in the recording, where on average ");
+    document.number(To::Words, at_once / 10);
+    document.words(".");
+    document.number(To::Words, at_once % 10);
+    document.words(" ran at once");
+    document.line();
+    document.words(
+        "  with more at once a command may take longer; the recording has no processor times",
+    );
+    document.line();
 }
 
 // Adds why nothing is foretold.
 fn push_refusal(document: &mut Writer) {
     document.paint(Tone::Maybe);
-    document.words("  not foretold: the schedule is more than 5 % apart from what was recorded");
+    document.words(
+        "  nothing is foretold: the schedule ends more than 5 % apart from the recording",
+    );
     document.paint(Tone::Plain);
     document.line();
 }
@@ -229,10 +260,11 @@ fn push_gains(document: &mut Writer, answer: &Answer<'_>, figures: &Figures) {
     document.rest("    and ", " more (--json has them)");
 }
 
-/// Adds the answer: what was recorded beside its schedule, how the build goes with each number of jobs, the runs on
-/// which its end depends, and what is gained by faster commands.
+/// Adds the answer. It begins with what was recorded beside its schedule, and ends with what no schedule knows. Between
+/// them stand the ends with each number of jobs, the runs on which the end depends, and the gains of faster commands.
 pub fn push_answer(document: &mut Writer, answer: &Answer<'_>) {
     push_recorded(document, answer);
+    push_untimed(document, answer.untimed);
     let Some(figures) = answer.figures else {
         push_refusal(document);
         return;
@@ -240,4 +272,5 @@ pub fn push_answer(document: &mut Writer, answer: &Answer<'_>) {
     push_endings(document, figures, answer.unchanged);
     push_links(document, answer, figures);
     push_gains(document, answer, figures);
+    push_unknown(document, answer.recorded);
 }

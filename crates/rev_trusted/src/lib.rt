@@ -8,4 +8,5 @@ mod trust;
 
 pub use faults::{Fault, FaultKind, ReadFault};
 pub use kinds::{kind_of, word_of};
+pub use line::Line;
 pub use trust::Trust;

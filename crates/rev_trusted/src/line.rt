@@ -9,7 +9,8 @@ use std::alloc::{AllocError, Global};
 const ANY: &[u8] = b"*";
 
 /// What a line trusts, and why.
-pub(crate) struct Line {
+pub struct Line {
+    number: u64,
     kind: FlagKind,
     program: Vec<u8>,
     is_any: bool,
@@ -21,6 +22,7 @@ pub(crate) struct Line {
 impl Drop for Line {
     fn drop(self) {
         let Line {
+            number: _number,
             kind: _kind,
             program: _program,
             is_any: _is_any,
@@ -76,11 +78,15 @@ pub(crate) fn is_remark(line: &[u8]) -> bool {
 }
 
 impl Line {
-    /// What a line trusts; none where it may not stand in a file of trusted flags.
+    /// What the line of a number trusts; none where it may not stand in a file of trusted flags.
     ///
     /// # Errors
     /// [`AllocError`] only where an allocation was refused.
-    pub(crate) fn read(alloc: Global, line: &[u8]) -> Result<Option<Line>, AllocError> {
+    pub(crate) fn read(
+        alloc: Global,
+        line: &[u8],
+        number: u64,
+    ) -> Result<Option<Line>, AllocError> {
         let Some(words) = words_of(alloc, line)? else {
             return Ok(None);
         };
@@ -92,6 +98,7 @@ impl Line {
         let mut texts = Vec::new(alloc);
         texts.push(filters)?;
         Ok(Some(Line {
+            number,
             kind: words.kind,
             program: Vec::from_slice(alloc, words.program)?,
             is_any: words.pattern == ANY,
@@ -114,8 +121,13 @@ impl Line {
         is_hidden(alloc, &self.texts, flag.text.as_bytes())
     }
 
+    /// Its number in the file, from 1.
+    pub fn number(&self) -> u64 {
+        self.number
+    }
+
     /// Why it trusts.
-    pub(crate) fn reason(&self) -> &[u8] {
+    pub fn reason(&self) -> &[u8] {
         &self.reason
     }
 }

@@ -33,12 +33,10 @@ fn lines_of(alloc: Global, texts: &[&[u8]]) -> Result<Vec<Line>, ReadFault> {
         if is_remark(text) {
             continue;
         }
-        match Line::read(alloc, text)? {
+        let number = u64::saturating_add(place as u64, 2);
+        match Line::read(alloc, text, number)? {
             Some(line) => lines.push(line)?,
-            None => {
-                let number = u64::saturating_add(place as u64, 2);
-                return Err(fault(FaultKind::Syntax, number));
-            }
+            None => return Err(fault(FaultKind::Syntax, number)),
         }
     }
     Ok(lines)
@@ -76,15 +74,20 @@ impl Trust {
         })
     }
 
-    /// Why a flag is trusted: the reason of the first line that trusts it; none where no line does. It takes time linear in
-    /// the bytes of the file times those of the flag.
+    /// The lines that trust, in their order.
+    pub fn lines(&self) -> &[Line] {
+        self.lines.as_slice()
+    }
+
+    /// Which line trusts a flag: the place of the first one among [`Trust::lines`]; none where no line does. It takes
+    /// time linear in the bytes of the file times those of the flag.
     ///
     /// # Errors
     /// [`AllocError`] only where an allocation was refused.
-    pub fn reason(&self, alloc: Global, flag: &Flag) -> Result<Option<&[u8]>, AllocError> {
-        for line in &self.lines {
+    pub fn line_of(&self, alloc: Global, flag: &Flag) -> Result<Option<usize>, AllocError> {
+        for (place, line) in self.lines.iter().enumerate() {
             if line.trusts(alloc, flag)? {
-                return Ok(Some(line.reason()));
+                return Ok(Some(place));
             }
         }
         Ok(None)

@@ -1,214 +1,61 @@
-//! Whether no schedule of a recorded build gives its commands other inputs.
-ghost use Rattle.std.specs.Prelude.{◌≡◌, ◌<◌, Some, length, map};
+//! Whether no order of a recorded build's commands gives any of them other inputs.
+ghost use Rattle.std.specs.Prelude.{◌<◌, IsTrue, length};
 ghost use Rattle.std.specs.List.{AllByRecursion};
-ghost use Rattle.rev_observed.specs.Joins.{edge_of};
-ghost use Rattle.rev_observed.specs.Observations.{outputs_of};
 
 use crate::answering::{Written, written_with};
-use crate::forms::{Form, certified_items, items_text};
-use crate::leaving::{Choice, Leaving};
-use indexmap::IndexMap;
-use rev_certified::{Certificate, Marks, certify};
-use rev_conflicts::{Conflict, early_edges};
-use rev_conflicts_text::{Certified, Stale, Way};
+use crate::forms::Form;
+use crate::judging::{Judged, judge, unnamed};
+use crate::leaving::{Choice, Leaving, Left};
+use crate::needing::{idle_edges, last_targets, needed_edges};
+use crate::outdated::Outdated;
+use crate::stating::Verdict;
+use rev_certificate::{Certificate, Marks, certify};
+use rev_certificate_words::Named;
+use rev_conflicts::early_edges;
+use rev_conflicts_text::{Finding, Stale};
 use rev_desk::Desk;
-use rev_events::Event;
-use rev_findings::{
-    Origin, conflict_findings_in, hidden_count, stale_files, told_clashes, unfiltered,
-    unlisted_count,
-};
-use rev_folder::{Observed, hidden_by, observed_in};
-use rev_graph::{Graph, edges_among};
+use rev_findings::{Basis, hidden_places, report_of, seen_findings, whole_marks};
+use rev_folder::filters_in;
 use rev_history::History;
-use rev_observed::Flags;
-use rev_paths::Name;
+use rev_observation::Observation;
 use rev_races::{finished_edges, started_edges};
-use rev_races_text::{Clash, Replayed, Sources};
-use rev_recording::RecordingFault;
+use rev_races_text::{LeftOut, Report, Sources};
+use rev_recording::{ObservedFault, RecordingFault};
+use rev_trusted::{Fault, ReadFault, Trust};
 use std::alloc::{AllocError, Global};
 
-// For each edge those that make its inputs and its validations.
-fn needed_steps(alloc: Global, graph: &Graph) -> Result<Vec<Vec<u32>>, AllocError> {
-    let mut steps = Vec::new(alloc);
-    for edge in 0..graph.edges() {
-        let mut needed = edges_among(alloc, graph.producers(edge))?;
-        for path in graph.validations(edge) {
-            if let Some(producer) = graph.producer(path) {
-                needed.push(producer)?;
-            }
-        }
-        steps.push(needed)?;
-    }
-    Ok(steps)
+/// How a certificate is asked for.
+#[derive(Clone, Copy)]
+pub struct Wish<'a> {
+    /// The form of the answer.
+    pub form: Form,
+    /// Whether each assumption but two stands in the way.
+    pub is_strict: bool,
+    /// The text of the file of trusted flags, where the user names one.
+    pub trust: Option<&'a [u8]>,
+    /// What is left out.
+    pub choice: Choice<'a>,
 }
 
-// Marks the edges that are not marked yet, and adds them to those whose steps are still to be followed.
-fn add_open(edges: &[u32], marks: &mut Vec<bool>, open: &mut Vec<u32>) -> Result<(), AllocError> {
-    for edge in edges {
-        if let Some(mark) = marks.get_mut(*edge as usize) {
-            if !*mark {
-                *mark = true;
-                open.push(*edge)?;
-            }
-        }
-    }
-    Ok(())
+// What is known of each edge, as marks.
+#[derive(Drop)]
+struct Known {
+    needed: Vec<bool>,
+    began: Vec<bool>,
+    ended: Vec<bool>,
+    idle: Vec<bool>,
+    early: Vec<bool>,
+    hidden: Vec<bool>,
 }
 
-// Adds the edges that make some paths.
-fn add_makers(graph: &Graph, paths: &[Name], edges: &mut Vec<u32>) -> Result<(), AllocError> {
-    for path in paths {
-        if let Some(edge) = graph.producer(path) {
-            edges.push(edge)?;
-        }
-    }
-    Ok(())
-}
-
-// The edges that make the targets of the plans of a history. A plan that names none is of the defaults.
-fn target_edges(alloc: Global, history: &History) -> Result<Vec<u32>, AllocError> {
-    let graph = history.graph();
-    let mut edges = Vec::new(alloc);
-    for number in history.kept() {
-        if let Some(Event::Plan(targets)) = history.event(*number) {
-            let targets = targets.as_slice();
-            if targets.is_empty() {
-                add_makers(graph, graph.defaults(), &mut edges)?;
-            } else {
-                add_makers(graph, targets, &mut edges)?;
-            }
-        }
-    }
-    Ok(edges)
-}
-
-// A mark for each edge that the targets of the plans of a history need, by the build lines.
-fn needed_edges(alloc: Global, history: &History) -> Result<Vec<bool>, AllocError> {
-    let graph = history.graph();
-    let steps = needed_steps(alloc, graph)?;
-    let mut marks = vec![in alloc; false; graph.edges() as usize]?;
-    let mut open = Vec::new(alloc);
-    let targets = target_edges(alloc, history)?;
-    add_open(&targets, &mut marks, &mut open)?;
-    for _ in 0..graph.edges() {
-        let Some(edge) = open.pop() else {
-            break;
-        };
-        if let Some(next) = steps.get(edge as usize) {
-            add_open(next, &mut marks, &mut open)?;
-        }
-    }
-    Ok(marks)
-}
-
-// The mark of an edge.
-fn mark_of(marks: &[bool], edge: u32) -> bool {
-    marks.get(edge as usize).copied().unwrap_or(false)
-}
-
-// For each edge the flags of its command, where it was observed.
-fn flags_by_edge(
-    alloc: Global,
-    count: u32,
-    observed: &Observed,
-) -> Result<Vec<Option<Flags>>, AllocError> {
-    let mut flags = vec![in alloc; None; count as usize]?;
-    let commands = observed.observation.commands();
-    for (command, edge) in commands.iter().zip(observed.edges.iter()) {
-        if let Some(place) = flags.get_mut(*edge as usize) {
-            *place = Some(command.flags());
-        }
-    }
-    Ok(flags)
-}
-
-// Why a command stands in the way.
-fn way_of(edge: u32, ended: &[bool], early: &[bool], flags: &[Option<Flags>]) -> Way {
-    if !mark_of(ended, edge) {
-        return Way::Failed;
-    }
-    if mark_of(early, edge) {
-        return Way::Early;
-    }
-    match flags.get(edge as usize) {
-        Some(Some(flags)) => Way::Flagged(*flags),
-        _ => Way::Unseen,
-    }
-}
-
-// Why commands stand in the way, of which some ended well. The manifest was read from these files.
-fn ways_of(
-    alloc: Global,
-    graph: &Graph,
-    files: &[Name],
-    observed: &Observed,
-    unsure: &[u32],
-    ended: &[bool],
-) -> Result<Vec<(u32, Way)>, AllocError> {
-    let early = early_edges(alloc, graph, files)?;
-    let flags = flags_by_edge(alloc, graph.edges(), observed)?;
-    let mut ways = Vec::new(alloc);
-    for edge in unsure {
-        ways.push((*edge, way_of(*edge, ended, &early, &flags)))?;
-    }
-    Ok(ways)
-}
-
-// Some edges without those that ways are about.
-fn without_ways(
-    alloc: Global,
-    edges: &[u32],
-    ways: &[(u32, Way)],
-    count: u32,
-) -> Result<Vec<u32>, AllocError> {
-    let mut marks = vec![in alloc; false; count as usize]?;
-    for (edge, _way) in ways {
-        if let Some(mark) = marks.get_mut(*edge as usize) {
-            *mark = true;
-        }
-    }
-    let mut left = Vec::new(alloc);
-    for edge in edges {
-        if !mark_of(&marks, *edge) {
-            left.push(*edge)?;
-        }
-    }
-    Ok(left)
-}
-
-// The certificate of commands that were observed. Marks say of each edge whether its command began, and whether one
-// ended well.
-fn certificate_of(
-    alloc: Global,
-    history: &History,
-    files: &[Name],
-    observed: &Observed,
-    hidden: &[bool],
-    began: &[bool],
-    ended: &[bool],
-) -> Result<Certificate, AllocError>
-    requires edges { map Some observed.now.edges.items
-        ≡ map (edge_of history.now.timeline.manifest.builds) (outputs_of observed.now.observation.commands) }
-    requires within { AllByRecursion (λ edge. edge < length history.now.timeline.manifest.builds)
-        observed.now.edges.items }
-    requires hidden { length hidden.now ≡ length observed.now.observation.paths }
-{
-    let needed = needed_edges(alloc, history)?;
-    let marks = Marks {
-        needed: &needed,
-        began,
-        ended,
-    };
-    let observation = &observed.observation;
-    certify(
-        alloc,
-        history.graph(),
-        files,
-        observation,
-        &observed.edges,
-        hidden,
-        marks,
-    )
+// What a recording shows beside its certificate.
+#[derive(Drop)]
+struct Shown<'a> {
+    findings: Vec<Finding<'a>>,
+    stale: Stale,
+    // How many commands were observed whole.
+    whole: u64,
+    report: Report<'a>,
 }
 
 // How many marks there are.
@@ -216,193 +63,393 @@ fn count_of(marks: &[bool]) -> u64 {
     marks.iter().filter(|mark| **mark).count() as u64
 }
 
-/// What a certificate is of, beside the bytes of the file `observed`.
-#[derive(Clone, Copy)]
-pub struct Grounds<'a> {
-    /// What answers say of edges beside their numbers.
-    pub sources: Sources<'a>,
-    /// The names of the files that the manifest was read from.
-    pub files: &'a [Name],
-    /// Other names of files, each with the own name of its file.
-    pub names: &'a IndexMap<Name, Name>,
-    /// How much of the recording counts.
-    pub replayed: Replayed,
-    /// The form of the answer.
-    pub form: Form,
-    /// What is left out.
-    pub choice: Choice<'a>,
-}
-
-// What was found of a certificate.
-#[derive(Clone, Copy)]
-struct Found<'a> {
-    certificate: &'a Certificate,
-    ways: &'a [(u32, Way)],
-    commands: u64,
-    hidden: u64,
-    stale: Stale,
-}
-
-// What is told of a certificate.
-fn told_of<'a>(
-    alloc: Global,
-    history: &'a History,
-    grounds: Grounds<'a>,
-    observed: &'a Observed,
-    found: &Found<'_>,
-) -> Result<(Certified<'a>, Vec<Clash>), RecordingFault> {
-    let mut leaving = Leaving::new(alloc, grounds.choice)?;
-    let sources = &grounds.sources;
-    let certificate = found.certificate;
-    let observation = &observed.observation;
-    let conflicts = &certificate.conflicts;
-    let findings = conflict_findings_in(alloc, history, sources.builds, observation, conflicts)?;
-    let findings = leaving.findings(alloc, sources, findings)?;
-    let clashes = told_clashes(alloc, sources.builds)?;
-    let clashes = leaving.clashes(alloc, sources, &clashes)?;
-    let unsure = leaving.ways(alloc, sources, found.ways)?;
-    let edges = history.graph().edges();
-    let missing = without_ways(alloc, &certificate.missing, found.ways, edges)?;
-    let missing = leaving.missing(alloc, sources, &missing)?;
-    let told = Certified {
-        is_certain: certificate.is_certain,
-        replayed: grounds.replayed,
-        commands: found.commands,
-        whole: count_of(&certificate.whole),
-        left_out: leaving.left_out(found.hidden),
-        stale: found.stale,
-        findings,
-        side_files: clashes.len() as u64,
-        unsure,
-        missing,
-    };
-    Ok((told, clashes))
-}
-
-// What is written of what is told, and the status.
-fn written<'a>(
-    alloc: Global,
-    grounds: Grounds<'a>,
-    told: &Certified<'a>,
-    clashes: &[Clash],
-) -> Result<Written, AllocError> {
-    let sources = &grounds.sources;
-    let items = if grounds.form.is_of_items() || grounds.choice.writes {
-        certified_items(alloc, sources, told, clashes)?
-    } else {
-        Vec::new(alloc)
-    };
-    let text = match grounds.form {
-        Form::Json => told.json(alloc, sources)?,
-        Form::Items(form) => items_text(alloc, form, &items, &told.summary(alloc)?)?,
-        Form::Words | Form::AllWords => told.words(alloc, sources)?,
-    };
-    written_with(alloc, grounds.choice, &items, text, told.status())
-}
-
-// What is told of a certificate, as it is written.
-fn written_of<'a>(
-    alloc: Global,
-    history: &'a History,
-    grounds: Grounds<'a>,
-    observed: &'a Observed,
-    found: &Found<'_>,
-) -> Result<Written, RecordingFault> {
-    let (told, clashes) = told_of(alloc, history, grounds, observed, found)?;
-    Ok(written(alloc, grounds, &told, &clashes)?)
-}
-
-// In how many places commands meet that filters hide, beside conflicts that they leave.
-fn hidden_meetings(
-    alloc: Global,
-    graph: &Graph,
-    files: &[Name],
-    observed: &Observed,
-    hidden: &[bool],
-    conflicts: &[Conflict],
-) -> Result<u64, AllocError>
-    requires edges { map Some observed.now.edges.items
-        ≡ map (edge_of graph.now.manifest.builds) (outputs_of observed.now.observation.commands) }
-    requires within { AllByRecursion (λ edge. edge < length graph.now.manifest.builds) observed.now.edges.items }
-    requires hidden { length hidden.now ≡ length observed.now.observation.paths }
+// Whether each number is below a bound.
+fn all_below(numbers: &[u32], bound: u32) -> bool
+    ensures { IsTrue result → AllByRecursion (λ n. n < bound) numbers.now }
 {
-    let all = unfiltered(alloc, graph, files, observed, hidden)?;
-    hidden_count(alloc, &all, conflicts)
+    numbers.iter().all(|number| *number < bound)
 }
 
-// How much a later build may find stale.
-fn stale_of(
-    alloc: Global,
-    history: &History,
-    grounds: Grounds<'_>,
-    observed: &Observed,
-    hidden: &[bool],
-    conflicts: &[Conflict],
-) -> Result<Stale, AllocError>
-    requires edges { map Some observed.now.edges.items
-        ≡ map (edge_of history.now.timeline.manifest.builds) (outputs_of observed.now.observation.commands) }
-    requires within { AllByRecursion (λ edge. edge < length history.now.timeline.manifest.builds)
-        observed.now.edges.items }
-    requires hidden { length hidden.now ≡ length observed.now.observation.paths }
-{
-    let origin = Origin {
-        files: grounds.files,
-        builds: grounds.sources.builds,
-        names: grounds.names,
+// What the user trusts.
+fn trust_in(alloc: Global, text: Option<&[u8]>) -> Result<Trust, RecordingFault> {
+    let Some(text) = text else {
+        return Ok(Trust::nothing(alloc));
     };
-    let (undeclared, unlisted) = stale_files(alloc, history, origin, observed, hidden, conflicts)?;
-    Ok(Stale {
-        undeclared: undeclared.len() as u64,
-        unlisted: unlisted_count(alloc, history.graph(), observed, &unlisted)?,
+    match Trust::read(alloc, text) {
+        Ok(trust) => Ok(trust),
+        Err(ReadFault::Memory) => Err(RecordingFault::Memory),
+        Err(ReadFault::Numbered(Fault { kind, line })) => {
+            Err(RecordingFault::Observed(ObservedFault {
+                file: "--trust",
+                line,
+                code: kind.code(),
+            }))
+        }
+    }
+}
+
+// How many findings make a next build alone other than a build from nothing.
+fn stale_of(findings: &[Finding<'_>]) -> Stale {
+    let of_next = findings.iter().filter(|one| one.is_of_next_build()).count() as u64;
+    let unlisted = findings.iter().filter(|one| one.is_to_be_listed()).count() as u64;
+    Stale {
+        undeclared: of_next.saturating_sub(unlisted),
+        unlisted,
+    }
+}
+
+// Of some findings those by which an order can give a command of this build other inputs.
+fn of_this_build<'a>(
+    alloc: Global,
+    findings: &[Finding<'a>],
+) -> Result<Vec<Finding<'a>>, AllocError> {
+    let mut left = Vec::new(alloc);
+    for finding in findings {
+        if !finding.is_of_next_build() {
+            left.push(*finding)?;
+        }
+    }
+    Ok(left)
+}
+
+// What `races` finds in a recording.
+fn shown_of<'a>(alloc: Global, desk: &'a Desk, basis: &Basis<'a>) -> Result<Shown<'a>, AllocError> {
+    let report = report_of(alloc, desk, basis)?;
+    let (builds, sight) = (basis.sources.builds, basis.sight);
+    let findings = seen_findings(alloc, desk.history(), builds, sight, &report.races)?;
+    Ok(Shown {
+        findings: of_this_build(alloc, &findings)?,
+        stale: stale_of(&findings),
+        whole: count_of(whole_marks(sight)),
+        report,
     })
 }
 
-// Whether no schedule of the commands of a history gives any of them other inputs, by what they were seen to do. Marks
-// say of each edge whether its command began, and whether one ended well.
-fn certified_by(
+// What is known of each edge, and which entries filters hide.
+fn known_of(
     alloc: Global,
     history: &History,
-    grounds: Grounds<'_>,
-    observed: &Observed,
-    hidden: &[bool],
-    began: &[bool],
-    ended: &[bool],
-) -> Result<Written, RecordingFault>
-    requires edges { map Some observed.now.edges.items
-        ≡ map (edge_of history.now.timeline.manifest.builds) (outputs_of observed.now.observation.commands) }
-    requires within { AllByRecursion (λ edge. edge < length history.now.timeline.manifest.builds)
-        observed.now.edges.items }
-    requires hidden { length hidden.now ≡ length observed.now.observation.paths }
-{
-    let graph = history.graph();
-    let files = grounds.files;
-    let certificate = certificate_of(alloc, history, files, observed, hidden, began, ended)?;
-    let conflicts = &certificate.conflicts;
-    let ways = ways_of(alloc, graph, files, observed, &certificate.unsure, ended)?;
-    let found = Found {
-        certificate: &certificate,
-        ways: &ways,
-        commands: count_of(began),
-        hidden: hidden_meetings(alloc, graph, files, observed, hidden, conflicts)?,
-        stale: stale_of(alloc, history, grounds, observed, hidden, conflicts)?,
-    };
-    written_of(alloc, history, grounds, observed, &found)
+    basis: &Basis<'_>,
+    places: &Observation,
+    choice: Choice<'_>,
+) -> Result<Known, RecordingFault> {
+    let filters = filters_in(alloc, choice.filters)?;
+    Ok(Known {
+        needed: needed_edges(alloc, history)?,
+        began: started_edges(alloc, history)?,
+        ended: finished_edges(alloc, history)?,
+        idle: idle_edges(alloc, history)?,
+        early: early_edges(alloc, history.graph(), basis.files)?,
+        hidden: rev_filters::hidden(alloc, &filters, places.entries().paths())?,
+    })
 }
 
-/// Whether no schedule of the commands of a history gives any of them other inputs, by the bytes of the file `observed`.
+// The certificate of commands that were seen.
+fn certificate_of(
+    alloc: Global,
+    history: &History,
+    basis: &Basis<'_>,
+    places: &Observation,
+    edges: &[u32],
+    known: &Known,
+) -> Result<Certificate, AllocError>
+    requires { AllByRecursion (λ edge. edge < length history.now.timeline.manifest.builds) edges.now }
+{
+    let marks = Marks {
+        needed: &known.needed,
+        began: &known.began,
+        ended: &known.ended,
+    };
+    certify(
+        alloc,
+        history.graph(),
+        basis.sources.builds,
+        places,
+        edges,
+        &known.early,
+        &known.hidden,
+        marks,
+    )
+}
+
+// What is written of a certificate, and the status.
+fn verdict_written(
+    alloc: Global,
+    wish: Wish<'_>,
+    verdict: &Verdict<'_>,
+) -> Result<Written, AllocError> {
+    let items = if wish.form.is_of_items() || wish.choice.writes {
+        verdict.items(alloc)?
+    } else {
+        Vec::new(alloc)
+    };
+    let text = verdict.text(alloc, wish.form, &items)?;
+    written_with(alloc, wish.choice, &items, text, verdict.status())
+}
+
+// What a certificate says, where each thing that it refers to lives as long.
+fn verdict_of<'a>(
+    wish: Wish<'_>,
+    named: Named<'a>,
+    certificate: &'a Certificate,
+    shown: &'a Shown<'a>,
+    trust: &'a Trust,
+    judged: &'a Judged,
+    left: &'a Left<'a>,
+    left_out: LeftOut,
+) -> Verdict<'a> {
+    Verdict {
+        named,
+        obstacles: &judged.obstacles,
+        assumptions: &certificate.assumptions,
+        trusted: &judged.trusted,
+        lines: trust.lines(),
+        findings: &left.findings,
+        races: &left.races,
+        clashes: &left.clashes,
+        replayed: shown.report.replayed,
+        commands: shown.report.ran,
+        whole: shown.whole,
+        left_out,
+        stale: shown.stale,
+        is_strict: wish.is_strict,
+        is_all: matches!(wish.form, Form::AllWords),
+    }
+}
+
+// What is written of a certificate that was judged.
+fn left_written(
+    alloc: Global,
+    wish: Wish<'_>,
+    named: Named<'_>,
+    certificate: &Certificate,
+    shown: &Shown<'_>,
+    trust: &Trust,
+    judged: &Judged,
+    left: &Left<'_>,
+    left_out: LeftOut,
+) -> Result<Written, AllocError> {
+    let verdict = verdict_of(
+        wish,
+        named,
+        certificate,
+        shown,
+        trust,
+        judged,
+        left,
+        left_out,
+    );
+    verdict_written(alloc, wish, &verdict)
+}
+
+// What is written of a certificate, by a file of trusted flags and what leaves findings out.
+fn judged_written(
+    alloc: Global,
+    wish: Wish<'_>,
+    named: Named<'_>,
+    certificate: &Certificate,
+    shown: &Shown<'_>,
+    trust: &Trust,
+    leaving: &mut Leaving,
+    hidden: u64,
+) -> Result<Written, AllocError> {
+    let (findings, races) = (shown.findings.as_slice(), shown.report.races.as_slice());
+    let judged = judge(alloc, &named, trust, &certificate.obstacles)?;
+    let obstacles = unnamed(alloc, &named, &judged.obstacles, findings, races)?;
+    let left = leaving.left_of(
+        alloc,
+        &named.sources,
+        findings,
+        races,
+        &shown.report.clashes,
+    )?;
+    let judged = Judged {
+        obstacles: leaving.obstacles(alloc, &named, obstacles)?,
+        trusted: judged.trusted,
+    };
+    let left_out = leaving.left_out(hidden);
+    left_written(
+        alloc,
+        wish,
+        named,
+        certificate,
+        shown,
+        trust,
+        &judged,
+        &left,
+        left_out,
+    )
+}
+
+// What is written of a certificate, by the texts of a wish.
+fn named_written(
+    alloc: Global,
+    wish: Wish<'_>,
+    named: Named<'_>,
+    certificate: &Certificate,
+    shown: &Shown<'_>,
+    hidden: u64,
+) -> Result<Written, RecordingFault> {
+    let trust = trust_in(alloc, wish.trust)?;
+    let mut leaving = Leaving::new(alloc, wish.choice)?;
+    Ok(judged_written(
+        alloc,
+        wish,
+        named,
+        certificate,
+        shown,
+        &trust,
+        &mut leaving,
+        hidden,
+    )?)
+}
+
+// By what a certificate is named, where each thing that it refers to lives as long.
+fn named_of<'a>(
+    history: &'a History,
+    sources: Sources<'a>,
+    places: &'a Observation,
+    certificate: &'a Certificate,
+    known: &'a Known,
+) -> Named<'a> {
+    Named {
+        sources,
+        observation: places,
+        scene: &certificate.scene,
+        targets: last_targets(history),
+        began: &known.began,
+        up_to_date: &known.idle,
+    }
+}
+
+// What is written of a certificate and of what is known of each edge.
+fn known_written(
+    alloc: Global,
+    history: &History,
+    basis: &Basis<'_>,
+    wish: Wish<'_>,
+    places: &Observation,
+    certificate: &Certificate,
+    known: &Known,
+    shown: &Shown<'_>,
+) -> Result<Written, RecordingFault> {
+    let named = named_of(history, basis.sources, places, certificate, known);
+    let hidden = hidden_places(basis.sight);
+    named_written(alloc, wish, named, certificate, shown, hidden)
+}
+
+// What is written where commands were seen place by place.
+fn places_written(
+    alloc: Global,
+    history: &History,
+    basis: &Basis<'_>,
+    wish: Wish<'_>,
+    places: &Observation,
+    edges: &[u32],
+    shown: &Shown<'_>,
+) -> Result<Written, RecordingFault>
+    requires { AllByRecursion (λ edge. edge < length history.now.timeline.manifest.builds) edges.now }
+{
+    let known = known_of(alloc, history, basis, places, wish.choice)?;
+    let certificate = certificate_of(alloc, history, basis, places, edges, &known)?;
+    known_written(
+        alloc,
+        history,
+        basis,
+        wish,
+        places,
+        &certificate,
+        &known,
+        shown,
+    )
+}
+
+// What is said of a recording of version 1, where each thing that it refers to lives as long.
+fn outdated_of<'a>(
+    wish: Wish<'_>,
+    sources: Sources<'a>,
+    shown: &Shown<'_>,
+    left: &'a Left<'a>,
+    left_out: LeftOut,
+) -> Outdated<'a> {
+    Outdated {
+        sources,
+        findings: &left.findings,
+        races: &left.races,
+        clashes: &left.clashes,
+        replayed: shown.report.replayed,
+        commands: shown.report.ran,
+        whole: shown.whole,
+        left_out,
+        stale: shown.stale,
+        is_strict: wish.is_strict,
+    }
+}
+
+// What is written of a recording of version 1, by what is left of its findings.
+fn old_written(
+    alloc: Global,
+    wish: Wish<'_>,
+    sources: Sources<'_>,
+    shown: &Shown<'_>,
+    left: &Left<'_>,
+    left_out: LeftOut,
+) -> Result<Written, AllocError> {
+    outdated_of(wish, sources, shown, left, left_out).written(alloc, wish)
+}
+
+// What is written where the recording has no observation of version 2.
+fn outdated_written(
+    alloc: Global,
+    basis: &Basis<'_>,
+    wish: Wish<'_>,
+    shown: &Shown<'_>,
+) -> Result<Written, RecordingFault> {
+    let mut leaving = Leaving::new(alloc, wish.choice)?;
+    let (findings, races) = (shown.findings.as_slice(), shown.report.races.as_slice());
+    let left = leaving.left_of(
+        alloc,
+        &basis.sources,
+        findings,
+        races,
+        &shown.report.clashes,
+    )?;
+    let left_out = leaving.left_out(hidden_places(basis.sight));
+    Ok(old_written(alloc, wish, basis.sources, shown, &left, left_out)?)
+}
+
+// What is written by what `races` finds.
+fn written_of(
+    alloc: Global,
+    history: &History,
+    basis: &Basis<'_>,
+    wish: Wish<'_>,
+    shown: &Shown<'_>,
+) -> Result<Written, RecordingFault> {
+    if let Some(sight) = basis.sight {
+        if let Some(places) = &sight.observed.places {
+            let edges = sight.observed.edges.as_slice();
+            let are_edges = all_below(edges, history.graph().edges());
+            if are_edges {
+                return places_written(alloc, history, basis, wish, places, edges, shown);
+            }
+        }
+    }
+    outdated_written(alloc, basis, wish, shown)
+}
+
+/// Whether no order of the commands of a recording gives any of them other inputs, as it is written. Where the recording
+/// has an observation of version 1, it is not certain.
 ///
 /// # Errors
-/// As [`observed_in`], [`hidden_by`] and [`Leaving::new`].
+/// [`RecordingFault::Observed`] with the first fault of the texts of a wish; [`RecordingFault::Memory`] where an
+/// allocation was refused, or where there are more entries, commands or flags than a number of 32 bits counts.
 pub fn certified(
     alloc: Global,
     desk: &Desk,
-    grounds: Grounds<'_>,
-    bytes: &[u8],
+    basis: &Basis<'_>,
+    wish: Wish<'_>,
 ) -> Result<Written, RecordingFault> {
-    let history = desk.history();
-    let observed = observed_in(alloc, history.graph(), bytes)?;
-    let hidden = hidden_by(alloc, &observed.observation, grounds.choice.filters)?;
-    let began = started_edges(alloc, history)?;
-    let ended = finished_edges(alloc, history)?;
-    certified_by(alloc, history, grounds, &observed, &hidden, &began, &ended)
+    let shown = shown_of(alloc, desk, basis)?;
+    written_of(alloc, desk.history(), basis, wish, &shown)
 }

@@ -1,5 +1,5 @@
 //! The forms of an answer that continuous integration reads.
-use rev_conflicts_text::{Certified, Finding, kind_word, numbered_words};
+use rev_conflicts_text::{Finding, kind_word, numbered_words};
 use rev_formats::{Item, baseline, github, junit, sarif};
 use rev_races_text::{Clash, Edge, RaceFinding, Report, SideFile, Sources, race_words};
 use std::alloc::{AllocError, Global};
@@ -123,8 +123,11 @@ fn race_word(kind: rev_races_text::Kind) -> &'static str {
     }
 }
 
-// Adds races by lists or errors, which are numbered from a number.
-fn push_races<'a>(
+/// Adds races by lists or errors, which are numbered from a number.
+///
+/// # Errors
+/// [`AllocError`] only where an allocation was refused.
+pub fn push_races<'a>(
     alloc: Global,
     sources: &Sources<'a>,
     races: &[RaceFinding<'a>],
@@ -205,51 +208,5 @@ pub fn report_items<'a>(
     let first = report.before.saturating_add(1);
     push_races(alloc, sources, &report.races, first, &mut items)?;
     push_clashes(alloc, sources, &report.clashes, &mut items)?;
-    Ok(items)
-}
-
-// Adds a command that stands in the way of a certificate.
-fn push_way<'a>(
-    sources: &Sources<'a>,
-    edge: u32,
-    text: String,
-    items: &mut Vec<Item<'a>>,
-) -> Result<(), AllocError> {
-    let place = sources.edge(edge);
-    items.push(Item {
-        id: sources.way_id(edge),
-        kind: "in the way",
-        is_error: true,
-        path: b"",
-        maker: b"",
-        user: sources.output(edge),
-        file: file_of(place),
-        line: place.line.unwrap_or(1),
-        text,
-    })?;
-    Ok(())
-}
-
-/// All that stands in the way of a certificate, as items.
-///
-/// # Errors
-/// [`AllocError`] only where an allocation was refused.
-pub fn certified_items<'a>(
-    alloc: Global,
-    sources: &Sources<'a>,
-    told: &Certified<'a>,
-    clashes: &[Clash],
-) -> Result<Vec<Item<'a>>, AllocError> {
-    let mut items = Vec::new(alloc);
-    push_findings(alloc, sources, &told.findings, &mut items)?;
-    push_clashes(alloc, sources, clashes, &mut items)?;
-    for way in &told.unsure {
-        let text = Certified::way_words(alloc, sources, way)?;
-        push_way(sources, way.0, text, &mut items)?;
-    }
-    for edge in &told.missing {
-        let text = Certified::missing_words(alloc, sources, *edge)?;
-        push_way(sources, *edge, text, &mut items)?;
-    }
     Ok(items)
 }

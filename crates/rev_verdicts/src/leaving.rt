@@ -1,7 +1,10 @@
 //! Which findings filters and a baseline leave out of an answer.
 use indexmap::IndexSet;
 use rev_baseline::{Baseline, Fault, ReadFault};
-use rev_conflicts_text::{Finding, Way};
+use rev_certificate::Obstacle;
+use rev_certificate_words::{Named, conflict_kind};
+use rev_conflicts_text::Finding;
+use rev_entry_conflicts::{Conflict, Kind};
 use rev_filters::{Filters, is_hidden};
 use rev_folder::{FilterTexts, filters_in};
 use rev_races_text::{Clash, Evidence, Id, LeftOut, RaceFinding, Sources};
@@ -24,6 +27,17 @@ impl Choice<'_> {
     fn has_filters(&self) -> bool {
         self.filters.beside.is_some() || self.filters.named.is_some()
     }
+}
+
+/// What is left of findings, races and clashes.
+#[derive(Drop)]
+pub(crate) struct Left<'a> {
+    /// The findings by an observation.
+    pub(crate) findings: Vec<Finding<'a>>,
+    /// The races by lists and by errors.
+    pub(crate) races: Vec<RaceFinding<'a>>,
+    /// The clashes of side files.
+    pub(crate) clashes: Vec<Clash>,
 }
 
 /// Filters and a baseline, and how many findings they left out.
@@ -94,6 +108,42 @@ fn add_unhidden<'a>(
         }
     }
     Ok(())
+}
+
+// The stable name of a conflict. In that of a clash neither edge comes first.
+fn conflict_id(named: &Named<'_>, conflict: &Conflict) -> Id {
+    let kind = conflict_kind(conflict.kind);
+    let path = named.path(conflict.entry).0;
+    let (maker, user) = (
+        named.edge_number(conflict.made_by),
+        named.edge_number(conflict.used_by),
+    );
+    match conflict.kind {
+        Kind::Clash => named.sources.pair_id(kind, path, maker, user),
+        _ => named.sources.id(kind, path, maker, user),
+    }
+}
+
+/// The stable name of what stands in the way of a certificate. An observation that was cut or changed has none.
+pub(crate) fn obstacle_id(named: &Named<'_>, obstacle: &Obstacle) -> Option<Id> {
+    match obstacle {
+        Obstacle::Incomplete => None,
+        Obstacle::NotEnded { edge } | Obstacle::Early { edge } | Obstacle::Unseen { edge } => {
+            Some(named.sources.way_id(*edge))
+        }
+        Obstacle::Flagged { command, .. } => {
+            Some(named.sources.way_id(named.edge_number(*command)))
+        }
+        Obstacle::Conflict(conflict) => Some(conflict_id(named, conflict)),
+    }
+}
+
+// The path that an obstacle is about; empty where it is about a command alone.
+fn obstacle_path<'a>(named: &Named<'a>, obstacle: &Obstacle) -> &'a [u8] {
+    match obstacle {
+        Obstacle::Conflict(conflict) => named.path(conflict.entry).0,
+        _ => b"",
+    }
 }
 
 impl Leaving {
@@ -264,48 +314,60 @@ impl Leaving {
         Ok(told)
     }
 
-    // Whether it is known that a command stands in the way of a certificate; counts it then.
-    fn knows_way(&mut self, sources: &Sources<'_>, edge: u32) -> bool {
-        let is_known = self.has_baseline() && self.knows(sources.way_id(edge));
-        if is_known {
-            self.known = u64::saturating_add(self.known, 1);
-        }
-        is_known
-    }
-
-    /// The commands that ran and stand in the way of a certificate, those that are left.
+    /// What is left of findings, races and clashes.
     ///
     /// # Errors
     /// [`AllocError`] only where an allocation was refused.
-    pub fn ways(
+    pub(crate) fn left_of<'a>(
         &mut self,
         alloc: Global,
-        sources: &Sources<'_>,
-        ways: &[(u32, Way)],
-    ) -> Result<Vec<(u32, Way)>, AllocError> {
-        let mut told = Vec::new(alloc);
-        for way in ways {
-            if !self.knows_way(sources, way.0) {
-                told.push(*way)?;
-            }
-        }
-        Ok(told)
+        sources: &Sources<'a>,
+        findings: &[Finding<'a>],
+        races: &[RaceFinding<'a>],
+        clashes: &[Clash],
+    ) -> Result<Left<'a>, AllocError> {
+        let findings = Vec::from_slice(alloc, findings)?;
+        let findings = self.findings(alloc, sources, findings)?;
+        let races = Vec::from_slice(alloc, races)?;
+        let races = self.races(alloc, sources, races)?;
+        let clashes = self.clashes(alloc, sources, clashes)?;
+        Ok(Left {
+            findings,
+            races,
+            clashes,
+        })
     }
 
-    /// The commands that did not run and stand in the way of a certificate, those that are left.
+    // Whether what stands in the way of a certificate is left out; counts it then.
+    fn leaves_obstacle(
+        &mut self,
+        alloc: Global,
+        named: &Named<'_>,
+        obstacle: &Obstacle,
+    ) -> Result<bool, AllocError> {
+        match obstacle_id(named, obstacle) {
+            Some(id) => self.leaves(alloc, id, obstacle_path(named, obstacle)),
+            None => Ok(false),
+        }
+    }
+
+    /// What stands in the way of a certificate and is left.
     ///
     /// # Errors
     /// [`AllocError`] only where an allocation was refused.
-    pub fn missing(
+    pub fn obstacles(
         &mut self,
         alloc: Global,
-        sources: &Sources<'_>,
-        missing: &[u32],
-    ) -> Result<Vec<u32>, AllocError> {
+        named: &Named<'_>,
+        obstacles: Vec<Obstacle>,
+    ) -> Result<Vec<Obstacle>, AllocError> {
+        if !self.has_baseline() {
+            return Ok(obstacles);
+        }
         let mut told = Vec::new(alloc);
-        for edge in missing {
-            if !self.knows_way(sources, *edge) {
-                told.push(*edge)?;
+        for obstacle in &obstacles {
+            if !self.leaves_obstacle(alloc, named, obstacle)? {
+                told.push(*obstacle)?;
             }
         }
         Ok(told)

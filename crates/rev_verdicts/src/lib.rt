@@ -3,12 +3,18 @@
 
 mod answering;
 mod certifying;
+mod counting;
 mod forms;
+mod judging;
 mod leaving;
+mod needing;
+mod objects;
+mod outdated;
 mod reported;
+mod stating;
 
 pub use answering::{Answer, Written};
-pub use certifying::{Grounds, certified};
+pub use certifying::{Wish, certified};
 pub use forms::Form;
 pub use leaving::{Choice, Leaving};
 pub use reported::written_report;

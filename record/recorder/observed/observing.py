@@ -36,7 +36,7 @@ from .shares import Changes, flag_what_two_share
 from .version_2 import Blocks, Head, Version2
 from .writing import Observed
 
-VERSION = int(os.environ.get("REBUG_OBSERVED_VERSION", "1"))
+VERSION = int(os.environ.get("REBUG_OBSERVED_VERSION", "2"))
 """The version of the file that is written. The environment's variable is for tests alone."""
 
 OBSERVED, LOG, FILTERS = OPTIONAL[:3]

@@ -73,7 +73,8 @@ class Resolver:
             end_standing, text = (Standing.MISSING, b"") if is_cut else self.state(end)
             last = end
         inode = text if end_standing is Standing.FILE else b""
-        return Way(entry, standing, end, end_standing, inode=inode, is_broken=is_broken, links=tuple(links[:on_the_way]),
+        of_files = tuple(it for it in links[:on_the_way] if not _is_of_kernel(it[0]))
+        return Way(entry, standing, end, end_standing, inode=inode, is_broken=is_broken, links=of_files,
                    ends=tuple(links[on_the_way:]), asked=tuple(asked))
 
     def _walk(self, real: bytes, path: bytes, links: list[tuple[bytes, bytes]], asked: list[tuple[bytes, Standing]],
@@ -174,6 +175,11 @@ class Resolver:
         return found
 
 
+def _is_of_kernel(real: bytes) -> bool:
+    """Whether an entry is one of procfs or sysfs, which is hidden, also where it is a link (`/proc/self`)."""
+    return real.startswith((b"/proc/", b"/sys/")) or real in (b"/proc", b"/sys")
+
+
 def _state(real: bytes) -> tuple[Standing, bytes]:
     try:
         it = os.lstat(real or b"/")
@@ -181,7 +187,7 @@ def _state(real: bytes) -> tuple[Standing, bytes]:
             return Standing.LINK, os.readlink(real)
     except (OSError, ValueError):
         return Standing.MISSING, b""
-    if real.startswith((b"/proc/", b"/sys/")) or real in (b"/proc", b"/sys"):
+    if _is_of_kernel(real):
         return Standing.OF_KERNEL, b""
     if stat.S_ISCHR(it.st_mode) or stat.S_ISBLK(it.st_mode):
         return Standing.DEVICE, b""

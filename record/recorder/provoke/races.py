@@ -186,6 +186,14 @@ def _take(it: dict[str, Any], found: Findings) -> None:
 _FIELD = re.compile(rb"\\(.)")
 _NUMBER = re.compile(rb"[0-9]{1,10}")
 _LEAVES = ("writes", "edits", "deletes", "temps")
+# The kinds that each word of a line is: those of version 1 are kinds themselves, those of version 2 stand below them.
+_KINDS_OF = {
+    **{it.encode(): (it,) for it in ("reads", *_LEAVES)},
+    b"read": ("reads",),
+    b"left": ("writes",), b"edited": ("writes", "edits"), b"linked": ("writes",),
+    b"taken": ("deletes",), b"removed": ("deletes",),
+}
+_WITH_TEXT = (b"linked",)
 _OF_FIELDS = {b"s": b" ", b"t": b"\t", b"n": b"\n", b"r": b"\r", b"\\": b"\\", b"0": b""}
 
 
@@ -202,7 +210,7 @@ class Observed:
 
     @staticmethod
     def read(text: bytes) -> Observed:
-        """The observation of this text. Lines that are not understood are left out."""
+        """The observation of this text, of either version. Lines that are not understood are left out."""
         found = Observed()
         uses: dict[str, Ranges] = {}
         for line in text.split(b"\n"):
@@ -211,8 +219,15 @@ class Observed:
                 found.paths.append(_plain(rest[0]))
             elif word == b"edge" and rest:
                 uses = found.of.setdefault(_plain(rest[0]), {})
-            elif word.decode("ascii", "replace") in ("reads", *_LEAVES):
-                uses[word.decode()] = _ranges(rest, len(found.paths))
+            elif word == b"ninja":
+                uses = {}
+            else:
+                ranges = _ranges(rest[word in _WITH_TEXT :], len(found.paths)) if word in _KINDS_OF else []
+                for kind in _KINDS_OF.get(word, ()):
+                    uses.setdefault(kind, []).extend(ranges)
+        for uses in found.of.values():
+            for kind, its in uses.items():
+                uses[kind] = _united(its)
         return found
 
     def _numbers(self, output: bytes, kind: str) -> list[int]:
@@ -267,4 +282,15 @@ def _ranges(words: list[bytes], count: int) -> Ranges:
         if begin <= end:
             found.append((begin, end))
             least = end + 1
+    return found
+
+
+def _united(ranges: Ranges) -> Ranges:
+    """The same numbers in ranges that rise, of which no two have a number in common."""
+    found: Ranges = []
+    for first, last in sorted(ranges):
+        if found and first <= found[-1][1] + 1:
+            found[-1] = (found[-1][0], max(last, found[-1][1]))
+        else:
+            found.append((first, last))
     return found

@@ -85,6 +85,29 @@ def layers_of_room(folders: Sequence[bytes], environment: Mapping[str, str]) -> 
         return _tried(_layers_over(folders, outermost(fallback)))
 
 
+def layers_of_empty_room(folders: Sequence[bytes], environment: Mapping[str, str]) -> tuple[list[Layer], list[bytes]]:
+    """The mounts of a room in which these folders (real paths) and those of temporaries are empty, and the user's own
+    folders are copies; and the folders that are empty. Where this system refuses such copies, the user's own folders
+    can only be read. Raises Refused."""
+    temporaries, own = (_real(environment, it) for it in (_TEMPORARIES, _OWN))
+    empty = outermost([*folders, *temporaries])
+    copies = [it for it in own if not any((it + b"/").startswith(of + b"/") for of in empty)]
+    whole = [Layer(it, Kind.EMPTY) for it in empty]
+    try:
+        return _tried(sorted((*whole, *_layers_over(copies, [])), key=lambda it: it.place)), empty
+    except Refused:
+        return _tried(whole), empty
+
+
+def layers_of_whole_room(folders: Sequence[bytes], environment: Mapping[str, str]) -> list[Layer]:
+    """The mounts of a room in which these folders (real paths) and the user's own are copies. Folders of temporaries
+    are empty, unless one of these folders is below them: then they are copies, too. Raises Refused."""
+    temporaries, own = (_real(environment, it) for it in (_TEMPORARIES, _OWN))
+    shared = [it for it in temporaries if any((of + b"/").startswith(it + b"/") for of in (*folders, *own))]
+    empty = outermost([it for it in temporaries if it not in shared])
+    return _tried(_layers_over([*folders, *shared, *own], empty))
+
+
 def _tried(layers: list[Layer]) -> list[Layer]:
     """The layers, which make a room here. Raises Refused."""
     in_process(lambda: os.close(enter(layers, 1 << 24)))
@@ -146,7 +169,7 @@ def enter(layers: Sequence[Layer], most_bytes: int) -> int:
     _mount("it does not part its mounts from others", b"none", b"/", None, _PRIVATE | _RECURSIVE)
     _have_all_read_only()
     layers, handles = _opened(layers)
-    first = next(it.place for it in layers if it.kind is Kind.COPY)
+    first = next(it.place for it in layers if it.kind in (Kind.COPY, Kind.EMPTY))
     _mount("it mounts no memory", b"tmpfs", first, b"tmpfs", 0, b"mode=0700,size=%d" % most_bytes)
     memory = os.open(first, os.O_RDONLY | os.O_DIRECTORY)
     os.fchdir(memory)

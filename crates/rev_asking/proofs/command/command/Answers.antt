@@ -3,7 +3,7 @@ use Rattle.std.proofs.lemmas.Result.{IfOk-weaker}
 use Rattle.clap.specs.Words.{AddsSubcommand, Shape, app_of, shape_of, with_subcommand}
 use Rattle.clap.specs.declared.builder.command.Command.{Command}
 use Rattle.clap.specs.declared.builder.command.Command.TheViews.{out-Command}
-use Rattle.rev_asking.specs.Asking.{ask_shape, certify_shape, compare_shape, picture_shape, program, races_shape, replay_shape, timeline_shape}
+use Rattle.rev_asking.specs.Asking.{ask_shape, certify_shape, compare_shape, picture_shape, program, races_shape, replay_shape, schedule_shape, timeline_shape}
 use Rattle.rev_asking.proofs.command.command.Goals as goal
 
 -- a program to which the command of this shape was added
@@ -21,6 +21,7 @@ returns c =
     let fourth = c.in_ok-program-4.program in
     let fifth = c.in_ok-program-5.program in
     let sixth = c.in_ok-program-6.program in
+    let seventh = c.in_ok-program-7.program in
     let one = added c.races.result races_shape c.bare_command.result first c.races.ensures.shape c.races.ensures.local c.in_ok-program.ensures
     ∙ ap (λ a. with_subcommand a races_shape) c.bare_command.ensures in
     let two = added c.certify.result certify_shape first second c.certify.ensures.shape c.certify.ensures.local c.in_ok-program-2.ensures
@@ -32,8 +33,10 @@ returns c =
     let five = added c.picture.result picture_shape fourth fifth c.picture.ensures.shape c.picture.ensures.local c.in_ok-program-5.ensures
     ∙ ap (λ a. with_subcommand a picture_shape) four in
     let six = added c.timeline.result timeline_shape fifth sixth c.timeline.ensures.shape c.timeline.ensures.local c.in_ok-program-6.ensures
-    ∙ ap (λ a. with_subcommand a timeline_shape) five in record {
-      program = IfOk-weaker c.with_word-7.result (λ k. IsOkAnd c.compare.result (λ w. AddsSubcommand sixth w k)) (λ (k : Command). app_of k ≡ program)
-          (λ k adds. added c.compare.result compare_shape sixth k c.compare.ensures.shape c.compare.ensures.local adds ∙ ap (λ a. with_subcommand a compare_shape) six)
-          c.with_word-7.ensures;
+    ∙ ap (λ a. with_subcommand a timeline_shape) five in
+    let seven = added c.compare.result compare_shape sixth seventh c.compare.ensures.shape c.compare.ensures.local c.in_ok-program-7.ensures
+    ∙ ap (λ a. with_subcommand a compare_shape) six in record {
+      program = IfOk-weaker c.with_word-8.result (λ k. IsOkAnd c.schedule.result (λ w. AddsSubcommand seventh w k)) (λ (k : Command). app_of k ≡ program)
+          (λ k adds. added c.schedule.result schedule_shape seventh k c.schedule.ensures.shape c.schedule.ensures.local adds ∙ ap (λ a. with_subcommand a schedule_shape) seven)
+          c.with_word-8.ensures;
     }

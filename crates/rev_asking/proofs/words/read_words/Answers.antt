@@ -97,3 +97,28 @@ returns-in-Some-clause-write_baseline c =
     let words = map string_bytes c.args.words.now in
     let rows = rows-given words c.in_ok-matches.matches (rows_of (found_of c.in-Some.given.now)) c.in_ok-matches.ensures.rows c.in-Some.ensures.rows in
     c.asked_of.ensures.write_baseline ∙ same words c.in-Some.given.now (codes "write-baseline") rows
+
+pub returns-in-Some-clause-jobs : goal.returns-in-Some-clause-jobs
+returns-in-Some-clause-jobs c =
+    let words = map string_bytes c.args.words.now in
+    let rows = rows-given words c.in_ok-matches.matches (rows_of (found_of c.in-Some.given.now)) c.in_ok-matches.ensures.rows c.in-Some.ensures.rows in
+    c.asked_of.ensures.jobs ∙ same words c.in-Some.given.now (codes "jobs") rows
+
+pub returns-in-Some-clause-without : goal.returns-in-Some-clause-without
+returns-in-Some-clause-without c =
+    let words = map string_bytes c.args.words.now in
+    let rows = rows-given words c.in_ok-matches.matches (rows_of (found_of c.in-Some.given.now)) c.in_ok-matches.ensures.rows c.in-Some.ensures.rows in
+    c.asked_of.ensures.without ∙ same words c.in-Some.given.now (codes "without") rows
+
+pub returns-in-Some-clause-strict : goal.returns-in-Some-clause-strict
+returns-in-Some-clause-strict c =
+    let words = map string_bytes c.args.words.now in
+    let rows = rows-given words c.in_ok-matches.matches (rows_of (found_of c.in-Some.given.now)) c.in_ok-matches.ensures.rows c.in-Some.ensures.rows in
+    let is = same words c.in-Some.given.now (codes "strict") rows in
+    ((λ on. sym is ∙ c.asked_of.ensures.strict.0 on), (λ e. c.asked_of.ensures.strict.1 (is ∙ e)))
+
+pub returns-in-Some-clause-trust : goal.returns-in-Some-clause-trust
+returns-in-Some-clause-trust c =
+    let words = map string_bytes c.args.words.now in
+    let rows = rows-given words c.in_ok-matches.matches (rows_of (found_of c.in-Some.given.now)) c.in_ok-matches.ensures.rows c.in-Some.ensures.rows in
+    c.asked_of.ensures.trust ∙ same words c.in-Some.given.now (codes "trust") rows

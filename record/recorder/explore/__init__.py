@@ -1,0 +1,1 @@
+"""`rebug explore`: one page in which a recorded build is looked at, asked and undone."""
