@@ -17,7 +17,7 @@ from recorder.manifest import Manifest  # noqa: E402
 from recorder.provoke.orders import waits  # noqa: E402
 from recorder.provoke.races import shown_name  # noqa: E402
 
-LOOKS, CHANGES = ("reads", "misses"), ("writes", "edits")
+LOOKS, CHANGES = ("read", "missing"), ("left", "edited", "linked")
 
 
 def numbers(ranges):
@@ -27,7 +27,8 @@ def numbers(ranges):
 
 
 def observed(text):
-    """What each command did: output -> kind -> paths."""
+    """What each command did, by version 2: output -> word of the line -> paths."""
+    assert text.startswith(b"rebug-observed 2\n"), "this program reads version 2 alone"
     paths, found, uses = [], {}, {}
     for line in text.split(b"\n"):
         word, *rest = line.split(b" ")
@@ -36,7 +37,8 @@ def observed(text):
         elif word == b"edge":
             uses = found.setdefault(unescaped(rest[0]), {})
         elif word.decode() in LOOKS + CHANGES:
-            uses[word.decode()] = [paths[it] for it in numbers(rest)]
+            places = rest[1:] if word == b"linked" else rest
+            uses.setdefault(word.decode(), []).extend(paths[it] for it in numbers(places))
     return found
 
 
@@ -65,7 +67,7 @@ def objects(manifest, did):
                     mend = shown_name(maker.name) if kind == "race" else None
                     yield {"kind": kind, "path": shown_name(path), "maker": told(maker), "user": told(edge),
                            "declare": declare, "list": lists, "mend": mend}
-            if lists and path not in makers and path in did[name].get("reads", ()) and path[:1] in b"/.":
+            if lists and path not in makers and path in did[name].get("read", ()) and path[:1] in b"/.":
                 yield {"kind": "unlisted", "path": shown_name(path), "maker": None, "user": told(edge),
                        "declare": None, "list": lists, "mend": None}
 
