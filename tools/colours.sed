@@ -2,7 +2,7 @@
 # What is wrong: red.
 s/^(race|cycle|own|clash|unstable|undeclared|unlisted|failed|refused|not certain)\>/\x1b[1;31m&\x1b[0m/
 # What may be: yellow.
-s/^(hint|suspects?|also (still to run|running))\>/\x1b[33m&\x1b[0m/
+s/^(hint|suspects?|also (still to run|running|failed before))\>/\x1b[33m&\x1b[0m/
 s/did you mean [^?]*\?/\x1b[33m&\x1b[0m/
 # What mends it, and what is well: green.
 s/^( +)(mend:)(.*)$/\1\x1b[32m\2\3\x1b[0m/

@@ -15,6 +15,11 @@ def launcher() -> str:
     return str(TOP.parents[1] / "bin" / "rebug" if IS_INSTALLED else TOP / "rebug")
 
 
+def asking_program() -> str:
+    """The proved program that answers what people ask. It may not be built."""
+    return str(TOP / "rebug_ask" if IS_INSTALLED else TOP / "crates/rebug_ask/out/rebug_ask")
+
+
 def word_of_launcher() -> str:
     """The word that calls rebug from the working folder, for a sentence to the user."""
     if IS_INSTALLED:

@@ -7,11 +7,13 @@ import json
 import os
 import pathlib
 import random
+import shlex
 import shutil
 import subprocess
 import sys
 import tempfile
 import unittest
+import unittest.mock
 import zlib
 from fractions import Fraction
 
@@ -23,6 +25,7 @@ from recorder.flakes.judging import judge, tests_of
 from recorder.flakes.main import _partial
 from recorder.flakes.reading import Summaries
 from recorder.flakes.sums import count_orders, failed_or_not
+from recorder.flakes.telling import lines_of
 from recorder.summary.packed import BadText, Run, packed, unpacked
 from recorder.summary.recording import settled
 from shuffled import RULES, statement
@@ -33,6 +36,8 @@ from json_schema import misfits  # noqa: E402
 SUMMARY, FLAKES = (builds.RECORDER.parent / f"rebug-{it}" for it in ("summary", "flakes"))
 EXAMPLES = pathlib.Path(__file__).resolve().parents[2] / "examples/flaky"
 PROGRAM = os.environ.get("REBUG_PROGRAM")
+HAS_PARALLEL = shutil.which("parallel") is not None and b"GNU parallel" in subprocess.run(
+    ["parallel", "--version"], stdin=subprocess.DEVNULL, capture_output=True).stdout
 BUILDS, TRIES, SHARE_OF_TRIES = 40, 500, Fraction(1, 100)
 
 # Chances of scipy.stats.fisher_exact(.., alternative="greater") and of R's fisher.test, by their pages: of bad builds
@@ -219,6 +224,30 @@ class Culprits(Case):
             self.assertEqual((it["command"], it["ties"]), (culprit, []))
 
 
+class ProvedCounts(Case):
+    """The counts of the proved program, where it is built: tests/separation compares them with those of Python."""
+
+    def both(self, path: pathlib.Path, program: str) -> tuple[list[str], list[str]]:
+        """The sums and the words by Python alone and by a program."""
+        found = []
+        for it in ("/nowhere", program):
+            summaries = Summaries()
+            summaries.read([str(path)])
+            with unittest.mock.patch("recorder.flakes.proved.asking_program", lambda it=it: it):
+                them = counted(summaries, [], False)
+            found.append([*_partial(them), *lines_of(them)])
+        return found[0], found[1]
+
+    def test_a_program_that_has_no_answer_changes_nothing(self):
+        for name, text in {"fails": "exit 2", "other": "echo '{}'", "short": "echo '{\"anchor\":7,\"passing\":[]}'",
+                           "words": "echo no"}.items():
+            program = self.room / name
+            program.write_text(f"#!/bin/sh\ncat > /dev/null\n{text}\n")
+            program.chmod(0o755)
+            own, other = self.both(self.write(many_builds.race(), range(9)), str(program))
+            self.assertEqual(own, other)
+
+
 class Answers(Case):
     def test_rates_first_and_last_builds_and_labels(self):
         project = many_builds.race()
@@ -286,6 +315,19 @@ class Answers(Case):
         self.assertEqual(self.told(self.room / "all"), whole)
         self.assertEqual(self.told(self.room / "sums", "--json"), self.told(*(self.room / f"{seed}.jsonl" for seed in
                                                                               range(64)), "--json"))
+
+    @unittest.skipUnless(HAS_PARALLEL, "there is no GNU parallel on the PATH")
+    def test_parts_that_gnu_parallel_counts_give_the_same_bytes(self):
+        """Ten of 64 files a part, which are counted side by side."""
+        project, sums = many_builds.race(), self.room / "sums"
+        paths = [self.write(project, range(seed, seed + 1), f"{seed}.jsonl") for seed in range(64)]
+        sums.mkdir()
+        each = shlex.join([sys.executable, str(FLAKES), "--partial", "--anchor", "use.o"])
+        ran = subprocess.run(["parallel", "-n", "10", f"{each} {{}} > {shlex.quote(str(sums))}/{{#}}"],
+                             input="".join(f"{path}\n" for path in paths), capture_output=True, text=True)
+        self.assertEqual((ran.returncode, ran.stdout, len(os.listdir(sums))), (0, "", 7), ran.stderr)
+        for words in ([], ["--json"]):
+            self.assertEqual(self.told(sums, *words), self.told(*paths, *words))
 
     def test_sums_without_the_orders_of_an_anchor_say_so(self):
         """A part in which nothing fails has no anchor, unless it is named."""

@@ -329,6 +329,13 @@ race gen/v.h [1]
         self.assertIn("give core (src/CMakeLists.txt:2) another output, by a name of its own, and have who reads it "
                       "name that; the other one is gen/v.h (gen/CMakeLists.txt:1)", said)
 
+    def test_a_use_that_the_scanner_of_modules_misses_is_no_edit(self):
+        one = {"output": "src/CMakeFiles/core.dir/core.c.o"}
+        status, said = self.made.mend(program=self.told(
+            self.race(path="src/core.mod", maker=one, user=one, mend=one["output"], dyndep="src/CXX.dd")))
+        self.assertEqual(status, 4)
+        self.assertIn("no edit: two compiles of core, which CMake orders by what its scanner sees\n", said)
+
     def test_letters_that_a_terminal_would_take_for_more_are_shown(self):
         said = self.made.mend(program=self.told(self.race(path="\\x1b[31mx", maker={"output": "\\x1b]0;x\\x07"})))[1]
         self.assertNotIn("\x1b", said)

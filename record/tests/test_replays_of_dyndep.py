@@ -62,7 +62,7 @@ class ReplaysOfDyndep(unittest.TestCase):
                 # Ninja refused some builds before it began a command, and so does the program.
                 due = ("none refused\n",)
                 if (recording / "trace").read_bytes().endswith(b"\nplan\n"):
-                    due = ("none refused\n", "1 command, 1 refused\n")
+                    due = ("none refused\n", "1 event, 1 refused\n")
                 with self.subTest(recording=str(recording)):
                     status, said = self.asked("replay", recording)
                     self.assertEqual((status, said.endswith(due)), (0, True), said)

@@ -40,8 +40,11 @@ def big(folder: str, count: int, reads: int, beside: int = 16) -> str:
             inputs = " ".join(f"source/library_{part:03d}/objects/unit_{it:02d}.cpp.o" for it in range(own + 1))
             lines.append(f"build {archive}: ar {inputs}\n")
             archives.append(archive)
-    late = max(clock)
-    steps += [(late, 30, it, "") for it in archives] + [(late + 40, 500, "app", "")]
+            ended = max(begin + took for begin, took, _, _ in steps[-own - 1 :])
+            lane = min(range(beside), key=clock.__getitem__)
+            clock[lane] = max(clock[lane], ended) + 30
+            steps.append((clock[lane] - 30, 30, archive, ""))
+    steps.append((max(clock) + 40, 500, "app", ""))
     lines.append(f"build app: ar {' '.join(archives)}\n")
     write(folder, "".join(lines), steps, {*headers, *sources})
     return folder
@@ -111,9 +114,9 @@ def markup(folder: str) -> str:
     return folder
 
 
-def chance(folder: str, seed: int, edges: int = 60, jobs: int = 3) -> str:
+def chance(folder: str, seed: int, edges: int = 60, jobs: int = 3, timed: bool = False) -> str:
     """A recording of a build whose build lines and order are drawn by lot. Some commands list what they read, and the
-    last one of some fails."""
+    last one of some fails. It has a file of times if it is to have one."""
     lot = random.Random(seed)
     inputs = [sorted(lot.sample(range(it), min(it, lot.randrange(4)))) for it in range(edges)]
     kinds = [[lot.choice((" ", " | ", " || ")) for _ in it] for it in inputs]
@@ -146,7 +149,11 @@ def chance(folder: str, seed: int, edges: int = 60, jobs: int = 3) -> str:
         ready += [on for on in range(edges) if it in inputs[on] and set(inputs[on]) <= ended and on not in ended
                   and on not in begun and on not in ready]
     os.makedirs(folder)
-    for file_name, text in (("build.ninja", "".join(lines)), ("trace", "\n".join(trace) + "\n")):
+    files = {"build.ninja": "".join(lines), "trace": "\n".join(trace) + "\n"}
+    if timed:
+        times = range(len(trace) - trace.index("plan"))
+        files["times"] = "".join(["rebug-times 1\n", *(f"0:{it + 1} {it}\n" for it in times)])
+    for file_name, text in files.items():
         with open(f"{folder}/{file_name}", "w", encoding="ascii") as file:
             file.write(text)
     return folder

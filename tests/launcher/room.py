@@ -70,8 +70,8 @@ class Room(unittest.TestCase):
         self.program = f"{self.top}/crates/rebug/out/rebug"
         os.makedirs(f"{self.top}/tools")
         shutil.copy(f"{TOP}/rebug", self.top)
-        for name in ("prove", "launcher.bash", "session", "colours.sed", "costs.py", "gate.py", "lanes",
-                     "proof-seconds"):
+        for name in ("prove", "launcher.bash", "sources.bash", "unproved.bash", "session", "colours.sed", "costs.py",
+                     "gate.py", "lanes", "proof-seconds"):
             shutil.copy(f"{TOP}/tools/{name}", f"{self.top}/tools")
         shutil.copy(f"{TOP}/crates.txt", self.top)
         shutil.copytree(f"{TOP}/examples/first", f"{self.top}/examples/first")

@@ -9,12 +9,13 @@ from dataclasses import dataclass, field
 
 @dataclass(frozen=True)
 class Mended:
-    """A build: the lines of its manifest below the rule `sh`, its sources, parts of what `races` is to write, the build
-    lines that the patch is to write, and the kinds of what `races` still finds in the patched build, which is certain
-    unless an unstable file is among these: there each build changes what the next one begins with, and no order mends
-    that. It is not certain either where `by_ninja` says that Ninja makes a folder which a command takes away: a
-    certificate takes Ninja's folders as made at any time. `unwritten` are parts of lines that neither the answer nor the
-    patch may have."""
+    """A build: the lines of its manifest below the rule `sh`, its sources, parts of what `races --all` is to write, the
+    build lines that the patch is to write, and the kinds of what `races` still finds in the patched build.
+
+    The patched build is certain unless an unstable file is among these: there each build changes what the next one
+    begins with, and no order mends that. It is not certain either where `by_ninja` says that Ninja makes a folder which
+    a command takes away: a certificate takes Ninja's folders as made at any time. `unwritten` are parts of lines that
+    neither the answer nor the patch may have."""
 
     build: str
     sources: dict[str, str] = field(default_factory=dict)

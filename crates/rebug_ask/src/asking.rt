@@ -372,6 +372,7 @@ fn converse<R: Files + Input + Print + AllocGlobal>(
             times: known.times(),
             repeats: since.repeats && !manner.json,
             all: false,
+            origins: &scene.beside.read.origins,
         };
         match take_turn(rt, session, desk, scene, style)? {
             Turn::Answered(next) => since = next,

@@ -3,10 +3,12 @@
 
 mod asking;
 mod comparing;
+mod mending;
 mod page;
 mod picturing;
 mod replies;
 mod scheduling;
+mod separating;
 mod several;
 mod timelining;
 mod told;
@@ -19,6 +21,7 @@ use rev_fields::wide_number;
 use rev_program::{ProgramFault, USAGE, explain, fail, words};
 use rev_verdicts::Form;
 use scheduling::schedule;
+use separating::separate;
 use std::io::IsTerminal;
 use std::process::ExitCode;
 use std::rt::Files;
@@ -135,6 +138,7 @@ fn answer<'a, R: Files + Input + Print + Eprint + AllocGlobal>(
         Word::Timeline => timelined(rt, &asked),
         Word::Compare => compare(rt, &asked),
         Word::Schedule => schedule(rt, &asked, words),
+        Word::Separate => separate(rt),
     }
 }
 

@@ -1,6 +1,7 @@
 //! How the answer to one question is written: in words or as an object, all of it or a screen.
 use rev_answers::{Context, answer_json, answer_words, fault_json, screen_of};
 use rev_desk::Desk;
+use rev_dyndep::Origins;
 use rev_prompt::{Answer, Question, Session, answer_to, has_answer, only_asks};
 use std::alloc::{AllocError, Global};
 
@@ -16,13 +17,15 @@ pub(crate) struct Answered {
 }
 
 /// How a line is answered: as JSON or in words, by which times of events, whether an empty line asks for the next
-/// command of the recording, and whether all is told and not a screen.
+/// command of the recording, and whether all is told and not a screen. `origins` has the paths that come from dyndep
+/// files.
 #[derive(Clone, Copy)]
 pub(crate) struct Style<'a> {
     pub(crate) json: bool,
     pub(crate) times: &'a [Option<u32>],
     pub(crate) repeats: bool,
     pub(crate) all: bool,
+    pub(crate) origins: &'a Origins,
 }
 
 /// What is written for a line that has no answer, behind which an empty line asks for the next command or not.
@@ -135,6 +138,7 @@ pub(crate) fn written_for_answer(
         session: &session,
         desk,
         question,
+        origins: style.origins,
     };
     let text = answer_text(alloc, told, answer, style.json)?;
     cut(alloc, text, question, style)

@@ -90,6 +90,7 @@ fn timeline_of<'a>(
         builds: manifest.builds(),
         files: &read.files,
         runs: &[],
+        origins: None,
     };
     let conflicts: &'a [Conflict] = match sight {
         Some(sight) => &sight.conflicts,

@@ -1,6 +1,7 @@
 //! Answers about a recording.
 ghost use Rattle.std.specs.Prelude.{◌≡◌, ◌+◌, ◌≤◌, length, IfOk};
 
+use crate::mending::{mend_answer, provoke_answer};
 use rev_conflicts_text::{Finding, pair_of};
 use rev_desk::Desk;
 use rev_findings::{
@@ -8,12 +9,11 @@ use rev_findings::{
     output_names, report_of, seen_findings, sight_in, witness_of,
 };
 use rev_folder::{
-    FilterTexts, Place, Recording, observed_sentence, place_of, read_beside, read_filters,
-    read_names, read_observed, read_recording, say_incomplete,
+    FilterTexts, Place, Recording, filters_in, observed_sentence, place_of, read_beside,
+    read_filters, read_names, read_observed, read_recording, say_incomplete,
 };
 use rev_history::History;
 use rev_manifest::Manifest;
-use rev_mends::{mend_text, provoke_text};
 use rev_paths::{Name, PathFault};
 use rev_program::{ProgramFault, ReadFault, USAGE, read_named};
 use rev_races_text::{Report, Sources};
@@ -21,7 +21,9 @@ use rev_recording::{RecordingFault, fault_line, open, replay, replay_text};
 use rev_script::send;
 use rev_sentences::{Inputs, sentence};
 use rev_trace::Trace;
-use rev_verdicts::{Answer, Choice, Form, Leaving, Wish, Written, certified, written_report};
+use rev_verdicts::{
+    Answer, Choice, Form, Leaving, Wish, Written, certified, found_in, trust_in, written_report,
+};
 use std::alloc::{AllocError, Global};
 use std::rt::Files;
 use std::{fs, io, mem};
@@ -124,14 +126,18 @@ fn certificate_answer<'a>(
     desk: &'a Desk,
     basis: &Basis<'a>,
 ) -> Result<Answer, RecordingFault> {
+    let trust = trust_in(alloc, inquiry.trust)?;
+    let filters = filters_in(alloc, inquiry.choice.filters)?;
+    let found = found_in(alloc, desk, basis)?;
     let wish = Wish {
         form,
         is_strict,
-        trust: inquiry.trust,
+        trust: &trust,
+        filters: &filters,
         choice: inquiry.choice,
     };
-    let written = certified(alloc, desk, basis, wish)?;
-    Ok(Answer::Written(written))
+    let answer = certified(alloc, desk.history(), basis, &found, wish)?;
+    Ok(Answer::Written(answer.written))
 }
 
 // The answer about what is found in a recording that was replayed.
@@ -144,7 +150,7 @@ fn answer_by_basis<'a>(
     basis: &Basis<'a>,
 ) -> Result<Answer, RecordingFault> {
     match asked {
-        Asked::Races(asked) => found_answer(alloc, inquiry.choice, asked, manifest, desk, basis),
+        Asked::Races(asked) => found_answer(alloc, inquiry, asked, manifest, desk, basis),
         Asked::Certificate(form, is_strict) => {
             certificate_answer(alloc, inquiry, form, is_strict, desk, basis)
         }
@@ -171,6 +177,7 @@ fn answer_of(
             builds: manifest.builds(),
             files: &inquiry.read.files,
             runs: &runs,
+            origins: Some(&inquiry.read.origins),
         },
         files: &files,
         entries: &entries,
@@ -179,20 +186,6 @@ fn answer_of(
         commands,
     };
     answer_by_basis(alloc, inquiry, asked, manifest, desk, &basis)
-}
-
-// The answer that has a race of a user and a maker happen, or the sentence that says why there is none.
-fn provoke_answer(
-    alloc: Global,
-    manifest: &Manifest,
-    desk: &Desk,
-    sources: &Sources<'_>,
-    race: Option<(u32, u32)>,
-) -> Result<Answer, AllocError> {
-    match provoke_text(alloc, manifest, desk.history().graph(), sources, race)? {
-        Ok(text) => Ok(Answer::text(text, 0)),
-        Err(why) => Ok(Answer::NotUnderstood(why.sentence())),
-    }
 }
 
 // The findings that filters and a baseline do not leave out. What they leave out of a report is taken out of it.
@@ -215,17 +208,17 @@ fn leave_out<'a>(
 // The answer that tells what was found.
 fn found_answer<'a>(
     alloc: Global,
-    choice: Choice<'_>,
+    inquiry: Inquiry<'_>,
     asked: OfRaces,
     manifest: &Manifest,
     desk: &'a Desk,
     basis: &Basis<'a>,
 ) -> Result<Answer, RecordingFault> {
     let mut report = report_of(alloc, desk, basis)?;
-    let findings = findings_left(alloc, choice, desk, basis, &mut report)?;
+    let findings = findings_left(alloc, inquiry.choice, desk, basis, &mut report)?;
     Ok(answer_with(
         alloc,
-        choice,
+        inquiry,
         asked,
         manifest,
         desk,
@@ -255,7 +248,7 @@ fn findings_left<'a>(
 // The answer that is asked for, by the findings and the report.
 fn answer_with<'a>(
     alloc: Global,
-    choice: Choice<'_>,
+    inquiry: Inquiry<'_>,
     asked: OfRaces,
     manifest: &Manifest,
     desk: &'a Desk,
@@ -263,7 +256,7 @@ fn answer_with<'a>(
     findings: &[Finding<'a>],
     report: &mut Report<'a>,
 ) -> Result<Answer, AllocError> {
-    let sources = &basis.sources;
+    let (sources, own) = (&basis.sources, inquiry.read.own.as_slice());
     match asked {
         OfRaces::Witness(number) | OfRaces::Provoke(number)
             if is_of_no_order(findings, report, number) => {
@@ -274,16 +267,12 @@ fn answer_with<'a>(
         }
         OfRaces::Provoke(number) => {
             let pair = pair_with(findings, report, number);
-            provoke_answer(alloc, manifest, desk, sources, pair)
+            provoke_answer(alloc, manifest, desk, sources, own, pair)
         }
-        OfRaces::Mend => {
-            let graph = desk.history().graph();
-            let (races, clashes) = (&report.races, &report.clashes);
-            let text = mend_text(alloc, manifest, graph, sources, races, clashes, findings)?;
-            Ok(Answer::text(text, report.status()))
-        }
+        OfRaces::Mend => mend_answer(alloc, manifest, desk, sources, own, findings, report),
         OfRaces::All(form) => {
             add_hints(alloc, desk, basis, report)?;
+            let choice = inquiry.choice;
             let written = written_report(alloc, choice, form, sources, findings, report)?;
             Ok(Answer::Written(written))
         }
@@ -368,7 +357,7 @@ pub struct EndedDesk<'a, 'b> {
 }
 
 // The answer about what is found in a recording that was replayed.
-fn found_in(
+fn answer_after(
     alloc: Global,
     inquiry: Inquiry<'_>,
     asked: Asked,
@@ -412,7 +401,7 @@ fn answer_from(
                 desk,
                 commands,
             };
-            found_in(alloc, inquiry, Asked::Certificate(form, is_strict), ended)
+            answer_after(alloc, inquiry, Asked::Certificate(form, is_strict), ended)
         }
         How::Races(asked) => {
             let ended = EndedDesk {
@@ -420,7 +409,7 @@ fn answer_from(
                 desk,
                 commands,
             };
-            found_in(alloc, inquiry, Asked::Races(asked), ended)
+            answer_after(alloc, inquiry, Asked::Races(asked), ended)
         }
     }
 }
@@ -655,7 +644,7 @@ fn answer_by(
     ended: Option<EndedDesk<'_, '_>>,
 ) -> Result<Answer, RecordingFault> {
     match ended {
-        Some(ended) => found_in(alloc, inquiry, Asked::Races(OfRaces::All(form)), ended),
+        Some(ended) => answer_after(alloc, inquiry, Asked::Races(OfRaces::All(form)), ended),
         None => answer_about(alloc, inquiry),
     }
 }

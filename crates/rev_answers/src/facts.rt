@@ -1,4 +1,5 @@
 //! An edge in words.
+use crate::by_dyndep::{Side, added_to, parted, push_by};
 use crate::description::description_of;
 use crate::edges::push_edge;
 use crate::events::push_visible;
@@ -6,6 +7,7 @@ use crate::runs::push_span;
 use crate::statements::{build_of, listed, push_placed, rule_of};
 use crate::times::push_took;
 use crate::told::{Context, history_of, path_of};
+use rev_dyndep::Added;
 use rev_fields::push_number;
 use rev_manifest::Build;
 use rev_observed::{Observation, PathRange};
@@ -162,14 +164,64 @@ fn push_bytes(
     Ok(())
 }
 
+// Adds paths of a kind that an edge has by its own line, and in a line behind it those that a dyndep file adds.
+fn push_parted(
+    text: &mut Vec<u8>,
+    alloc: Global,
+    word: &[u8],
+    names: &[Name],
+    added: &Added,
+    side: Side,
+    all: bool,
+) -> Result<(), AllocError> {
+    let mut words = Vec::from_slice(alloc, word)?;
+    words.push(b':')?;
+    push_names(
+        text,
+        &words,
+        &parted(alloc, added, side, names, false)?,
+        all,
+    )?;
+    let mut words = Vec::from_slice(alloc, word)?;
+    push_by(&mut words, Some(added.file()))?;
+    words.push(b':')?;
+    push_names(text, &words, &parted(alloc, added, side, names, true)?, all)
+}
+
+// Adds implicit inputs or outputs of an edge.
+fn push_implicit(
+    text: &mut Vec<u8>,
+    alloc: Global,
+    names: &[Name],
+    added: Option<&Added>,
+    side: Side,
+    all: bool,
+) -> Result<(), AllocError> {
+    let word: &[u8] = match side {
+        Side::Input => b"implicit",
+        Side::Output => b"implicit outputs",
+    };
+    match added {
+        Some(added) => push_parted(text, alloc, word, names, added, side, all),
+        None if side == Side::Input => push_names(text, b"implicit:", names, all),
+        None => push_names(text, b"implicit outputs:", names, all),
+    }
+}
+
 // Adds the paths of a build line, a line a kind.
-fn push_paths(text: &mut Vec<u8>, build: &Build, all: bool) -> Result<(), AllocError> {
+fn push_paths(
+    text: &mut Vec<u8>,
+    alloc: Global,
+    build: &Build,
+    added: Option<&Added>,
+    all: bool,
+) -> Result<(), AllocError> {
     push_names(text, b"inputs:", build.explicit(), all)?;
-    push_names(text, b"implicit:", build.implicit(), all)?;
+    push_implicit(text, alloc, build.implicit(), added, Side::Input, all)?;
     push_names(text, b"order-only:", build.order_only(), all)?;
     push_names(text, b"validations:", build.validations(), all)?;
     push_names(text, b"outputs:", build.explicit_outs(), all)?;
-    push_names(text, b"implicit outputs:", build.implicit_outs(), all)
+    push_implicit(text, alloc, build.implicit_outs(), added, Side::Output, all)
 }
 
 /// The flags of an edge that are set, as words.
@@ -295,7 +347,7 @@ pub(crate) fn push_edge_found(
     push_bytes(text, b"command:", build.command(), short)?;
     let description = description_of(alloc, told, build)?;
     push_bytes(text, b"description:", &description, SHORT)?;
-    push_paths(text, build, all)?;
+    push_paths(text, alloc, build, added_to(told, found.edge), all)?;
     push_read(text, alloc, told, build, found.edge, all)?;
     push_bytes(text, b"depfile:", build.depfile(), SHORT)?;
     push_bytes(text, b"response file:", build.rspfile(), SHORT)?;

@@ -1,11 +1,13 @@
 //! Edges, files and times in words.
+use crate::by_dyndep::{Side, file_of, push_by};
 use crate::facts::push_edge_found;
 use crate::meant::{is_among, near_paths, push_near, push_near_paths, push_unknown_paths};
 use crate::observed::{LISTED, deed_words};
-use crate::reasons::push_reason;
+use crate::reasons::{push_path, push_reason};
 use crate::statements::{build_of, is_phony, listed, push_placed};
 use crate::times::push_milliseconds;
 use crate::told::{Context, history_of};
+use crate::waiting::{Crowd, Held, held_of, link_behind};
 use rev_fields::push_number;
 use rev_graph::Graph;
 use rev_paths::Name;
@@ -45,18 +47,36 @@ fn place_words(place: Place) -> &'static [u8] {
     }
 }
 
+// Adds where the build line of an edge has a path, and the dyndep file by which the edge has it.
+fn push_place(
+    text: &mut Vec<u8>,
+    alloc: Global,
+    told: Context<'_>,
+    path: &Name,
+    reading: &Reading,
+) -> Result<(), AllocError> {
+    let Some(place) = reading.place else {
+        return Ok(());
+    };
+    text.extend_from_slice(place_words(place))?;
+    if place == Place::Implicit {
+        push_by(text, file_of(alloc, told, reading.edge, Side::Input, path)?)?;
+    }
+    Ok(())
+}
+
 // Adds what an edge has to do with a path.
 fn push_reading(
     text: &mut Vec<u8>,
+    alloc: Global,
     told: Context<'_>,
+    path: &Name,
     reading: &Reading,
     kind: Option<Kind>,
 ) -> Result<(), AllocError> {
     push_placed(text, told, reading.edge)?;
     text.extend_from_slice(b": ")?;
-    if let Some(place) = reading.place {
-        text.extend_from_slice(place_words(place))?;
-    }
+    push_place(text, alloc, told, path, reading)?;
     if reading.listed {
         if reading.place.is_some() {
             text.extend_from_slice(b", ")?;
@@ -133,7 +153,7 @@ fn push_reads(
     let others = unnamed(alloc, graph, readings, seen)?;
     for reading in readings {
         let kind = kinds.get(reading.edge as usize).copied().unwrap_or(None);
-        push_reading(text, told, reading, kind)?;
+        push_reading(text, alloc, told, path, reading, kind)?;
     }
     for deed in &others {
         push_unnamed(text, told, deed)?;
@@ -182,7 +202,9 @@ fn push_producer(
     match producer {
         Some(edge) => {
             push_placed(text, told, edge)?;
-            text.extend_from_slice(b" has it as an output\n")
+            text.extend_from_slice(b" has it as an output")?;
+            push_by(text, file_of(alloc, told, edge, Side::Output, path)?)?;
+            text.extend_from_slice(b"\n")
         }
         None => push_no_maker(text, alloc, told, path, is_changed),
     }
@@ -253,10 +275,15 @@ pub(crate) fn marked_input<'a>(told: Context<'a>, marks: &[bool], edge: u32) -> 
 }
 
 // Adds that an edge is to run since an input of it is to be made.
-fn push_behind(text: &mut Vec<u8>, input: Option<&Name>) -> Result<(), AllocError> {
+fn push_behind(
+    text: &mut Vec<u8>,
+    told: Context<'_>,
+    edge: u32,
+    input: Option<&Name>,
+) -> Result<(), AllocError> {
     match input {
-        Some(input) => {
-            push_shown(text, input.as_bytes())?;
+        Some(_) => {
+            push_path(text, told, edge, Side::Input, input)?;
             text.extend_from_slice(b" is to be made")
         }
         None => text.extend_from_slice(b"an input is to be made"),
@@ -274,8 +301,11 @@ fn push_rebuilt(
     push_placed(text, told, rebuilt.edge)?;
     text.extend_from_slice(b": ")?;
     match &rebuilt.because {
-        Some(because) => push_reason(text, because)?,
-        None => push_behind(text, marked_input(told, marks, rebuilt.edge))?,
+        Some(because) => push_reason(text, told, rebuilt.edge, because)?,
+        None => {
+            let input = marked_input(told, marks, rebuilt.edge);
+            push_behind(text, told, rebuilt.edge, input)?;
+        }
     }
     text.push(b'\n')?;
     Ok(())
@@ -360,6 +390,23 @@ fn push_slowest(text: &mut Vec<u8>, told: Context<'_>, runs: &[Timed]) -> Result
     Ok(())
 }
 
+// Adds what held a run, behind how long it began after the end of the one for which it waited.
+fn push_held(text: &mut Vec<u8>, held: Option<Held>) -> Result<(), AllocError> {
+    match held {
+        Some(Held::ByJobs(count)) => {
+            text.extend_from_slice(b": it waited for a job, since ")?;
+            push_number(text, count)?;
+            text.extend_from_slice(if count == 1 {
+                b" command ran"
+            } else {
+                b" commands ran"
+            })
+        }
+        Some(Held::ByPool) => text.extend_from_slice(b": it waited for a slot of its pool"),
+        None => Ok(()),
+    }
+}
+
 // Adds how long a run began after the end of the one for which it waited, which the next line tells.
 fn push_gap(text: &mut Vec<u8>, timed: &Timed, next: Option<&Timed>) -> Result<(), AllocError> {
     let Some(next) = next else {
@@ -375,18 +422,22 @@ fn push_gap(text: &mut Vec<u8>, timed: &Timed, next: Option<&Timed>) -> Result<(
 }
 
 // Adds the chain of commands that the end of a build waited for, from the last one.
-fn push_critical(text: &mut Vec<u8>, told: Context<'_>, chain: &Chain) -> Result<(), AllocError> {
+fn push_critical(
+    text: &mut Vec<u8>,
+    alloc: Global,
+    told: Context<'_>,
+    chain: &Chain,
+) -> Result<(), AllocError> {
     if chain.links.is_empty() {
         return text.extend_from_slice(b"no command that has times ran since the last plan\n");
     }
     text.extend_from_slice(b"the end of the build waited for\n")?;
+    let crowd = Crowd::new(alloc, told)?;
     for (place, timed) in chain.links.iter().enumerate() {
         push_timed(text, told, timed)?;
-        let next = match chain.links.get(place.saturating_add(1)) {
-            Some(next) => Some(next),
-            None => chain.next.as_ref(),
-        };
+        let next = link_behind(chain, place);
         push_gap(text, timed, next)?;
+        push_held(text, held_of(told, &crowd, timed, next))?;
         text.push(b'\n')?;
     }
     if chain.next.is_some() {
@@ -414,7 +465,7 @@ pub(crate) fn push_found(
         }
         Found::Rebuilds(rebuilds) => push_rebuilds(text, alloc, told, rebuilds),
         Found::Slowest(runs) => push_slowest(text, told, runs),
-        Found::Critical(chain) => push_critical(text, told, chain),
+        Found::Critical(chain) => push_critical(text, alloc, told, chain),
         Found::NoTimes => text.extend_from_slice(NO_TIMES),
     }
 }

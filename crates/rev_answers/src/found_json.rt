@@ -1,4 +1,5 @@
 //! Edges, files and times as JSON.
+use crate::by_dyndep::{Side, added_to, file_by, file_of, parted, put_by};
 use crate::description::description_of;
 use crate::facts::{also_read, flags_of};
 use crate::found::{kinds_of, marked_input, rebuilt_marks};
@@ -9,6 +10,7 @@ use crate::statements::{build_of, file_name, is_phony, listed, rule_of};
 use crate::times::took;
 use crate::told::{Context, history_of};
 use crate::values::{View, because_value, names_value, put_edge, put_meant, run_value, text_value};
+use crate::waiting::{Crowd, Held, held_of, link_behind};
 use rev_manifest::Build;
 use rev_paths::Name;
 use rev_prompt::{Chain, Deed, EdgeFound, Found, Kind, Place, Reading, Rebuilt, Timed};
@@ -100,6 +102,26 @@ fn put_line(object: &mut Object, alloc: Global, build: &Build) -> Result<(), All
     put_paths(object, alloc, "implicit_outputs", build.implicit_outs())
 }
 
+// Adds what a dyndep file adds to an edge: the file, the inputs and the outputs; nothing where none does.
+fn put_added(
+    object: &mut Object,
+    alloc: Global,
+    told: Context<'_>,
+    build: &Build,
+    edge: u32,
+) -> Result<(), AllocError> {
+    let Some(added) = added_to(told, edge) else {
+        return Ok(());
+    };
+    let mut one = Object::new(alloc);
+    put_by(&mut one, alloc, "file", Some(added.file()))?;
+    let inputs = parted(alloc, added, Side::Input, build.implicit(), true)?;
+    put_paths(&mut one, alloc, "inputs", &inputs)?;
+    let outputs = parted(alloc, added, Side::Output, build.implicit_outs(), true)?;
+    put_paths(&mut one, alloc, "outputs", &outputs)?;
+    object.put(alloc, "dyndep", one.value())
+}
+
 // Adds the pool of an edge, with its depth; null where it has none.
 fn put_pool(
     object: &mut Object,
@@ -166,6 +188,7 @@ fn edge(alloc: Global, told: Context<'_>, found: &EdgeFound) -> Result<Object, A
     if let Some(build) = build_of(told, found.edge) {
         put_command(&mut object, alloc, told, build)?;
         put_line(&mut object, alloc, build)?;
+        put_added(&mut object, alloc, told, build, found.edge)?;
         put_read(&mut object, alloc, told, build, found.edge)?;
     }
     let users = edges_value(alloc, told, &found.users)?;
@@ -202,6 +225,7 @@ fn word_or_null(alloc: Global, word: Option<&str>) -> Result<Value, AllocError> 
 fn reading_value(
     alloc: Global,
     told: Context<'_>,
+    path: &Name,
     reading: &Reading,
     kind: Option<Kind>,
 ) -> Result<Value, AllocError> {
@@ -211,6 +235,10 @@ fn reading_value(
     object.put_flag(alloc, "listed", reading.listed)?;
     let seen = word_or_null(alloc, kind.map(kind_word))?;
     object.put(alloc, "seen", seen)?;
+    if reading.place == Some(Place::Implicit) {
+        let file = file_of(alloc, told, reading.edge, Side::Input, path)?;
+        put_by(&mut object, alloc, "dyndep", file)?;
+    }
     Ok(object.value())
 }
 
@@ -227,6 +255,7 @@ fn deed_value(alloc: Global, told: Context<'_>, deed: &Deed) -> Result<Value, Al
 fn readings_value(
     alloc: Global,
     told: Context<'_>,
+    path: &Name,
     readings: &[Reading],
     deeds: &[Deed],
 ) -> Result<Value, AllocError> {
@@ -234,7 +263,7 @@ fn readings_value(
     let mut values = Vec::new(alloc);
     for reading in readings {
         let kind = kinds.get(reading.edge as usize).copied().unwrap_or(None);
-        values.push(reading_value(alloc, told, reading, kind)?)?;
+        values.push(reading_value(alloc, told, path, reading, kind)?)?;
         if let Some(slot) = kinds.get_mut(reading.edge as usize) {
             *slot = None;
         }
@@ -283,11 +312,24 @@ fn reads(
     deeds: Option<&Vec<Deed>>,
 ) -> Result<Object, AllocError> {
     let mut object = path_object(alloc, "readers", path, deeds.is_some())?;
-    let edges = readings_value(alloc, told, readings, deeds_in(deeds))?;
+    let edges = readings_value(alloc, told, path, readings, deeds_in(deeds))?;
     object.put(alloc, "edges", edges)?;
     let is_found = !readings.is_empty() || !deeds_in(deeds).is_empty();
     put_meant(&mut object, alloc, told, path, is_found)?;
     Ok(object)
+}
+
+// The edge that has a path as an output, and the dyndep file by which it has it.
+fn maker_value(
+    alloc: Global,
+    told: Context<'_>,
+    path: &Name,
+    edge: u32,
+) -> Result<Value, AllocError> {
+    let mut object = placed(alloc, told, edge)?;
+    let file = file_of(alloc, told, edge, Side::Output, path)?;
+    put_by(&mut object, alloc, "dyndep", file)?;
+    Ok(object.value())
 }
 
 // Which edge has a path as an output, and who was seen to change it.
@@ -300,7 +342,7 @@ fn makes(
 ) -> Result<Object, AllocError> {
     let mut object = path_object(alloc, "makers", path, deeds.is_some())?;
     let maker = match producer {
-        Some(edge) => placed(alloc, told, edge)?.value(),
+        Some(edge) => maker_value(alloc, told, path, edge)?,
         None => Value::Null,
     };
     object.put(alloc, "maker", maker)?;
@@ -335,6 +377,27 @@ fn name_or_null(alloc: Global, name: Option<&Name>) -> Result<Value, AllocError>
     }
 }
 
+// Adds the input that is to be made before an edge, or none, and the dyndep file by which the edge has it.
+fn put_behind(
+    object: &mut Object,
+    alloc: Global,
+    told: Context<'_>,
+    edge: u32,
+    input: Option<&Name>,
+) -> Result<(), AllocError> {
+    let behind = name_or_null(alloc, input)?;
+    object.put(alloc, "behind", behind)?;
+    match input {
+        Some(input) => put_by(
+            object,
+            alloc,
+            "dyndep",
+            file_by(told, edge, Side::Input, input),
+        ),
+        None => Ok(()),
+    }
+}
+
 // An edge that would be to do: its first reason, or else the input that is to be made before it.
 fn rebuilt_value(
     alloc: Global,
@@ -345,14 +408,11 @@ fn rebuilt_value(
     let mut object = placed(alloc, told, rebuilt.edge)?;
     object.put_flag(alloc, "phony", is_phony(told, rebuilt.edge))?;
     let (because, behind) = match &rebuilt.because {
-        Some(because) => (because_value(alloc, because)?, Value::Null),
-        None => {
-            let input = name_or_null(alloc, marked_input(told, marks, rebuilt.edge))?;
-            (Value::Null, input)
-        }
+        Some(because) => (because_value(alloc, told, rebuilt.edge, because)?, None),
+        None => (Value::Null, marked_input(told, marks, rebuilt.edge)),
     };
     object.put(alloc, "reason", because)?;
-    object.put(alloc, "behind", behind)?;
+    put_behind(&mut object, alloc, told, rebuilt.edge, behind)?;
     Ok(object.value())
 }
 
@@ -386,37 +446,58 @@ fn rebuilds(alloc: Global, told: Context<'_>, all: &[Rebuilt]) -> Result<Object,
 }
 
 // A run with its times.
-fn timed_value(alloc: Global, told: Context<'_>, timed: &Timed) -> Result<Value, AllocError> {
+fn timed_object(alloc: Global, told: Context<'_>, timed: &Timed) -> Result<Object, AllocError> {
     let mut object = placed(alloc, told, timed.edge)?;
     object.put_number(alloc, "began", u64::from(timed.began))?;
     object.put_number(alloc, "ended", u64::from(timed.ended))?;
     object.put_number(alloc, "from", u64::from(timed.from))?;
     object.put_number(alloc, "to", u64::from(timed.to))?;
     object.put_number(alloc, "took", u64::from(timed.took()))?;
-    Ok(object.value())
+    Ok(object)
 }
 
-// Runs with their times.
-fn runs_object(
-    alloc: Global,
-    told: Context<'_>,
-    kind: &str,
-    runs: &[Timed],
-    is_whole: bool,
-) -> Result<Object, AllocError> {
-    let mut object = Object::of_kind(alloc, kind)?;
+// The runs that took most time.
+fn slowest(alloc: Global, told: Context<'_>, runs: &[Timed]) -> Result<Object, AllocError> {
+    let mut object = Object::of_kind(alloc, "slowest")?;
     let mut values = Vec::new(alloc);
     for timed in runs {
-        values.push(timed_value(alloc, told, timed)?)?;
+        values.push(timed_object(alloc, told, timed)?.value())?;
     }
     object.put(alloc, "runs", Value::from(values))?;
-    object.put_flag(alloc, "whole", is_whole)?;
+    object.put_flag(alloc, "whole", true)?;
     Ok(object)
+}
+
+// The word of what held a command.
+fn held_word(held: Held) -> &'static str {
+    match held {
+        Held::ByJobs(_) => "jobs",
+        Held::ByPool => "pool",
+    }
+}
+
+// Adds what held a command.
+fn put_held(object: &mut Object, alloc: Global, held: Option<Held>) -> Result<(), AllocError> {
+    match held {
+        Some(held) => object.put_text(alloc, "held", held_word(held)),
+        None => object.put(alloc, "held", Value::Null),
+    }
 }
 
 // The chain of commands that the end of a build waited for.
 fn critical(alloc: Global, told: Context<'_>, chain: &Chain) -> Result<Object, AllocError> {
-    runs_object(alloc, told, "critical", &chain.links, chain.next.is_none())
+    let mut object = Object::of_kind(alloc, "critical")?;
+    let crowd = Crowd::new(alloc, told)?;
+    let mut values = Vec::new(alloc);
+    for (place, timed) in chain.links.iter().enumerate() {
+        let mut link = timed_object(alloc, told, timed)?;
+        let held = held_of(told, &crowd, timed, link_behind(chain, place));
+        put_held(&mut link, alloc, held)?;
+        values.push(link.value())?;
+    }
+    object.put(alloc, "runs", Value::from(values))?;
+    object.put_flag(alloc, "whole", chain.next.is_none())?;
+    Ok(object)
 }
 
 /// What a question about edges, files and times is answered. All of it stands there.
@@ -434,7 +515,7 @@ pub(crate) fn found_object(
         Found::Reads(path, readings, deeds) => reads(alloc, told, path, readings, deeds.as_ref()),
         Found::Makes(path, producer, deeds) => makes(alloc, told, path, *producer, deeds.as_ref()),
         Found::Rebuilds(of) => rebuilds(alloc, told, of),
-        Found::Slowest(runs) => runs_object(alloc, told, "slowest", runs, true),
+        Found::Slowest(runs) => slowest(alloc, told, runs),
         Found::Critical(chain) => critical(alloc, told, chain),
         Found::NoTimes => Object::of_kind(alloc, "no times"),
     }

@@ -1,4 +1,5 @@
 //! Answers as JSON, an object a line. docs/JSON.md describes them.
+use crate::by_dyndep::Side;
 use crate::causes::End;
 use crate::events::{push_command_words, push_visible};
 use crate::found_json::found_object;
@@ -13,12 +14,11 @@ use crate::seen::{looks_value, readers, users_value, writers};
 use crate::told::Context;
 use crate::values::{
     View, because_value, lines_value, links_value, names_value, put_edge, put_event, put_events,
-    put_name, put_through, run_value, runs_value, text_value,
+    put_name, put_path, put_through, run_value, runs_value, text_value,
 };
 use crate::words::subject_asked;
 use rev_desk::Reply;
 use rev_events::Refusal;
-use rev_graph::Graph;
 use rev_paths::Name;
 use rev_prompt::{Answer, Because, Link, Needs, Reach, Span, Step, Tally, User, Wait, Way};
 use serde_json::Value;
@@ -199,27 +199,47 @@ fn with(
 }
 
 // A step of a way.
-fn wait_value(alloc: Global, graph: &Graph, wait: &Wait) -> Result<Value, AllocError> {
+fn wait_value(alloc: Global, told: Context<'_>, wait: &Wait) -> Result<Value, AllocError> {
     let mut object = Object::new(alloc);
-    put_edge(&mut object, alloc, "output", graph, wait.edge)?;
-    put_name(&mut object, alloc, "input", wait.input.as_ref())?;
+    put_edge(
+        &mut object,
+        alloc,
+        "output",
+        View::of(told).graph(),
+        wait.edge,
+    )?;
+    let (names, input) = (("input", "dyndep"), wait.input.as_ref());
+    put_path(
+        &mut object,
+        alloc,
+        told,
+        wait.edge,
+        Side::Input,
+        names,
+        input,
+    )?;
     Ok(object.value())
 }
 
 // The steps of a way.
-fn waits_value(alloc: Global, graph: &Graph, steps: &[Wait]) -> Result<Value, AllocError> {
+fn waits_value(alloc: Global, told: Context<'_>, steps: &[Wait]) -> Result<Value, AllocError> {
     let mut values = Vec::new(alloc);
     for wait in steps {
-        values.push(wait_value(alloc, graph, wait)?)?;
+        values.push(wait_value(alloc, told, wait)?)?;
     }
     Ok(Value::from(values))
 }
 
-// Reasons.
-fn reasons_value(alloc: Global, reasons: &[Because]) -> Result<Value, AllocError> {
+// Reasons of an edge.
+fn reasons_value(
+    alloc: Global,
+    told: Context<'_>,
+    edge: u32,
+    reasons: &[Because],
+) -> Result<Value, AllocError> {
     let mut values = Vec::new(alloc);
     for because in reasons {
-        values.push(because_value(alloc, because)?)?;
+        values.push(because_value(alloc, told, edge, because)?)?;
     }
     Ok(Value::from(values))
 }
@@ -227,21 +247,22 @@ fn reasons_value(alloc: Global, reasons: &[Because]) -> Result<Value, AllocError
 // Why an edge runs.
 fn why(
     alloc: Global,
-    view: View<'_>,
+    told: Context<'_>,
     path: &Name,
     run: Option<Span>,
     plan: Option<u32>,
     way: &Way,
 ) -> Result<Object, AllocError> {
+    let view = View::of(told);
     let mut object = Object::of_kind(alloc, "why")?;
     put_name(&mut object, alloc, "path", Some(path))?;
     let run = run_value(alloc, view, run)?;
     object.put(alloc, "run", run)?;
     put_event(&mut object, alloc, "plan", view, plan)?;
-    let steps = waits_value(alloc, view.graph(), &way.steps)?;
+    let steps = waits_value(alloc, told, &way.steps)?;
     object.put(alloc, "steps", steps)?;
     put_edge(&mut object, alloc, "last", view.graph(), way.last)?;
-    let reasons = reasons_value(alloc, &way.reasons)?;
+    let reasons = reasons_value(alloc, told, way.last, &way.reasons)?;
     object.put(alloc, "reasons", reasons)?;
     Ok(object)
 }
@@ -439,7 +460,7 @@ fn answer_object(alloc: Global, told: Context<'_>, answer: &Answer) -> Result<Ob
         Answer::Cone(number, members) => cone(alloc, view, *number, members, true),
         Answer::Without(path, members, left) => without(alloc, view, path, members, *left),
         Answer::With(path, run, others) => with(alloc, view, path, *run, others),
-        Answer::Why(path, run, plan, way) => why(alloc, view, path, *run, *plan, way),
+        Answer::Why(path, run, plan, way) => why(alloc, told, path, *run, *plan, way),
         Answer::Order(ordered) => order_object(alloc, view, *ordered),
         Answer::Said(reply, number) => {
             replied(alloc, told, *reply, *number, subject_asked(told, *number))

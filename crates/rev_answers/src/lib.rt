@@ -1,6 +1,7 @@
 //! What questions about a recorded build are answered, in words and as JSON.
 #![tactic(auto)]
 
+mod by_dyndep;
 mod causes;
 mod description;
 mod each;
@@ -28,6 +29,7 @@ mod statements;
 mod times;
 mod told;
 mod values;
+mod waiting;
 mod words;
 
 pub use each::{Many, each_json, each_words, objects_json};

@@ -1,4 +1,5 @@
 //! What commands were seen to do, in words.
+use crate::by_dyndep::{Side, file_of, push_by};
 use crate::edges::push_edge;
 use crate::events::{is_kept, push_numbered};
 use crate::meant::push_near_paths;
@@ -145,6 +146,25 @@ fn push_deeds(
     text.extend_from_slice(OBSERVED)
 }
 
+// Adds an edge that names a path as what it reads.
+fn push_naming(
+    text: &mut Vec<u8>,
+    alloc: Global,
+    told: Context<'_>,
+    path: &Name,
+    naming: &Naming,
+) -> Result<(), AllocError> {
+    push_edge(text, history_of(told).graph(), naming.edge)?;
+    match naming.site {
+        Site::Line => {
+            text.extend_from_slice(b" has it as an input")?;
+            push_by(text, file_of(alloc, told, naming.edge, Side::Input, path)?)?;
+        }
+        Site::Listed => text.extend_from_slice(b" lists it")?,
+    }
+    text.extend_from_slice(b"\n")
+}
+
 // Adds the edges that name a path as what they read, a line each.
 fn push_namings(
     text: &mut Vec<u8>,
@@ -154,11 +174,7 @@ fn push_namings(
     namings: &[Naming],
 ) -> Result<(), AllocError> {
     for naming in namings {
-        push_edge(text, history_of(told).graph(), naming.edge)?;
-        text.extend_from_slice(match naming.site {
-            Site::Line => b" has it as an input\n",
-            Site::Listed => b" lists it\n",
-        })?;
+        push_naming(text, alloc, told, path, naming)?;
     }
     if namings.is_empty() {
         push_none(text, alloc, told, path, UNNAMED)?;
@@ -177,7 +193,9 @@ fn push_declared(
     match edge {
         Some(edge) => {
             push_edge(text, history_of(told).graph(), edge)?;
-            text.extend_from_slice(b" has it as an output\n")?;
+            text.extend_from_slice(b" has it as an output")?;
+            push_by(text, file_of(alloc, told, edge, Side::Output, path)?)?;
+            text.extend_from_slice(b"\n")?;
         }
         None => push_none(text, alloc, told, path, b"no build line has as an output ")?,
     }

@@ -1,11 +1,11 @@
 //! Why an edge runs, in words.
+use crate::by_dyndep::{Side, file_by, push_by};
 use crate::edges::push_edge;
 use crate::events::push_numbered;
 use crate::runs::push_span;
 use crate::told::{Context, history_of};
 use crate::words::push_not_run;
 use rev_dirty::Reason;
-use rev_graph::Graph;
 use rev_paths::Name;
 use rev_prompt::{Because, Span, Way};
 use rev_shown::push_shown;
@@ -29,21 +29,33 @@ fn reason_parts(reason: Reason) -> (&'static [u8], &'static [u8], &'static [u8])
     }
 }
 
-// Adds a name, where there is one.
-fn push_name(text: &mut Vec<u8>, name: Option<&Name>) -> Result<(), AllocError> {
-    match name {
-        Some(name) => push_shown(text, name.as_bytes()),
-        None => Ok(()),
-    }
+/// Adds a path of an edge, where there is one, with the dyndep file by which the edge has it.
+pub(crate) fn push_path(
+    text: &mut Vec<u8>,
+    told: Context<'_>,
+    edge: u32,
+    side: Side,
+    path: Option<&Name>,
+) -> Result<(), AllocError> {
+    let Some(path) = path else {
+        return Ok(());
+    };
+    push_shown(text, path.as_bytes())?;
+    push_by(text, file_by(told, edge, side, path))
 }
 
-/// Adds a reason.
-pub(crate) fn push_reason(text: &mut Vec<u8>, because: &Because) -> Result<(), AllocError> {
+/// Adds a reason of an edge.
+pub(crate) fn push_reason(
+    text: &mut Vec<u8>,
+    told: Context<'_>,
+    edge: u32,
+    because: &Because,
+) -> Result<(), AllocError> {
     let (before, between, behind) = reason_parts(because.reason);
     text.extend_from_slice(before)?;
-    push_name(text, because.output.as_ref())?;
+    push_path(text, told, edge, Side::Output, because.output.as_ref())?;
     text.extend_from_slice(between)?;
-    push_name(text, because.input.as_ref())?;
+    push_path(text, told, edge, Side::Input, because.input.as_ref())?;
     text.extend_from_slice(behind)
 }
 
@@ -70,9 +82,14 @@ fn missing_from(reasons: &[Because], place: usize, output: u64) -> usize {
     at
 }
 
-// Adds reasons, a line each. Those of missing outputs stand first, by the places of the outputs, and so do those of
-// older ones: of an output that is missing it is not told that it is older than an input.
-fn push_reasons(text: &mut Vec<u8>, reasons: &[Because]) -> Result<(), AllocError> {
+// Adds reasons of an edge, a line each. Those of missing outputs stand first, by the places of the outputs, and so do
+// those of older ones: of an output that is missing it is not told that it is older than an input.
+fn push_reasons(
+    text: &mut Vec<u8>,
+    told: Context<'_>,
+    edge: u32,
+    reasons: &[Because],
+) -> Result<(), AllocError> {
     let mut at = 0;
     for because in reasons {
         if let Reason::Older(output, _) = because.reason {
@@ -82,25 +99,26 @@ fn push_reasons(text: &mut Vec<u8>, reasons: &[Because]) -> Result<(), AllocErro
             }
         }
         text.extend_from_slice(b"  ")?;
-        push_reason(text, because)?;
+        push_reason(text, told, edge, because)?;
         text.push(b'\n')?;
     }
     Ok(())
 }
 
 // Adds the way from an edge to its reasons, and these.
-fn push_way(text: &mut Vec<u8>, graph: &Graph, way: &Way) -> Result<(), AllocError> {
+fn push_way(text: &mut Vec<u8>, told: Context<'_>, way: &Way) -> Result<(), AllocError> {
+    let graph = history_of(told).graph();
     for step in &way.steps {
         text.extend_from_slice(b"  ")?;
         push_edge(text, graph, step.edge)?;
         text.extend_from_slice(b" waits for ")?;
-        push_name(text, step.input.as_ref())?;
+        push_path(text, told, step.edge, Side::Input, step.input.as_ref())?;
         text.extend_from_slice(b", which is to be made\n")?;
     }
     if way.reasons.is_empty() {
         return text.extend_from_slice(b"  nothing\n");
     }
-    push_reasons(text, &way.reasons)
+    push_reasons(text, told, way.last, &way.reasons)
 }
 
 /// Adds why an edge runs, or ran.
@@ -128,5 +146,5 @@ pub(crate) fn push_why(
     } else {
         text.extend_from_slice(b"it is to run, since\n")?;
     }
-    push_way(text, history.graph(), way)
+    push_way(text, told, way)
 }

@@ -1,4 +1,5 @@
 //! What commands were seen to do, as JSON.
+use crate::by_dyndep::{Side, file_of, put_by};
 use crate::object::Object;
 use crate::told::{Context, path_of};
 use crate::values::{View, put_edge, put_event, put_meant, put_name, run_value};
@@ -91,26 +92,38 @@ fn deed_values(alloc: Global, view: View<'_>, deeds: &[Deed]) -> Result<Vec<Valu
     Ok(values)
 }
 
-// An edge that has to do with a path by what is written, without a run.
-fn written_value(alloc: Global, view: View<'_>, edge: u32, how: &str) -> Result<Value, AllocError> {
+// An edge that has to do with a path by what is written, without a run; and the dyndep file by which the edge has the
+// path.
+fn written_value(
+    alloc: Global,
+    view: View<'_>,
+    edge: u32,
+    how: &str,
+    file: Option<&Name>,
+) -> Result<Value, AllocError> {
     let mut object = edge_object(alloc, view, edge, how)?;
     object.put(alloc, "run", Value::Null)?;
+    put_by(&mut object, alloc, "dyndep", file)?;
     Ok(object.value())
 }
 
 // The edges that name a path as what they read.
 fn naming_values(
     alloc: Global,
-    view: View<'_>,
+    told: Context<'_>,
+    path: &Name,
     namings: &[Naming],
 ) -> Result<Vec<Value>, AllocError> {
     let mut values = Vec::new(alloc);
     for naming in namings {
-        let how = match naming.site {
-            Site::Line => "input",
-            Site::Listed => "list",
+        let (how, file) = match naming.site {
+            Site::Line => (
+                "input",
+                file_of(alloc, told, naming.edge, Side::Input, path)?,
+            ),
+            Site::Listed => ("list", None),
         };
-        values.push(written_value(alloc, view, naming.edge, how)?)?;
+        values.push(written_value(alloc, View::of(told), naming.edge, how, file)?)?;
     }
     Ok(values)
 }
@@ -118,12 +131,14 @@ fn naming_values(
 // The edge that has a path as an output, if one has.
 fn declared_values(
     alloc: Global,
-    view: View<'_>,
+    told: Context<'_>,
+    path: &Name,
     edge: Option<u32>,
 ) -> Result<Vec<Value>, AllocError> {
     let mut values = Vec::new(alloc);
     if let Some(edge) = edge {
-        values.push(written_value(alloc, view, edge, "output")?)?;
+        let file = file_of(alloc, told, edge, Side::Output, path)?;
+        values.push(written_value(alloc, View::of(told), edge, "output", file)?)?;
     }
     Ok(values)
 }
@@ -158,7 +173,7 @@ pub(crate) fn readers(
             path_object(alloc, told, "reads", path, "observation", commands)
         }
         Readers::Named(namings) => {
-            let commands = naming_values(alloc, View::of(told), namings)?;
+            let commands = naming_values(alloc, told, path, namings)?;
             path_object(alloc, told, "reads", path, "lines", commands)
         }
     }
@@ -177,7 +192,7 @@ pub(crate) fn writers(
             path_object(alloc, told, "writes", path, "observation", commands)
         }
         Writers::Declared(edge) => {
-            let commands = declared_values(alloc, View::of(told), *edge)?;
+            let commands = declared_values(alloc, told, path, *edge)?;
             path_object(alloc, told, "writes", path, "lines", commands)
         }
     }

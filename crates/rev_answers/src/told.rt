@@ -1,5 +1,6 @@
 //! What words and JSON are made from.
 use rev_desk::Desk;
+use rev_dyndep::Origins;
 use rev_history::History;
 use rev_paths::Name;
 use rev_prompt::{Question, Session};
@@ -13,6 +14,8 @@ pub struct Context<'a> {
     pub desk: &'a Desk,
     /// What was asked.
     pub question: &'a Question,
+    /// Which paths of the manifest come from dyndep files.
+    pub origins: &'a Origins,
 }
 
 /// The history of the desk.

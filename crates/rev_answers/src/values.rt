@@ -1,4 +1,5 @@
 //! JSON of events, names and runs.
+use crate::by_dyndep::{Side, file_by, put_by};
 use crate::causes::{End, ends_of, push_through};
 use crate::edges::push_edge;
 use crate::events::{is_kept, push_words};
@@ -366,11 +367,38 @@ pub(crate) fn put_meant(
     object.put(alloc, "meant", near)
 }
 
-/// A reason, with what it names.
-pub(crate) fn because_value(alloc: Global, because: &Because) -> Result<Value, AllocError> {
+/// Adds a path of an edge, or none, and in a member of another name the dyndep file by which the edge has it.
+pub(crate) fn put_path(
+    object: &mut Object,
+    alloc: Global,
+    told: Context<'_>,
+    edge: u32,
+    side: Side,
+    names: (&str, &str),
+    path: Option<&Name>,
+) -> Result<(), AllocError> {
+    let (name, by) = names;
+    put_name(object, alloc, name, path)?;
+    let file = match path {
+        Some(path) => file_by(told, edge, side, path),
+        None => None,
+    };
+    put_by(object, alloc, by, file)
+}
+
+/// A reason of an edge, with what it names.
+pub(crate) fn because_value(
+    alloc: Global,
+    told: Context<'_>,
+    edge: u32,
+    because: &Because,
+) -> Result<Value, AllocError> {
     let mut object = Object::new(alloc);
     object.put_text(alloc, "reason", reason_word(because.reason))?;
-    put_name(&mut object, alloc, "output", because.output.as_ref())?;
-    put_name(&mut object, alloc, "input", because.input.as_ref())?;
+    let (output, input) = (because.output.as_ref(), because.input.as_ref());
+    let names = ("output", "output_dyndep");
+    put_path(&mut object, alloc, told, edge, Side::Output, names, output)?;
+    let names = ("input", "input_dyndep");
+    put_path(&mut object, alloc, told, edge, Side::Input, names, input)?;
     Ok(object.value())
 }

@@ -4,7 +4,7 @@ use Rattle.clap.specs.Words.{App, Row, Rule, Shape, Text, all_of, first_of, new_
 use Rattle.clap.specs.Simple.{new_shape, on_top}
 use Rattle.clap.specs.declared.builder.action.ArgAction.TheVariants.{Append, Set, SetTrue}
 use Rattle.rev_asking.specs.declared.words.Word.{Word}
-use Rattle.rev_asking.specs.declared.words.Word.TheVariants.{Ask, Certify, Compare, Picture, Races, Replay, Schedule, Timeline}
+use Rattle.rev_asking.specs.declared.words.Word.TheVariants.{Ask, Certify, Compare, Picture, Races, Replay, Schedule, Separate, Timeline}
 
 -- the recording, which has to be given
 abbrev pub recording_rule : Rule
@@ -107,6 +107,10 @@ schedule_shape =
     (jobs_rule ∷ repeated_rule (codes "faster") ∷ repeated_rule (codes "pool") ∷ value_rule (codes "without")
     ∷ flag_rule (codes "json") ∷ recording_rule ∷ [])
 
+-- `separate`
+abbrev pub separate_shape : Shape
+separate_shape = new_shape (codes "separate")
+
 -- the program without its words: one has to be given
 abbrev pub bare_program : App
 bare_program = on_top (λ s. record s { has_version = true; subcommand_required = true }) (new_app (codes "rebug"))
@@ -118,12 +122,14 @@ program =
     (with_subcommand
     (with_subcommand
     (with_subcommand
+    (with_subcommand
     (with_subcommand (with_subcommand (with_subcommand (with_subcommand bare_program races_shape) certify_shape)
     replay_shape) ask_shape)
     picture_shape)
     timeline_shape)
     compare_shape)
-    schedule_shape
+    schedule_shape)
+    separate_shape
 
 -- the word that a name is
 abbrev pub word_named : Text → Word
@@ -134,7 +140,8 @@ word_named name =
     if bytes_eq name (codes "picture") then Picture else
     if bytes_eq name (codes "timeline") then Timeline else
     if bytes_eq name (codes "compare") then Compare else
-    if bytes_eq name (codes "schedule") then Schedule else Races
+    if bytes_eq name (codes "schedule") then Schedule else
+    if bytes_eq name (codes "separate") then Separate else Races
 
 -- the word that was given, and what was given to it
 abbrev pub given_name : List Text → Text

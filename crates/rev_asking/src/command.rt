@@ -2,7 +2,7 @@
 ghost use Rattle.std.specs.Prelude.{◌≡◌, codes, false, IfOk, IsOkAnd};
 ghost use Rattle.clap.specs.Words.{AddsSubcommand, app_of, rule_of, shape_of};
 ghost use Rattle.clap.specs.declared.builder.command.Command.TheViews.{out-Command};
-ghost use Rattle.rev_asking.specs.Asking.{ask_shape, bare_certify, bare_program, bare_races, certify_shape, compare_shape, flag_rule, jobs_rule, other_rule, out_rule, picture_shape, program, races_shape, recording_rule, repeated_rule, replay_shape, schedule_shape, timeline_shape, value_rule, with_findings};
+ghost use Rattle.rev_asking.specs.Asking.{ask_shape, bare_certify, bare_program, bare_races, certify_shape, compare_shape, flag_rule, jobs_rule, other_rule, out_rule, picture_shape, program, races_shape, recording_rule, repeated_rule, replay_shape, schedule_shape, separate_shape, timeline_shape, value_rule, with_findings};
 
 use clap::{Arg, ArgAction, Command};
 use std::alloc::{AllocError, Global};
@@ -332,6 +332,20 @@ fn schedule<'a>(alloc: Global) -> Result<Command<'a>, AllocError>
         .arg(recording(alloc))
 }
 
+// `separate`, which `rebug flakes` asks and no help names.
+fn separate<'a>(alloc: Global) -> Result<Command<'a>, AllocError>
+    ensures shape { IfOk result (λ c. shape_of c ≡ separate_shape) }
+    ensures local { IfOk result (λ c. (out-Command c).has_globals ≡ false) }
+{
+    Ok(
+        Command::new(alloc, "separate")
+            .about(
+                "Counts how the commands of the builds on standard input stood to each other, for rebug flakes",
+            )
+            .hide(true),
+    )
+}
+
 // The program without its words.
 fn bare_command<'a>(alloc: Global) -> Command<'a>
     ensures { app_of result ≡ bare_program }
@@ -366,5 +380,6 @@ pub(crate) fn command<'a>(alloc: Global) -> Result<Command<'a>, AllocError>
     let program = with_word(program, picture(alloc))?;
     let program = with_word(program, timeline(alloc))?;
     let program = with_word(program, compare(alloc))?;
-    with_word(program, schedule(alloc))
+    let program = with_word(program, schedule(alloc))?;
+    with_word(program, separate(alloc))
 }

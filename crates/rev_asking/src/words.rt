@@ -26,6 +26,8 @@ pub enum Word {
     Compare,
     /// How long its build takes by other schedules.
     Schedule,
+    /// How the commands of many builds stood to each other. No recording is asked.
+    Separate,
 }
 
 /// What the words of a command line ask for.
@@ -289,6 +291,8 @@ fn word_named(name: &str) -> Word
         Word::Compare
     } else if name == "schedule" {
         Word::Schedule
+    } else if name == "separate" {
+        Word::Separate
     } else {
         Word::Races
     }

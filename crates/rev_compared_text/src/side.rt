@@ -38,6 +38,7 @@ impl<'a> Side<'a> {
             builds: self.manifest.builds(),
             files: self.files,
             runs: &[],
+            origins: None,
         };
         sources.edge(number)
     }

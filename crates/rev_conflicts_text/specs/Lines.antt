@@ -8,8 +8,9 @@ use Rattle.rev_conflicts_text.specs.declared.finding.Kind.{Kind}
 use Rattle.rev_conflicts_text.specs.declared.finding.Kind.TheVariants as kind
 use Rattle.rev_races_text.specs.Edges.{line_if, placed}
 use Rattle.rev_races_text.specs.Lines.{through_words}
-use Rattle.rev_races_text.specs.Names.{name_if, written, written_if}
+use Rattle.rev_races_text.specs.Names.{name_if, path_words, written, written_if}
 use Rattle.rev_races_text.specs.declared.edges.Edge.{Edge}
+use Rattle.rev_races_text.specs.declared.names.Made.{Made}
 use Rattle.rev_shown.specs.Shown.{shown}
 
 -- the word that a group begins with
@@ -40,9 +41,9 @@ behind_maker _ change.Temporary = codes " makes it, and takes it away again"
 behind_maker _ change.Entry = codes " makes or takes away an entry of this folder"
 
 -- `race extra.h: gen.stamp (build.ninja:9) writes it, though no line says so`
-abbrev pub head_line : Kind → Change → List ℕ → Edge → List ℕ
+abbrev pub head_line : Kind → Change → Made → Edge → List ℕ
 head_line kind change path maker =
-    kind_word kind ++ codes " " ++ shown path ++ before_maker kind change ++ placed maker
+    kind_word kind ++ codes " " ++ path_words path ++ before_maker kind change ++ placed maker
     ++ behind_maker kind change ++ codes "\n"
 
 -- what stands before a user
@@ -71,7 +72,7 @@ user_ends kind.Anothers look change = codes ", whose line says so"
 user_ends kind.Unlisted look change = codes ", whose line and list do not have it"
 
 -- `  used by main.o (build.ninja:19), which does not wait for it [1]`
-abbrev pub user_line : Kind → Look → Change → List ℕ → List ℕ → ℕ → Edge → ℕ → List ℕ
+abbrev pub user_line : Kind → Look → Change → List ℕ → Made → ℕ → Edge → ℕ → List ℕ
 user_line kind look change told path more user number =
     user_begins kind ++ placed user ++ through_words told path more ++ user_ends kind look change ++ codes " ["
     ++ decimal number ++ codes "]\n"

@@ -3,7 +3,7 @@
 use crate::lines::kind_word;
 use rev_conflicts::{Change, Look};
 use rev_paths::Name;
-use rev_races_text::{Edge, Id, Shown, Sources, Story};
+use rev_races_text::{Edge, Id, Made, Shown, Sources, Story};
 
 /// What a finding is (docs/RACES.md, "By observation").
 #[derive(Clone, Copy, Debug, PartialEq, Eq)]
@@ -44,6 +44,9 @@ pub struct Mending<'a> {
     pub is_listed: bool,
     /// The other order, where either can be right.
     pub reverse: Option<Reverse<'a>>,
+    /// The maker of another finding of the same user, where that maker waits for this one. The user then waits for both
+    /// by the order of the other finding. It is None where no other finding has such an order.
+    pub brought_by: Option<u32>,
 }
 
 impl Mending<'_> {
@@ -52,6 +55,7 @@ impl Mending<'_> {
         is_declared: true,
         is_listed: false,
         reverse: None,
+        brought_by: None,
     };
 }
 
@@ -84,6 +88,15 @@ impl<'a> Finding<'a> {
     /// The path as people read it.
     pub(crate) fn shown(&self) -> Shown<'a> {
         Shown(self.path.as_bytes())
+    }
+
+    /// The path, with the dyndep file that says it as an output of the maker, where the maker's own line does not. Of
+    /// another's output it is the user in place of the maker.
+    pub(crate) fn made_in(&self, sources: &Sources<'a>) -> Made<'a> {
+        match self.kind {
+            Kind::Anothers => sources.made(self.user, self.path),
+            _ => sources.made(self.maker, self.path),
+        }
     }
 
     /// The maker, with the run that the answer is about.

@@ -1,9 +1,10 @@
 //! Findings as JSON objects, one a line.
 use crate::finding::{Finding, Kind};
 use crate::lines::kind_word;
+use crate::orders::Orders;
 use rev_conflicts::{Change, Look};
 use rev_paths::Name;
-use rev_races_text::{Edge, Id, Shown, Sources, happened_word, push_object};
+use rev_races_text::{Edge, Id, Shown, Sources, happened_word, push_object_by};
 use serde::Serialize;
 use std::alloc::{AllocError, Global};
 
@@ -23,6 +24,7 @@ struct FindingObject<'a> {
     list: Option<Shown<'a>>,
     mend: Option<Shown<'a>>,
     reverse: Option<Shown<'a>>,
+    mended_by: Option<u64>,
     listed_as: Option<Shown<'a>>,
 }
 
@@ -119,7 +121,7 @@ fn push_clash<'a>(
         mend: shown_if(finding.order()),
         reverse: shown_if(finding.reverse_order()),
     };
-    push_object(alloc, text, "clash", &clash)
+    push_object_by(alloc, text, "clash", finding.made_in(sources).file, &clash)
 }
 
 // Adds a finding with its number.
@@ -127,6 +129,7 @@ fn push_finding<'a>(
     alloc: Global,
     text: &mut Vec<u8>,
     sources: &Sources<'a>,
+    orders: &Orders,
     finding: &Finding<'a>,
     number: u64,
 ) -> Result<(), AllocError> {
@@ -151,9 +154,11 @@ fn push_finding<'a>(
         list: shown_if(finding.input()),
         mend: shown_if(finding.order()),
         reverse: shown_if(finding.reverse_order()),
+        mended_by: orders.mended_by(finding),
         listed_as: shown_if(finding.listed),
     };
-    push_object(alloc, text, kind_word(finding.kind), &object)
+    let file = finding.made_in(sources).file;
+    push_object_by(alloc, text, kind_word(finding.kind), file, &object)
 }
 
 /// Findings as JSON, an object a line (docs/JSON.md). They are numbered from 1 in their order.
@@ -166,9 +171,10 @@ pub fn findings_json<'a>(
     findings: &[Finding<'a>],
 ) -> Result<Vec<u8>, AllocError> {
     let mut text = Vec::new(alloc);
+    let orders = Orders::new(alloc, findings, 1)?;
     let mut number = 1;
     for finding in findings {
-        push_finding(alloc, &mut text, sources, finding, number)?;
+        push_finding(alloc, &mut text, sources, &orders, finding, number)?;
         number = u64::saturating_add(number, 1);
     }
     Ok(text)

@@ -4,9 +4,11 @@
 mod finding;
 mod json;
 mod lines;
+mod orders;
 mod other_names;
 mod stale;
 mod told;
+mod waiting;
 mod words;
 
 pub use finding::{Finding, Kind, Mending, Reverse};
@@ -17,4 +19,5 @@ pub use stale::Stale;
 pub use told::{
     add_undeclared, add_unlisted, conflict_findings, conflicts_left, pair_of, races_left, seen_in,
 };
+pub use waiting::{Brought, Reached, Steps, WaitFor};
 pub use words::{findings_words, numbered_words};

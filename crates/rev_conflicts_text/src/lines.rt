@@ -4,7 +4,7 @@ ghost use Rattle.rev_conflicts_text.specs.Lines.{before_maker, behind_maker, bui
 
 use crate::finding::Kind;
 use rev_conflicts::{Change, Look};
-use rev_races_text::{Edge, LineIf, NameIf, Shown, Through, Written, WrittenIf};
+use rev_races_text::{Edge, LineIf, Made, NameIf, Shown, Through, Written, WrittenIf};
 use std::fmt;
 
 /// The line of a maker, and what it does at the place.
@@ -12,7 +12,7 @@ use std::fmt;
 pub(crate) struct HeadLine<'a> {
     pub(crate) kind: Kind,
     pub(crate) change: Change,
-    pub(crate) path: Shown<'a>,
+    pub(crate) path: Made<'a>,
     pub(crate) maker: Edge<'a>,
 }
 
@@ -23,7 +23,7 @@ pub(crate) struct UserLine<'a> {
     pub(crate) look: Look,
     pub(crate) change: Change,
     pub(crate) told: Shown<'a>,
-    pub(crate) path: Shown<'a>,
+    pub(crate) path: Made<'a>,
     pub(crate) more: u64,
     pub(crate) user: Edge<'a>,
     pub(crate) number: u64,
@@ -227,7 +227,7 @@ fn user_ends(kind: Kind, look: Look, change: Change) -> &'static str
 }
 
 impl fmt::Display for HeadLine<'_> {
-    ghost output = { λ l. Some (head_line l.kind l.change l.path.0.now l.maker) };
+    ghost output = { λ l. Some (head_line l.kind l.change l.path l.maker) };
 
     fn fmt<W: fmt::Write>(&self, f: &mut fmt::Formatter<W>) -> fmt::Result {
         let word = kind_word(self.kind);
@@ -239,7 +239,7 @@ impl fmt::Display for HeadLine<'_> {
 }
 
 impl fmt::Display for UserLine<'_> {
-    ghost output = { λ l. Some (user_line l.kind l.look l.change l.told.0.now l.path.0.now l.more l.user l.number) };
+    ghost output = { λ l. Some (user_line l.kind l.look l.change l.told.0.now l.path l.more l.user l.number) };
 
     fn fmt<W: fmt::Write>(&self, f: &mut fmt::Formatter<W>) -> fmt::Result {
         let through = Through {

@@ -3,6 +3,7 @@ use crate::finding::{Finding, Kind, Reverse};
 use crate::lines::{
     DeclareLine, HeadLine, ListLine, ListedLine, OrderLine, UnlistedHead, UnlistedLine, UserLine,
 };
+use crate::orders::Orders;
 use rev_conflicts::Change;
 use rev_paths::Name;
 use rev_races_text::{Edge, HereLine, More, NO_MEND, Shown, Sources};
@@ -29,6 +30,37 @@ const OR: &str = "    or: ";
 const LAST_HERE: &str = " (what it does comes last, as here)";
 
 const LAST: &str = " (what it does comes last)";
+
+// What stands around how many more findings an order mends, where these stand behind it and where they do not.
+const MENDS: &str = "    the order mends ";
+
+const MENDS_BELOW: &str = " more of this command's races\n";
+
+const MENDS_UNTOLD: &str = " more of this command's races (--all tells them)\n";
+
+// How findings are told.
+#[derive(Clone, Copy)]
+struct Telling<'b> {
+    // The orders that are to be written.
+    orders: &'b Orders,
+    // Whether all users of a maker are told, and all findings that the order of another one mends.
+    is_all: bool,
+}
+
+impl Telling<'_> {
+    // How many users of a maker, or readers of a path, are told.
+    fn most(self) -> usize {
+        if self.is_all { usize::MAX } else { FEW }
+    }
+
+    // Whether none of some findings of one user is told, since the order of another finding mends each of them.
+    fn leaves_out(self, findings: &[Finding<'_>]) -> bool {
+        !self.is_all
+            && findings
+                .iter()
+                .all(|finding| self.orders.mended_by(finding).is_some())
+    }
+}
 
 // The sign before what the user's line is to name.
 fn sign_of(finding: &Finding<'_>) -> &'static str {
@@ -127,10 +159,41 @@ fn push_mend<'a>(
     push_other_mend(text, sources, finding)
 }
 
+// Adds the mend of a finding that has a number: the number of the finding whose order mends it too, or else its own
+// mend, with how many other findings that order mends.
+fn push_mends<'a>(
+    text: &mut String,
+    sources: &Sources<'a>,
+    telling: Telling<'_>,
+    finding: &Finding<'a>,
+    number: u64,
+) -> Result<(), AllocError> {
+    if let Some(by) = telling.orders.mended_by(finding) {
+        let line = More {
+            before: "    mend: the order of [",
+            more: by,
+            after: "] mends this too\n",
+        };
+        return write!(text, "{line}");
+    }
+    push_mend(text, sources, finding)?;
+    let line = More {
+        before: MENDS,
+        more: telling.orders.others(number),
+        after: if telling.is_all {
+            MENDS_BELOW
+        } else {
+            MENDS_UNTOLD
+        },
+    };
+    write!(text, "{line}")
+}
+
 // Adds the lines of one user behind a maker's, whose path is `told`: it is in these findings, numbered from `number`.
 fn push_user<'a>(
     text: &mut String,
     sources: &Sources<'a>,
+    telling: Telling<'_>,
     told: Shown<'a>,
     findings: &[Finding<'a>],
     number: u64,
@@ -143,7 +206,7 @@ fn push_user<'a>(
         look: first.look,
         change: first.change,
         told,
-        path: first.shown(),
+        path: first.made_in(sources),
         more: (findings.len() as u64).saturating_sub(1),
         user: first.user_in(sources),
         number,
@@ -155,7 +218,7 @@ fn push_user<'a>(
     if let Some(listed) = first.listed {
         write!(text, "{}", ListedLine(Shown(listed.as_bytes())))?;
     }
-    push_mend(text, sources, first)
+    push_mends(text, sources, telling, first, number)
 }
 
 // Adds the line of a maker.
@@ -167,23 +230,24 @@ fn push_maker<'a>(
     let line = HeadLine {
         kind: finding.kind,
         change: finding.change,
-        path: finding.shown(),
+        path: finding.made_in(sources),
         maker: finding.maker_in(sources),
     };
     write!(text, "{line}")
 }
 
-// Adds the findings of one maker that are of a kind and by which it does the same, with at most so many users. Those of
-// the maker are numbered from `number`.
+// Adds the findings of one maker that are of a kind and by which it does the same. Those of the maker are numbered from
+// `number`.
 fn push_group<'a>(
     text: &mut String,
     sources: &Sources<'a>,
+    telling: Telling<'_>,
     kind: Kind,
     change: Change,
     findings: &[Finding<'a>],
     number: u64,
-    most: usize,
 ) -> Result<(), AllocError> {
+    let most = telling.most();
     let mut number = number;
     let mut users = 0usize;
     let mut head = None;
@@ -191,14 +255,14 @@ fn push_group<'a>(
         one.user == other.user && one.kind == other.kind && one.change == other.change
     }) {
         if let Some(first) = user.first() {
-            if first.kind == kind && first.change == change {
+            if first.kind == kind && first.change == change && !telling.leaves_out(user) {
                 if head.is_none() {
                     push_maker(text, sources, first)?;
                     head = Some(first.shown());
                 }
                 if let Some(told) = head {
                     if users < most {
-                        push_user(text, sources, told, user, number)?;
+                        push_user(text, sources, telling, told, user, number)?;
                     }
                 }
                 users = usize::saturating_add(users, 1);
@@ -279,7 +343,8 @@ const CHANGES: [Change; 6] = [
 
 /// Findings in words. They are numbered from 1 in their order. Those of a maker stand in a group for each kind and for
 /// what the maker does. Unlisted inputs come last, and those about one path stand together. Of many users of a maker, or
-/// readers of a path, the words have the first, or all (`all`).
+/// readers of a path, the words have the first, or all (`all`). Findings that the order of another finding mends are
+/// counted there, and they have lines of their own where all are told.
 ///
 /// # Errors
 /// [`AllocError`] only where an allocation was refused.
@@ -304,17 +369,21 @@ pub fn numbered_words<'a>(
     all: bool,
 ) -> Result<String, AllocError> {
     let mut text = String::new(alloc);
-    let most = if all { usize::MAX } else { FEW };
+    let orders = Orders::new(alloc, findings, first)?;
+    let telling = Telling {
+        orders: &orders,
+        is_all: all,
+    };
     let mut number = first;
     let (made, unlisted) = unlisted_apart(findings);
     for maker in made.chunk_by(|one, other| one.maker == other.maker) {
         for kind in KINDS {
             for change in CHANGES {
-                push_group(&mut text, sources, kind, change, maker, number, most)?;
+                push_group(&mut text, sources, telling, kind, change, maker, number)?;
             }
         }
         number = u64::saturating_add(number, maker.len() as u64);
     }
-    push_unlisted(&mut text, sources, unlisted, number, most)?;
+    push_unlisted(&mut text, sources, unlisted, number, telling.most())?;
     Ok(text)
 }

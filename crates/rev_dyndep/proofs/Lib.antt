@@ -1,3 +1,4 @@
 pub mod AnswerLemmas
+pub mod OriginLemmas
 pub mod TextLemmas
 pub mod ToldLemmas

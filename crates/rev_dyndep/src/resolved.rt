@@ -21,8 +21,8 @@ fn has_path(paths: &[Name], path: &Name) -> bool
     false
 }
 
-// Whether a statement speaks of an edge.
-fn speaks_of(told: &Told, build: &Build) -> bool
+/// Whether a statement speaks of an edge: it begins with an output of the edge.
+pub(crate) fn speaks_of(told: &Told, build: &Build) -> bool
     ensures { result ≡ speaks_of told.now build.now }
 {
     has_path(build.explicit_outs(), told.output()) || has_path(build.implicit_outs(), told.output())

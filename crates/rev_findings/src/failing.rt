@@ -3,7 +3,7 @@ use crate::found::orderable_output;
 use crate::seen::Sight;
 use indexmap::IndexMap;
 use rev_conflicts::{Change, Look, Place, does, look_at, numbers};
-use rev_conflicts_text::{Finding, Kind, Mending};
+use rev_conflicts_text::{Finding, Kind, Mending, Reached};
 use rev_graph::{Graph, edges_among};
 use rev_history::History;
 use rev_manifest::Build;
@@ -13,8 +13,8 @@ use rev_races_text::RaceFinding;
 use rev_suspects::failures;
 use std::alloc::{AllocError, Global};
 
-// Of how many failed commands the makers of what they looked at are looked for: each takes a search of the graph.
-const MOST_FAILED: usize = 64;
+/// Of how many failed commands the makers of what they looked at are looked for: each takes a search of the graph.
+pub(crate) const MOST_FAILED: usize = 64;
 
 /// What is seen of the commands of edges.
 pub(crate) struct Watched<'s> {
@@ -258,39 +258,6 @@ impl Ways {
     }
 }
 
-// Marks the edges that are not marked yet, and adds them to those whose steps are still to be followed.
-fn add_open(edges: &[u32], marks: &mut [bool], open: &mut Vec<u32>) -> Result<(), AllocError> {
-    for edge in edges {
-        if let Some(mark) = marks.get_mut(*edge as usize) {
-            if !*mark {
-                *mark = true;
-                open.push(*edge)?;
-            }
-        }
-    }
-    Ok(())
-}
-
-// For each edge whether steps lead to it from another one.
-fn reached(alloc: Global, steps: &[Vec<u32>], from: u32) -> Result<Vec<bool>, AllocError> {
-    let mut marks = vec![in alloc; false; steps.len()]?;
-    let mut open = vec![in alloc; from]?;
-    for _ in 0..usize::saturating_add(steps.len(), 1) {
-        let Some(edge) = open.pop() else {
-            return Ok(marks);
-        };
-        if let Some(next) = steps.get(edge as usize) {
-            add_open(next, &mut marks, &mut open)?;
-        }
-    }
-    Ok(marks)
-}
-
-// Whether a mark stands at an edge.
-fn is_marked(marks: &[bool], edge: u32) -> bool {
-    marks.get(edge as usize).copied().unwrap_or(false)
-}
-
 // The users and makers of races that errors name.
 fn named_pairs(alloc: Global, races: &[RaceFinding<'_>]) -> Result<IndexMap<u64, ()>, AllocError> {
     let mut pairs = IndexMap::new(alloc);
@@ -338,14 +305,14 @@ fn add_findings<'a>(
     if wanted.is_empty() {
         return Ok(());
     }
-    let waited = reached(alloc, &ways.steps, user)?;
-    let waiting = reached(alloc, &ways.back, user)?;
+    let waited = Reached::new(alloc, &ways.steps, user)?;
+    let waiting = Reached::new(alloc, &ways.back, user)?;
     for one in &wanted {
         let is_told = named.contains_key(&pair_key(user, one.maker));
-        if is_told || is_marked(&waited, one.maker) || one.path >= observation.paths().len() {
+        if is_told || waited.has(one.maker) || one.path >= observation.paths().len() {
             continue;
         }
-        let kind = if is_marked(&waiting, one.maker) {
+        let kind = if waiting.has(one.maker) {
             Kind::Cycle
         } else {
             Kind::Race

@@ -1,7 +1,7 @@
 //! The races, clashes and failed commands of a recording, as answers have them.
 ghost use Rattle.rev_named.specs.Named.{AreLastComponents};
 
-use crate::failing::Watched;
+use crate::failing::{MOST_FAILED, Watched};
 use crate::hinted::are_whole;
 use crate::seen::Sight;
 use indexmap::IndexMap;
@@ -349,6 +349,7 @@ fn names_in<'a>(
 fn count_untold(untold: &mut Remainder, progress: Progress) {
     match progress {
         Progress::Running => untold.running = u64::saturating_add(untold.running, 1),
+        Progress::Failed => untold.failed = u64::saturating_add(untold.failed, 1),
         Progress::ToRun => untold.to_run = u64::saturating_add(untold.to_run, 1),
     }
 }
@@ -363,6 +364,8 @@ struct Told<'a, 'b> {
     most: usize,
     // Whether suspects were looked for.
     is_looked: bool,
+    // Whether the makers of what it looked at in vain have findings of their own.
+    is_searched: bool,
 }
 
 // The names of suspects without those that an observation clears: a failed command that was seen whole and did not look
@@ -420,7 +423,8 @@ fn is_shown(
 }
 
 // Adds the suspects of a command that failed: those that its error names to the races, and the others as far as they
-// are told, without those of which an observation shows a race. Gives what is left of them.
+// are told, without those of which an observation shows a race. Gives what is left of them. Where a suspect had failed
+// and an observation shows its race, that race says more than the error: which way the file was looked for.
 fn add_suspects<'a>(
     builds: &'a [Build],
     watched: Option<&Watched<'_>>,
@@ -432,10 +436,13 @@ fn add_suspects<'a>(
 ) -> Result<Remainder, AllocError> {
     let mut untold = Remainder {
         running: 0,
+        failed: 0,
         to_run: 0,
     };
     for (place, suspect) in told.suspects.iter().enumerate() {
+        let shown = is_shown(watched, absent, told.failure.edge, suspect.maker);
         match names.get(place) {
+            _ if shown && suspect.progress == Progress::Failed => {}
             Some(Some(path)) => races.push(RaceFinding {
                 kind: Kind::Race,
                 maker: suspect.maker,
@@ -445,7 +452,7 @@ fn add_suspects<'a>(
                 evidence: Evidence::Error(suspect.progress),
                 mend: orderable_output(builds, suspect.maker),
             })?,
-            _ if is_shown(watched, absent, told.failure.edge, suspect.maker) => {}
+            _ if shown => {}
             _ if others.len() < told.most => others.push(Suspect {
                 maker: suspect.maker,
                 progress: suspect.progress,
@@ -472,7 +479,8 @@ fn told_failure<'a>(
     let before = races.len();
     let names = names_in(alloc, graph, components, told.entry, told.suspects)?;
     let names = without_cleared(alloc, watched, told.failure.edge, &names)?;
-    let absent = absent_makers(alloc, graph, watched, told.failure.edge)?;
+    let searched = if told.is_searched { watched } else { None };
+    let absent = absent_makers(alloc, graph, searched, told.failure.edge)?;
     let mut others = Vec::new(alloc);
     let untold = add_suspects(builds, watched, &absent, told, &names, races, &mut others)?;
     Ok(Failure {
@@ -533,6 +541,7 @@ fn add_failures<'a>(
             entry: next_entry(entries, places, failure.edge),
             most,
             is_looked: place < failed.looked,
+            is_searched: place < MOST_FAILED,
         };
         failures.push(told_failure(alloc, graph, builds, components, watched, told, races)?)?;
     }

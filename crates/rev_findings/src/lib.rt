@@ -1,6 +1,7 @@
 //! What is found in a recording that was replayed.
 #![tactic(auto)]
 
+mod brought;
 mod failing;
 mod found;
 mod hinted;

@@ -1,5 +1,6 @@
 //! How findings of an observation are mended.
 
+use crate::brought::note_brought;
 use crate::found::orderable_output;
 use crate::listed_names::names_in;
 use crate::writers::Writers;
@@ -430,11 +431,12 @@ fn mending_of<'a>(builds: &'a [Build], finding: &Finding<'a>, meeting: Meeting) 
         is_declared: finding.mending.is_declared,
         is_listed: meeting.is_listed,
         reverse,
+        brought_by: None,
     }
 }
 
 /// Notes how findings are mended: whether a maker can name the path among its outputs, behind which sign a user names
-/// its input, and where either order of two commands can be right.
+/// its input, where either order of two commands can be right, and which findings the order of another one mends.
 ///
 /// # Errors
 /// [`AllocError`] only where an allocation was refused.
@@ -458,5 +460,5 @@ pub(crate) fn note_mends<'a>(
             }
         }
     }
-    Ok(())
+    note_brought(alloc, history.graph(), findings)
 }

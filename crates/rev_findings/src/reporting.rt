@@ -1,7 +1,7 @@
 //! What is reported of a recording that was replayed.
 use crate::found::{Findings, findings_in, told_changes, told_clashes};
 use crate::hinted::hints_in;
-use crate::seen::{Sight, listed_left, not_whole, whole_marks};
+use crate::seen::{Sight, hidden_in, listed_left, not_whole, whole_marks};
 use indexmap::IndexMap;
 use rev_desk::Desk;
 use rev_judged::{Unjudged, not_judged};
@@ -77,6 +77,7 @@ fn report_with<'a>(
         hints: Vec::new(alloc),
         changes: Vec::new(alloc),
         left_out: LeftOut::NOTHING,
+        hidden: hidden_in(alloc, basis.sight)?,
     })
 }
 

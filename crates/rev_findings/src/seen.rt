@@ -20,7 +20,7 @@ use rev_manifest::Build;
 use rev_observed::{Kind as Use, Observation, PathRange};
 use rev_paths::Name;
 use rev_races::{Kind, Race, finished_edges, started_edges, stories};
-use rev_races_text::{RaceFinding, Report, Story};
+use rev_races_text::{Hidden, RaceFinding, Report, Shown, Story};
 use rev_recording::RecordingFault;
 use rev_undeclared::{Undeclared, undeclared_files};
 use rev_unlisted::{Unlisted, always_run, unlisted_files};
@@ -168,6 +168,41 @@ pub(crate) fn hidden_count(
     let all = spots_of(alloc, all)?;
     let told = spots_of(alloc, told)?;
     Ok((all.len() as u64).saturating_sub(told.len() as u64))
+}
+
+// The place of a spot that filters hide, where its path is one of an observation.
+fn hidden_at(observation: &Observation, spot: Spot) -> Option<Hidden<'_>> {
+    let paths = observation.paths();
+    if spot.path >= paths.len() {
+        return None;
+    }
+    Some(Hidden {
+        path: Shown(paths.path(spot.path).as_bytes()),
+        entries: spot.is_folder,
+    })
+}
+
+/// The places that filters hide, where commands meet; nothing without an observation. Files come before folders.
+///
+/// # Errors
+/// [`AllocError`] only where an allocation was refused.
+pub(crate) fn hidden_in<'a>(
+    alloc: Global,
+    sight: Option<&'a Sight>,
+) -> Result<Vec<Hidden<'a>>, AllocError> {
+    let mut places = Vec::new(alloc);
+    let Some(sight) = sight else {
+        return Ok(places);
+    };
+    let told = spots_of(alloc, &sight.conflicts)?;
+    for spot in &spots_of(alloc, &sight.unfiltered)? {
+        if told.binary_search(spot).is_err() {
+            if let Some(place) = hidden_at(&sight.observed.observation, *spot) {
+                places.push(place)?;
+            }
+        }
+    }
+    Ok(places)
 }
 
 // The files that commands leave beside their outputs, without those of conflicts.

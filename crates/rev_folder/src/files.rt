@@ -1,5 +1,6 @@
 //! The files of a recording, which are read from its folder alone.
 use crate::resolved::read_resolved;
+use rev_dyndep::Origins;
 use rev_fields::{LineFault, read_fields};
 use rev_paths::{Name, PathFault};
 use rev_program::{
@@ -26,6 +27,11 @@ pub struct Recording {
     pub trace: Vec<u8>,
     /// What the recorder said of dyndep files.
     pub notes: Vec<Vec<u8>>,
+    /// The user's own files of the manifest, each with its name, where dyndep files say something of it; none
+    /// elsewhere.
+    pub own: Vec<(Vec<u8>, Vec<u8>)>,
+    /// Which paths of the manifest come from dyndep files.
+    pub origins: Origins,
 }
 
 // Written, since a derived drop is proved again at each exit of each caller.
@@ -35,6 +41,8 @@ impl Drop for Recording {
             files: _files,
             trace: _trace,
             notes: _notes,
+            own: _own,
+            origins: _origins,
         } = self;
     }
 }
@@ -125,12 +133,8 @@ pub fn read_recording<'a, R: Files + AllocGlobal>(
     }
     let trace = trace?;
     let files = read_manifest(rt, recording, place)?;
-    let notes = read_resolved(rt, recording, place, &files)?;
-    Ok(Recording {
-        files,
-        trace,
-        notes,
-    })
+    let kept = read_resolved(rt, recording, place, &files)?;
+    Ok(kept.into_recording(files, trace))
 }
 
 // Why a folder without a trace is not read.

@@ -14,4 +14,5 @@ pub use observed::{
     FilterTexts, Observed, filters_in, hidden_by, hidden_in, observed_in, observed_sentence,
     read_filters, read_observed, say_incomplete,
 };
+pub use resolved::plain_files;
 pub use times::{KnownTimes, LabelTime, label_times, times_in};

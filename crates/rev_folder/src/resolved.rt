@@ -1,10 +1,12 @@
 //! Whether the manifest of a recording is the user's own with what the dyndep files say that Ninja loaded.
-use crate::files::{Place, folder_of, path_of, read_beside};
+use crate::files::{Place, Recording, folder_of, path_of, read_beside};
 use crate::flaw::{FlawKind, NOTES, Part, Refused, fault_of, flaw_at, loaded_name, own_name};
 use crate::notes::{LeftOut, Notes, notes_in};
 use crate::plain::plain_of;
 use indexmap::IndexMap;
-use rev_dyndep::{ReadFault as DyndepRead, Told, first_other, read as read_dyndep};
+use rev_dyndep::{
+    Origins, ReadFault as DyndepRead, Stated, Told, first_other, read as read_dyndep,
+};
 use rev_manifest::{Build, Manifest, ReadFault as ManifestRead, read as read_manifest};
 use rev_paths::{Name, Paths};
 use rev_program::{ProgramFault, ReadFault, Unread, is_folder, read_short};
@@ -122,21 +124,21 @@ impl Statements {
         self.among(build.implicit_outs(), found)
     }
 
-    // Takes a statement, which has to be about an edge that has its file as an input; nothing where it was taken for
-    // another edge, which makes the same output.
-    fn take(
+    // Takes a statement, which has to be about an edge that has its file as an input, and gives the file too; nothing
+    // where it was taken for another edge, which makes the same output.
+    fn take<'a>(
         &mut self,
         place: usize,
-        notes: &Notes,
+        notes: &'a Notes,
         build: &Build,
-    ) -> Result<Option<Told>, Refused> {
+    ) -> Result<Option<(Told, &'a Name)>, Refused> {
         let origin = self.origin(place);
-        match notes.loaded.get(origin.file) {
-            Some(file) if has_input(build, file) => {}
+        let file = match notes.loaded.get(origin.file) {
+            Some(file) if has_input(build, file) => file,
             _ => return Err(origin.refused()),
-        }
+        };
         match self.told.get_mut(place) {
-            Some(told) => Ok(told.take()),
+            Some(told) => Ok(with_file(told.take(), file)),
             None => Ok(None),
         }
     }
@@ -149,6 +151,14 @@ impl Statements {
             }
         }
         Ok(())
+    }
+}
+
+// A statement with its file, where there is one.
+fn with_file(told: Option<Told>, file: &Name) -> Option<(Told, &Name)> {
+    match told {
+        Some(told) => Some((told, file)),
+        None => None,
     }
 }
 
@@ -260,23 +270,78 @@ fn leave_out(
     }
 }
 
+// Statements in the order of the edges that they speak of, and the file of each.
+struct Ordered<'a> {
+    told: Vec<Told>,
+    files: Vec<&'a Name>,
+}
+
+impl Drop for Ordered<'_> {
+    fn drop(self) {
+        let Ordered {
+            told: _told,
+            files: _files,
+        } = self;
+    }
+}
+
+impl<'a> Ordered<'a> {
+    // No statements.
+    fn new(alloc: Global) -> Ordered<'a> {
+        Ordered {
+            told: Vec::new(alloc),
+            files: Vec::new(alloc),
+        }
+    }
+
+    // Adds a statement of a file.
+    fn push(&mut self, told: Told, file: &'a Name) -> Result<(), AllocError> {
+        self.told.push(told)?;
+        self.files.push(file)?;
+        Ok(())
+    }
+
+    // Which paths of the edges come from the files.
+    fn origins(&self, alloc: Global, plain: &[Build]) -> Result<Origins, AllocError> {
+        let mut stated = Vec::new(alloc);
+        for (told, file) in self.told.iter().zip(&self.files) {
+            stated.push(Stated { file: *file, told })?;
+        }
+        Origins::new(alloc, plain, &stated)
+    }
+}
+
+// Adds a statement, without what the manifest leaves out of it, where one is left that speaks of an edge.
+fn push_next<'a>(
+    alloc: Global,
+    notes: &'a Notes,
+    statements: &mut Statements,
+    left: &mut IndexMap<Name, Left>,
+    build: &Build,
+    ordered: &mut Ordered<'a>,
+) -> Result<(), Refused> {
+    let Some(place) = statements.of(build)? else {
+        return Ok(());
+    };
+    if let Some((mut told, file)) = statements.take(place, notes, build)? {
+        leave_out(alloc, left, build, &mut told)?;
+        ordered.push(told, file)?;
+    }
+    Ok(())
+}
+
 // The statements in the order of the edges that they speak of, without what the manifest leaves out. Each is about one
 // edge, and each line of the notes about what is left out is about a path that one says.
-fn in_order(
+fn in_order<'a>(
     alloc: Global,
-    notes: &Notes,
+    notes: &'a Notes,
     statements: &mut Statements,
     plain: &Manifest,
-) -> Result<Vec<Told>, Refused> {
+) -> Result<Ordered<'a>, Refused> {
     let mut left = left_by_output(alloc, notes)?;
-    let mut ordered = Vec::new(alloc);
+    let mut ordered = Ordered::new(alloc);
     for build in plain.builds() {
-        if let Some(place) = statements.of(build)?
-            && let Some(mut told) = statements.take(place, notes, build)?
-        {
-            leave_out(alloc, &mut left, build, &mut told)?;
-            ordered.push(told)?;
-        }
+        push_next(alloc, notes, statements, &mut left, build, &mut ordered)?;
     }
     statements.check_all_taken()?;
     for one in left.values() {
@@ -343,23 +408,23 @@ fn same_defaults(alloc: Global, one: Source<'_>, other: Source<'_>) -> Result<bo
     Ok(!have_default(alloc, one.files)? && !have_default(alloc, other.files)?)
 }
 
-// Refuses a manifest that is not the plain one with what the statements say.
+// Refuses a manifest that is not the plain one with what the statements say; which of its paths come from which file.
 fn check(
     alloc: Global,
     notes: &Notes,
     statements: &mut Statements,
     plain: Source<'_>,
     found: Source<'_>,
-) -> Result<(), Refused> {
-    let told = in_order(alloc, notes, statements, plain.manifest)?;
+) -> Result<Origins, Refused> {
+    let ordered = in_order(alloc, notes, statements, plain.manifest)?;
     let (own, recorded) = (plain.manifest.builds(), found.manifest.builds());
-    if let Some(place) = first_other(alloc, &told, own, recorded)? {
+    if let Some(place) = first_other(alloc, &ordered.told, own, recorded)? {
         return Err(other_at(own, recorded, place));
     }
     if !same_defaults(alloc, plain, found)? {
         return Err(flaw_at(Part::Resolved(0), 0, FlawKind::NotResolved));
     }
-    Ok(())
+    Ok(ordered.origins(alloc, own)?)
 }
 
 // A recording, and where its files are read from.
@@ -402,7 +467,7 @@ fn read_statements<'a, R: Files + AllocGlobal>(
     Ok(statements)
 }
 
-// The user's own files of a manifest that has these, with another name in the place of `dyndep`.
+// The user's own files of a manifest that has these.
 fn read_own<'a, R: Files + AllocGlobal>(
     rt: &R,
     room: Room<'a, '_>,
@@ -412,10 +477,25 @@ fn read_own<'a, R: Files + AllocGlobal>(
     let mut own = Vec::new(alloc);
     for (name, _) in files {
         let bytes = read_kept(rt, room, own_name(alloc, name)?)?;
-        let text = plain_of(alloc, &bytes)?;
-        own.push((Vec::from_slice(alloc, name)?, text))?;
+        own.push((Vec::from_slice(alloc, name)?, bytes))?;
     }
     Ok(own)
+}
+
+/// The user's own files of a manifest as the reader of manifests takes them: with another name in the place of
+/// `dyndep`. Each line keeps its number, and lines without that name stay as they are.
+///
+/// # Errors
+/// [`AllocError`] only where an allocation was refused.
+pub fn plain_files(
+    alloc: Global,
+    own: &[(Vec<u8>, Vec<u8>)],
+) -> Result<Vec<(Vec<u8>, Vec<u8>)>, AllocError> {
+    let mut plain = Vec::new(alloc);
+    for (name, bytes) in own {
+        plain.push((Vec::from_slice(alloc, name)?, plain_of(alloc, bytes)?))?;
+    }
+    Ok(plain)
 }
 
 // The manifest that the user's own files say.
@@ -431,47 +511,128 @@ fn plain_in(alloc: Global, own: &[(Vec<u8>, Vec<u8>)]) -> Result<Manifest, Refus
     }
 }
 
-// Refuses a manifest that is not that of the user's own files with what the statements say.
+// Refuses a manifest that is not that of the user's own files with what the statements say; which of its paths come
+// from which file.
 fn check_own(
     alloc: Global,
     notes: &Notes,
     statements: &mut Statements,
     own: &[(Vec<u8>, Vec<u8>)],
     found: Source<'_>,
-) -> Result<(), Refused> {
-    let manifest = plain_in(alloc, own)?;
+) -> Result<Origins, Refused> {
+    let files = plain_files(alloc, own)?;
+    let manifest = plain_in(alloc, &files)?;
     let plain = Source {
         manifest: &manifest,
-        files: own,
+        files: &files,
     };
     check(alloc, notes, statements, plain, found)
 }
 
-// Refuses a recording with these notes whose manifest is not the one of the user's own files with what the loaded ones
-// say.
-fn check_kept<'a, R: Files + AllocGlobal>(
+/// What a recording keeps of dyndep files.
+pub(crate) struct Kept {
+    /// What the recorder said.
+    pub(crate) notes: Vec<Vec<u8>>,
+    /// The user's own files of the manifest, each with its name in the recording.
+    pub(crate) own: Vec<(Vec<u8>, Vec<u8>)>,
+    /// Which paths of the manifest come from which file.
+    pub(crate) origins: Origins,
+}
+
+impl Drop for Kept {
+    fn drop(self) {
+        let Kept {
+            notes: _notes,
+            own: _own,
+            origins: _origins,
+        } = self;
+    }
+}
+
+impl Kept {
+    /// A recording that has it, of a manifest's files and of a trace.
+    pub(crate) fn into_recording(
+        self,
+        files: Vec<(Vec<u8>, Vec<u8>)>,
+        trace: Vec<u8>,
+    ) -> Recording {
+        let Kept {
+            notes,
+            own,
+            origins,
+        } = self;
+        Recording {
+            files,
+            trace,
+            notes,
+            own,
+            origins,
+        }
+    }
+
+    // What the recorder said alone.
+    fn said(alloc: Global, notes: Vec<Vec<u8>>) -> Kept {
+        Kept {
+            notes,
+            own: Vec::new(alloc),
+            origins: Origins::none(alloc),
+        }
+    }
+}
+
+// Refuses a recording with these notes whose manifest is not the one of the user's own files with what the statements
+// say; which of its paths come from which file.
+fn checked<'a>(
+    alloc: Global,
+    recording: &'a str,
+    notes: &Notes,
+    statements: &mut Statements,
+    own: &[(Vec<u8>, Vec<u8>)],
+    found: Source<'_>,
+) -> Result<Origins, ProgramFault<'a>> {
+    match check_own(alloc, notes, statements, own, found) {
+        Ok(origins) => Ok(origins),
+        Err(refused) => Err(fault_of(alloc, recording, found.files, refused)),
+    }
+}
+
+// What a recording with these notes keeps, where its manifest is the one of the user's own files with what the loaded
+// ones say.
+fn kept_in<'a, R: Files + AllocGlobal>(
+    rt: &R,
+    room: Room<'a, '_>,
+    found: Source<'_>,
+    notes: Notes,
+) -> Result<Kept, ProgramFault<'a>> {
+    let mut statements = read_statements(rt, room, found.files, notes.loaded.len())?;
+    let own = read_own(rt, room, found.files)?;
+    let recording = room.recording;
+    let origins = checked(rt.alloc(), recording, &notes, &mut statements, &own, found)?;
+    Ok(Kept {
+        notes: notes.into_said(),
+        own,
+        origins,
+    })
+}
+
+// The same of a manifest that has these files. Where these say none, whoever reads them next says the fault.
+fn kept_by<'a, R: Files + AllocGlobal>(
     rt: &R,
     room: Room<'a, '_>,
     files: &[(Vec<u8>, Vec<u8>)],
-    notes: &Notes,
-) -> Result<(), ProgramFault<'a>> {
+    notes: Notes,
+) -> Result<Kept, ProgramFault<'a>> {
     let alloc = rt.alloc();
     let manifest = match read_manifest(alloc, files) {
         Ok(manifest) => manifest,
         Err(ManifestRead::Memory) => return Err(ProgramFault::Memory),
-        // Whoever reads the manifest next says the fault.
-        Err(ManifestRead::Manifest(_)) => return Ok(()),
+        Err(ManifestRead::Manifest(_)) => return Ok(Kept::said(alloc, notes.into_said())),
     };
-    let mut statements = read_statements(rt, room, files, notes.loaded.len())?;
-    let own = read_own(rt, room, files)?;
     let found = Source {
         manifest: &manifest,
         files,
     };
-    match check_own(alloc, notes, &mut statements, &own, found) {
-        Ok(()) => Ok(()),
-        Err(refused) => Err(fault_of(alloc, room.recording, files, refused)),
-    }
+    kept_in(rt, room, found, notes)
 }
 
 // Refuses a recording that has the folder `dyndep` and no notes there.
@@ -487,9 +648,8 @@ fn without_notes<'a, R: Files + AllocGlobal>(
     Ok(())
 }
 
-/// What the recorder said of the dyndep files of a recording whose manifest has these files; nothing where it has no
-/// folder `dyndep`. Where it has one, the manifest is the user's own with what the loaded files say, without what the
-/// notes leave out.
+/// What a recording keeps of dyndep files whose manifest has these files; nothing where it has no folder `dyndep`.
+/// Where it has one, the manifest is the user's own with what the loaded files say, without what the notes leave out.
 ///
 /// # Errors
 /// [`ProgramFault::Dyndep`] where it is another, or where a file in the folder has a fault; [`ProgramFault::Kept`] and
@@ -500,11 +660,11 @@ pub(crate) fn read_resolved<'a, R: Files + AllocGlobal>(
     recording: &'a str,
     place: Place<'_>,
     files: &[(Vec<u8>, Vec<u8>)],
-) -> Result<Vec<Vec<u8>>, ProgramFault<'a>> {
+) -> Result<Kept, ProgramFault<'a>> {
     let alloc = rt.alloc();
     let Some(bytes) = read_beside(rt, recording, place, NOTES, MOST_BYTES)? else {
         without_notes(rt, recording, place)?;
-        return Ok(Vec::new(alloc));
+        return Ok(Kept::said(alloc, Vec::new(alloc)));
     };
     let notes = match notes_in(alloc, &bytes) {
         Ok(notes) => notes,
@@ -520,6 +680,5 @@ pub(crate) fn read_resolved<'a, R: Files + AllocGlobal>(
         place,
         folder: &folder,
     };
-    check_kept(rt, room, files, &notes)?;
-    Ok(notes.into_said())
+    kept_by(rt, room, files, notes)
 }

@@ -5,6 +5,7 @@ ghost use Rattle.rev_races.specs.Searches.{IsKept};
 ghost use Rattle.rev_ranks.specs.Graph.{graph_of};
 
 use crate::minimal::minimal;
+use crate::own::{Own, with_own};
 use crate::statements::{Statement, patch_name, push_patches, statement_at, statements_of};
 use indexmap::IndexMap;
 use rev_clashes::SideFile;
@@ -15,7 +16,9 @@ use rev_patch::{Author, Change, author_of};
 use rev_patched::{Amendments, Order, amendments_for, patch_for, writable_output};
 use rev_paths::Name;
 use rev_races::{Search, no_search, search_for};
-use rev_races_text::{Clash, Kind, RaceFinding, Sources, push_clash, push_edge, push_placed};
+use rev_races_text::{
+    Clash, Kind, RaceFinding, Sources, push_clash, push_edge, push_made, push_placed,
+};
 use rev_shown::push_shown;
 use rev_waits::steps;
 use std::alloc::{AllocError, Global};
@@ -180,13 +183,29 @@ fn shared(
     Ok(marks)
 }
 
-// What a patch is made of: the files, the manifest that they say, its graph, and the statements of its edges.
+// What a patch is made of: the files, the manifest that they say, its graph, the statements of its edges, and the
+// user's own manifest, where that is another one.
 #[derive(Clone, Copy)]
 struct Patched<'a> {
     sources: &'a Sources<'a>,
     manifest: &'a Manifest,
     graph: &'a Graph,
     statements: &'a [Statement],
+    own: Option<Own<'a>>,
+}
+
+// The changed lines of files that make additions to the manifest that they say; none where an edge would wait for
+// itself.
+fn changes_in(
+    alloc: Global,
+    files: &[(Vec<u8>, Vec<u8>)],
+    manifest: &Manifest,
+    amendments: &Amendments<'_>,
+) -> Result<Option<Vec<Vec<Change>>>, AllocError> {
+    if amendments.outputs.is_empty() && amendments.inputs.is_empty() {
+        return patch_for(alloc, files, manifest, &amendments.orders);
+    }
+    amendments_for(alloc, files, manifest, amendments)
 }
 
 impl<'a> Patched<'a> {
@@ -205,9 +224,13 @@ impl<'a> Patched<'a> {
         Ok(None)
     }
 
-    // The output of an edge that a line of the patch names.
+    // The output of an edge that a line of the patch names. It is one of the edge's own line: Ninja takes what a dyndep
+    // file says for a source until it has loaded the file.
     fn output(self, edge: u32) -> Option<&'a Name> {
-        writable_output(self.sources.builds.get(edge as usize)?)
+        match self.own {
+            Some(own) => own.output(edge),
+            None => writable_output(self.sources.builds.get(edge as usize)?),
+        }
     }
 
     // Whether `patch` finds a file.
@@ -286,7 +309,8 @@ impl<'a> Patched<'a> {
         Ok(amendments)
     }
 
-    // The changed lines for some mends and namings; none where with all of them a command waits for itself.
+    // The changed lines for some mends and namings; none where with all of them a command waits for itself. Where the
+    // user's own manifest is another one, the lines are those of its files.
     fn changes(
         self,
         alloc: Global,
@@ -294,10 +318,19 @@ impl<'a> Patched<'a> {
         namings: &[Naming<'a>],
     ) -> Result<Option<Vec<Vec<Change>>>, AllocError> {
         let amendments = self.amendments(alloc, mends, namings)?;
-        if amendments.outputs.is_empty() && amendments.inputs.is_empty() {
-            return patch_for(alloc, self.sources.files, self.manifest, &amendments.orders);
+        let changes = changes_in(alloc, self.sources.files, self.manifest, &amendments)?;
+        let Some(own) = self.own else {
+            return Ok(changes);
+        };
+        if changes.is_none() {
+            return Ok(None);
         }
-        amendments_for(alloc, self.sources.files, self.manifest, &amendments)
+        changes_in(alloc, own.plain, own.manifest, &amendments)
+    }
+
+    // The files that a patch changes.
+    fn files(self) -> &'a [(Vec<u8>, Vec<u8>)] {
+        with_own(self.sources.files, self.own)
     }
 
     // Whether the patch can have a naming: `patch` finds its file, and the statement makes no other edge.
@@ -412,7 +445,7 @@ impl<'a> Patched<'a> {
         let namings = self.named(alloc, text, namings)?;
         let few = minimal(alloc, self.graph, self.sources.builds, &mends)?;
         if let Some(changes) = self.changes(alloc, &few, &namings)? {
-            return push_patches(alloc, text, self.sources.files, &changes);
+            return push_patches(alloc, text, self.files(), &changes);
         }
         if mends.len() > MOST_TRIED {
             return text.extend_from_slice(
@@ -421,7 +454,7 @@ impl<'a> Patched<'a> {
         }
         let mends = self.together(alloc, text, &mends, &namings)?;
         match self.changes(alloc, &mends, &namings)? {
-            Some(changes) => push_patches(alloc, text, self.sources.files, &changes),
+            Some(changes) => push_patches(alloc, text, self.files(), &changes),
             None => Ok(()),
         }
     }
@@ -481,7 +514,7 @@ fn push_others(
             text.extend_from_slice(b"# no order mends that ")?;
             push_placed(text, sources, race.user)?;
             text.extend_from_slice(b" uses ")?;
-            push_shown(text, race.path.as_bytes())?;
+            push_made(text, sources, race.maker, race.path)?;
             text.extend_from_slice(b"\n")?;
         }
     }
@@ -516,7 +549,7 @@ fn push_unordered(
     text.extend_from_slice(b" meets ")?;
     push_edge(text, sources, finding.maker)?;
     text.extend_from_slice(b" at ")?;
-    push_shown(text, finding.path.as_bytes())?;
+    push_made(text, sources, finding.maker, finding.path)?;
     text.extend_from_slice(b"\n")
 }
 
@@ -533,7 +566,7 @@ fn push_either(
         (finding.user, finding.maker)
     };
     text.extend_from_slice(b"# either can come last at ")?;
-    push_shown(text, finding.path.as_bytes())?;
+    push_made(text, sources, finding.maker, finding.path)?;
     text.extend_from_slice(b": as here, ")?;
     push_placed(text, sources, last)?;
     text.extend_from_slice(b" waits for ")?;
@@ -622,6 +655,7 @@ fn push_patch(
     sources: &Sources<'_>,
     graph: &Graph,
     manifest: &Manifest,
+    own: Option<Own<'_>>,
     mends: &[Mend],
     namings: &[Naming<'_>],
 ) -> Result<(), AllocError> {
@@ -631,6 +665,7 @@ fn push_patch(
         manifest,
         graph,
         statements: &statements,
+        own,
     };
     patched.push(alloc, text, mends, namings)
 }
@@ -638,7 +673,7 @@ fn push_patch(
 /// What mends races, where an order does: a patch of the manifest's files, or, where a generator wrote them, the lines
 /// that the generator has to write. A line outside of the patch begins with `#`: what no order mends, clashes among it,
 /// and which orders the patch cannot have. The patched files say the manifest with the orders of the patch and nothing
-/// else.
+/// else. Where dyndep files say something of the manifest, the patch is one of the user's own files (`own`).
 ///
 /// # Errors
 /// [`AllocError`] only where an allocation was refused.
@@ -647,6 +682,7 @@ pub fn mend_text(
     manifest: &Manifest,
     graph: &Graph,
     sources: &Sources<'_>,
+    own: Option<Own<'_>>,
     races: &[RaceFinding<'_>],
     clashes: &[Clash],
     findings: &[Finding<'_>],
@@ -665,7 +701,9 @@ pub fn mend_text(
         None => Author::Hand,
     };
     if author == Author::Hand {
-        push_patch(alloc, &mut text, sources, graph, manifest, &mends, &namings)?;
+        push_patch(
+            alloc, &mut text, sources, graph, manifest, own, &mends, &namings,
+        )?;
         return Ok(text);
     }
     for naming in &namings {

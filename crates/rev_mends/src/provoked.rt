@@ -1,7 +1,9 @@
 //! A patch that has a race happen in each build: the maker of the path comes behind its user.
+use crate::own::{Own, with_own};
 use crate::statements::{patch_name, push_patches};
 use rev_graph::Graph;
 use rev_manifest::Manifest;
+use rev_patch::Change;
 use rev_patched::{Provoked, provoke};
 use rev_races_text::Sources;
 use rev_waits::{steps, waited_for};
@@ -73,8 +75,44 @@ fn is_found(alloc: Global, sources: &Sources<'_>, edge: u32) -> Result<bool, All
     }
 }
 
+// The changed lines of files with which a maker comes behind a user, or why there are none.
+fn changes_in(
+    alloc: Global,
+    files: &[(Vec<u8>, Vec<u8>)],
+    manifest: &Manifest,
+    user: u32,
+    maker: u32,
+) -> Result<Result<Vec<Vec<Change>>, Unprovoked>, AllocError> {
+    match provoke(alloc, files, manifest, user, maker)? {
+        Provoked::Patch(changes) => Ok(Ok(changes)),
+        Provoked::Ordered => Ok(Err(Unprovoked::Ordered)),
+        Provoked::Unwritable => Ok(Err(Unprovoked::Unwritable)),
+        Provoked::Unsound => Ok(Err(Unprovoked::Unsound)),
+    }
+}
+
+// The same of the user's own files, where the recorded ones have such lines.
+fn own_changes(
+    alloc: Global,
+    manifest: &Manifest,
+    sources: &Sources<'_>,
+    own: Option<Own<'_>>,
+    user: u32,
+    maker: u32,
+) -> Result<Result<Vec<Vec<Change>>, Unprovoked>, AllocError> {
+    let recorded = changes_in(alloc, sources.files, manifest, user, maker)?;
+    let Some(own) = own else {
+        return Ok(recorded);
+    };
+    if recorded.is_err() {
+        return Ok(recorded);
+    }
+    changes_in(alloc, own.plain, own.manifest, user, maker)
+}
+
 /// The patch of the manifest's files with which the maker of a race comes behind its user in each build, or why there
-/// is none. `race` has the user and the maker of the race that was asked for, if there is one of two commands.
+/// is none. `race` has the user and the maker of the race that was asked for, if there is one of two commands. Where
+/// dyndep files say something of the manifest, the patch is one of the user's own files (`own`).
 ///
 /// # Errors
 /// [`AllocError`] only where an allocation was refused.
@@ -83,6 +121,7 @@ pub fn provoke_text(
     manifest: &Manifest,
     graph: &Graph,
     sources: &Sources<'_>,
+    own: Option<Own<'_>>,
     race: Option<(u32, u32)>,
 ) -> Result<Result<Vec<u8>, Unprovoked>, AllocError> {
     let Some((user, maker)) = race else {
@@ -94,14 +133,12 @@ pub fn provoke_text(
     if !is_found(alloc, sources, maker)? {
         return Ok(Err(Unprovoked::Elsewhere));
     }
-    match provoke(alloc, sources.files, manifest, user, maker)? {
-        Provoked::Patch(changes) => {
+    match own_changes(alloc, manifest, sources, own, user, maker)? {
+        Ok(changes) => {
             let mut text = Vec::new(alloc);
-            push_patches(alloc, &mut text, sources.files, &changes)?;
+            push_patches(alloc, &mut text, with_own(sources.files, own), &changes)?;
             Ok(Ok(text))
         }
-        Provoked::Ordered => Ok(Err(Unprovoked::Ordered)),
-        Provoked::Unwritable => Ok(Err(Unprovoked::Unwritable)),
-        Provoked::Unsound => Ok(Err(Unprovoked::Unsound)),
+        Err(why) => Ok(Err(why)),
     }
 }

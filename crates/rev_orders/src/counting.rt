@@ -1,5 +1,5 @@
 //! How many pairs of commands have stood both ways in some orders.
-ghost use Rattle.std.specs.Prelude.{◌≡◌, ◌<◌, ◌≤◌, ◌&&◌, ◌+◌, ◌^◌, ℕ, not, length, IfOk, if◌then◌else◌};
+ghost use Rattle.std.specs.Prelude.{◌≡◌, ◌<◌, ◌≤◌, ◌&&◌, ◌+◌, ◌^◌, ℕ, nat_lt, not, length, IfOk, if◌then◌else◌};
 ghost use Rattle.std.specs.List.{All};
 ghost use Rattle.rev_ranks.specs.Graph.{graph_of};
 ghost use Rattle.rev_ranks.specs.Sets.{is_marked};
@@ -26,10 +26,13 @@ fn one_more(number: usize, counts: bool) -> usize
     if counts { number + 1 } else { number }
 }
 
-fn both(one: bool, other: bool) -> bool
-    ensures { result ≡ (one && other) }
+// Whether a mark stays, where an order has the node at a place of the nodes before a place of its own.
+fn stays(mark: bool, nodes: &[usize], places: &[usize], other: usize, here: usize) -> bool
+    requires other { other < length nodes.now }
+    requires nodes { All (λ n. n < length places.now) nodes.now }
+    ensures { result ≡ (mark && nat_lt (at places.now (at nodes.now other)) here) }
 {
-    one && other
+    mark && places[nodes[other]] < here
 }
 
 // Whether two commands are unordered, of which the earlier one does not wait for the other.
@@ -107,9 +110,9 @@ fn narrow(row: &mut [bool], nodes: &[usize], places: &[usize], place: usize) -> 
     let here = places[nodes[place]];
     let mut left = 0;
     for other in 0..place {
-        let stays = both(row[other], places[nodes[other]] < here);
-        row[other] = stays;
-        left = one_more(left, stays);
+        let kept = stays(row[other], nodes, places, other, here);
+        row[other] = kept;
+        left = one_more(left, kept);
     }
     left
 }

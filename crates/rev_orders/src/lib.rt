@@ -2,8 +2,14 @@
 //! have stood both ways.
 #![tactic(auto)]
 
+mod bits;
+mod choosing;
 mod counting;
+mod making;
 mod order;
+mod rest;
+mod search;
 
+pub use choosing::{Chosen, choose, nearest};
 pub use counting::{Counts, counted};
 pub use order::{Order, checked};

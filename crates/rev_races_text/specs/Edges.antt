@@ -1,6 +1,8 @@
 -- What an edge is called, and where its build statement stands.
 use Rattle.std.specs.Prelude.{ℕ, List, [], ◌++◌, Option, Some, None, codes, decimal, slice_get, option_and_then}
 use Rattle.std.specs.Option.{option_map}
+use Rattle.rev_dyndep.specs.Origins.{output_file}
+use Rattle.rev_dyndep.specs.declared.origins.Added.{Added}
 use Rattle.rev_manifest.specs.Manifest.{BuildValue, outputs_of}
 use Rattle.rev_races_text.specs.Names.{name_if}
 use Rattle.rev_races_text.specs.declared.edges.Edge.{Edge}
@@ -19,6 +21,10 @@ first_output build = option_and_then (λ (b : BuildValue). slice_get (outputs_of
 abbrev pub file_of : List (List ℕ × List ℕ) → Option BuildValue → Option (List ℕ)
 file_of files build =
     option_and_then (λ (b : BuildValue). option_map (λ (f : List ℕ × List ℕ). f.0) (slice_get files b.file)) build
+
+-- the dyndep file that adds an output to an edge, where it is known what these files add
+abbrev pub file_in : Option (List (Option Added)) → ℕ → List ℕ → Option (List ℕ)
+file_in origins edge path = option_and_then (λ (rows : List (Option Added)). output_file rows edge path) origins
 
 abbrev pub line_if : Option ℕ → List ℕ
 line_if None = []

@@ -9,11 +9,12 @@ use Rattle.rev_races.specs.declared.race.Kind.TheVariants.{Race, Cycle, Own}
 use Rattle.rev_manifest.specs.Manifest.{BuildValue}
 use Rattle.rev_races_text.specs.Edges.{line_if, placed, placed_at, words_if}
 use Rattle.rev_races_text.specs.Happened.{here_line}
-use Rattle.rev_races_text.specs.Names.{name_if, written, written_if}
+use Rattle.rev_races_text.specs.Names.{name_if, path_words, written, written_if}
 use Rattle.rev_races_text.specs.declared.edges.Edge.{Edge}
 use Rattle.rev_races_text.specs.declared.others.Change.{Change}
 use Rattle.rev_races_text.specs.declared.others.ClashLine.{ClashLine}
 use Rattle.rev_races_text.specs.declared.others.Hint.{Hint}
+use Rattle.rev_races_text.specs.declared.names.Made.{Made}
 use Rattle.rev_races_text.specs.declared.names.Shown.{Shown}
 use Rattle.rev_races_text.specs.declared.race.Evidence.{Evidence}
 use Rattle.rev_races_text.specs.declared.race.Evidence.TheVariants as evidence
@@ -28,10 +29,10 @@ kind_word Race = codes "race"
 kind_word Cycle = codes "cycle"
 kind_word Own = codes "own"
 
--- `race version.h made by version.h (build.ninja:14)`
-abbrev pub maker_line : Kind → List ℕ → Edge → List ℕ
+-- `race version.h made by version.h (build.ninja:14)`, and `race b.mod (by both.dd) made by b.o (build.ninja:11)`
+abbrev pub maker_line : Kind → Made → Edge → List ℕ
 maker_line kind path maker =
-    kind_word kind ++ codes " " ++ shown path ++ codes " made by " ++ placed maker ++ codes "\n"
+    kind_word kind ++ codes " " ++ path_words path ++ codes " made by " ++ placed maker ++ codes "\n"
 
 -- what is said behind a user
 abbrev pub user_ends : Kind → List ℕ
@@ -40,13 +41,13 @@ user_ends Cycle = codes ", for which the maker waits: no order mends that"
 user_ends Own = codes ", which makes it: no order mends that"
 
 -- the path by which a user is in the race, and how many more, where it is more than the path that the maker's line has
-unfoldable pub through_words : List ℕ → List ℕ → ℕ → List ℕ
+unfoldable pub through_words : List ℕ → Made → ℕ → List ℕ
 through_words told path more =
-    if more == 0 then (if bytes_eq path told then [] else codes " through " ++ shown path)
-    else codes " through " ++ shown path ++ codes " and " ++ decimal more ++ codes " more"
+    if more == 0 then (if bytes_eq path.path.0.now told then [] else codes " through " ++ path_words path)
+    else codes " through " ++ path_words path ++ codes " and " ++ decimal more ++ codes " more"
 
 -- `  used by main.o (build.ninja:19), which does not wait for it [1]`, with the number that `--witness` takes
-abbrev pub user_line : Kind → List ℕ → List ℕ → ℕ → Edge → ℕ → List ℕ
+abbrev pub user_line : Kind → List ℕ → Made → ℕ → Edge → ℕ → List ℕ
 user_line kind told path more user number =
     codes "  used by " ++ placed user ++ through_words told path more ++ user_ends kind ++ codes " ["
     ++ decimal number ++ codes "]\n"
@@ -54,6 +55,7 @@ user_line kind told path more user number =
 -- how far the maker was when a command began that failed
 abbrev pub progress_words : Progress → List ℕ
 progress_words progress.Running = codes "was running"
+progress_words progress.Failed = codes "had failed"
 progress_words progress.ToRun = codes "was still to run"
 
 -- how the user's command ended, which did not end well

@@ -1,7 +1,8 @@
 -- Names and texts as people read them. No byte of one reaches a terminal but a visible one of ASCII, or a space.
-use Rattle.std.specs.Prelude.{ℕ, ◌==◌, ◌||◌, if◌then◌else◌, List, [], ◌∷◌, Option, Some, None}
+use Rattle.std.specs.Prelude.{ℕ, ◌==◌, ◌||◌, if◌then◌else◌, List, [], ◌∷◌, ◌++◌, Option, Some, None, codes}
 use Rattle.std.specs.List.{flat_map}
 use Rattle.rev_shown.specs.Shown.{shown, shown_byte}
+use Rattle.rev_races_text.specs.declared.names.Made.{Made}
 use Rattle.rev_races_text.specs.declared.names.Shown.{Shown}
 
 -- a name, where there is one
@@ -27,3 +28,12 @@ written path = flat_map written_byte path
 abbrev pub written_if : Option Shown → List ℕ
 written_if None = []
 written_if (Some path) = written path.0.now
+
+-- ` (by both.dd)`: the dyndep file that says a path of an edge, where the edge's own line does not
+abbrev pub by_words : Option Shown → List ℕ
+by_words None = []
+by_words (Some file) = codes " (by " ++ shown file.0.now ++ codes ")"
+
+-- a path of an edge, as `b.mod (by both.dd)`
+unfoldable pub path_words : Made → List ℕ
+path_words made = shown made.path.0.now ++ by_words made.file

@@ -5,10 +5,11 @@ ghost use Rattle.rev_manifest.specs.Manifest.{outputs_of};
 ghost use Rattle.rev_manifest.specs.Seen.{seen_files};
 ghost use Rattle.rev_races.specs.declared.runs.Run.{Run as RunValue};
 ghost use Rattle.rev_manifest.specs.Builds.{BuildValue};
-ghost use Rattle.rev_races_text.specs.Edges.{bytes_if, file_of, first_output, line_if, named_at, placed, placed_at};
+ghost use Rattle.rev_races_text.specs.Edges.{bytes_if, file_in, file_of, first_output, line_if, named_at, placed, placed_at};
 ghost use Rattle.rev_races_text.specs.Names.{name_if};
 
-use crate::names::{NameIf, Shown};
+use crate::names::{Made, NameIf, Shown};
+use rev_dyndep::Origins;
 use rev_manifest::Build;
 use rev_paths::Name;
 use rev_races::Run;
@@ -25,6 +26,8 @@ pub struct Sources<'a> {
     pub files: &'a [(Vec<u8>, Vec<u8>)],
     /// For each edge the last run of its command, where it ran.
     pub runs: &'a [Option<Run>],
+    /// Which of the edges' paths come from dyndep files, where that is known.
+    pub origins: Option<&'a Origins>,
 }
 
 /// An edge as answers have it.
@@ -146,6 +149,27 @@ impl<'a> Sources<'a> {
         }
     }
 
+    // The dyndep file that adds an output to an edge, where one does.
+    fn file_by(&self, edge: u32, path: &Name) -> Option<&'a Name>
+        ensures { option_copied result ≡ file_in (option_copied self.now.origins) edge path.now }
+    {
+        match self.origins {
+            Some(origins) => origins.output_file(edge, path),
+            None => None,
+        }
+    }
+
+    /// A path that an edge makes, with the dyndep file that says so where the edge's own line does not.
+    pub fn made(&self, edge: u32, path: &'a Name) -> Made<'a>
+        ensures path { result.path.0.now ≡ path.entry.now }
+        ensures file { bytes_if result.file ≡ file_in (option_copied self.now.origins) edge path.entry.now }
+    {
+        Made {
+            path: shown_name(path),
+            file: shown_if(self.file_by(edge, path)),
+        }
+    }
+
     // The last run of an edge.
     fn run(&self, number: u32) -> Option<Run> {
         match self.runs.get(number as usize) {
@@ -165,6 +189,22 @@ pub fn push_edge(text: &mut Vec<u8>, sources: &Sources<'_>, number: u32) -> Resu
 {
     let edge = sources.edge(number);
     let words = format!(in *text.allocator(); "{}", NameIf(edge.output))?;
+    text.extend_from_slice(words.as_bytes())
+}
+
+/// Adds a path that an edge makes, as `b.mod (by both.dd)`: with the dyndep file that says so where the edge's own line
+/// does not.
+///
+/// # Errors
+/// [`AllocError`] only where an allocation was refused.
+pub fn push_made(
+    text: &mut Vec<u8>,
+    sources: &Sources<'_>,
+    edge: u32,
+    path: &Name,
+) -> Result<(), AllocError> {
+    let made = sources.made(edge, path);
+    let words = format!(in *text.allocator(); "{made}")?;
     text.extend_from_slice(words.as_bytes())
 }
 

@@ -49,6 +49,8 @@ pub struct Failure<'a> {
 pub struct Remainder {
     /// Those that ran when the failed command began.
     pub running: u64,
+    /// Those that had failed by then.
+    pub failed: u64,
     /// Those that were still to run.
     pub to_run: u64,
 }
@@ -145,6 +147,7 @@ impl<'a> Failure<'a> {
     pub(crate) fn untold_of(&self, progress: Progress) -> u64 {
         match (self.untold, progress) {
             (Some(untold), Progress::Running) => untold.running,
+            (Some(untold), Progress::Failed) => untold.failed,
             (Some(untold), Progress::ToRun) => untold.to_run,
             (None, _) => 0,
         }
@@ -154,7 +157,8 @@ impl<'a> Failure<'a> {
     pub(crate) fn suspects(&self) -> Option<u64> {
         let untold = self.untold?;
         let told = u64::saturating_add(self.named as u64, self.others.len() as u64);
-        let rest = u64::saturating_add(untold.running, untold.to_run);
+        let begun = u64::saturating_add(untold.running, untold.failed);
+        let rest = u64::saturating_add(begun, untold.to_run);
         Some(u64::saturating_add(told, rest))
     }
 

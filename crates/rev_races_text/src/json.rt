@@ -13,10 +13,11 @@ use rev_suspects::{Basis, Progress};
 use serde::{Described, Serialize, Serializer};
 use std::alloc::{AllocError, Global};
 
-// An object: its kind, and the members of its value.
+// An object: its kind, the dyndep file that says its path, where one does, and the members of its value.
 #[derive(Clone, Copy)]
 struct Object<'a, T> {
     kind: &'static str,
+    dyndep: Option<Shown<'a>>,
     value: &'a T,
 }
 
@@ -27,6 +28,10 @@ impl<T: Serialize> Serialize for Object<'_, T> {
         out.begin_map(None)?;
         out.key("kind")?;
         out.str(self.kind)?;
+        if let Some(file) = self.dyndep {
+            out.key("dyndep")?;
+            file.serialize(out)?;
+        }
         out.flatten_next()?;
         self.value.serialize(out)?;
         out.end_map()
@@ -107,7 +112,26 @@ pub fn push_object<T: Serialize>(
     kind: &'static str,
     value: &T,
 ) -> Result<(), AllocError> {
-    let Ok(line) = serde_json::to_vec(alloc, &Object { kind, value }) else {
+    push_object_by(alloc, text, kind, None, value)
+}
+
+/// The same, with the dyndep file that says the path of the object, where one does.
+///
+/// # Errors
+/// [`AllocError`] only where an allocation was refused.
+pub fn push_object_by<T: Serialize>(
+    alloc: Global,
+    text: &mut Vec<u8>,
+    kind: &'static str,
+    dyndep: Option<Shown<'_>>,
+    value: &T,
+) -> Result<(), AllocError> {
+    let object = Object {
+        kind,
+        dyndep,
+        value,
+    };
+    let Ok(line) = serde_json::to_vec(alloc, &object) else {
         return Err(AllocError);
     };
     text.extend_from_slice(&line)?;
@@ -139,6 +163,7 @@ pub fn happened_word(happened: Happened) -> &'static str {
 fn progress_word(progress: Progress) -> &'static str {
     match progress {
         Progress::Running => "running",
+        Progress::Failed => "failed-before",
         Progress::ToRun => "to-run",
     }
 }
@@ -185,17 +210,18 @@ fn push_race<'a>(
     told: &RaceFinding<'a>,
     number: u64,
 ) -> Result<(), AllocError> {
+    let made = sources.made(told.maker, told.path);
     let race = RaceObject {
         number,
         id: Some(sources.race_id(told)),
-        path: Some(Shown(told.path.as_bytes())),
+        path: Some(made.path),
         maker: sources.maker(told),
         user: sources.user(told),
         here: here_word(told.evidence),
         basis: basis_word(told),
         mend: shown_if(told.mend),
     };
-    push_object(alloc, text, race_word(told), &race)
+    push_object_by(alloc, text, race_word(told), made.file, &race)
 }
 
 // Adds a suspect that no error names, with its number. An order mends it, as each of two that do not wait for one
@@ -411,6 +437,9 @@ impl<'a> Report<'a> {
             push_object(alloc, &mut text, "hint", hint)?;
         }
         push_changes(alloc, &mut text, sources, &self.changes)?;
+        for hidden in &self.hidden {
+            push_object(alloc, &mut text, "hidden", hidden)?;
+        }
         if self.left_out.is_any() {
             push_object(alloc, &mut text, "left out", &self.left_out)?;
         }

@@ -1,8 +1,9 @@
 //! How much an answer leaves out.
-ghost use Rattle.std.specs.Prelude.{Some};
-ghost use Rattle.rev_races_text.specs.LeftOut.{known_words, left_out_line};
+ghost use Rattle.std.specs.Prelude.{◌≡◌, Some};
+ghost use Rattle.rev_races_text.specs.LeftOut.{hidden_line, hidden_words, known_words, left_out_line};
 
 use crate::counts::Counted;
+use crate::names::Shown;
 use serde::Serialize;
 use std::fmt;
 
@@ -15,6 +16,15 @@ pub struct LeftOut {
     pub known: u64,
     /// How many other findings it ignores.
     pub ignored: u64,
+}
+
+/// A place that filters hide, where commands meet.
+#[derive(Clone, Copy, Serialize)]
+pub struct Hidden<'a> {
+    /// The path of the file, or of the folder.
+    pub path: Shown<'a>,
+    /// Whether the commands meet at the entries of the folder.
+    pub entries: bool,
 }
 
 // How many findings are left out by a baseline.
@@ -42,6 +52,27 @@ impl LeftOut {
     /// Whether a baseline leaves findings out.
     pub fn is_by_baseline(&self) -> bool {
         self.findings() != 0
+    }
+}
+
+// What stands before the path of a hidden place.
+fn hidden_words(entries: bool) -> &'static str
+    ensures { result.now ≡ hidden_words entries }
+{
+    if entries {
+        "  hidden: the entries of "
+    } else {
+        "  hidden: "
+    }
+}
+
+impl fmt::Display for Hidden<'_> {
+    ghost output = { λ h. Some (hidden_line h.entries h.path.0.now) };
+
+    fn fmt<W: fmt::Write>(&self, f: &mut fmt::Formatter<W>) -> fmt::Result {
+        let words = hidden_words(self.entries);
+        let path = self.path;
+        write!(f, "{words}{path}\n")
     }
 }
 

@@ -15,12 +15,12 @@ mod report;
 mod words;
 
 pub use counts::{Counted, Seen, Tally};
-pub use edges::{Edge, LineIf, Sources, push_edge, push_placed};
+pub use edges::{Edge, LineIf, Sources, push_edge, push_made, push_placed};
 pub use failed::{Failure, Printed, Remainder, Replayed, Suspect};
 pub use here::HereLine;
-pub use json::{happened_word, push_object};
-pub use left_out::LeftOut;
-pub use names::{NameIf, Shown, Text, Written, WrittenIf};
+pub use json::{happened_word, push_object, push_object_by};
+pub use left_out::{Hidden, LeftOut};
+pub use names::{Made, NameIf, Shown, Text, Written, WrittenIf};
 pub use others::{Change, Clash, ClashLine, Hint, push_clash};
 pub use race::{Evidence, ListedBefore, MendLine, More, NO_MEND, RaceFinding, Through};
 pub use report::{Report, SOMETHING, UNKNOWN};

@@ -1,6 +1,6 @@
 //! Names and texts as people read them.
 ghost use Rattle.std.specs.Prelude.{◌≡◌, ◌<◌, ◌∷◌, [], Some, encode_utf8};
-ghost use Rattle.rev_races_text.specs.Names.{name_if, text_byte, text_shown, written, written_byte, written_if};
+ghost use Rattle.rev_races_text.specs.Names.{by_words, name_if, path_words, text_byte, text_shown, written, written_byte, written_if};
 ghost use Rattle.rev_shown.specs.Shown.{hex_digit, shown, shown_byte};
 
 use serde::{Described, Serialize, Serializer};
@@ -27,6 +27,19 @@ pub struct NameIf<'a>(pub Option<Shown<'a>>);
 /// A path as it stands on a build line, where there is one.
 #[derive(Clone, Copy)]
 pub struct WrittenIf<'a>(pub Option<Shown<'a>>);
+
+/// A path of an edge, as `b.mod (by both.dd)`: with the dyndep file that says it, where the edge's own line does not.
+#[derive(Clone, Copy)]
+pub struct Made<'a> {
+    /// The path.
+    pub path: Shown<'a>,
+    /// The dyndep file.
+    pub file: Option<Shown<'a>>,
+}
+
+// The dyndep file behind a path, where there is one.
+#[derive(Clone, Copy)]
+struct ByFile<'a>(Option<Shown<'a>>);
 
 // One byte of a name, of a text and of a path on a build line.
 #[derive(Clone, Copy)]
@@ -148,6 +161,27 @@ impl fmt::Display for WrittenIf<'_> {
             Some(path) => write!(f, "{}", Written(path.0)),
             None => Ok(()),
         }
+    }
+}
+
+impl fmt::Display for ByFile<'_> {
+    ghost output = { λ b. Some (by_words b.0) };
+
+    fn fmt<W: fmt::Write>(&self, f: &mut fmt::Formatter<W>) -> fmt::Result {
+        match self.0 {
+            Some(file) => write!(f, " (by {file})"),
+            None => Ok(()),
+        }
+    }
+}
+
+impl fmt::Display for Made<'_> {
+    ghost output = { λ m. Some (path_words m) };
+
+    #[tactic(auto, unfolding(crate::specs::Names::path_words))]
+    fn fmt<W: fmt::Write>(&self, f: &mut fmt::Formatter<W>) -> fmt::Result {
+        let (path, file) = (self.path, ByFile(self.file));
+        write!(f, "{path}{file}")
     }
 }
 

@@ -4,7 +4,7 @@ ghost use Rattle.rev_races_text.specs.Lines.{before_line, evidence_line, kind_wo
 
 use crate::edges::{Edge, LineIf, Sources};
 use crate::here::HereLine;
-use crate::names::{NameIf, Shown, Written, WrittenIf};
+use crate::names::{Made, NameIf, Shown, Written, WrittenIf};
 use rev_paths::Name;
 use rev_races::{Kind, Story};
 use rev_suspects::{Basis, Progress};
@@ -57,7 +57,7 @@ pub struct RaceFinding<'a> {
 #[derive(Clone, Copy)]
 pub(crate) struct MakerLine<'a> {
     pub(crate) kind: Kind,
-    pub(crate) path: Shown<'a>,
+    pub(crate) path: Made<'a>,
     pub(crate) maker: Edge<'a>,
 }
 
@@ -67,7 +67,7 @@ pub struct Through<'a> {
     /// The path that the maker's line has.
     pub told: Shown<'a>,
     /// The first path of the user.
-    pub path: Shown<'a>,
+    pub path: Made<'a>,
     /// How many more there are.
     pub more: u64,
 }
@@ -77,7 +77,7 @@ pub struct Through<'a> {
 pub(crate) struct UserLine<'a> {
     pub(crate) kind: Kind,
     pub(crate) told: Shown<'a>,
-    pub(crate) path: Shown<'a>,
+    pub(crate) path: Made<'a>,
     pub(crate) more: u64,
     pub(crate) user: Edge<'a>,
     pub(crate) number: u64,
@@ -154,7 +154,7 @@ fn user_ends(kind: Kind) -> &'static str
 }
 
 impl fmt::Display for MakerLine<'_> {
-    ghost output = { λ l. Some (maker_line l.kind l.path.0.now l.maker) };
+    ghost output = { λ l. Some (maker_line l.kind l.path l.maker) };
 
     fn fmt<W: fmt::Write>(&self, f: &mut fmt::Formatter<W>) -> fmt::Result {
         let kind = kind_word(self.kind);
@@ -164,7 +164,7 @@ impl fmt::Display for MakerLine<'_> {
 }
 
 impl fmt::Display for Through<'_> {
-    ghost output = { λ t. Some (through_words t.told.0.now t.path.0.now t.more) };
+    ghost output = { λ t. Some (through_words t.told.0.now t.path t.more) };
 
     #[tactic(auto, unfolding(crate::specs::Lines::through_words))]
     fn fmt<W: fmt::Write>(&self, f: &mut fmt::Formatter<W>) -> fmt::Result {
@@ -172,7 +172,7 @@ impl fmt::Display for Through<'_> {
         if more != 0 {
             return write!(f, " through {path} and {more} more");
         }
-        if path.0 == self.told.0 {
+        if path.path.0 == self.told.0 {
             return Ok(());
         }
         write!(f, " through {path}")
@@ -180,7 +180,7 @@ impl fmt::Display for Through<'_> {
 }
 
 impl fmt::Display for UserLine<'_> {
-    ghost output = { λ l. Some (user_line l.kind l.told.0.now l.path.0.now l.more l.user l.number) };
+    ghost output = { λ l. Some (user_line l.kind l.told.0.now l.path l.more l.user l.number) };
 
     fn fmt<W: fmt::Write>(&self, f: &mut fmt::Formatter<W>) -> fmt::Result {
         let through = Through {
@@ -247,6 +247,7 @@ fn progress_words(progress: Progress) -> &'static str
 {
     match progress {
         Progress::Running => "was running",
+        Progress::Failed => "had failed",
         Progress::ToRun => "was still to run",
     }
 }

@@ -4,7 +4,7 @@ ghost use Rattle.rev_races_text.specs.Status.{status_of};
 
 use crate::counts::{Seen, Tally};
 use crate::failed::{Failure, Replayed};
-use crate::left_out::LeftOut;
+use crate::left_out::{Hidden, LeftOut};
 use crate::others::{Change, Clash, Hint};
 use crate::race::{Evidence, RaceFinding};
 use rev_races::Kind;
@@ -43,6 +43,8 @@ pub struct Report<'a> {
     pub changes: Vec<Change<'a>>,
     /// How much is left out.
     pub left_out: LeftOut,
+    /// The places that filters hide, as an observation shows them.
+    pub hidden: Vec<Hidden<'a>>,
 }
 
 // The edges of a race or a suspect, as user and maker; none of a command that lists its own output.

@@ -55,7 +55,7 @@ fn push_user<'a>(
     let line = UserLine {
         kind: first.kind,
         told,
-        path,
+        path: sources.made(first.maker, first.path),
         more: (races.len() as u64).saturating_sub(1),
         user,
         number,
@@ -81,7 +81,7 @@ fn push_maker<'a>(
 ) -> Result<(), AllocError> {
     let line = MakerLine {
         kind: told.kind,
-        path: Shown(told.path.as_bytes()),
+        path: sources.made(told.maker, told.path),
         maker: sources.maker(told),
     };
     write!(text, "{line}")
@@ -254,6 +254,7 @@ fn push_suspects<'a>(
 fn progress_head(progress: Progress) -> &'static str {
     match progress {
         Progress::Running => "also running, and not waited for: ",
+        Progress::Failed => "also failed before, and not waited for: ",
         Progress::ToRun => "also still to run, and not waited for: ",
     }
 }
@@ -291,7 +292,8 @@ fn push_failure<'a>(
     }
     let few = most_of(all, FEW);
     push_suspects(text, sources, failure, Progress::Running, other, few)?;
-    push_suspects(text, sources, failure, Progress::ToRun, other, few)
+    push_suspects(text, sources, failure, Progress::ToRun, other, few)?;
+    push_suspects(text, sources, failure, Progress::Failed, other, few)
 }
 
 // The edges of some numbers.
@@ -384,6 +386,22 @@ fn push_clashes<'a>(
     )
 }
 
+// Adds the places that filters hide.
+fn push_hidden(text: &mut String, report: &Report<'_>, most: usize) -> Result<(), AllocError> {
+    for (place, hidden) in report.hidden.iter().enumerate() {
+        if place < most {
+            write!(text, "{hidden}")?;
+        }
+    }
+    push_more(
+        text,
+        "  and ",
+        report.hidden.len(),
+        most,
+        " more (--all tells them)\n",
+    )
+}
+
 impl<'a> Report<'a> {
     /// The line that counts, and how much is left out.
     ///
@@ -399,8 +417,8 @@ impl<'a> Report<'a> {
 
     /// The report in words. First come how much of the recording counts, and what failed. Then come the lines of what
     /// an observation shows (`observed`), and the races of each maker. The line that counts follows, with the commands
-    /// that were not judged. Clashes, hints, and how much is left out come last. Of many users, clashes, failed
-    /// commands or suspects the words have the first, or all of them (`all`).
+    /// that were not judged. Clashes, hints, and how much is left out come last, with the places that filters hide. Of
+    /// many users, clashes, failed commands, suspects or hidden places the words have the first, or all (`all`).
     ///
     /// # Errors
     /// [`AllocError`] only where an allocation was refused.
@@ -427,6 +445,7 @@ impl<'a> Report<'a> {
             write!(text, "{change}")?;
         }
         write!(text, "{}", self.left_out)?;
+        push_hidden(&mut text, self, few)?;
         Ok(text.into_bytes())
     }
 }

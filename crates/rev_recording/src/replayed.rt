@@ -1,6 +1,6 @@
 //! The replay of a recording.
 ghost use Rattle.std.specs.Prelude.{◌≡◌, ◌+◌, ◌++◌, ◌<◌, ◌≤◌, IfOk, OnOk, length};
-ghost use Rattle.rev_recording.specs.Replayed.{counts_words};
+ghost use Rattle.rev_recording.specs.Replayed.{counts_words, events_words, others_end as others_end_of, others_words, refused_words};
 ghost use Rattle.rev_desk.specs.Machine.{opened_desk};
 ghost use Rattle.rev_report.specs.Answers.{after_answer};
 ghost use Rattle.rev_report.specs.Runs.{after_turns};
@@ -95,21 +95,61 @@ pub fn replay(alloc: Global, desk: &mut Desk, trace: &Trace) -> Result<(), Recor
     say_turns(desk, &turns)
 }
 
-// Adds how many commands there were, and how many of them were refused.
-fn push_counts(text: &mut Vec<u8>, commands: u64, refused: u64) -> Result<(), AllocError>
-    ensures { OnOk result (text.new.items ≡ text.old.items ++ counts_words commands refused) }
+// Adds how many events there were.
+fn push_events(text: &mut Vec<u8>, events: u64) -> Result<(), AllocError>
+    ensures { OnOk result (text.new.items ≡ text.old.items ++ events_words events) }
 {
-    push_number(text, commands)?;
-    text.extend_from_slice(if commands == 1 {
-        b" command, "
+    push_number(text, events)?;
+    text.extend_from_slice(if events == 1 { b" event" } else { b" events" })
+}
+
+// What stands behind the number of other commands.
+fn others_end(others: u64) -> &'static [u8]
+    ensures { result.now ≡ others_end_of others }
+{
+    if others == 1 {
+        b" other command"
     } else {
-        b" commands, "
-    })?;
-    if refused == 0 {
-        return text.extend_from_slice(b"none refused\n");
+        b" other commands"
     }
+}
+
+// Adds how many other commands there were; nothing where there was none.
+fn push_others(text: &mut Vec<u8>, others: u64) -> Result<(), AllocError>
+    ensures { OnOk result (text.new.items ≡ text.old.items ++ others_words others) }
+{
+    if others == 0 {
+        return Ok(());
+    }
+    text.extend_from_slice(b" and ")?;
+    push_number(text, others)?;
+    text.extend_from_slice(others_end(others))
+}
+
+// Adds how many of these were refused.
+fn push_refused(text: &mut Vec<u8>, refused: u64) -> Result<(), AllocError>
+    ensures { OnOk result (text.new.items ≡ text.old.items ++ refused_words refused) }
+{
+    if refused == 0 {
+        return text.extend_from_slice(b", none refused\n");
+    }
+    text.extend_from_slice(b", ")?;
     push_number(text, refused)?;
     text.extend_from_slice(b" refused\n")
+}
+
+// Adds how many events and other commands there were, and how many of them were refused.
+fn push_counts(text: &mut Vec<u8>, events: u64, others: u64, refused: u64) -> Result<(), AllocError>
+    ensures { OnOk result (text.new.items ≡ text.old.items ++ counts_words events others refused) }
+{
+    push_events(text, events)?;
+    push_others(text, others)?;
+    push_refused(text, refused)
+}
+
+// Whether the command of an entry is an event.
+fn is_event(entry: &Entry) -> bool {
+    matches!(entry.command, Command::Event(_))
 }
 
 // Whether an entry was refused.
@@ -125,12 +165,16 @@ pub fn refused_count(desk: &Desk) -> u64 {
         .count() as u64
 }
 
-/// The line that describes a replay: the number of commands in the desk's journal, and the number of refused ones.
+/// The line that describes a replay: how many events the desk's journal has, how many other commands where it has some,
+/// and how many of all these were refused. A command of the build has two events, its start and its end.
 ///
 /// # Errors
 /// [`AllocError`] only where an allocation was refused.
 pub fn replay_text(alloc: Global, desk: &Desk) -> Result<Vec<u8>, AllocError> {
     let mut text = Vec::new(alloc);
-    push_counts(&mut text, desk.journal().len() as u64, refused_count(desk))?;
+    let entries = desk.journal();
+    let events = entries.iter().filter(|entry| is_event(entry)).count() as u64;
+    let others = (entries.len() as u64).saturating_sub(events);
+    push_counts(&mut text, events, others, refused_count(desk))?;
     Ok(text)
 }

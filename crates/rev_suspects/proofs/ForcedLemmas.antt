@@ -23,7 +23,7 @@ use Rattle.rev_suspects.specs.Laws.{SuspectsAreNotForced}
 use Rattle.rev_suspects.specs.Suspects.{is_at, state_before}
 use Rattle.rev_suspects.specs.declared.failed.Failure.{Failure}
 use Rattle.rev_suspects.specs.declared.suspected.Progress.{Progress}
-use Rattle.rev_suspects.specs.declared.suspected.Progress.TheVariants.{Running, ToRun}
+use Rattle.rev_suspects.specs.declared.suspected.Progress.TheVariants.{Running, Failed, ToRun}
 use Rattle.rev_suspects.proofs.FailureLemmas.{none-below}
 use Rattle.rev_suspects.proofs.LawLemmas.{left-of, right-of}
 use Rattle.rev_suspects.proofs.SuspectLemmas.{among-filter}
@@ -145,7 +145,7 @@ legal-until t (k ∷ ks) n e s rising among is legal = by (nat_eq n k) refl amon
     by true same h rest = here (eqb-true n k same)
     by false other h rest = there (above-all k ks n rising.0 h) (λ u l. rest u h is l)
 
--- what runs, or is still to run, is not settled
+-- what runs, has failed, or is still to run, is not settled
 at-unsettled : (progress : Progress) (m : Mark) → is_at progress m ≡ true → is_settled m ≡ false
 at-unsettled Running (mark.Running job slot seen) h = refl
 at-unsettled Running mark.Idle h = absurd (true≢false (sym h))
@@ -155,6 +155,14 @@ at-unsettled Running (mark.Done changed) h = absurd (true≢false (sym h))
 at-unsettled Running mark.Clean h = absurd (true≢false (sym h))
 at-unsettled Running mark.Failed h = refl
 at-unsettled Running mark.Stopped h = refl
+at-unsettled Failed (mark.Running job slot seen) h = refl
+at-unsettled Failed mark.Idle h = absurd (true≢false (sym h))
+at-unsettled Failed mark.Wanted h = refl
+at-unsettled Failed mark.Through h = refl
+at-unsettled Failed (mark.Done changed) h = absurd (true≢false (sym h))
+at-unsettled Failed mark.Clean h = absurd (true≢false (sym h))
+at-unsettled Failed mark.Failed h = refl
+at-unsettled Failed mark.Stopped h = refl
 at-unsettled ToRun (mark.Running job slot seen) h = refl
 at-unsettled ToRun mark.Idle h = absurd (true≢false (sym h))
 at-unsettled ToRun mark.Wanted h = refl

@@ -15,23 +15,25 @@ use Rattle.rev_races.specs.Races.{names}
 use Rattle.rev_suspects.specs.Failures.{failures_of, kept_before}
 use Rattle.rev_suspects.specs.declared.failed.Failure.{Failure}
 use Rattle.rev_suspects.specs.declared.suspected.Progress.{Progress}
-use Rattle.rev_suspects.specs.declared.suspected.Progress.TheVariants.{Running, ToRun}
+use Rattle.rev_suspects.specs.declared.suspected.Progress.TheVariants.{Running, Failed, ToRun}
 use Rattle.rev_suspects.specs.declared.suspected.Suspect.{Suspect}
 
 -- the state in which the event of a kept number was accepted
 abbrev pub state_before : Timeline → ℕ → State
 state_before t n = run (machine_at t) t.opening (kept_before t n)
 
--- the edge's command runs; it is still to run
+-- the edge's command runs; it is still to run; it failed
 abbrev pub is_at : Progress → Mark → Bool
 is_at Running (mark.Running job slot seen) = true
 is_at Running _ = false
 is_at ToRun mark.Wanted = true
 is_at ToRun _ = false
+is_at Failed mark.Failed = true
+is_at Failed _ = false
 
 -- An edge is a suspect of a failed one that began in a state: it has a command, is not that one, neither waits for the
--- other, and its command ran there, or was still to run. What makes one of these files, as those that the manifest was
--- read from, runs before all else.
+-- other, and its command ran there, was still to run, or had failed. What makes one of these files, as those that the
+-- manifest was read from, runs before all else.
 abbrev pub is_suspect : ManifestValue → List (List ℕ) → State → ℕ → Progress → ℕ → Bool
 is_suspect manifest files s failed progress edge =
     not (build_at manifest.builds edge).phony && not (edge == failed) && not (waits manifest.builds failed edge)
@@ -46,10 +48,12 @@ abbrev pub suspects_at : ManifestValue → List (List ℕ) → State → Failure
 suspects_at manifest files s f progress =
     map (suspect_as f progress) (filter (is_suspect manifest files s f.edge progress) (edges_of manifest.builds))
 
--- all suspects of a run that failed: first those that ran when it began, and then those that were still to run
+-- all suspects of a run that failed: first those that ran when it began, then those that were still to run, and last
+-- those that had failed by then
 abbrev pub suspects_in : ManifestValue → List (List ℕ) → State → Failure → List Suspect
 suspects_in manifest files s f =
-    suspects_at manifest files s f Running ++ suspects_at manifest files s f ToRun
+    (suspects_at manifest files s f Running ++ suspects_at manifest files s f ToRun)
+    ++ suspects_at manifest files s f Failed
 
 abbrev pub suspects_of : Timeline → List (List ℕ) → Failure → List Suspect
 suspects_of t files f = suspects_in t.manifest files (state_before t f.began) f

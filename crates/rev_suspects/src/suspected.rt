@@ -29,6 +29,8 @@ pub enum Progress {
     Running,
     /// Its command was still to run.
     ToRun,
+    /// Its command had failed.
+    Failed,
 }
 
 /// A command that was not through when a failed command began. Neither of the two waits for the other.
@@ -49,11 +51,15 @@ fn is_at(cells: &Cells, progress: Progress, edge: u32) -> bool
     match cells.get(&Cell::Mark(edge)) {
         Some(Value::Mark(Mark::Running { .. })) => match progress {
             Progress::Running => true,
-            Progress::ToRun => false,
+            Progress::Failed | Progress::ToRun => false,
+        },
+        Some(Value::Mark(Mark::Failed)) => match progress {
+            Progress::Failed => true,
+            Progress::Running | Progress::ToRun => false,
         },
         Some(Value::Mark(Mark::Wanted)) => match progress {
-            Progress::Running => false,
             Progress::ToRun => true,
+            Progress::Running | Progress::Failed => false,
         },
         _ => false,
     }
@@ -174,6 +180,16 @@ fn suspects_then(
         &waiting,
         failure,
         Progress::ToRun,
+        &mut found,
+    )?;
+    add_suspects(
+        graph,
+        files,
+        cells,
+        &waited,
+        &waiting,
+        failure,
+        Progress::Failed,
         &mut found,
     )?;
     Ok(found)
@@ -346,8 +362,8 @@ fn found_suspects(
 }
 
 /// The suspects of the first failed runs, at most `most` runs, by kept events. The runs stand in the order in which
-/// they failed. For each run, the edges whose commands ran when it began come first, and then the edges that were still
-/// to run; both stand in rising order.
+/// they failed. For each run, the edges whose commands ran when it began come first. The edges that were still to run
+/// follow, and the edges whose commands had failed by then come last. Each of these three stands in rising order.
 ///
 /// An edge is a suspect where it has a command and neither of the two waits for the other. What makes one of `files`,
 /// from which the manifest was read, runs before all else and is not a suspect.

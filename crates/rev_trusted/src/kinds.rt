@@ -1,8 +1,13 @@
 //! The words of flags.
+ghost use Rattle.std.specs.Prelude.{◌≡◌, bytes_eq};
+ghost use Rattle.rev_trusted.specs.Trusts.{flag_word};
+
 use rev_observation::FlagKind;
 
 /// The word of a flag, as a line of an observation has it.
-pub fn word_of(kind: FlagKind) -> &'static str {
+pub fn word_of(kind: FlagKind) -> &'static str
+    ensures { result.now ≡ flag_word kind }
+{
     match kind {
         FlagKind::Cut => "cut",
         FlagKind::Late => "late",
@@ -18,6 +23,13 @@ pub fn word_of(kind: FlagKind) -> &'static str {
         FlagKind::Unknown => "unknown",
         FlagKind::Twin => "twin",
     }
+}
+
+/// Whether two flags have one word.
+pub(crate) fn are_alike(one: FlagKind, other: FlagKind) -> bool
+    ensures { result ≡ bytes_eq (flag_word one) (flag_word other) }
+{
+    word_of(one).as_bytes() == word_of(other).as_bytes()
 }
 
 // Each kind of flag.

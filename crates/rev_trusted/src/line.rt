@@ -1,5 +1,8 @@
 //! One line of a file of trusted flags.
-use crate::kinds::kind_of;
+ghost use Rattle.std.specs.Prelude.{◌≡◌, ◌&&◌, IfOk};
+ghost use Rattle.rev_trusted.specs.Trusts.{trusts as trusts_flag, trusts_text as trusts_text_of};
+
+use crate::kinds::{are_alike, kind_of};
 use rev_fields::parts_at;
 use rev_filters::{Filters, is_hidden, matches};
 use rev_observation::{Flag, FlagKind};
@@ -77,6 +80,13 @@ pub(crate) fn is_remark(line: &[u8]) -> bool {
     }
 }
 
+// Whether three tests passed.
+fn all_of(one: bool, two: bool, three: bool) -> bool
+    ensures { result ≡ (one && (two && three)) }
+{
+    one && (two && three)
+}
+
 impl Line {
     /// What the line of a number trusts; none where it may not stand in a file of trusted flags.
     ///
@@ -107,18 +117,27 @@ impl Line {
         }))
     }
 
+    // Whether it trusts the text of a flag.
+    fn trusts_text(&self, alloc: Global, text: &[u8]) -> Result<bool, AllocError>
+        ensures { IfOk result (λ found. found ≡ trusts_text_of self.now text.now) }
+    {
+        if self.is_any {
+            return Ok(true);
+        }
+        is_hidden(alloc, &self.texts, text)
+    }
+
     /// Whether it trusts a flag: one of its kind, by a program and with a text that its patterns match.
     ///
     /// # Errors
     /// [`AllocError`] only where an allocation was refused.
-    pub(crate) fn trusts(&self, alloc: Global, flag: &Flag) -> Result<bool, AllocError> {
-        if flag.kind != self.kind || !matches(alloc, &self.program, flag.program.as_bytes())? {
-            return Ok(false);
-        }
-        if self.is_any {
-            return Ok(true);
-        }
-        is_hidden(alloc, &self.texts, flag.text.as_bytes())
+    pub(crate) fn trusts(&self, alloc: Global, flag: &Flag) -> Result<bool, AllocError>
+        ensures { IfOk result (λ found. found ≡ trusts_flag flag.now self.now) }
+    {
+        let is_of_kind = are_alike(flag.kind, self.kind);
+        let is_by_program = matches(alloc, &self.program, flag.program.as_bytes())?;
+        let has_text = self.trusts_text(alloc, flag.text.as_bytes())?;
+        Ok(all_of(is_of_kind, is_by_program, has_text))
     }
 
     /// Its number in the file, from 1.

@@ -1,4 +1,7 @@
 //! A file of trusted flags.
+ghost use Rattle.std.specs.Prelude.{◌≡◌, [], IfOk};
+ghost use Rattle.rev_trusted.specs.Trusts.{line_of as line_of_flag};
+
 use crate::faults::{Fault, FaultKind, ReadFault};
 use crate::line::{Line, is_remark};
 use rev_fields::parts_at;
@@ -44,7 +47,9 @@ fn lines_of(alloc: Global, texts: &[&[u8]]) -> Result<Vec<Line>, ReadFault> {
 
 impl Trust {
     /// No flag is trusted.
-    pub fn nothing(alloc: Global) -> Trust {
+    pub fn nothing(alloc: Global) -> Trust
+        ensures { result.lines.items ≡ [] }
+    {
         Trust {
             lines: Vec::new(alloc),
         }
@@ -75,7 +80,9 @@ impl Trust {
     }
 
     /// The lines that trust, in their order.
-    pub fn lines(&self) -> &[Line] {
+    pub fn lines(&self) -> &[Line]
+        ensures { result.now ≡ self.now.lines.items }
+    {
         self.lines.as_slice()
     }
 
@@ -84,7 +91,9 @@ impl Trust {
     ///
     /// # Errors
     /// [`AllocError`] only where an allocation was refused.
-    pub fn line_of(&self, alloc: Global, flag: &Flag) -> Result<Option<usize>, AllocError> {
+    pub fn line_of(&self, alloc: Global, flag: &Flag) -> Result<Option<usize>, AllocError>
+        ensures { IfOk result (λ place. place ≡ line_of_flag self.now.lines.items flag.now) }
+    {
         for (place, line) in self.lines.iter().enumerate() {
             if line.trusts(alloc, flag)? {
                 return Ok(Some(place));

@@ -1,4 +1,6 @@
 //! Answers.
+ghost use Rattle.std.specs.Prelude.{◌≡◌, ◌==◌, ◌&&◌, IfOk, if◌then◌else◌};
+
 use crate::forms::baseline_text;
 use crate::leaving::Choice;
 use rev_formats::Item;
@@ -18,7 +20,10 @@ pub struct Written {
 
 impl Written {
     /// A text without a baseline.
-    pub fn new(text: Vec<u8>, status: u8) -> Written {
+    pub fn new(text: Vec<u8>, status: u8) -> Written
+        ensures text { result.text ≡ text }
+        ensures status { result.status ≡ status }
+    {
         Written {
             text,
             status,
@@ -54,7 +59,11 @@ pub fn written_with(
     items: &[Item<'_>],
     text: Vec<u8>,
     status: u8,
-) -> Result<Written, AllocError> {
+) -> Result<Written, AllocError>
+    ensures text { IfOk result (λ written. written.text ≡ text) }
+    ensures status { IfOk result (λ written. written.status
+        ≡ (if choice.entry.writes && status == 4 then 0 else status)) }
+{
     if !choice.writes {
         return Ok(Written::new(text, status));
     }

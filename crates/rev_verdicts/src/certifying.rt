@@ -1,25 +1,28 @@
 //! Whether no order of a recorded build's commands gives any of them other inputs.
-ghost use Rattle.std.specs.Prelude.{◌<◌, IsTrue, length};
-ghost use Rattle.std.specs.List.{AllByRecursion};
+ghost use Rattle.std.specs.Prelude.{◌≡◌, ◌<◌, IfNone, IfOk, IfSome, IsTrue, Some, None, false, is_some, length, nat_lt};
+ghost use Rattle.std.specs.List.{AllByRecursion, list_all};
+ghost use Rattle.std.specs.Option.{option_copied};
+ghost use Rattle.rev_certainty.specs.Certain.{is_certain};
+ghost use Rattle.rev_verdicts.specs.Asked.{IsJudged, IsJudgedAt, IsSeen, SaysExactly, beside, beside_by, has_baseline as has_baseline_in, placed, places_of};
 
 use crate::answering::{Written, written_with};
 use crate::forms::Form;
-use crate::judging::{Judged, judge, unnamed};
+use crate::judging::unnamed;
 use crate::leaving::{Choice, Leaving, Left};
-use crate::needing::{idle_edges, last_targets, needed_edges};
 use crate::outdated::Outdated;
 use crate::stating::Verdict;
-use rev_certificate::{Certificate, Marks, certify};
+use rev_certainty::{
+    Beside, Judged, Known, certificate_of, idle_edges, judge, known_of, last_targets, unhidden,
+};
+use rev_certificate::{Certificate, Obstacle};
 use rev_certificate_words::Named;
-use rev_conflicts::early_edges;
 use rev_conflicts_text::{Finding, Stale};
 use rev_desk::Desk;
-use rev_findings::{Basis, hidden_places, report_of, seen_findings, whole_marks};
-use rev_folder::filters_in;
+use rev_filters::Filters;
+use rev_findings::{Basis, Sight, hidden_places, report_of, seen_findings, whole_marks};
 use rev_history::History;
 use rev_observation::Observation;
-use rev_races::{finished_edges, started_edges};
-use rev_races_text::{LeftOut, Report, Sources};
+use rev_races_text::{LeftOut, RaceFinding, Report, Sources};
 use rev_recording::{ObservedFault, RecordingFault};
 use rev_trusted::{Fault, ReadFault, Trust};
 use std::alloc::{AllocError, Global};
@@ -31,31 +34,35 @@ pub struct Wish<'a> {
     pub form: Form,
     /// Whether each assumption but two stands in the way.
     pub is_strict: bool,
-    /// The text of the file of trusted flags, where the user names one.
-    pub trust: Option<&'a [u8]>,
-    /// What is left out.
+    /// What the user trusts.
+    pub trust: &'a Trust,
+    /// The filters by which entries and races are left out.
+    pub filters: &'a [Filters],
+    /// What else is left out.
     pub choice: Choice<'a>,
 }
 
-// What is known of each edge, as marks.
+/// What `races` finds in a recording.
 #[derive(Drop)]
-struct Known {
-    needed: Vec<bool>,
-    began: Vec<bool>,
-    ended: Vec<bool>,
-    idle: Vec<bool>,
-    early: Vec<bool>,
-    hidden: Vec<bool>,
+pub struct Found<'a> {
+    /// What an observation shows by which an order can give a command of this build other inputs.
+    pub findings: Vec<Finding<'a>>,
+    /// How many findings make a next build alone other than a build from nothing.
+    pub stale: Stale,
+    /// How many commands were observed whole.
+    pub whole: u64,
+    /// The races by lists and by errors, the clashes of depfiles and response files, and how much of the recording
+    /// counts.
+    pub report: Report<'a>,
 }
 
-// What a recording shows beside its certificate.
+/// A certificate, and what is written of it.
 #[derive(Drop)]
-struct Shown<'a> {
-    findings: Vec<Finding<'a>>,
-    stale: Stale,
-    // How many commands were observed whole.
-    whole: u64,
-    report: Report<'a>,
+pub struct CertificateAnswer {
+    /// The certificate. It is none where the recording has no observation of version 2.
+    pub certificate: Option<Certificate>,
+    /// What is written.
+    pub written: Written,
 }
 
 // How many marks there are.
@@ -65,13 +72,18 @@ fn count_of(marks: &[bool]) -> u64 {
 
 // Whether each number is below a bound.
 fn all_below(numbers: &[u32], bound: u32) -> bool
-    ensures { IsTrue result → AllByRecursion (λ n. n < bound) numbers.now }
+    ensures exact { result ≡ list_all (λ n. nat_lt n bound) numbers.now }
+    ensures below { IsTrue result → AllByRecursion (λ n. n < bound) numbers.now }
 {
     numbers.iter().all(|number| *number < bound)
 }
 
-// What the user trusts.
-fn trust_in(alloc: Global, text: Option<&[u8]>) -> Result<Trust, RecordingFault> {
+/// What the text of a file of trusted flags trusts; nothing where the user names no file.
+///
+/// # Errors
+/// [`RecordingFault::Observed`] with the first fault of the text; [`RecordingFault::Memory`] only where an allocation
+/// was refused.
+pub fn trust_in(alloc: Global, text: Option<&[u8]>) -> Result<Trust, RecordingFault> {
     let Some(text) = text else {
         return Ok(Trust::nothing(alloc));
     };
@@ -112,12 +124,19 @@ fn of_this_build<'a>(
     Ok(left)
 }
 
-// What `races` finds in a recording.
-fn shown_of<'a>(alloc: Global, desk: &'a Desk, basis: &Basis<'a>) -> Result<Shown<'a>, AllocError> {
+/// What `races` finds in a recording that was replayed.
+///
+/// # Errors
+/// [`AllocError`] only where an allocation was refused.
+pub fn found_in<'a>(
+    alloc: Global,
+    desk: &'a Desk,
+    basis: &Basis<'a>,
+) -> Result<Found<'a>, AllocError> {
     let report = report_of(alloc, desk, basis)?;
     let (builds, sight) = (basis.sources.builds, basis.sight);
     let findings = seen_findings(alloc, desk.history(), builds, sight, &report.races)?;
-    Ok(Shown {
+    Ok(Found {
         findings: of_this_build(alloc, &findings)?,
         stale: stale_of(&findings),
         whole: count_of(whole_marks(sight)),
@@ -125,51 +144,24 @@ fn shown_of<'a>(alloc: Global, desk: &'a Desk, basis: &Basis<'a>) -> Result<Show
     })
 }
 
-// What is known of each edge, and which entries filters hide.
-fn known_of(
-    alloc: Global,
-    history: &History,
-    basis: &Basis<'_>,
-    places: &Observation,
-    choice: Choice<'_>,
-) -> Result<Known, RecordingFault> {
-    let filters = filters_in(alloc, choice.filters)?;
-    Ok(Known {
-        needed: needed_edges(alloc, history)?,
-        began: started_edges(alloc, history)?,
-        ended: finished_edges(alloc, history)?,
-        idle: idle_edges(alloc, history)?,
-        early: early_edges(alloc, history.graph(), basis.files)?,
-        hidden: rev_filters::hidden(alloc, &filters, places.entries().paths())?,
-    })
+// What is known of a recording beside its certificate, where these races are left of those by lists and errors.
+fn beside_of(found: &Found<'_>, races: &[RaceFinding<'_>]) -> Beside
+    ensures { result ≡ beside_by found.now races.now }
+{
+    Beside {
+        replayed: found.report.replayed,
+        commands: found.report.ran,
+        findings: found.findings.len(),
+        races: races.len(),
+        side_files: found.report.clashes.len(),
+    }
 }
 
-// The certificate of commands that were seen.
-fn certificate_of(
-    alloc: Global,
-    history: &History,
-    basis: &Basis<'_>,
-    places: &Observation,
-    edges: &[u32],
-    known: &Known,
-) -> Result<Certificate, AllocError>
-    requires { AllByRecursion (λ edge. edge < length history.now.timeline.manifest.builds) edges.now }
+// Whether a baseline is read or written.
+fn has_baseline(choice: Choice<'_>) -> bool
+    ensures { result ≡ has_baseline_in choice.entry }
 {
-    let marks = Marks {
-        needed: &known.needed,
-        began: &known.began,
-        ended: &known.ended,
-    };
-    certify(
-        alloc,
-        history.graph(),
-        basis.sources.builds,
-        places,
-        edges,
-        &known.early,
-        &known.hidden,
-        marks,
-    )
+    choice.writes || choice.baseline.is_some()
 }
 
 // What is written of a certificate, and the status.
@@ -177,131 +169,122 @@ fn verdict_written(
     alloc: Global,
     wish: Wish<'_>,
     verdict: &Verdict<'_>,
-) -> Result<Written, AllocError> {
+) -> Result<Written, AllocError>
+    ensures { IfOk result (λ written. SaysExactly (is_some verdict.now.certainty) wish.entry.form
+        (has_baseline_in wish.entry.choice) written) }
+{
     let items = if wish.form.is_of_items() || wish.choice.writes {
         verdict.items(alloc)?
     } else {
         Vec::new(alloc)
     };
     let text = verdict.text(alloc, wish.form, &items)?;
-    written_with(alloc, wish.choice, &items, text, verdict.status())
+    let by_baseline = has_baseline(wish.choice);
+    let code = verdict.status(by_baseline);
+    let written = written_with(alloc, wish.choice, &items, text, code)?;
+    Ok(written)
 }
 
 // What a certificate says, where each thing that it refers to lives as long.
 fn verdict_of<'a>(
-    wish: Wish<'_>,
+    wish: Wish<'a>,
     named: Named<'a>,
     certificate: &'a Certificate,
-    shown: &'a Shown<'a>,
-    trust: &'a Trust,
+    found: &'a Found<'a>,
     judged: &'a Judged,
+    obstacles: &'a [Obstacle],
     left: &'a Left<'a>,
     left_out: LeftOut,
-) -> Verdict<'a> {
+) -> Verdict<'a>
+    ensures { result.certainty ≡ judged.now.certainty }
+{
     Verdict {
+        certainty: judged.certainty,
         named,
-        obstacles: &judged.obstacles,
+        obstacles,
         assumptions: &certificate.assumptions,
         trusted: &judged.trusted,
-        lines: trust.lines(),
+        lines: wish.trust.lines(),
         findings: &left.findings,
         races: &left.races,
         clashes: &left.clashes,
-        replayed: shown.report.replayed,
-        commands: shown.report.ran,
-        whole: shown.whole,
+        replayed: found.report.replayed,
+        commands: found.report.ran,
+        whole: found.whole,
         left_out,
-        stale: shown.stale,
+        stale: found.stale,
         is_strict: wish.is_strict,
         is_all: matches!(wish.form, Form::AllWords),
     }
 }
 
-// What is written of a certificate that was judged.
+// What is written of a certificate that was judged, by what is left.
 fn left_written(
     alloc: Global,
     wish: Wish<'_>,
     named: Named<'_>,
     certificate: &Certificate,
-    shown: &Shown<'_>,
-    trust: &Trust,
+    found: &Found<'_>,
     judged: &Judged,
+    obstacles: &[Obstacle],
     left: &Left<'_>,
     left_out: LeftOut,
-) -> Result<Written, AllocError> {
+) -> Result<Written, AllocError>
+    ensures { IfOk result (λ written. SaysExactly (is_some judged.now.certainty) wish.entry.form
+        (has_baseline_in wish.entry.choice) written) }
+{
     let verdict = verdict_of(
         wish,
         named,
         certificate,
-        shown,
-        trust,
+        found,
         judged,
+        obstacles,
         left,
         left_out,
     );
-    verdict_written(alloc, wish, &verdict)
+    let written = verdict_written(alloc, wish, &verdict)?;
+    Ok(written)
 }
 
-// What is written of a certificate, by a file of trusted flags and what leaves findings out.
+// What is written of a certificate that was judged, by what leaves findings out. A conflict that a finding or one of
+// these races names is printed once.
 fn judged_written(
     alloc: Global,
     wish: Wish<'_>,
     named: Named<'_>,
     certificate: &Certificate,
-    shown: &Shown<'_>,
-    trust: &Trust,
-    leaving: &mut Leaving,
+    found: &Found<'_>,
+    races: &[RaceFinding<'_>],
+    judged: &Judged,
     hidden: u64,
-) -> Result<Written, AllocError> {
-    let (findings, races) = (shown.findings.as_slice(), shown.report.races.as_slice());
-    let judged = judge(alloc, &named, trust, &certificate.obstacles)?;
-    let obstacles = unnamed(alloc, &named, &judged.obstacles, findings, races)?;
+) -> Result<Written, RecordingFault>
+    ensures { IfOk result (λ written. SaysExactly (is_some judged.now.certainty) wish.entry.form
+        (has_baseline_in wish.entry.choice) written) }
+{
+    let obstacles = unnamed(alloc, &named, &judged.obstacles, &found.findings, races)?;
+    let mut leaving = Leaving::new(alloc, wish.choice)?;
     let left = leaving.left_of(
         alloc,
         &named.sources,
-        findings,
-        races,
-        &shown.report.clashes,
+        &found.findings,
+        &found.report.races,
+        &found.report.clashes,
     )?;
-    let judged = Judged {
-        obstacles: leaving.obstacles(alloc, &named, obstacles)?,
-        trusted: judged.trusted,
-    };
+    let obstacles = leaving.obstacles(alloc, &named, obstacles)?;
     let left_out = leaving.left_out(hidden);
-    left_written(
+    let written = left_written(
         alloc,
         wish,
         named,
         certificate,
-        shown,
-        trust,
-        &judged,
+        found,
+        judged,
+        &obstacles,
         &left,
         left_out,
-    )
-}
-
-// What is written of a certificate, by the texts of a wish.
-fn named_written(
-    alloc: Global,
-    wish: Wish<'_>,
-    named: Named<'_>,
-    certificate: &Certificate,
-    shown: &Shown<'_>,
-    hidden: u64,
-) -> Result<Written, RecordingFault> {
-    let trust = trust_in(alloc, wish.trust)?;
-    let mut leaving = Leaving::new(alloc, wish.choice)?;
-    Ok(judged_written(
-        alloc,
-        wish,
-        named,
-        certificate,
-        shown,
-        &trust,
-        &mut leaving,
-        hidden,
-    )?)
+    )?;
+    Ok(written)
 }
 
 // By what a certificate is named, where each thing that it refers to lives as long.
@@ -311,6 +294,7 @@ fn named_of<'a>(
     places: &'a Observation,
     certificate: &'a Certificate,
     known: &'a Known,
+    idle: &'a [bool],
 ) -> Named<'a> {
     Named {
         sources,
@@ -318,57 +302,89 @@ fn named_of<'a>(
         scene: &certificate.scene,
         targets: last_targets(history),
         began: &known.began,
-        up_to_date: &known.idle,
+        up_to_date: idle,
     }
 }
 
-// What is written of a certificate and of what is known of each edge.
+// What is written of a certificate, and of what is known of each edge.
 fn known_written(
     alloc: Global,
     history: &History,
     basis: &Basis<'_>,
+    found: &Found<'_>,
     wish: Wish<'_>,
     places: &Observation,
     certificate: &Certificate,
     known: &Known,
-    shown: &Shown<'_>,
-) -> Result<Written, RecordingFault> {
-    let named = named_of(history, basis.sources, places, certificate, known);
+) -> Result<Written, RecordingFault>
+    ensures { IfOk result (λ written. SaysExactly
+        (is_certain (beside found.now wish.entry.filters.now) wish.entry.is_strict places.now
+        wish.entry.trust.now.lines.items certificate.now)
+        wish.entry.form (has_baseline_in wish.entry.choice) written) }
+{
+    let races = unhidden(alloc, wish.filters, &found.report.races)?;
+    let beside = beside_of(found, &races);
+    let judged = judge(
+        alloc,
+        places,
+        wish.trust,
+        certificate,
+        &beside,
+        wish.is_strict,
+    )?;
+    let idle = idle_edges(alloc, history)?;
+    let named = named_of(history, basis.sources, places, certificate, known, &idle);
     let hidden = hidden_places(basis.sight);
-    named_written(alloc, wish, named, certificate, shown, hidden)
+    let written = judged_written(
+        alloc,
+        wish,
+        named,
+        certificate,
+        found,
+        &races,
+        &judged,
+        hidden,
+    )?;
+    Ok(written)
 }
 
-// What is written where commands were seen place by place.
-fn places_written(
+// A certificate by an observation of version 2, and what is written of it.
+fn certified_at(
     alloc: Global,
     history: &History,
     basis: &Basis<'_>,
+    found: &Found<'_>,
     wish: Wish<'_>,
     places: &Observation,
     edges: &[u32],
-    shown: &Shown<'_>,
-) -> Result<Written, RecordingFault>
+) -> Result<CertificateAnswer, RecordingFault>
     requires { AllByRecursion (λ edge. edge < length history.now.timeline.manifest.builds) edges.now }
+    ensures { IfOk result (λ certified. IsJudgedAt history.now.timeline basis.now found.now wish.entry places.now
+        edges.now certified) }
 {
-    let known = known_of(alloc, history, basis, places, wish.choice)?;
-    let certificate = certificate_of(alloc, history, basis, places, edges, &known)?;
-    known_written(
+    let known = known_of(alloc, history, basis.files, places, wish.filters)?;
+    let certificate = certificate_of(alloc, history, basis.sources.builds, places, edges, &known)?;
+    let written = known_written(
         alloc,
         history,
         basis,
+        found,
         wish,
         places,
         &certificate,
         &known,
-        shown,
-    )
+    )?;
+    Ok(CertificateAnswer {
+        certificate: Some(certificate),
+        written,
+    })
 }
 
 // What is said of a recording of version 1, where each thing that it refers to lives as long.
 fn outdated_of<'a>(
     wish: Wish<'_>,
     sources: Sources<'a>,
-    shown: &Shown<'_>,
+    found: &Found<'_>,
     left: &'a Left<'a>,
     left_out: LeftOut,
 ) -> Outdated<'a> {
@@ -377,11 +393,11 @@ fn outdated_of<'a>(
         findings: &left.findings,
         races: &left.races,
         clashes: &left.clashes,
-        replayed: shown.report.replayed,
-        commands: shown.report.ran,
-        whole: shown.whole,
+        replayed: found.report.replayed,
+        commands: found.report.ran,
+        whole: found.whole,
         left_out,
-        stale: shown.stale,
+        stale: found.stale,
         is_strict: wish.is_strict,
     }
 }
@@ -391,65 +407,103 @@ fn old_written(
     alloc: Global,
     wish: Wish<'_>,
     sources: Sources<'_>,
-    shown: &Shown<'_>,
+    found: &Found<'_>,
     left: &Left<'_>,
     left_out: LeftOut,
-) -> Result<Written, AllocError> {
-    outdated_of(wish, sources, shown, left, left_out).written(alloc, wish)
+) -> Result<Written, AllocError>
+    ensures { IfOk result (λ written. SaysExactly false wish.entry.form (has_baseline_in wish.entry.choice) written) }
+{
+    let outdated = outdated_of(wish, sources, found, left, left_out);
+    let written = outdated.written(alloc, wish)?;
+    Ok(written)
 }
 
 // What is written where the recording has no observation of version 2.
 fn outdated_written(
     alloc: Global,
     basis: &Basis<'_>,
+    found: &Found<'_>,
     wish: Wish<'_>,
-    shown: &Shown<'_>,
-) -> Result<Written, RecordingFault> {
+) -> Result<Written, RecordingFault>
+    ensures { IfOk result (λ written. SaysExactly false wish.entry.form (has_baseline_in wish.entry.choice) written) }
+{
     let mut leaving = Leaving::new(alloc, wish.choice)?;
-    let (findings, races) = (shown.findings.as_slice(), shown.report.races.as_slice());
     let left = leaving.left_of(
         alloc,
         &basis.sources,
-        findings,
-        races,
-        &shown.report.clashes,
+        &found.findings,
+        &found.report.races,
+        &found.report.clashes,
     )?;
     let left_out = leaving.left_out(hidden_places(basis.sight));
-    Ok(old_written(alloc, wish, basis.sources, shown, &left, left_out)?)
+    let written = old_written(alloc, wish, basis.sources, found, &left, left_out)?;
+    Ok(written)
 }
 
-// What is written by what `races` finds.
-fn written_of(
-    alloc: Global,
-    history: &History,
-    basis: &Basis<'_>,
-    wish: Wish<'_>,
-    shown: &Shown<'_>,
-) -> Result<Written, RecordingFault> {
-    if let Some(sight) = basis.sight {
-        if let Some(places) = &sight.observed.places {
-            let edges = sight.observed.edges.as_slice();
-            let are_edges = all_below(edges, history.graph().edges());
-            if are_edges {
-                return places_written(alloc, history, basis, wish, places, edges, shown);
-            }
-        }
+// What the commands of a recording were seen to do, place by place, and their edges.
+#[derive(Clone, Copy)]
+pub(crate) struct Seen<'a> {
+    pub(crate) places: &'a Observation,
+    pub(crate) edges: &'a [u32],
+}
+
+// What is seen by an observation of version 2 whose commands are of edges, of which there are so many.
+fn seen_by<'a>(sight: &'a Sight, count: u32) -> Option<Seen<'a>>
+    ensures none { IfNone result (placed count sight.now ≡ None) }
+    ensures some { IfSome result (λ seen. IsSeen count (Some sight.now) seen) }
+{
+    let edges = sight.observed.edges.as_slice();
+    if !all_below(edges, count) {
+        return None;
     }
-    outdated_written(alloc, basis, wish, shown)
+    match &sight.observed.places {
+        Some(places) => Some(Seen { places, edges }),
+        None => None,
+    }
 }
 
-/// Whether no order of the commands of a recording gives any of them other inputs, as it is written. Where the recording
-/// has an observation of version 1, it is not certain.
+// The same of a recording that may have no observation.
+fn seen_in<'a>(sight: Option<&'a Sight>, count: u32) -> Option<Seen<'a>>
+    ensures none { IfNone result (places_of count (option_copied sight.entry) ≡ None) }
+    ensures some { IfSome result (λ seen. IsSeen count (option_copied sight.entry) seen) }
+{
+    match sight {
+        Some(sight) => seen_by(sight, count),
+        None => None,
+    }
+}
+
+/// Whether no order of the commands of a recording gives any of them other inputs, as it is written. `found` has what
+/// [`found_in`] finds in the recording. Without an observation of version 2 it is not certain.
+///
+/// What is written says `certain` exactly where nothing stands in the way. The certificate has no obstacle but flags that
+/// the user trusts. `found` has no finding and no clash, no error names a race of it, and filters hide each race of it.
+/// The recording counts whole, and a command ran. With `is_strict` no flag is trusted, and the certificate has no
+/// assumption but two. A baseline changes nothing of that.
 ///
 /// # Errors
 /// [`RecordingFault::Observed`] with the first fault of the texts of a wish; [`RecordingFault::Memory`] where an
 /// allocation was refused, or where there are more entries, commands or flags than a number of 32 bits counts.
 pub fn certified(
     alloc: Global,
-    desk: &Desk,
+    history: &History,
     basis: &Basis<'_>,
+    found: &Found<'_>,
     wish: Wish<'_>,
-) -> Result<Written, RecordingFault> {
-    let shown = shown_of(alloc, desk, basis)?;
-    written_of(alloc, desk.history(), basis, wish, &shown)
+) -> Result<CertificateAnswer, RecordingFault>
+    ensures { IfOk result (λ certified. IsJudged history.now.timeline basis.now found.now wish.entry certified) }
+{
+    match seen_in(basis.sight, history.graph().edges()) {
+        Some(seen) => {
+            let answer = certified_at(alloc, history, basis, found, wish, seen.places, seen.edges)?;
+            Ok(answer)
+        }
+        None => {
+            let written = outdated_written(alloc, basis, found, wish)?;
+            Ok(CertificateAnswer {
+                certificate: None,
+                written,
+            })
+        }
+    }
 }

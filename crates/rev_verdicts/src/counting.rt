@@ -2,7 +2,7 @@
 use rev_certificate::Obstacle;
 use rev_certificate_words::Named;
 use rev_races_text::Counted;
-use std::alloc::AllocError;
+use std::alloc::{AllocError, Global};
 
 /// How many things of each sort stand in the way.
 #[derive(Clone, Copy)]
@@ -11,6 +11,8 @@ pub(crate) struct Counts {
     pub(crate) conflicts: u64,
     /// Races, cycles and own outputs by lists.
     pub(crate) listed: u64,
+    /// Races by the errors of failed commands.
+    pub(crate) named: u64,
     /// Depfiles and response files of two commands.
     pub(crate) side_files: u64,
     /// Whether the observation was cut or changed, as a number.
@@ -68,16 +70,21 @@ fn push_count(
         return Ok(is_first);
     }
     let counted = Counted { count, one, many };
-    text.push_str(if is_first { "not certain: " } else { ", " })?;
+    text.push_str(if is_first { "" } else { ", " })?;
     write!(text, "{counted}")?;
     Ok(false)
 }
 
 // The words for one thing of each sort and for several, with their counts.
-fn sorts_of(counts: &Counts) -> [(u64, &'static str, &'static str); 7] {
+fn sorts_of(counts: &Counts) -> [(u64, &'static str, &'static str); 8] {
     [
         (counts.conflicts, "conflict", "conflicts"),
         (counts.listed, "race by a list", "races by lists"),
+        (
+            counts.named,
+            "race by the error of a failed command",
+            "races by the errors of failed commands",
+        ),
         (
             counts.side_files,
             "depfile or response file of two commands",
@@ -106,19 +113,18 @@ fn sorts_of(counts: &Counts) -> [(u64, &'static str, &'static str); 7] {
     ]
 }
 
-/// Adds what stands in the way, counted.
+/// What stands in the way, counted.
 ///
 /// # Errors
 /// [`AllocError`] only where an allocation was refused.
-pub(crate) fn push_counts(text: &mut String, counts: &Counts) -> Result<(), AllocError> {
+pub(crate) fn counts_words(alloc: Global, counts: &Counts) -> Result<String, AllocError> {
+    let mut text = String::new(alloc);
     let mut is_first = true;
     for (count, one, many) in sorts_of(counts) {
-        is_first = push_count(text, is_first, count, one, many)?;
+        is_first = push_count(&mut text, is_first, count, one, many)?;
     }
     if is_first {
-        return text.push_str(
-            "not certain: the recording does not count whole, or no command ran\n",
-        );
+        text.push_str("the recording does not count whole, or no command ran")?;
     }
-    text.push_str("\n")
+    Ok(text)
 }

@@ -1,78 +1,10 @@
-//! What stands in the way of a certificate, and what a user trusts.
-use rev_certificate::{Assumption, Obstacle};
+//! Which conflicts no finding and no race names.
+use rev_certificate::Obstacle;
 use rev_certificate_words::Named;
 use rev_conflicts_text::Finding;
 use rev_paths::Name;
 use rev_races_text::RaceFinding;
-use rev_trusted::Trust;
 use std::alloc::{AllocError, Global};
-
-/// A flag that a line of the user's file trusts.
-#[derive(Clone, Copy)]
-pub(crate) struct Trusted {
-    /// The number of the command among the observation's.
-    pub(crate) command: u32,
-    /// The number of the flag among the command's.
-    pub(crate) flag: u32,
-    /// The place of the line among those of the file.
-    pub(crate) line: usize,
-}
-
-/// What stands in the way, and the flags that do not since the user trusts them.
-#[derive(Drop)]
-pub(crate) struct Judged {
-    /// What stands in the way.
-    pub(crate) obstacles: Vec<Obstacle>,
-    /// What the user trusts.
-    pub(crate) trusted: Vec<Trusted>,
-}
-
-// The line that trusts an obstacle, where it is a flag.
-fn trust_of(
-    alloc: Global,
-    named: &Named<'_>,
-    trust: &Trust,
-    obstacle: &Obstacle,
-) -> Result<Option<Trusted>, AllocError> {
-    let Obstacle::Flagged { command, flag } = *obstacle else {
-        return Ok(None);
-    };
-    let Some(cause) = named.flag(command, flag) else {
-        return Ok(None);
-    };
-    match trust.line_of(alloc, cause)? {
-        Some(line) => Ok(Some(Trusted {
-            command,
-            flag,
-            line,
-        })),
-        None => Ok(None),
-    }
-}
-
-/// Of some obstacles those that the user does not trust, and the flags that the user does.
-///
-/// # Errors
-/// [`AllocError`] only where an allocation was refused.
-pub(crate) fn judge(
-    alloc: Global,
-    named: &Named<'_>,
-    trust: &Trust,
-    obstacles: &[Obstacle],
-) -> Result<Judged, AllocError> {
-    let mut left = Vec::new(alloc);
-    let mut trusted = Vec::new(alloc);
-    for obstacle in obstacles {
-        match trust_of(alloc, named, trust, obstacle)? {
-            Some(flag) => trusted.push(flag)?,
-            None => left.push(*obstacle)?,
-        }
-    }
-    Ok(Judged {
-        obstacles: left,
-        trusted,
-    })
-}
 
 // Two edges and an entry, the lesser edge first.
 #[derive(Clone, Copy, PartialEq, Eq, PartialOrd, Ord)]
@@ -167,9 +99,4 @@ pub(crate) fn unnamed(
         }
     }
     Ok(left)
-}
-
-/// Whether a strict certificate refuses an assumption: all but two.
-pub(crate) fn is_refused(assumption: &Assumption) -> bool {
-    !matches!(assumption, Assumption::Targets | Assumption::SeesTheSame)
 }

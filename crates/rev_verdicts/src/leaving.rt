@@ -1,13 +1,14 @@
 //! Which findings filters and a baseline leave out of an answer.
 use indexmap::IndexSet;
 use rev_baseline::{Baseline, Fault, ReadFault};
+use rev_certainty::is_named;
 use rev_certificate::Obstacle;
 use rev_certificate_words::{Named, conflict_kind};
 use rev_conflicts_text::Finding;
 use rev_entry_conflicts::{Conflict, Kind};
 use rev_filters::{Filters, is_hidden};
 use rev_folder::{FilterTexts, filters_in};
-use rev_races_text::{Clash, Evidence, Id, LeftOut, RaceFinding, Sources};
+use rev_races_text::{Clash, Id, LeftOut, RaceFinding, Sources};
 use rev_recording::{ObservedFault, RecordingFault};
 use std::alloc::{AllocError, Global};
 
@@ -83,11 +84,6 @@ fn baseline_of(alloc: Global, text: &[u8], writes: bool) -> Result<Baseline, Rec
             }))
         }
     }
-}
-
-// Whether the error of a failed command names a race.
-fn is_named(race: &RaceFinding<'_>) -> bool {
-    matches!(race.evidence, Evidence::Error(_))
 }
 
 // Adds the races of which no filter hides the path, and those that the error of a failed command names. Notes the paths

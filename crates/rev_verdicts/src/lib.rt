@@ -7,14 +7,13 @@ mod counting;
 mod forms;
 mod judging;
 mod leaving;
-mod needing;
 mod objects;
 mod outdated;
 mod reported;
 mod stating;
 
 pub use answering::{Answer, Written};
-pub use certifying::{Wish, certified};
+pub use certifying::{CertificateAnswer, Found, Wish, certified, found_in, trust_in};
 pub use forms::Form;
 pub use leaving::{Choice, Leaving};
 pub use reported::written_report;

@@ -1,17 +1,22 @@
 //! What is said of a recording whose observation is of version 1.
+ghost use Rattle.std.specs.Prelude.{◌≡◌, IfOk, false, string_bytes};
+ghost use Rattle.rev_certainty.specs.Sayings.{SaysFirst, object_says_certain, says_certain};
+ghost use Rattle.rev_verdicts.specs.Asked.{Says, SaysExactly, has_baseline};
+
 use crate::answering::{Written, written_with};
 use crate::certifying::Wish;
 use crate::forms::{Form, items_text, push_clashes, push_findings, push_races};
 use crate::objects::CertificateObject;
 use crate::stating::NOT_CERTAIN;
+use rev_certainty::{certificate_line, first_lines};
 use rev_conflicts_text::{Finding, Stale, findings_json, findings_words};
 use rev_formats::Item;
 use rev_races_text::{Clash, LeftOut, RaceFinding, Replayed, Sources, push_object, race_words};
 use std::alloc::{AllocError, Global};
 
-// What is said first.
+// Why it is not certain.
 const RECORD_AGAIN: &str =
-    "not certain: the recording has version 1 of `observed`, which says too little: record the build again\n";
+    "the recording has version 1 of `observed`, which says too little: record the build again";
 
 /// What is known of a recording whose observation is of version 1.
 #[derive(Clone, Copy)]
@@ -44,11 +49,9 @@ impl<'a> Outdated<'a> {
         (self.findings.len() as u64).saturating_add(1)
     }
 
-    // The answer in words.
-    fn words(&self, alloc: Global) -> Result<Vec<u8>, AllocError> {
-        let mut text = self.summary(alloc)?;
-        let findings = findings_words(alloc, &self.sources, self.findings, true)?;
-        text.push_str(&findings)?;
+    // What is found, in words.
+    fn rest(&self, alloc: Global) -> Result<String, AllocError> {
+        let mut text = findings_words(alloc, &self.sources, self.findings, true)?;
         let mut number = self.first_race();
         for race in self.races {
             text.push_str(&race_words(alloc, &self.sources, race, number)?)?;
@@ -58,22 +61,30 @@ impl<'a> Outdated<'a> {
             write!(text, "{}", self.sources.clash(clash))?;
         }
         write!(text, "{}", self.left_out)?;
+        Ok(text)
+    }
+
+    // The answer in words.
+    fn words(&self, alloc: Global) -> Result<Vec<u8>, AllocError>
+        ensures { IfOk result (λ text. says_certain text.items ≡ false) }
+    {
+        let mut text = self.summary(alloc)?;
+        let rest = self.rest(alloc)?;
+        text.push_str(&rest)?;
         Ok(text.into_bytes())
     }
 
     // What is said first.
-    fn summary(&self, alloc: Global) -> Result<String, AllocError> {
-        let mut text = String::new(alloc);
-        write!(text, "{}", self.replayed)?;
-        text.push_str(RECORD_AGAIN)?;
+    fn summary(&self, alloc: Global) -> Result<String, AllocError>
+        ensures { IfOk result (λ text. SaysFirst says_certain (string_bytes text) false) }
+    {
+        let text = first_lines(alloc, None, RECORD_AGAIN, self.replayed)?;
         Ok(text)
     }
 
-    // The answer as JSON.
-    fn json(&self, alloc: Global) -> Result<Vec<u8>, AllocError> {
-        let mut text = Vec::new(alloc);
-        let object = CertificateObject {
-            certain: false,
+    // The first object, behind whether it is certain.
+    fn object(&self) -> CertificateObject {
+        CertificateObject {
             certain_of_what_ran: false,
             version: 1,
             strict: self.is_strict,
@@ -87,13 +98,28 @@ impl<'a> Outdated<'a> {
             hidden: self.left_out.hidden,
             known: self.left_out.known,
             ignored: self.left_out.ignored,
-        };
-        push_object(alloc, &mut text, "certificate", &object)?;
+        }
+    }
+
+    // The other objects.
+    fn objects(&self, alloc: Global) -> Result<Vec<u8>, AllocError> {
+        let mut text = Vec::new(alloc);
         if !self.replayed.is_whole() {
             push_object(alloc, &mut text, "replayed", &self.replayed)?;
         }
         let findings = findings_json(alloc, &self.sources, self.findings)?;
         text.extend_from_slice(&findings)?;
+        Ok(text)
+    }
+
+    // The answer as JSON.
+    fn json(&self, alloc: Global) -> Result<Vec<u8>, AllocError>
+        ensures { IfOk result (λ text. object_says_certain text.items ≡ false) }
+    {
+        let members = self.object().members(alloc)?;
+        let mut text = certificate_line(alloc, None, &members)?;
+        let rest = self.objects(alloc)?;
+        text.extend_from_slice(&rest)?;
         Ok(text)
     }
 
@@ -113,11 +139,26 @@ impl<'a> Outdated<'a> {
     }
 
     // The answer in a form. A form of items has these.
-    fn text(&self, alloc: Global, form: Form, items: &[Item<'_>]) -> Result<Vec<u8>, AllocError> {
+    fn text(&self, alloc: Global, form: Form, items: &[Item<'_>]) -> Result<Vec<u8>, AllocError>
+        ensures { IfOk result (λ text. Says form text.items false) }
+    {
         match form {
-            Form::Json => self.json(alloc),
-            Form::Items(form) => items_text(alloc, form, items, &self.summary(alloc)?),
-            Form::Words | Form::AllWords => self.words(alloc),
+            Form::Words => {
+                let text = self.words(alloc)?;
+                Ok(text)
+            }
+            Form::AllWords => {
+                let text = self.words(alloc)?;
+                Ok(text)
+            }
+            Form::Json => {
+                let text = self.json(alloc)?;
+                Ok(text)
+            }
+            Form::Items(form) => {
+                let text = items_text(alloc, form, items, &self.summary(alloc)?)?;
+                Ok(text)
+            }
         }
     }
 
@@ -125,13 +166,17 @@ impl<'a> Outdated<'a> {
     ///
     /// # Errors
     /// [`AllocError`] only where an allocation was refused.
-    pub(crate) fn written(&self, alloc: Global, wish: Wish<'_>) -> Result<Written, AllocError> {
+    pub(crate) fn written(&self, alloc: Global, wish: Wish<'_>) -> Result<Written, AllocError>
+        ensures { IfOk result (λ written. SaysExactly false wish.entry.form (has_baseline wish.entry.choice)
+            written) }
+    {
         let items = if wish.form.is_of_items() || wish.choice.writes {
             self.items(alloc)?
         } else {
             Vec::new(alloc)
         };
         let text = self.text(alloc, wish.form, &items)?;
-        written_with(alloc, wish.choice, &items, text, NOT_CERTAIN)
+        let written = written_with(alloc, wish.choice, &items, text, NOT_CERTAIN)?;
+        Ok(written)
     }
 }

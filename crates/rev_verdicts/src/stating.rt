@@ -1,9 +1,13 @@
 //! A certificate in words, as JSON and as items.
-use crate::counting::{Counts, push_counts};
+ghost use Rattle.std.specs.Prelude.{◌≡◌, IfOk, false, is_some, string_bytes, true};
+ghost use Rattle.rev_certainty.specs.Sayings.{SaysFirst, object_says_certain, says_certain};
+ghost use Rattle.rev_verdicts.specs.Asked.{Says};
+
+use crate::counting::{Counts, counts_words};
 use crate::forms::{Form, items_text, push_clashes, push_findings, push_races};
-use crate::judging::{Trusted, is_refused};
 use crate::leaving::obstacle_id;
 use crate::objects::{CertificateObject, TrustedObject};
+use rev_certainty::{Certainty, Trusted, certificate_line, first_lines, is_named, is_refused};
 use rev_certificate::{Assumption, Obstacle};
 use rev_certificate_words::{
     Named, WayObject, assumption_kind, assumption_object, assumption_words, conflict_kind,
@@ -27,6 +31,8 @@ pub(crate) const NOT_CERTAIN: u8 = 4;
 /// What a certificate says.
 #[derive(Clone, Copy)]
 pub(crate) struct Verdict<'a> {
+    /// That nothing stands in the way; none where something does.
+    pub(crate) certainty: Option<Certainty>,
     /// By what obstacles and assumptions are named.
     pub(crate) named: Named<'a>,
     /// What stands in the way beside findings and races.
@@ -103,9 +109,12 @@ fn is_of_none(named: &Named<'_>, obstacle: &Obstacle) -> bool {
     }
 }
 
-// The word of a race by a list, where it stands in the way.
-fn race_word(kind: Kind) -> &'static str {
-    match kind {
+// The word of a race by a list or by the error of a failed command, where it stands in the way.
+fn race_word(race: &RaceFinding<'_>) -> &'static str {
+    if is_named(race) {
+        return "named race";
+    }
+    match race.kind {
         Kind::Race => "listed race",
         Kind::Cycle => "listed cycle",
         Kind::Own => "listed own output",
@@ -146,17 +155,29 @@ impl<'a> Verdict<'a> {
     }
 
     /// Whether it is certain.
-    pub(crate) fn is_certain(&self) -> bool {
-        self.is_certain_beside() && !self.left_out.is_by_baseline()
+    fn is_certain(&self) -> bool
+        ensures { result ≡ is_some self.now.certainty }
+    {
+        self.certainty.is_some()
     }
 
     /// The exit status: 0 where it is certain, and where a baseline knows or ignores all that stands in the way.
-    pub(crate) fn status(&self) -> u8 {
-        if self.is_certain_beside() {
-            0
-        } else {
-            NOT_CERTAIN
+    pub(crate) fn status(&self, has_baseline: bool) -> u8
+        ensures certain { is_some self.now.certainty ≡ true → result ≡ 0 }
+        ensures otherwise { is_some self.now.certainty ≡ false → has_baseline ≡ false → result ≡ 4 }
+    {
+        if self.is_certain() {
+            return 0;
         }
+        if has_baseline && self.is_certain_beside() {
+            return 0;
+        }
+        NOT_CERTAIN
+    }
+
+    // How many of the races an error names.
+    fn named_races(&self) -> u64 {
+        self.races.iter().filter(|race| is_named(race)).count() as u64
     }
 
     // How many of what stands in the way there are.
@@ -166,7 +187,8 @@ impl<'a> Verdict<'a> {
                 .left_out
                 .findings()
                 .saturating_add(self.findings.len() as u64),
-            listed: self.races.len() as u64,
+            listed: (self.races.len() as u64).saturating_sub(self.named_races()),
+            named: self.named_races(),
             side_files: self.clashes.len() as u64,
             incomplete: 0,
             unsure: 0,
@@ -180,23 +202,12 @@ impl<'a> Verdict<'a> {
         counts
     }
 
-    // How much of the recording counts, and what is certain, or how much stands in the way.
-    fn head(&self, alloc: Global) -> Result<String, AllocError> {
-        let mut text = String::new(alloc);
-        write!(text, "{}", self.replayed)?;
-        if self.is_certain() {
-            let commands = Counted {
-                count: self.commands,
-                one: "command",
-                many: "commands",
-            };
-            write!(
-                text,
-                "certain: {commands}; no order that this manifest allows gives any of them other inputs\n"
-            )?;
-            return Ok(text);
-        }
-        push_counts(&mut text, &self.counts())?;
+    // What is certain. Where it is not, how much of the recording counts, and how much stands in the way.
+    fn head(&self, alloc: Global) -> Result<String, AllocError>
+        ensures { IfOk result (λ text. SaysFirst says_certain (string_bytes text) (is_some self.now.certainty)) }
+    {
+        let why = counts_words(alloc, &self.counts())?;
+        let text = first_lines(alloc, self.certainty, &why, self.replayed)?;
         Ok(text)
     }
 
@@ -389,22 +400,32 @@ impl<'a> Verdict<'a> {
         self.push_assumptions(alloc, text)
     }
 
-    /// The answer in words: what is certain, or what stands in the way.
-    ///
-    /// # Errors
-    /// [`AllocError`] only where an allocation was refused.
-    pub(crate) fn words(&self, alloc: Global) -> Result<Vec<u8>, AllocError> {
-        let mut text = self.head(alloc)?;
+    // What is said behind the first lines: what is assumed, or what stands in the way.
+    fn rest(&self, alloc: Global) -> Result<String, AllocError> {
+        let mut text = String::new(alloc);
         if self.is_certain() {
             self.push_assumptions(alloc, &mut text)?;
             self.push_trust(alloc, &mut text)?;
             write!(text, "{}", self.stale)?;
-            return Ok(text.into_bytes());
+            return Ok(text);
         }
         self.push_ways(alloc, &mut text)?;
         self.push_of_what_ran(alloc, &mut text)?;
         self.push_trust(alloc, &mut text)?;
         write!(text, "{}", self.left_out)?;
+        Ok(text)
+    }
+
+    /// The answer in words: what is certain, or what stands in the way.
+    ///
+    /// # Errors
+    /// [`AllocError`] only where an allocation was refused.
+    pub(crate) fn words(&self, alloc: Global) -> Result<Vec<u8>, AllocError>
+        ensures { IfOk result (λ text. says_certain text.items ≡ is_some self.now.certainty) }
+    {
+        let mut text = self.head(alloc)?;
+        let rest = self.rest(alloc)?;
+        text.push_str(&rest)?;
         Ok(text.into_bytes())
     }
 
@@ -422,10 +443,9 @@ impl<'a> Verdict<'a> {
         Ok(text)
     }
 
-    // Adds the first object.
-    fn push_head(&self, alloc: Global, text: &mut Vec<u8>) -> Result<(), AllocError> {
-        let object = CertificateObject {
-            certain: self.is_certain(),
+    // The first object, behind whether it is certain.
+    fn object(&self) -> CertificateObject {
+        CertificateObject {
             certain_of_what_ran: self.is_certain_of_what_ran() && !self.left_out.is_by_baseline(),
             version: 2,
             strict: self.is_strict,
@@ -439,12 +459,7 @@ impl<'a> Verdict<'a> {
             hidden: self.left_out.hidden,
             known: self.left_out.known,
             ignored: self.left_out.ignored,
-        };
-        push_object(alloc, text, "certificate", &object)?;
-        if self.replayed.is_whole() {
-            return Ok(());
         }
-        push_object(alloc, text, "replayed", &self.replayed)
     }
 
     // Adds the objects of what stands in the way.
@@ -455,7 +470,7 @@ impl<'a> Verdict<'a> {
                 user: Some(sources.edge(race.user)),
                 maker: Some(sources.edge(race.maker)),
                 path: Some(Shown(race.path.as_bytes())),
-                ..WayObject::of(race_word(race.kind))
+                ..WayObject::of(race_word(race))
             };
             push_object(alloc, text, "in the way", &object)?;
         }
@@ -491,13 +506,12 @@ impl<'a> Verdict<'a> {
         Ok(())
     }
 
-    /// The answer as JSON, an object a line (docs/JSON.md). The first object says whether it is certain.
-    ///
-    /// # Errors
-    /// [`AllocError`] only where an allocation was refused.
-    pub(crate) fn json(&self, alloc: Global) -> Result<Vec<u8>, AllocError> {
+    // The objects behind the first one.
+    fn objects(&self, alloc: Global) -> Result<Vec<u8>, AllocError> {
         let mut text = Vec::new(alloc);
-        self.push_head(alloc, &mut text)?;
+        if !self.replayed.is_whole() {
+            push_object(alloc, &mut text, "replayed", &self.replayed)?;
+        }
         let findings = findings_json(alloc, &self.named.sources, self.findings)?;
         text.extend_from_slice(&findings)?;
         self.push_way_objects(alloc, &mut text)?;
@@ -506,6 +520,20 @@ impl<'a> Verdict<'a> {
             push_object(alloc, &mut text, "assumed", &object)?;
         }
         self.push_trusted_objects(alloc, &mut text)?;
+        Ok(text)
+    }
+
+    /// The answer as JSON, an object a line (docs/JSON.md). The first object says whether it is certain.
+    ///
+    /// # Errors
+    /// [`AllocError`] only where an allocation was refused.
+    pub(crate) fn json(&self, alloc: Global) -> Result<Vec<u8>, AllocError>
+        ensures { IfOk result (λ text. object_says_certain text.items ≡ is_some self.now.certainty) }
+    {
+        let members = self.object().members(alloc)?;
+        let mut text = certificate_line(alloc, self.certainty, &members)?;
+        let rest = self.objects(alloc)?;
+        text.extend_from_slice(&rest)?;
         Ok(text)
     }
 
@@ -518,11 +546,26 @@ impl<'a> Verdict<'a> {
         alloc: Global,
         form: Form,
         items: &[Item<'_>],
-    ) -> Result<Vec<u8>, AllocError> {
+    ) -> Result<Vec<u8>, AllocError>
+        ensures { IfOk result (λ text. Says form text.items (is_some self.now.certainty)) }
+    {
         match form {
-            Form::Json => self.json(alloc),
-            Form::Items(form) => items_text(alloc, form, items, &self.summary(alloc)?),
-            Form::Words | Form::AllWords => self.words(alloc),
+            Form::Words => {
+                let text = self.words(alloc)?;
+                Ok(text)
+            }
+            Form::AllWords => {
+                let text = self.words(alloc)?;
+                Ok(text)
+            }
+            Form::Json => {
+                let text = self.json(alloc)?;
+                Ok(text)
+            }
+            Form::Items(form) => {
+                let text = items_text(alloc, form, items, &self.summary(alloc)?)?;
+                Ok(text)
+            }
         }
     }
 

@@ -18,13 +18,6 @@ class NotAsked(Exception):
         self.status = status
 
 
-def quoted(name: str) -> str:
-    """A name of an answer as the prompt reads it back: one word, which is not a pattern."""
-    for letter in "#'\"*":
-        name = name.replace(letter, f"\\x{ord(letter):02x}")
-    return f'"{name}"'
-
-
 class Recording:
     """A recording, of which a program is asked."""
 
@@ -51,16 +44,6 @@ class Recording:
     def compared(self, other: str) -> Iterator[Object]:
         """What differs from another recording. Raises NotAsked."""
         return self._answers(["compare", "--json", self.folder, other], subprocess.DEVNULL)
-
-    def timeline(self) -> list[Object]:
-        """The runs of the recording as bars of a timeline; none where it has no times."""
-        try:
-            ran = subprocess.run([self.program, "timeline", self.folder], stdin=subprocess.DEVNULL,
-                                 stdout=subprocess.PIPE, stderr=subprocess.DEVNULL)
-            events = json.loads(ran.stdout)["traceEvents"] if ran.returncode == 0 else []
-            return [it for it in events if it["ph"] == "X"]
-        except (OSError, ValueError, KeyError, TypeError) as why:
-            raise NotAsked(f"{self.program} writes no timeline that is understood: {why}", 3) from why
 
     def _answers(self, words: list[str], asked: Any) -> Iterator[Object]:
         try:

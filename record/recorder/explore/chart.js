@@ -3,7 +3,7 @@ const FAILED = 1, RACES = 2, IN_CONE = 4, IN_PAST = 8, UNDONE = 16, LATER = 32;
 const CHOSEN = 64, HIT = 128, CRITICAL = 256, STOPPED = 512, RUNNING = 1024, DIRECT = 2048;
 const COLOURS = ['paper', 'ink', 'line', 'ok', 'failed', 'stopped', 'race', 'chosen', 'cone', 'past', 'band'];
 /** So many lines are drawn at most, the nearest first. */
-const MOST_LINES = 400;
+const MOST_LINES = 200;
 /** A view is at least so wide: a part of a millisecond, or of the way from one event to the next. */
 const LEAST_VIEW = 0.02;
 
@@ -33,9 +33,7 @@ class Track {
   }
 
   /** The runs of the commands of a finding. @param {Finding} it */
-  runsOf(it) {
-    return it.runs.map((number) => this.model.runAt(number)).filter((run) => run !== NONE);
-  }
+  runsOf(it) { return it.runs.map((number) => this.model.runAt(number)).filter((run) => run !== NONE); }
 
   /** @param {string} by */
   layOut(by) {
@@ -78,6 +76,7 @@ class Chart {
     this.canvas.width = Math.round(this.view.width * ratio);
     this.canvas.height = Math.round(this.height * ratio);
     this.ratio = ratio;
+    [this.toRight, this.toLeft] = [this.strokes(this.colours.cone, 1), this.strokes(this.colours.past, -1)];
     this.loads = null;
   }
 
@@ -152,9 +151,7 @@ class Chart {
   }
 
   /** @param {number} time */
-  x(time) {
-    return (time - this.view.from) * this.view.width / (this.view.to - this.view.from);
-  }
+  x(time) { return (time - this.view.from) * this.view.width / (this.view.to - this.view.from); }
 
   draw() {
     const {pen, colours} = this;
@@ -266,21 +263,26 @@ class Chart {
     if (flags & (CHOSEN | HIT)) pen.strokeRect(x - 1, y - 1, width + 2, height + 2);
   }
 
+  /** A pattern of strokes to the right or to the left. @param {string} colour @param {number} slant */
+  strokes(colour, slant) {
+    const side = Math.ceil(7 * this.ratio), tile = element('canvas', {width: side, height: side});
+    const pen = tile.getContext('2d');
+    pen.scale(side / 7, side / 7);
+    [pen.strokeStyle, pen.lineWidth] = [colour, 1.5];
+    for (const x of [-3.5, 3.5, 10.5]) pen.stroke(new Path2D(`M${x - slant * 7} 10.5 L${x + slant * 7} -3.5`));
+    const pattern = pen.createPattern(tile, 'repeat');
+    pattern.setTransform(new DOMMatrix().scale(7 / side));
+    return pattern;
+  }
+
   /** @param {number} x @param {number} y @param {number} width @param {number} height @param {number} flags */
   drawStrokes(x, y, width, height, flags) {
-    const {pen} = this, slant = flags & IN_CONE ? height / 2 : -height / 2;
-    pen.save();
-    pen.beginPath();
-    pen.rect(x, y, width, height);
-    pen.clip();
-    pen.strokeStyle = flags & IN_CONE ? this.colours.cone : this.colours.past;
-    pen.lineWidth = flags & DIRECT ? 4 : 2;
-    pen.strokeRect(x, y, width, height);
-    pen.lineWidth = 1.5;
-    for (let at = Math.max(x, -height); at < Math.min(x + width, this.view.width) + height; at += 7) {
-      this.trace([[at - slant, y + height], [at + slant, y]]);
-    }
-    pen.restore();
+    const {pen, colours} = this, line = flags & DIRECT ? 2 : 1;
+    pen.fillStyle = flags & IN_CONE ? this.toRight : this.toLeft;
+    pen.fillRect(x, y, width, height);
+    pen.strokeStyle = flags & IN_CONE ? colours.cone : colours.past;
+    pen.lineWidth = line;
+    if (width > 2 * line) pen.strokeRect(x + line / 2, y + line / 2, width - line, height - line);
   }
 
   /** The name in a bar: all of it, or its shortest end that no other output has, or nothing. A band has its count.
@@ -322,9 +324,12 @@ class Chart {
 
   /** @param {Track} track @param {number} from @param {number} to */
   drawLine(track, from, to) {
-    const {pen} = this, {runFrom, runTo} = track.model;
-    const [x, y] = this.spot(track, from, runTo[from] <= runFrom[to]), [end, below] = this.spot(track, to, false);
+    const {pen} = this, {runFrom, runTo} = track.model, near = (/** @type {number[]} */ [x, y]) =>
+      [Math.max(-9999, Math.min(x, 9999)), Math.max(-9999, Math.min(y, 9999))];
+    const [x, y] = near(this.spot(track, from, runTo[from] <= runFrom[to]));
+    const [end, below] = near(this.spot(track, to, false));
     const bend = Math.max(20, Math.abs(end - x) / 3);
+    if (Math.max(y, below) < 0 || Math.min(y, below) > this.height || Math.max(x, end) < 0) return;
     pen.beginPath();
     pen.moveTo(x, y);
     pen.bezierCurveTo(x + bend, y, end - bend, below, end, below);

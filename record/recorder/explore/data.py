@@ -6,21 +6,24 @@ import itertools
 import os
 import re
 from dataclasses import dataclass, field
-from typing import Any, Iterable, Iterator
+from typing import Any, Iterator
 
 from ..provoke.races import Observed, name_of, shown_name
 from ..regular import read_regular
 from . import telling
-from .asking import NotAsked, Object, Recording, quoted
+from .asking import NotAsked, Object, Recording
 from .statements import statements
 from .texts import NONE, Chunks, Texts, ends_of, folder_of
 
 MOST_ASKED = 1_500
-"""Of a recording with more edges each statement is not a question by itself, and reasons come without names."""
+"""Of a recording with more edges the statements are those that the recorder reads, and not those of the program."""
 _LISTS = ("explicit", "implicit", "order_only", "validations", "outputs", "implicit_outputs")
 _TEXTS = ("rule", "command", "depfile", "response_file", "pool")
 CHAIN = -3
-"""What stands in place of a cell's number is this less the number, where the nearest event stands for all."""
+"""What stands in place of a cell's number is this less the number, where an event stands for all behind it: for those
+on which it rests by that cell."""
+_NEAREST = 4
+"""One of so many events stands for all behind it: by a job, that is the last start in it, behind its end."""
 _UNTOLD = ("command", "ran")
 _OBSERVED = ("reads", "writes", "edits", "deletes", "temps")
 
@@ -58,26 +61,37 @@ class _Overview:
         self.events["words"].append(NONE if it["words"] == usual else self.texts.number(it["words"]))
 
     def add_needs(self, at: int, it: Object) -> None:
-        """Takes what the event at this place rests on: each earlier event by how far back it stands. Of one cell the
-        event often rests on all that the nearest of its events rests on by that cell, as by a job. Then the nearest
-        stands for all (CHAIN)."""
+        """Takes what the event at this place rests on: each earlier event by how far back it stands. By one cell the
+        event often rests on an earlier one and on all that this one rests on by that cell, as by a job. Then the
+        earlier one stands for all of them (CHAIN)."""
         by: dict[int, list[int]] = {}
         for link in it["events"]:
             by.setdefault(self.texts.number(link["through"]), []).append(self.place_of[link["event"]["number"]])
         written = 0
         for through, places in by.items():
             places.sort(reverse=True)
-            is_chain = len(places) > 2 and places[1:] == self._by[places[0]].get(through)
-            for place in places[:1] if is_chain else places:
+            chain = self._chain(places, through)
+            for place in places[: chain + 1]:
                 self.needs["back"].append(at - place)
-                self.needs["through"].append(CHAIN - through if is_chain else through)
+                self.needs["through"].append(through)
                 written += 1
+            if chain < len(places):
+                self.needs["through"][-1] = CHAIN - through
         self.needs["count"].append(written)
         self._by.append(by)
         for look in it["observed"] or ():
             earlier = self.place_of.get(look["event"]["number"])
             if earlier is not None:
                 self.looks.append([at, earlier, self.texts.number(look["path"]), self.texts.number(look["how"])])
+
+    def _chain(self, places: list[int], through: int) -> int:
+        """Where among places, from the nearest on, one stands that rests by this cell on all places behind it, or how
+        many places there are."""
+        for at, place in enumerate(places[:_NEAREST]):
+            known = self._by[place].get(through, [])
+            if len(known) == len(places) - at - 1 > 1 and known == places[at + 1 :]:
+                return at
+        return len(places)
 
 
 @dataclass
@@ -119,22 +133,20 @@ def _pages_of(recording: Recording) -> Pages:
         overview.add_event(it)
     listed = edges["edges"]
     names = [it["output"] for it in listed]
-    details, reasons = _Details(), list[Any]()
-    is_asked = len(names) <= MOST_ASKED
-    answers = recording.session(_questions(overview, names if is_asked else ()))
+    details, is_asked = _Details(), len(names) <= MOST_ASKED
+    answers = recording.session(_questions(overview, is_asked))
     next(answers), next(answers)
     for at in range(len(overview.place_of)):
         overview.add_needs(at, next(answers))
-    for name in names if is_asked else ():
-        details.add_edge(_of_name(next(answers), "edge", "output", name))
-        why = _of_name(next(answers), "why", "path", name)
-        reasons.append(telling.reasons(why) if why else None)
+    whys = _by_name(next(answers), "path")
+    reasons = [telling.reasons(whys[name]) if name in whys else None for name in names]
+    found = _by_name(next(answers), "output") if is_asked else {}
     for _ in answers:
         pass
-    if not is_asked:
-        for it in itertools.islice(itertools.chain(statements(recording.folder), itertools.repeat({})), len(names)):
-            details.add_edge(it)
-        reasons = [telling.reasons_of_run(it) for it in _runs_of_timeline(recording, names)]
+    is_whole = all(name in found for name in names)
+    read = (found[it] for it in names) if is_whole else statements(recording.folder)
+    for it in itertools.islice(itertools.chain(read, itertools.repeat({})), len(names)):
+        details.add_edge(it)
     first: Object = {
         "name": recording.folder, "commands": head["commands"], "jobs": head["lanes"], "refused": ran["refused"],
         "running": ran["running"], "events": overview.events, "needs": overview.needs, "looks": overview.looks,
@@ -143,7 +155,8 @@ def _pages_of(recording: Recording) -> Pages:
                   "label": ends_of(names), "folder": overview.texts.numbers([folder_of(it) for it in names]),
                   "target": _targets(recording.folder, overview.texts, len(names))},
         "runs": _runs(overview, names), "wanted": _wanted(marks["lines"], names),
-        "critical": [it["began"] for it in critical.get("runs", ())], "findings": [telling.finding(it) for it in races["findings"] if it["kind"] not in _UNTOLD],
+        "critical": [it["began"] for it in critical.get("runs", ())],
+        "findings": [telling.finding(it) for it in races["findings"] if it["kind"] not in _UNTOLD],
     }
     first["texts"] = overview.texts.all
     behind: Object = {**details.columns, "reasons": reasons, "observed": _observed(recording.folder, names)}
@@ -151,28 +164,19 @@ def _pages_of(recording: Recording) -> Pages:
     return Pages(first, behind)
 
 
-def _questions(overview: _Overview, names: Iterable[str]) -> Iterator[str]:
+def _questions(overview: _Overview, is_asked: bool) -> Iterator[str]:
     yield "run"
     for number in overview.place_of:
         yield f"needs {number}"
-    for name in names:
-        yield f"edge {quoted(name)}"
-        yield f"why {quoted(name)}"
+    yield "why * --all"
+    if is_asked:
+        yield "edge * --all"
 
 
-def _runs_of_timeline(recording: Recording, names: list[str]) -> list[Object | None]:
-    """What the timeline has of the last run of each edge; None of one that did not run, or where there are no times."""
-    runs = {it["args"]["began"]: it for it in recording.timeline()}
-    last = {it["name"].rpartition(": ")[2]: it["args"] for it in runs.values()}
-    return [last.get(name) for name in names]
-
-
-def _of_name(it: Object, kind: str, member: str, name: str) -> Object:
-    """An answer, where it is of this kind and name: of a phony name it is one of several."""
-    for one in it.get("answers", (it,)):
-        if one["kind"] == kind and one[member] == name:
-            return dict(one)
-    return {}
+def _by_name(it: Object, member: str) -> dict[str, Object]:
+    """The answers about each edge, by the name of its output, which a member has. Where an output is called `*`, the
+    one answer is about this one."""
+    return {one[member]: one for one in it.get("answers", (it,)) if member in one}
 
 
 _STATES = {"finish": "ok", "fail": "failed", "abort": "stopped"}

@@ -30,6 +30,7 @@ class Model {
     this.count = this.events.number.length;
     this.kinds = this.events.kind.map((it) => this.texts[it]);
     this.placeOf = new Map(this.events.number.map((number, at) => [number, at]));
+    this.known = {at: NONE, isLater: false, found: /** @type {Map<number, number>} */ (new Map())};
     this.setTimes();
     this.setNeeds();
     this.setEdges();
@@ -45,33 +46,22 @@ class Model {
     this.end = Math.max(1, last);
   }
 
-  /** The links of each event, both ways. A cell's number below NONE says that the nearest event stands for all that it
-   * rests on by this cell. */
+  /** The links of each event, both ways. A cell's number below NONE says that the event stands for all behind it. */
   setNeeds() {
-    const {count, back, through} = this.data.needs, [on, by] = /** @type {number[][]} */ ([[], []]);
-    const [from, dependents] = [new Int32Array(this.count + 1), new Int32Array(this.count + 1)];
-    [this.needsFrom, this.dependentsFrom] = [from, dependents];
+    const {count, back, through} = this.data.needs, size = this.count + 1;
+    const links = () => ({from: new Int32Array(size), on: new Int32Array(back.length), by: Int32Array.from(through)});
+    const {from, on, by} = this.earlier = links(), later = this.later = links();
     for (let at = 0, next = 0; at < this.count; at++) {
-      for (const last = next + count[at]; next < last; next++) {
-        const near = at - back[next], cell = through[next] < NONE ? CHAIN - through[next] : through[next];
-        on.push(near);
-        by.push(cell);
-        for (let it = from[near]; through[next] < NONE && it < from[near + 1]; it++) {
-          if (by[it] !== cell) continue;
-          on.push(on[it]);
-          by.push(cell);
-        }
-      }
-      from[at + 1] = on.length;
+      for (const last = next + count[at]; next < last; next++) later.from[(on[next] = at - back[next]) + 1]++;
+      from[at + 1] = next;
     }
-    this.needsOn = Int32Array.from(on);
-    this.needsBy = Int32Array.from(by);
-    for (const it of on) dependents[it + 1]++;
-    for (let at = 0; at < this.count; at++) dependents[at + 1] += dependents[at];
-    this.dependentsOn = new Int32Array(on.length);
-    const filled = dependents.slice();
+    for (let at = 0; at < this.count; at++) later.from[at + 1] += later.from[at];
+    const filled = later.from.slice();
     for (let at = 0; at < this.count; at++) {
-      for (let it = from[at]; it < from[at + 1]; it++) this.dependentsOn[filled[on[it]]++] = at;
+      for (let it = from[at]; it < from[at + 1]; it++) {
+        later.by[filled[on[it]]] = by[it];
+        later.on[filled[on[it]]++] = at;
+      }
     }
   }
 
@@ -123,9 +113,7 @@ class Model {
   }
 
   /** An event with its number, as the prompt names it. @param {number} at */
-  named(at) {
-    return `${this.events.number[at]} ${this.words(at)}`;
-  }
+  named(at) { return `${this.events.number[at]} ${this.words(at)}`; }
 
   /** @param {number} at */
   pathOf(at) {
@@ -134,9 +122,7 @@ class Model {
   }
 
   /** @param {number} run */
-  output(run) {
-    return this.pathOf(this.runStart[run]);
-  }
+  output(run) { return this.pathOf(this.runStart[run]); }
 
   /** The shortest end of an output, by whole parts, that no other output has. @param {number} run */
   label(run) {
@@ -151,9 +137,7 @@ class Model {
   }
 
   /** @param {number} run */
-  eventsOf(run) {
-    return this.runEnd[run] === NONE ? [this.runStart[run]] : [this.runStart[run], this.runEnd[run]];
-  }
+  eventsOf(run) { return this.runEnd[run] === NONE ? [this.runStart[run]] : [this.runStart[run], this.runEnd[run]]; }
 
   /** The file and line of a build statement. @param {number} edge */
   edgePlace(edge) {
@@ -161,33 +145,45 @@ class Model {
     return `${file[edge] === NONE ? 'the manifest' : this.texts[file[edge]]}:${line[edge]}`;
   }
 
-  /** The earlier events that an event rests on directly, the nearest first. @param {number} at */
-  needs(at) {
-    return Array.from(this.needsOn.slice(this.needsFrom[at], this.needsFrom[at + 1]).sort()).reverse();
+  /** The events at the other ends of an event's direct links, each with its cell. Behind a link that stands for others
+   * come the links by the same cell: of an earlier event all, and of a later one those that stand for others.
+   * @param {number} at @param {boolean} isLater @return {Map<number, number>} */
+  linked(at, isLater) {
+    const {from, on, by} = isLater ? this.later : this.earlier, found = new Map(), left = [[at, NONE]];
+    if (this.known.at === at && this.known.isLater === isLater) return this.known.found;
+    for (const [event, only] of left) {
+      for (let it = from[event]; it < from[event + 1]; it++) {
+        const isChain = by[it] < NONE, cell = isChain ? CHAIN - by[it] : by[it];
+        if (event !== at && (cell !== only || isLater && !isChain)) continue;
+        found.set(on[it], cell);
+        if (isLater || isChain) left.push([on[it], cell]);
+      }
+    }
+    this.known = {at, isLater, found};
+    return found;
   }
 
-  /** The later events that rest on an event directly, in their order. @param {number} at */
-  dependents(at) {
-    return Array.from(this.dependentsOn.subarray(this.dependentsFrom[at], this.dependentsFrom[at + 1]));
-  }
+  /** The earlier events that an event rests on directly, the nearest first. @param {number} at @return {number[]} */
+  needs(at) { return [...this.linked(at, false).keys()].sort((one, other) => other - one); }
+
+  /** The later events that rest on an event directly, in their order. @param {number} at @return {number[]} */
+  dependents(at) { return [...this.linked(at, true).keys()].sort((one, other) => one - other); }
 
   /** Through what one event rests on another, in words. @param {number} at @param {number} on */
   through(at, on) {
-    for (let it = this.needsFrom[at]; it < this.needsFrom[at + 1]; it++) {
-      if (this.needsOn[it] === on) return this.needsBy[it] === NONE ? '' : this.texts[this.needsBy[it]];
-    }
-    return '';
+    const cell = this.linked(at, false).get(on);
+    return cell === undefined || cell === NONE ? '' : this.texts[cell];
   }
 
   /** All that an event rests on, also by way of others. @param {number} at @return {number[]} */
   past(at) {
-    return closure(at, this.needsFrom, this.needsOn, () => true).slice(1).sort((one, other) => one - other);
+    return closure(at, this.earlier, () => true).slice(1).sort((one, other) => one - other);
   }
 }
 
 /** An event and all that is reached from it along the links. The event is the first.
- * @param {number} at @param {Int32Array} from @param {Int32Array} on @param {(at: number) => boolean} isTaken */
-function closure(at, from, on, isTaken) {
+ * @param {number} at @param {{from: Int32Array, on: Int32Array}} links @param {(at: number) => boolean} isTaken */
+function closure(at, {from, on}, isTaken) {
   const seen = new Uint8Array(from.length), found = [at];
   seen[at] = 1;
   for (let next = 0; next < found.length; next++) {
@@ -213,9 +209,7 @@ class Desk {
   }
 
   /** @param {number} at */
-  isKept(at) {
-    return at < this.moment && !this.undone[at];
-  }
+  isKept(at) { return at < this.moment && !this.undone[at]; }
 
   /** Why the event is not undone: null where it may be. @param {number} at @return {?Refusal} */
   undoRefused(at) {
@@ -228,9 +222,8 @@ class Desk {
 
   /** The kept event and each kept one that rests on it, also by way of others, in their order. @param {number} at */
   cone(at) {
-    const {dependentsFrom, dependentsOn} = this.model;
     if (!this.isKept(at)) return [];
-    return closure(at, dependentsFrom, dependentsOn, (it) => this.isKept(it)).sort((one, other) => one - other);
+    return closure(at, this.model.later, (it) => this.isKept(it)).sort((one, other) => one - other);
   }
 
   /** Why an undone event is not redone: null where it may be. @param {number} at @return {?Refusal} */
@@ -245,9 +238,8 @@ class Desk {
 
   /** The undone event and each undone one that it rests on, in their order. @param {number} at */
   redoWith(at) {
-    const {needsFrom, needsOn} = this.model;
     if (at >= this.moment || !this.undone[at]) return [];
-    return closure(at, needsFrom, needsOn, (it) => !!this.undone[it]).sort((one, other) => one - other);
+    return closure(at, this.model.earlier, (it) => !!this.undone[it]).sort((one, other) => one - other);
   }
 
   /** @param {number[]} events @param {boolean} isUndone */

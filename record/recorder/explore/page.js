@@ -248,7 +248,6 @@ class Page {
       failed && element('h3', {}, 'It printed'), failed && element('pre', {}, failed.printed.join('\n')),
       why && names(`Why it ran${why.of === output ? '' : `: ${why.of}`}`, why.lines, 20),
       planned !== undefined && element('p', {}, 'as the build stood at ', this.eventButton(track, planned)),
-      !details.reasons.length && element('p', {}, `Why it ran: rebug ask ${model.data.name} why ${output}`),
       ...LISTS.map(([name, title]) => names(title, texts(details[name][edge]), 20)),
       ...CHUNKED.map(([name, title]) => names(title, textsOf(details, details[name][edge]))),
       ...OBSERVED.map(([name, title]) => names(title, pathsOf(details.observed, seen[name]))),
@@ -633,19 +632,20 @@ class Page {
 
 /** The data of a block of the page, which is taken out of the document. @param {string} id */
 async function read(id) {
-  const block = part(`data-${id}`), letters = atob(block.textContent);
+  const block = part(`data-${id}`), letters = atob(block.textContent), bytes = new Uint8Array(letters.length);
   block.remove();
-  const bytes = Uint8Array.from(letters, (it) => it.charCodeAt(0));
+  for (let at = 0; at < bytes.length; at++) bytes[at] = letters.charCodeAt(at);
   return new Response(new Blob([bytes]).stream().pipeThrough(new DecompressionStream('deflate'))).json();
 }
 
 async function begin() {
   const page = new Page(await read('first'));
   Object.assign(window, {rebug: page});
-  document.body.dataset.state = 'drawn';
+  const now = (/** @type {string} */ state) => performance.mark(document.body.dataset.state = state);
   await new Promise((done) => requestAnimationFrame(() => setTimeout(done)));
+  now('drawn');
   for (let at = 0; at < page.tracks.length; at++) page.addDetails(at, await read(`behind${at}`));
-  document.body.dataset.state = 'whole';
+  now('whole');
 }
 
 begin().catch((why) => { part('said').textContent = `The page cannot be read: ${why}`; });

@@ -17,6 +17,7 @@ _HERE = {
     "failed": "the user failed",
     "running": "the maker ran when the user failed",
     "to-run": "the maker was still to run when the user failed",
+    "failed-before": "the maker had failed when the user began",
 }
 _REASONS = {
     "missing": "{output} is missing",
@@ -55,10 +56,18 @@ def _title(it: Object) -> str:
         return f"not judged: {it['user']['output']}" + ", which only collects outputs" * it["collects"]
     if it["kind"] == "left out":
         return f"left out: {it['hidden']} places by filters, {it['known'] + it['ignored']} findings by the baseline"
+    if it["kind"] == "hidden":
+        return f"hidden by filters: {'the entries of ' * it['entries']}{it['path']}"
     if it["kind"] == "replayed":
         return f"replayed {it['commands']} commands, {it['refused']} refused: the answer is of the others"
     of = f" of a {it['of']}" if it.get("of") in ("depfile", "rspfile") else ""
-    return f"{it['kind']}{of} {it.get('path') or (it.get('user') or {}).get('output', '')}{number}"
+    name = it.get("path") or (it.get("user") or {}).get("output", "")
+    return f"{it['kind']}{of} {name}{_by(it.get('dyndep'))}{number}"
+
+
+def _by(file: str | None) -> str:
+    """The dyndep file behind a path that an edge's own line does not have, where there is one."""
+    return f" (by {file})" if file else ""
 
 
 def _happened(it: Object) -> list[str]:
@@ -75,6 +84,8 @@ def _happened(it: Object) -> list[str]:
         lines.append(f"mend: {_line(user)} ... | {it['list']}, where its list does not have it")
     if it.get("reverse"):
         lines.append(f"or: {_line(it.get('maker') or it['first'])} ... || {it['reverse']}")
+    if it.get("mended_by"):
+        lines.append(f"the order of [{it['mended_by']}] mends this too")
     return lines
 
 
@@ -84,19 +95,12 @@ def _line(edge: Any) -> str:
 
 def reasons(it: Object) -> Object:
     """Why an edge ran: the number of the plan, or None, what the reasons are of, and each in words."""
-    lines = [one["output"] if one["input"] is None else f"{one['output']} waits for {one['input']}"
-             for one in it["steps"]]
+    lines = [one["output"] if one["input"] is None
+             else f"{one['output']} waits for {one['input']}{_by(one.get('dyndep'))}" for one in it["steps"]]
     for one in it["reasons"]:
-        lines.append(_REASONS.get(one["reason"], one["reason"]).format_map(one))
+        names = {name: f"{one[name]}{_by(one.get(f'{name}_dyndep'))}" for name in ("output", "input")}
+        lines.append(_REASONS.get(one["reason"], one["reason"]).format_map(names))
     return {"plan": it["plan"] and it["plan"]["number"], "of": it["last"], "lines": lines}
-
-
-def reasons_of_run(it: Object | None) -> Object | None:
-    """The reasons of a run of the timeline, which has no names."""
-    if it is None or it["reasons"] is None:
-        return None
-    names = {"output": "an output", "input": "an input"}
-    return {"plan": None, "of": None, "lines": [_REASONS.get(one, one).format_map(names) for one in it["reasons"]]}
 
 
 def difference(it: Object) -> Object:

@@ -8,6 +8,7 @@ from dataclasses import dataclass, field
 
 from ..summary.packed import BadText
 from .judging import Anchor, judge, tests_of
+from .proved import good_of
 from .reading import Build, Fault, Manifest, Summaries
 from .sums import Fate, Orders, Sums, count_orders, failed_or_not, sums_of
 
@@ -47,8 +48,11 @@ def counted(summaries: Summaries, anchors: Sequence[str], is_partial: bool) -> l
         except BadText as why:
             summaries.faults.append(f"build {build.id}: {why}")
     for name, it in found.items():
-        for command in _wanted(it, anchors):
-            it.sums.orders[command] = count_orders(command, builds[name], it.manifest, failed_or_not(command))
+        wanted = _wanted(it, anchors)
+        good = good_of(builds[name], it.manifest, wanted)
+        for command in wanted:
+            it.sums.orders[command] = count_orders(command, builds[name], it.manifest, failed_or_not(command),
+                                                   good.get(command))
         if not is_partial:
             _count_left(it, builds[name], summaries)
     for name, told in summaries.sums:

@@ -13,7 +13,7 @@ from typing import Any
 
 from ..regular import NoFile
 from ..summary.lines import VERSION
-from ..summary.packed import BadText, columns
+from ..summary.packed import BadText, columns, plain
 
 MOST_LINE = 1 << 28
 _DIGEST_BYTES = 6
@@ -96,6 +96,10 @@ class Build:
     def columns(self, count: int) -> tuple[list[int], list[int]]:
         """When each of so many commands began and ended. Raises BadText."""
         return columns(self._runs, count)
+
+    def plain_runs(self) -> str:
+        """The text of its runs, not compressed. Raises BadText."""
+        return plain(self._runs)
 
     def left(self, count: int) -> list[bytes] | None:
         """A digest of what each command left, empty where it is not known; None where the build has none."""

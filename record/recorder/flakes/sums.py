@@ -128,14 +128,17 @@ def failed_or_not(command: int) -> Callable[[Build], Fate]:
     return lambda build: Fate.BAD if command in build.failed else Fate.GOOD
 
 
-def count_orders(anchor: int, builds: Iterable[Build], manifest: Manifest, fate: Callable[[Build], Fate]) -> Orders:
+def count_orders(anchor: int, builds: Iterable[Build], manifest: Manifest, fate: Callable[[Build], Fate],
+                 good: dict[int, list[int]] | None = None) -> Orders:
     """Counts how the commands that are not ordered with an anchor stood to it. Raises BadText.
 
     Two commands count in a build where both ran; also where the other one never began, since Ninja had stopped before,
-    in a build from nothing."""
+    in a build from nothing. `good` has the counts of the builds in which the anchor passed, where they are known."""
     found, count = Orders(), len(manifest.names)
     ordered = manifest.before(anchor) | manifest.after(anchor) | {anchor}
     others = [it for it in range(count) if it not in ordered]
+    if good is not None:
+        found.good = {it: good[it] for it in others if it in good}
     for build in builds:
         (begins, ends), its = build.columns(count), fate(build)
         began, ended = begins[anchor], ends[anchor]
@@ -143,6 +146,8 @@ def count_orders(anchor: int, builds: Iterable[Build], manifest: Manifest, fate:
             continue
         found.used += 1
         found.shortest = min(ended - began, ended - began if found.shortest is None else found.shortest)
+        if its is Fate.GOOD and good is not None:
+            continue
         spans = _spans(others, begins, ends, began, build.is_from_nothing and bool(build.failed))
         if its is Fate.BAD:
             row = ["--"] * count

@@ -42,6 +42,10 @@ class CMakeMends:
 
     def _orders(self, finding: Finding, user: Side, maker: Side) -> list[Candidate]:
         made = self._made(finding, maker)
+        if finding.dyndep and user.role is maker.role is Role.COMPILE and user.target.name == maker.target.name:
+            raise CannotEdit(f"two compiles of {user.target.name}, which CMake orders by what its scanner sees",
+                             "the scanner of modules is to see the use: in the source itself, or in a file of a folder "
+                             "that target_include_directories names")
         if user.role is Role.CUSTOM:
             return self._into_custom_command(user, maker, made)
         carriers = maker.target.carriers if maker.role is Role.CUSTOM else [maker.target.name]

@@ -19,10 +19,10 @@ _KINDS = (*ORDERS, "own", "undeclared", "unlisted", "clash")
 
 @dataclass(frozen=True)
 class Finding:
-    """A finding by its number: its kind, the path, and the first outputs of maker and user (of a clash: of the two that
-    make the file). `mend` is what the user is to wait for. `declare` is what the maker's line is to name as its output,
-    and `list` what the user's line is to name as its input. Of a file that a failed command misses, and that `races`
-    has no race for, the number is below 0."""
+    """A finding by its number: its kind, the path, and the first outputs of maker and user (of a clash: of the two
+    that make the file). `mend` is what the user is to wait for. `declare` is what the maker's line is to name as its
+    output, and `list` what the user's line is to name as its input. `dyndep` is the dyndep file that says the path. Of
+    a file that a failed command misses, and that `races` has no race for, the number is below 0."""
 
     number: int
     kind: str
@@ -32,6 +32,7 @@ class Finding:
     mend: str = ""
     declare: str = ""
     list: str = ""
+    dyndep: str = ""
 
     @property
     def is_order(self) -> bool:
@@ -80,7 +81,8 @@ def _finding(it: dict[str, Any]) -> Finding:
                        _name(it["other"]["output"]))
     maker = it["maker"]
     return Finding(int(it["number"]), it["kind"], _name(it["path"]), _name(maker["output"]) if maker else "",
-                   _name(it["user"]["output"]), _name(it.get("mend")), _name(it.get("declare")), _name(it.get("list")))
+                   _name(it["user"]["output"]), _name(it.get("mend")), _name(it.get("declare")), _name(it.get("list")),
+                   _name(it.get("dyndep")))
 
 
 def _name(text: str | None) -> str:

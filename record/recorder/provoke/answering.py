@@ -9,6 +9,7 @@ from typing import Callable
 
 from ..depfiles import read_depfile
 from ..depslog import BrokenLog, DepsLog, paths_of
+from ..dyndep.reading import Told
 from ..fields import canonical, shown
 from ..files import copies_of_files
 from ..manifest import BadManifest, Edge, Manifest
@@ -82,11 +83,21 @@ class Provoker:
             self.say("the manifest is another than the one that was recorded: the orders are put into the one that is "
                      "there")
         self.observed = self.recording.observed()
+        self.told = self._told()
         self.folders = self._folders()
-        self.known = Known(self.manifest, self._listed)
+        self.known = Known(self.manifest, self._listed, self.told)
         self.deps_path = os.path.join(self.build, self.manifest.log_folder(), b".ninja_deps")
         self.deps, self.is_log_broken = self._deps()
         self.orders = self._orders()
+
+    def _told(self) -> dict[int, Told]:
+        """By the number of a command, what dyndep files say of it."""
+        of = ((self.manifest.producer.get(name), told) for name, told in self.recording.told().items())
+        return {edge.number: told for edge, told in of if edge is not None}
+
+    def _told_outputs(self, *edges: Edge) -> list[bytes]:
+        """The outputs that dyndep files say of these commands."""
+        return [path for it in edges if it.number in self.told for path in self.told[it.number].outputs]
 
     def _read(self, files: dict[bytes, bytes]) -> Manifest:
         """The manifest, with these files in place of those that are there."""
@@ -159,9 +170,9 @@ class Provoker:
         if race.kind in NO_ORDERS:
             return Answer(NO_ORDER, [NO_ORDERS[race.kind]])
         maker, user = self.edge(race.maker), self.edge(race.user)
-        if waits(self.manifest, user, maker):
+        if waits(self.manifest, user, maker, self.told):
             return self._answer_of_mended(self._two_ways(race)[0], race)
-        if waits(self.manifest, maker, user):
+        if waits(self.manifest, maker, user, self.told):
             return self._answer_of_mended(self._two_ways(race)[1], race) if race.is_clash else \
                 Answer(NO_ORDER, [NO_ORDERS["cycle"]])
         found = self._answer_of_both(race)
@@ -298,7 +309,8 @@ class Provoker:
         stale = [] if not self.options.stale else both if race.is_clash else [maker]
         again = stale or run_anew(self.manifest, self.observed, race.path, both)
         unlisted = Graph(self.known).on_a_way(way.order.first, way.order.later)
-        away = may_go(self.build, self.manifest, self.observed, [it for it in both if it not in stale], unlisted)
+        fresh = [it for it in both if it not in stale]
+        away = may_go(self.build, self.manifest, self.observed, fresh, unlisted, self._told_outputs(*fresh))
         before = {path: None for edge in (both if race.is_clash else [maker]) for path in edge.inputs
                   if path in self.manifest.producer}
         named = ["-f", os.fsdecode(self.name)] if self.name != b"build.ninja" else []
@@ -314,7 +326,7 @@ class Provoker:
         """What is compared: what the user leaves, or what each of the two of a clash does. Depfiles are no output."""
         found = [race.path] if race.is_clash else []
         for it in [maker, user] if race.is_clash else [user]:
-            found += [*it.outputs, *self.observed.written_by(it.name)]
+            found += [*it.outputs, *self._told_outputs(it), *self.observed.written_by(it.name)]
         depfiles = {canonical(it.depfile) for it in (maker, user) if it.depfile}
         return tuple(it for it in dict.fromkeys(found) if it not in depfiles)
 

@@ -12,10 +12,10 @@ from .races import Observed
 
 
 def may_go(build: bytes, manifest: Manifest, observed: Observed, commands: Sequence[Edge],
-           unlisted: Sequence[Edge] = ()) -> tuple[bytes, ...]:
-    """The files that the trial of these commands takes away: their outputs, and what they were observed to leave and no
-    other command leaves. Depfiles of the edges in `unlisted` are among them: Ninja would find the order there that the
-    trial turns round.
+           unlisted: Sequence[Edge] = (), told: Sequence[bytes] = ()) -> tuple[bytes, ...]:
+    """The files that the trial of these commands takes away: their outputs, those that dyndep files say of them
+    (`told`), and what they were observed to leave and no other command leaves. Depfiles of the edges in `unlisted` are
+    among them: Ninja would find the order there that the trial turns round.
 
     No source is among them, no file of the manifest, and no output of another command, by whatever name. What they name
     may be no file: folders stay, too (`Place.take_away`).
@@ -28,7 +28,7 @@ def may_go(build: bytes, manifest: Manifest, observed: Observed, commands: Seque
         return folders[folder]
 
     real = lambda path: real_name(os.path.join(build, path), realpath)
-    own = {path for edge in commands for path in edge.outputs}
+    own = {path for edge in commands for path in edge.outputs} | set(told)
     kept = set(map(real, _kept(manifest, own)))
     alone = observed.left_alone_by([it.name for it in commands])
     left = [*own, *_other_names(manifest, commands), *alone, *_depfiles(manifest, unlisted)]

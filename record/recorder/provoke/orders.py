@@ -5,8 +5,10 @@ from __future__ import annotations
 import re
 from collections import Counter
 from dataclasses import dataclass, field
-from typing import Callable, Iterable
+from types import MappingProxyType
+from typing import Callable, Iterable, Mapping
 
+from ..dyndep.reading import Told
 from ..fields import canonical, shown
 from ..manifest import Edge, Manifest
 
@@ -37,18 +39,21 @@ class Order:
 
 
 class Known:
-    """What waits for what by a manifest, and by the paths that Ninja has in its records of an edge (`listed`). Each
-    edge is looked at once."""
+    """What waits for what by a manifest, by what dyndep files say of its edges (`told`, by their numbers), and by the
+    paths that Ninja has in its records of an edge (`listed`). Each edge is looked at once."""
 
-    def __init__(self, manifest: Manifest, listed: Callable[[Edge], Iterable[bytes]] = lambda _: ()) -> None:
-        self.manifest, self._listed = manifest, listed
+    def __init__(self, manifest: Manifest, listed: Callable[[Edge], Iterable[bytes]] = lambda _: (),
+                 told: Mapping[int, Told] = MappingProxyType({})) -> None:
+        self.manifest, self._listed, self._told = manifest, listed, told
+        self._makers_of = {path: manifest.edges[number] for number, it in told.items() for path in it.outputs}
         self._by_inputs: dict[int, list[Edge]] = {}
         self._by_records: dict[int, list[Edge]] = {}
 
     def by_inputs(self, edge: Edge) -> list[Edge]:
         """The edges that make its inputs."""
         if edge.number not in self._by_inputs:
-            self._by_inputs[edge.number] = self._makers(edge.inputs)
+            told = self._told[edge.number].inputs if edge.number in self._told else ()
+            self._by_inputs[edge.number] = self._makers([*edge.inputs, *told])
         return self._by_inputs[edge.number]
 
     def by_records(self, edge: Edge) -> list[Edge]:
@@ -58,7 +63,7 @@ class Known:
         return self._by_records[edge.number]
 
     def _makers(self, paths: Iterable[bytes]) -> list[Edge]:
-        found = (self.manifest.producer.get(it) for it in paths)
+        found = (self.manifest.producer.get(it, self._makers_of.get(it)) for it in paths)
         return list({it.number: it for it in found if it is not None}.values())
 
 
@@ -222,9 +227,10 @@ def _addition(content: bytes, at: int, paths: list[bytes]) -> tuple[int, bytes]:
     return last, added
 
 
-def waits(manifest: Manifest, user: Edge, maker: Edge) -> bool:
-    """Whether the user waits for the maker: by explicit, implicit and order-only inputs, through all edges between."""
-    return Graph(Known(manifest)).leads(user, maker)
+def waits(manifest: Manifest, user: Edge, maker: Edge, told: Mapping[int, Told] = MappingProxyType({})) -> bool:
+    """Whether the user waits for the maker: by explicit, implicit and order-only inputs, those that dyndep files say
+    among them, through all edges between."""
+    return Graph(Known(manifest, told=told)).leads(user, maker)
 
 
 def differing(one: Manifest, other: Manifest) -> list[int]:

@@ -10,7 +10,8 @@ import subprocess
 from dataclasses import dataclass, field
 from typing import Any, Collection
 
-from ..dyndep.kept import NOTES, ORIGINALS
+from ..dyndep.kept import CONTENTS, NOTES, ORIGINALS
+from ..dyndep.reading import BadDyndep, Told, read_dyndep
 from ..regular import read_regular
 from ..replaying import words_of_replay
 
@@ -158,6 +159,20 @@ class Recording:
     def _words(self) -> list[str]:
         content = self._content("replay")
         return content and words_of_replay(content.decode("utf-8", "surrogateescape")) or []
+
+    def told(self) -> dict[bytes, Told]:
+        """By an output of a command, what a dyndep file says of the command that Ninja loaded. Raises NotAsked."""
+        notes = self._content(os.fsdecode(NOTES)) or b""
+        found: dict[bytes, Told] = {}
+        for line in notes.split(b"\n"):
+            word, *rest = line.split(b" ")
+            if word == b"loaded" and len(rest) == 3 and _NUMBER.fullmatch(rest[1]):
+                name = os.fsdecode(CONTENTS + rest[1])
+                try:
+                    found.update(read_dyndep(_plain(rest[0]), self._content(name) or b""))
+                except BadDyndep as why:
+                    raise NotAsked(f"{self.place}/{name}: {why}", 1) from why
+        return found
 
     def observed(self) -> Observed:
         """What was observed of its commands: nothing where the recording has no such file."""

@@ -60,6 +60,11 @@ def columns(text: str, count: int) -> tuple[list[int], list[int]]:
     return begins, ends
 
 
+def plain(text: str) -> str:
+    """The numbers of a text in base64 alone, without compression. Raises BadText."""
+    return base64.b64encode(_bytes(text)).decode("ascii")
+
+
 def unpacked(text: str, count: int) -> list[Run]:
     """The runs of a text, in a manifest with so many commands. Raises BadText."""
     begins, ends = columns(text, count)

@@ -1,0 +1,7 @@
+use Rattle.std.proofs.Common.{◌≡◌, drop}
+use Rattle.rev_dyndep.specs.Origins.{with_names}
+use Rattle.rev_dyndep.proofs.origins.add_all.Given as goal
+
+-- with what is left to add the set is what it is to be
+abbrev pub invariant-loop-path : goal.invariant-loop-path
+invariant-loop-path l = with_names (drop l.path-index l.paths) l.set ≡ with_names l.paths l.initial.set

@@ -1,0 +1,4 @@
+pub mod Runs
+pub mod Builds
+pub mod Pairs
+pub mod Tallies
