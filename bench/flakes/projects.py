@@ -1,8 +1,8 @@
 """Projects that fail in some of their builds, as a seed says for each build.
 
-A seed draws how long each command would take. From that follows when each begins and ends, in thought. In the real build
-no command sleeps. Each waits until all has begun and ended that does so before its own end (`turn.c`), so Ninja's order is
-the drawn one on each machine, however busy that is.
+A seed draws how long each command would take. From that follows when each begins and ends, in thought. In the real
+build no command sleeps. Each waits until all has begun and ended that does so before its own end (`turn.c`), so Ninja's
+order is the drawn one on each machine, however busy that is.
 """
 
 from __future__ import annotations
@@ -25,8 +25,8 @@ USUAL = (40, 120)
 
 @dataclass
 class Command:
-    """What a command waits for, and the words of the shell that it runs `before` its turn and `behind` it. `takes` is how
-    long it takes at least and at most, in milliseconds. `rule` is the rule of the manifest. With an `address` the command
+    """What a command waits for, and the words of the shell that it runs `before` its turn and `behind` it. `takes` is
+    how long it takes at least and at most, in milliseconds. `rule` is the rule of the manifest. With an `address` it
     listens at that of the project, as `turn.c` has it: `need` or `share`."""
 
     waits: Sequence[str] = ()
@@ -51,8 +51,8 @@ Schedule = dict[str, Span]
 @dataclass
 class Project:
     """Commands by their outputs, each behind those that it waits for, and other files. `anchor` is the command that
-    fails, and `fails` says whether it does by when all begin and end. `culprits` are the commands that an order separates
-    the failing builds by."""
+    fails, and `fails` says whether it does by when all begin and end. `culprits` are the commands that an order
+    separates the failing builds by."""
 
     name: str
     about: str

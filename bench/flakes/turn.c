@@ -2,13 +2,14 @@
 
    turn NAME PID [need|share]
 
-   The file `turns/NAME` has lines `begun OTHER` and `ended OTHER`. A command has begun where `turns/OTHER.begun` is there.
-   It has ended where `turns/OTHER.ended` is there and Ninja has taken the end of the process that this file names. `turn`
-   writes `turns/NAME.begun`, waits for the lines, and writes PID, that of the command's shell, to `turns/NAME.ended`.
-   Where `turns/failed` is there, a command failed, and `turn` does not wait. After LONGEST seconds it ends with 3.
+   The file `turns/NAME` has lines `begun OTHER` and `ended OTHER`. A command has begun where `turns/OTHER.begun` is
+   there. It has ended where `turns/OTHER.ended` is there and Ninja has taken the end of the process that this file
+   names. `turn` writes `turns/NAME.begun`, waits for the lines, and writes PID, that of the command's shell, to
+   `turns/NAME.ended`. Where `turns/failed` is there, a command failed, and `turn` does not wait. After LONGEST seconds
+   it ends with 3.
 
-   With a third word it listens at an address of the kernel, as at a port, for as long as it waits. Where another process
-   has the address, `need` is an error (1), and `share` goes on without it. */
+   With a third word it listens at an address of the kernel, as at a port, for as long as it waits. Where another
+   process has the address, `need` is an error (1), and `share` goes on without it. */
 
 #define _POSIX_C_SOURCE 200809L
 #include <errno.h>

@@ -146,7 +146,8 @@ def make_fortran(count: int) -> Callable[[pathlib.Path, Tools], None]:
         write(source / "CMakeLists.txt", "cmake_minimum_required(VERSION 3.20)\nproject(p Fortran)\n"
               "set(CMAKE_Fortran_MODULE_DIRECTORY ${CMAKE_BINARY_DIR}/mods)\n"
               + "".join(f"add_library({name} STATIC{of})\n" for name, of in files.items())
-              + "target_link_libraries(phys core)\nadd_executable(app main.f90)\ntarget_link_libraries(app phys core)\n")
+              + "target_link_libraries(phys core)\nadd_executable(app main.f90)\n"
+                "target_link_libraries(app phys core)\n")
         configure(room, tools)
     return make
 
@@ -182,7 +183,8 @@ FORTRAN = (
     Step("nothing to do again"),
 )
 FORTRAN_LARGE = (
-    Step("clean"), Step("touched", (touch("core/m7.f90"),)), Step("another interface", (edit("core/m0.f90", *INTERFACE),)),
+    Step("clean"), Step("touched", (touch("core/m7.f90"),)),
+    Step("another interface", (edit("core/m0.f90", *INTERFACE),)),
     Step("broken", (edit("core/m12.f90", "end module", "end modul e"),), ("-k", "0"), fails=True),
     Step("mended", (edit("core/m12.f90", "end modul e", "end module"),)),
     Step("another body", (edit("core/m0.f90", "x + 0", "x + 0 + 0"),)),
@@ -237,7 +239,8 @@ CXX = (
     Step("mended", (edit("core/m3.cppm", *reversed(BROKEN)),)),
     Step("a cycle of imports", (edit("core/m1.cppm", "import m0;\n", "import m3;\n"),), fails=True),
     Step("no cycle", (edit("core/m1.cppm", "import m3;\n", "import m0;\n"),)),
-    Step("no such module", (edit("phys/m9.cppm", "import m8;\n", "import m8;\nimport none;\n"),), ("-k", "0"), fails=True),
+    Step("no such module", (edit("phys/m9.cppm", "import m8;\n", "import m8;\nimport none;\n"),), ("-k", "0"),
+         fails=True),
     Step("and no import of it", (edit("phys/m9.cppm", "import none;\n", ""),)),
     Step("after -t clean", (clean,)),
     Step("one library", (touch("core/m0.cppm"),), ("core",)), Step("and the rest"),
@@ -274,11 +277,12 @@ def make_written(count: int) -> Callable[[pathlib.Path, Tools], None]:
             write(source / name, cxx_module(it, count))
         write(source / "main.cpp", cxx_main(count))
         write(source / "scan", SCAN)
-        text = ("rule scan\n  command = sh ../source/scan $in > $out\n  restat = 1\n"
+        text = ("rule scan\n  command = sh ../source/scan $in > $out\n"
                 "rule interface\n" + INTERFACES.format(cxx=tools.cxx)
                 + f"rule importer\n  command = {tools.cxx} -std=c++20 -fprebuilt-module-path=. -c $in -o $out\n"
                 f"rule link\n  command = {tools.cxx} $in -o $out\n"
-                f"build all.dd: scan {' '.join(f'../source/{it}' for it in names)} ../source/main.cpp | ../source/scan\n")
+                f"build all.dd: scan {' '.join(f'../source/{it}' for it in names)} ../source/main.cpp"
+                " | ../source/scan\n")
         for it, name in enumerate(names):
             text += f"build m{it}.o: interface ../source/{name} || all.dd\n  dyndep = all.dd\n  name = m{it}\n"
         text += ("build main.o: importer ../source/main.cpp || all.dd\n  dyndep = all.dd\n"

@@ -49,8 +49,8 @@ def version_of(cmake: str) -> tuple[int, ...]:
 
 
 def cmake(folder: pathlib.Path) -> str:
-    """A CMake that knows the modules of C++: that on the PATH, or the one of Debian's backports, which is unpacked in the
-    folder and not installed."""
+    """A CMake that knows the modules of C++: that on the PATH, or the one of Debian's backports, which is unpacked in
+    the folder and not installed."""
     target = folder / "cmake/usr/bin/cmake"
     if version_of("cmake") >= KNOWS_MODULES:
         return "cmake"

@@ -65,6 +65,7 @@ enum kind { SPAWN, EXEC, EXIT, UNSHARE, OPEN, STAT, LIST, LINK, SYMLINK, RENAME,
             TRUNCATE, META, SOCKET, URING, NAMESPACE, UNRESOLVED, TRACE, CHDIR, READLINK, LOAD, MODE, BIND, IPC, LOCK,
             SIGNAL, ATTRIBUTES, NOTIFIED, UNKNOWN, DEEP, LOOKED, LAST_TOLD = LOOKED,
             OTHER_USER, ADDRESS, MESSAGE, STATFS, IOCTL };
+enum { LONGEST_TRY = 120 }; /* seconds; a busy machine takes a hundred times as long as a quiet one */
 enum { NOT_ASKED = 1 << 30 }; /* the result of an open that went well: nobody asks for its descriptor */
 
 /* Which calls stop, and where their parts stand. `reading` says what the argument `flags` is; `mask` has flags that the
@@ -1461,7 +1462,7 @@ static int try_it(void) {
     int log[2];
     size_t got = 0;
     ssize_t n;
-    alarm(10);
+    alarm(LONGEST_TRY);
     if (pipe2(log, O_CLOEXEC)) return 1;
     pid_t child = fork();
     if (!child) {

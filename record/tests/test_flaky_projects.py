@@ -72,7 +72,7 @@ class FlakyProjects(unittest.TestCase):
                 self.assertEqual((said.returncode, said.stderr, objects.returncode), (4, "", 4))
                 orders = [it for it in map(json.loads, objects.stdout.splitlines()) if it["kind"] == "order"]
                 named = [it["command"] for it in orders if it["named"]]
-                self.assertEqual((orders[0]["anchor"], orders[0]["ties"], orders[0]["named"]), (project.anchor, [], True))
+                self.assertEqual([orders[0][it] for it in ("anchor", "ties", "named")], [project.anchor, [], True])
                 self.assertTrue(named and set(named) <= project.culprits, named)
                 first = next(it for it in said.stdout.splitlines() if it.startswith("  it separates: in "))
                 self.assertTrue(any(it in first for it in NAMED[project.name]), first)

@@ -15,7 +15,7 @@ from io import BytesIO
 import builds
 from observed_calls import NO_SUCH_CALL, Log, built, observed, whole
 from recorder.observed.calls import NOT_ASKED, Kind
-from recorder.observed.own import SOURCE, NotBuilt, Own, _built
+from recorder.observed.own import LONGEST_TRY, SOURCE, NotBuilt, Own, _built
 from recorder.observed.own_records import Records
 from recorder.observed.ways import Standing
 
@@ -152,6 +152,15 @@ class Building(unittest.TestCase):
     def test_a_cache_that_cannot_be_written(self):
         (self.room / "cache").mkdir(mode=0o500)
         self.assertEqual(subprocess.run([_built(self.source)]).returncode, 0)
+
+    def test_a_trial_has_time_on_a_busy_machine(self):
+        """The observer's own limit is the recorder's, and a trial that it ended is said as one that was too late."""
+        self.assertIn(f"LONGEST_TRY = {LONGEST_TRY} ", SOURCE.read_text())
+        self.assertGreaterEqual(LONGEST_TRY, 60)
+        program = self.room / "observer"
+        program.write_text("#!/bin/sh\nkill -ALRM $$\n")
+        program.chmod(0o755)
+        self.assertEqual(Own(program).refusal(), f"a trial of ptrace did not end within {LONGEST_TRY} seconds")
 
     def test_a_cache_that_is_a_file(self):
         (self.room / "cache").write_text("")

@@ -6,6 +6,7 @@ import os
 import pathlib
 import re
 import shutil
+import signal
 import subprocess
 import tempfile
 from collections.abc import Iterator
@@ -18,7 +19,9 @@ from .own_records import Records
 SOURCE = TOP / "record" / "observer" / "observer.c"
 COMPILERS = ("cc", "gcc", "clang")
 FLAGS = ("-std=c11", "-O2")
-_LONGEST_BUILD, _LONGEST_TRY = 120, 20  # seconds
+# Seconds; a busy machine takes a hundred times as long as a quiet one. The observer ends its trial itself (SIGALRM).
+LONGEST_BUILD, LONGEST_TRY, _TO_END = 900, 120, 30
+TOO_LATE = f"a trial of ptrace did not end within {LONGEST_TRY} seconds"
 
 
 class NotBuilt(Exception):
@@ -44,13 +47,15 @@ class Own:
         """Why it cannot observe here, as the rest of a sentence behind "cannot observe: "; None where it can."""
         try:
             tried = subprocess.run([self.program(), "--try"], stdin=subprocess.DEVNULL, stdout=subprocess.PIPE,
-                                   stderr=subprocess.DEVNULL, timeout=_LONGEST_TRY)
+                                   stderr=subprocess.DEVNULL, timeout=LONGEST_TRY + _TO_END)
         except (NotBuilt, OSError) as why:
             return str(why)
         except subprocess.TimeoutExpired:
-            return f"a trial of ptrace did not end within {_LONGEST_TRY} seconds"
+            return TOO_LATE
         if tried.returncode == 0:
             return None
+        if tried.returncode == -signal.SIGALRM:
+            return TOO_LATE
         return os.fsdecode(tried.stdout).strip() or f"a trial of ptrace ended with status {tried.returncode}"
 
     def words(self, log: bytes, ninja: list[bytes]) -> list[bytes]:
@@ -132,7 +137,7 @@ def _compile(source: pathlib.Path, program: pathlib.Path) -> None:
     os.close(handle)
     try:
         ran = subprocess.run([compiler, *FLAGS, "-o", staging, source], stdin=subprocess.DEVNULL,
-                             stdout=subprocess.PIPE, stderr=subprocess.STDOUT, timeout=_LONGEST_BUILD)
+                             stdout=subprocess.PIPE, stderr=subprocess.STDOUT, timeout=LONGEST_BUILD)
         if ran.returncode:
             said = os.fsdecode(ran.stdout).strip().splitlines()
             first = next((it for it in said if "error" in it), said[0] if said else f"status {ran.returncode}")
@@ -140,6 +145,6 @@ def _compile(source: pathlib.Path, program: pathlib.Path) -> None:
         os.chmod(staging, 0o755)
         os.replace(staging, program)
     except subprocess.TimeoutExpired as why:
-        raise NotBuilt(f"{compiler} did not build the observer within {_LONGEST_BUILD} seconds") from why
+        raise NotBuilt(f"{compiler} did not build the observer within {LONGEST_BUILD} seconds") from why
     finally:
         pathlib.Path(staging).unlink(missing_ok=True)
