@@ -10,6 +10,7 @@ import re
 import subprocess
 import sys
 from dataclasses import dataclass, field
+from typing import Any
 
 sys.path.append(str(pathlib.Path(__file__).resolve().parents[2] / "record"))
 
@@ -20,8 +21,10 @@ TAKEN = re.compile(r"(\d+) events?, none refused\n$")
 OWN_FILES = {".ninja_log", ".ninja_deps", ".ninja_lock"}
 BY = re.compile(r"  (implicit|implicit outputs) \(by (.+?)\): (.*)")
 PLAN_REFUSED = "1 event, 1 refused\n"
-FINDINGS = ("race", "cycle", "own", "clash")
-NO_RACE, FAILED_BUILD, CERTAIN = 0, 5, 0
+FINDINGS = ("race", "cycle", "own", "clash", "unstable")
+# Files that CMake's commands read and write beside their build lines, of which an observed recording has a finding.
+BESIDE_LINES = ("undeclared", "unlisted")
+NO_FINDING, FINDING, FAILED_BUILD, CERTAIN = 0, 4, 5, 0
 
 
 @dataclass
@@ -32,6 +35,7 @@ class Sums:
     commands: int = 0
     events: int = 0
     refused_by_both: int = 0
+    beside: int = 0
     by_logs: int = 0
     not_recorded: int = 0
     files: int = 0
@@ -67,6 +71,14 @@ def digest(room: pathlib.Path) -> dict[str, str]:
     found = [it for it in build.rglob("*") if it.is_file() and it.name not in OWN_FILES]
     return {str(it.relative_to(build)): hashlib.sha256(it.read_bytes().replace(os.fsencode(room), b"")).hexdigest()
             for it in found}
+
+
+def _is_beside(finding: dict[str, Any], manifest: Manifest) -> bool:
+    """Whether the lines of the manifest do not have a path: as an output of the maker, or as an input of the user."""
+    path = finding["path"].encode()
+    if finding["kind"] == "undeclared":
+        return path not in manifest.producer[finding["maker"]["output"].encode()].outputs
+    return path not in manifest.producer[finding["user"]["output"].encode()].inputs
 
 
 class Judge:
@@ -110,12 +122,17 @@ class Judge:
         self.sums.files += len(loaded(recording))
 
     def races(self, name: str, recording: pathlib.Path, fails: bool) -> None:
-        """No race is found. Of a build that failed by its sources no cause is known."""
+        """No race is found, and the line of an undeclared or unlisted path does not have it. Of a build that failed by
+        its sources no cause is known."""
         ran = run(self.program, "races", "--json", recording)
-        found = [it for it in map(json.loads, ran.stdout.splitlines()) if it["kind"] in FINDINGS]
-        due = (FAILED_BUILD, NO_RACE) if fails else (NO_RACE,)
-        if found or ran.returncode not in due:
-            self.missed(f"{name}: races", ran)
+        answers = [json.loads(it) for it in ran.stdout.splitlines()]
+        beside = [it for it in answers if it["kind"] in BESIDE_LINES]
+        manifest = manifest_of(recording)
+        wrong = [it for it in beside if not _is_beside(it, manifest)]
+        due = FINDING if beside else FAILED_BUILD if fails else NO_FINDING
+        if wrong or any(it["kind"] in FINDINGS for it in answers) or ran.returncode not in (due, NO_FINDING):
+            self.missed(f"{name}: races, {wrong[:1]}", ran)
+        self.sums.beside += len(beside)
 
     def certified(self, name: str, recording: pathlib.Path) -> None:
         """A build from nothing is certain."""

@@ -74,6 +74,18 @@ class RecordingsOfDyndep(unittest.TestCase):
                          (step.out / "dyndep/manifest/build.ninja").read_bytes().count(b"\n"))
 
 
+    @unittest.skipIf(builds.missing_tools("ninja"), "there is no Ninja")
+    def test_a_path_that_its_former_command_writes_again(self):
+        """By its dyndep file `m` is one of `f`, and no longer of `e`, whose command writes it all the same. The file then
+        has another stamp than Ninja's log, and the trace says when: while `e` ran."""
+        trace = (recorded("Moved", 4)[1].out / "trace").read_text().splitlines()
+        made, started, ended = (next(at for at, it in enumerate(trace) if it.startswith(word))
+                                for word in ("finish f ", "start e ", "finish e "))
+        touched = [at for at, it in enumerate(trace) if it.startswith("touch m ")]
+        self.assertEqual(len(touched), 1, trace)
+        self.assertTrue(made < started < touched[0] < ended, trace)
+        self.assertGreater(int(trace[touched[0]].split(" ")[2]), int(trace[made].split(",")[1]))
+
     def said_of(self, step: Step, own: Manifest) -> dict[int, tuple[list[bytes], list[bytes]]]:
         """The outputs and implicit inputs of each edge by the loaded files' contents, as `shuffle` reads them."""
         notes = [it.split(" ") for it in (step.out / "dyndep/notes").read_text().splitlines()]

@@ -3,8 +3,6 @@ And what Ninja does not keep in order is not recorded as if it did."""
 
 from __future__ import annotations
 
-import functools
-import importlib.util
 import os
 import pathlib
 import shutil
@@ -21,12 +19,6 @@ from versions import since
 
 RECORDINGS = "modules"
 MODULES = 8
-BENCH = builds.RECORDER.parent.parent / "bench/modules"
-# The project of bench/modules that is recorded here, and which of its builds.
-LIBRARIES, BUILDS_OF_LIBRARIES = "fortran-12", (
-    "clean", "one use more", "a second module in a file", "which is used", "which moves to another file",
-    "which is taken away", "and is not used", "broken", "mended", "a cycle of uses", "no cycle", "after -t clean",
-    "a dyndep file is gone", "CMake runs again")
 
 # A module interface and its importer. clang 14 has no scanner, so the dyndep file stands there.
 CXX = """rule interface
@@ -115,16 +107,6 @@ def mended(manifest: str) -> str:
     return manifest.replace("build a.o: compile a ", "build a.o: compile a | base.o ")
 
 
-@functools.lru_cache(maxsize=None)
-def bench(name: str):
-    """A module of bench/modules."""
-    spec = importlib.util.spec_from_file_location(f"bench_modules_{name}", BENCH / f"{name}.py")
-    assert spec and spec.loader
-    module = sys.modules[spec.name] = importlib.util.module_from_spec(spec)
-    spec.loader.exec_module(module)
-    return module
-
-
 def write(folder: pathlib.Path, **files: str) -> None:
     """Writes files, with stamps that differ from those before."""
     time.sleep(0.012)
@@ -174,25 +156,6 @@ class Modules(unittest.TestCase):
             self.record(room, "failing", f"-j{jobs}", "-k", "0", status=1)
             write(source, **{"m2.f90": text})
             self.record(room, "mended", f"-j{jobs}")
-
-    def test_libraries_of_fortran_by_cmake(self):
-        """Uses come, go and move between two libraries, a compile fails in the middle, and a dyndep file is gone."""
-        lacking = builds.missing_tools("cmake", "gfortran", "ninja")
-        if lacking:
-            self.skipTest(lacking)
-        project = next(it for it in bench("projects").ALL if it.name == LIBRARIES)
-        steps = [it for it in project.steps if it.name in BUILDS_OF_LIBRARIES]
-        self.assertEqual(len(steps), len(BUILDS_OF_LIBRARIES))
-        room = self.room("libraries")
-        project.make(room, bench("projects").Tools())
-        for number, step in enumerate(steps, 1):
-            with self.subTest(step.name):
-                for change in step.changes:
-                    change(room)
-                observing = ("--observe", "--observer", "own") if number == 1 else ()
-                self.record(room, str(number), "-j4", *step.words, status=int(step.fails), own=observing)
-                self.assertTrue((room / str(number) / "replay").exists())
-        self.record(room, "by-logs", own=("--from-logs",))
 
     def fortran(self) -> dict[str, str]:
         """The files of a project: each module uses the one before it."""

@@ -15,7 +15,7 @@ import unittest
 import builds
 from dyndep_cases import JOBS
 from recorder.checking import check
-from test_recordings_of_modules import HIDDEN_BY, RECORDINGS, bench, write
+from test_recordings_of_modules import HIDDEN_BY, RECORDINGS, write
 from test_replays import program, why_not
 from test_replays_of_races import program as asking
 
@@ -73,28 +73,6 @@ class ReplaysOfDyndep(unittest.TestCase):
             if (folder / f"order.{jobs}").is_dir():
                 status, said = self.asked("certify", folder / f"order.{jobs}/anyway")
                 self.assertEqual((status, said.split(":")[0]), (NOT_CERTAIN, "not certain"), said)
-
-    def libraries(self) -> list[pathlib.Path]:
-        """The recordings of Fortran's modules in two libraries."""
-        folder = builds.recordings() / RECORDINGS / "libraries"
-        if not (folder / "1").is_dir() or not os.access(asking(), os.X_OK):
-            self.skipTest(f"there is no program at {asking()}, or no such build was recorded on this machine")
-        return sorted(it.parent for it in folder.glob("*/replay"))
-
-    def test_each_path_of_a_dyndep_file_is_named_with_it(self):
-        judging = bench("judging")
-        for recording in self.libraries():
-            with self.subTest(recording.name):
-                sums = judging.Sums()
-                judging.Judge(pathlib.Path(asking()), sums).named(recording.name, recording)
-                self.assertEqual(sums.faults, [])
-                self.assertTrue(sums.named or not sums.files, sums)
-
-    def test_modules_from_nothing_are_certain_and_have_no_race(self):
-        first = self.libraries()[0].parent / "1"
-        status, said = self.asked("certify", first)
-        self.assertEqual((status, said.split(":")[0]), (0, "certain"), said)
-        self.assertEqual(self.asked("races", first)[0], 0)
 
     def hidden(self) -> list[tuple[pathlib.Path, str]]:
         """The recordings of a hidden `use`, and the manifest of each."""
