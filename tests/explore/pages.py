@@ -52,10 +52,10 @@ function answered(model, questions) {
 }
 """
 IN_NODE = """
-let {Model, Desk, rowsOf, bandsOf, loadOf, searched} = require(process.argv[1]);
-%s
-const {data, questions} = JSON.parse(require('fs').readFileSync(0, 'utf8'));
-console.log(JSON.stringify(answered(new Model(data), questions)));
+const {readFileSync} = require('fs');
+const {data, questions} = JSON.parse(readFileSync(0, 'utf8'));
+console.log(JSON.stringify(new Function('data', 'questions', readFileSync(process.argv[1], 'utf8') + process.argv[2] +
+  'return answered(new Model(data), questions);')(data, questions)));
 """
 # Bad bodies that the tests must find: each takes the place of a function of the page.
 BAD = {
@@ -84,10 +84,12 @@ Desk.prototype.undoRefused = function (at) {
 };
 """,
     "bars of less than a pixel are left out": """
-bandsOf = ((whole) => (model, row, view, flags, visit) => whole(model, row, view, flags, (left, right, run, ...more) => {
+bandsOf = ((whole) => (model, row, view, flags, visit) => {
   const scale = view.width / (view.to - view.from);
-  if ((model.runTo[run] - model.runFrom[run]) * scale >= 1) visit(left, right, run, ...more);
-}))(bandsOf);
+  whole(model, row, view, flags, (left, right, run, ...more) => {
+    if ((model.runTo[run] - model.runFrom[run]) * scale >= 1) visit(left, right, run, ...more);
+  });
+})(bandsOf);
 """,
     "bars are as wide as they lasted": """
 bandsOf = (model, row, view, flags, visit) => row.runs.forEach((run) => {
@@ -127,7 +129,7 @@ def recording_of(page: bytes) -> Any:
 def in_node(node: str, data: Any, questions: list[list[Any]], bad: str = "") -> list[Any]:
     """What the model answers. A bad body takes the place of one of its functions."""
     given = json.dumps({"data": data, "questions": questions})
-    words = [node, "-e", IN_NODE % (ANSWERS + bad), MODEL]
+    words = [node, "-e", IN_NODE, MODEL, ANSWERS + bad]
     ran = subprocess.run(words, input=given, capture_output=True, text=True, timeout=600, check=False)
     if ran.returncode:
         raise AssertionError(ran.stderr)
