@@ -73,7 +73,7 @@ const throughOf = (/** @type {string} */ through) => through ? ` through ${throu
 class Page {
   /** @param {Object<string, any>} first */
   constructor(first) {
-    this.tracks = first.recordings.map((/** @type {any} */ it) => new Track(new Model(it)));
+    this.tracks = /** @type {Track[]} */ (first.recordings.map((/** @type {any} */ it) => new Track(new Model(it))));
     this.differences = first.differences;
     this.chosen = /** @type {?Chosen} */ (null);
     this.active = /** @type {Track} */ (this.tracks[0]);
