@@ -35,10 +35,9 @@ const part = (/** @type {string} */ id) => /** @type {any} */ (document.getEleme
 function fill(panel, inside) {
   const held = /** @type {any} */ (document.activeElement), isIn = panel.contains(held);
   panel.replaceChildren(...inside.filter((it) => it));
-  const {event, finding} = isIn ? held.dataset : {}, [name, value] = event ? ['data-event', event] :
-    finding ? ['data-finding', finding] : ['id', isIn && held.id];
+  const {event} = isIn ? held.dataset : {}, [name, value] = event ? ['data-event', event] : ['id', isIn && held.id];
   const found = value && panel.querySelector(`[${name}="${CSS.escape(value)}"]:enabled`);
-  if (isIn) (found || panel.querySelector('h2, button')).focus();
+  if (isIn) (found || panel.querySelector('.finding[aria-pressed=true]') || panel.querySelector('h2, button')).focus();
 }
 
 /** A part of a panel: a heading that opens and shuts it, and entries, of which the first ones stand there until a
@@ -315,7 +314,7 @@ class Page {
     if (runs.length) this.choose(track, track.model.runStart[runs[runs.length - 1]]);
     this.chart.bring(track, runs, true);
     this.turnTo('findings');
-    this.note(`finding=${it.id}`);
+    if (it.id) this.note(`finding=${it.id}`);
     this.showFindings();
     this.changed(`${it.title} is chosen`);
   }
