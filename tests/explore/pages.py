@@ -52,11 +52,58 @@ function answered(model, questions) {
 }
 """
 IN_NODE = """
-const {Model, Desk, rowsOf, bandsOf, loadOf, searched} = require(process.argv[1]);
-%s
-const {data, questions} = JSON.parse(require('fs').readFileSync(0, 'utf8'));
-console.log(JSON.stringify(answered(new Model(data), questions)));
+const {readFileSync} = require('fs');
+const {data, questions} = JSON.parse(readFileSync(0, 'utf8'));
+console.log(JSON.stringify(new Function('data', 'questions', readFileSync(process.argv[1], 'utf8') + process.argv[2] +
+  'return answered(new Model(data), questions);')(data, questions)));
 """
+# Bad bodies that the tests must find: each takes the place of a function of the page.
+BAD = {
+    "a cone by the build graph": """
+Desk.prototype.cone = function (at) {
+  const {model} = this, {behind} = model.data, made = new Set();
+  const edgeOf = (it) => model.runOf[it] < 0 ? -1 : model.runEdge[model.runOf[it]], taken = new Set([edgeOf(at)]);
+  const names = (edge, ...lists) => lists.flatMap((it) => behind[it][edge]).map((it) => behind.texts[it]);
+  if (!this.isKept(at)) return [];
+  for (const edge of taken) {
+    if (edge < 0) continue;
+    names(edge, 'outputs', 'implicit_outputs').forEach((it) => made.add(it));
+    model.edgeOutput.forEach((_, it) => {
+      if (names(it, 'explicit', 'implicit', 'order_only').some((name) => made.has(name))) taken.add(it);
+    });
+  }
+  return [...model.kinds.keys()].filter((it) => it >= at && this.isKept(it) && taken.has(edgeOf(it)));
+};
+""",
+    "an undo that nothing refuses": "Desk.prototype.undoRefused = () => null;",
+    "an undo that build lines alone refuse": """
+Desk.prototype.undoRefused = function (at) {
+  const through = (it) => this.model.through(it, at);
+  const other = this.model.dependents(at).find((it) => through(it).startsWith('the mark of'));
+  return other === undefined ? null : {code: 82, other, through: through(other)};
+};
+""",
+    "bars of less than a pixel are left out": """
+bandsOf = ((whole) => (model, row, view, flags, visit) => {
+  const scale = view.width / (view.to - view.from);
+  whole(model, row, view, flags, (left, right, run, ...more) => {
+    if ((model.runTo[run] - model.runFrom[run]) * scale >= 1) visit(left, right, run, ...more);
+  });
+})(bandsOf);
+""",
+    "bars are as wide as they lasted": """
+bandsOf = (model, row, view, flags, visit) => row.runs.forEach((run) => {
+  const x = (time) => (time - view.from) * view.width / (view.to - view.from);
+  if (model.runTo[run] >= view.from && model.runFrom[run] <= view.to) {
+    visit(x(model.runFrom[run]), x(model.runTo[run]), run, 1, flags[run], flags[run]);
+  }
+});
+""",
+    "labels are cut": "Model.prototype.label = function (run) { return this.output(run).slice(0, 24); };",
+    "labels are the last part of a path": """
+Model.prototype.label = function (run) { return this.output(run).split('/').pop(); };
+""",
+}
 
 
 def made(program: str, *words: str) -> bytes:
@@ -79,10 +126,10 @@ def recording_of(page: bytes) -> Any:
     return data_of(page)["recordings"][0]
 
 
-def in_node(node: str, data: Any, questions: list[list[Any]]) -> list[Any]:
-    """What the model answers."""
+def in_node(node: str, data: Any, questions: list[list[Any]], bad: str = "") -> list[Any]:
+    """What the model answers. A bad body takes the place of one of its functions."""
     given = json.dumps({"data": data, "questions": questions})
-    words = [node, "-e", IN_NODE % ANSWERS, MODEL]
+    words = [node, "-e", IN_NODE, MODEL, ANSWERS + bad]
     ran = subprocess.run(words, input=given, capture_output=True, text=True, timeout=600, check=False)
     if ran.returncode:
         raise AssertionError(ran.stderr)

@@ -14,6 +14,7 @@ class Track {
     this.model = model;
     this.desk = new Desk(model);
     this.details = /** @type {?Object<string, any>} */ (null);
+    this.makerOf = /** @type {Map<string, number>} */ (new Map());
     this.rows = /** @type {Row[]} */ ([]);
     this.turned = /** @type {Set<number>} */ (new Set());
     this.rowOfRun = new Int32Array(model.runs);
@@ -55,11 +56,12 @@ class Chart {
     this.scroll = 0;
     this.by = 'lanes';
     this.isAsked = false;
+    this.toRight = this.toLeft = /** @type {?CanvasPattern} */ (null);
+    this.drawn = /** @type {Set<string>} */ (new Set());
     this.measure();
-    this.layOut();
   }
 
-  /** Sizes by the font, so that the chart grows with the page. */
+  /** Sizes by the font, so that the chart grows with the page, and where all stands by them. */
   measure() {
     const style = getComputedStyle(document.body);
     this.colours = Object.fromEntries(COLOURS.map((name) => [name, style.getPropertyValue(`--${name}`).trim()]));
@@ -78,6 +80,7 @@ class Chart {
     this.ratio = ratio;
     [this.toRight, this.toLeft] = [this.strokes(this.colours.cone, 1), this.strokes(this.colours.past, -1)];
     this.loads = null;
+    this.layOut();
   }
 
   layOut() {
@@ -299,6 +302,7 @@ class Chart {
     const {pen, colours} = this, {chosen} = this.page;
     if (!chosen) return;
     const {track, run} = chosen;
+    this.drawn.clear();
     pen.lineWidth = 2;
     pen.strokeStyle = pen.fillStyle = colours.past;
     pen.setLineDash([6, 3]);
@@ -322,14 +326,17 @@ class Chart {
     return [this.x(isEnd ? runTo[run] : runFrom[run]), top + this.rowHeight / 2];
   }
 
-  /** @param {Track} track @param {number} from @param {number} to */
+  /** Draws a line from one run to another, but where a line of two others would cover it.
+   * @param {Track} track @param {number} from @param {number} to */
   drawLine(track, from, to) {
     const {pen} = this, {runFrom, runTo} = track.model, near = (/** @type {number[]} */ [x, y]) =>
       [Math.max(-9999, Math.min(x, 9999)), Math.max(-9999, Math.min(y, 9999))];
     const [x, y] = near(this.spot(track, from, runTo[from] <= runFrom[to]));
     const [end, below] = near(this.spot(track, to, false));
-    const bend = Math.max(20, Math.abs(end - x) / 3);
-    if (Math.max(y, below) < 0 || Math.min(y, below) > this.height || Math.max(x, end) < 0) return;
+    const bend = Math.max(20, Math.abs(end - x) / 3), place = [x, y, end, below].map(Math.round).join(' ');
+    const isAway = Math.max(y, below) < 0 || Math.min(y, below) > this.height || Math.max(x, end) < 0;
+    if (isAway || this.drawn.has(place)) return;
+    this.drawn.add(place);
     pen.beginPath();
     pen.moveTo(x, y);
     pen.bezierCurveTo(x + bend, y, end - bend, below, end, below);
@@ -355,7 +362,7 @@ class Chart {
     if (!track || at === NONE) return null;
     const row = track.rows[at], isHead = row.isHead && place > track.tops[at] - this.rowHeight;
     if (place < track.tops[at]) return isHead ? {track, head: row.group, run: NONE, count: 0} : null;
-    let found = null;
+    let found = /** @type {any} */ (null);
     bandsOf(track.model, row, this.view, track.flags, (left, right, run, count) => {
       if (x >= left - 2 && x <= right + 2 && (!found || x >= left)) found = {track, head: NONE, run, count};
     });

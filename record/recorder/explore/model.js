@@ -20,6 +20,18 @@ const LEAST_BAR = 2;
 /** So many rows are laid out at most; where there are more, folders are folded. */
 const MOST_ROWS = 120;
 
+/** Lists of what has the same key, in the order of the keys' first places.
+ * @template T, K @param {T[]} list @param {(it: T) => K} keyOf @return {Map<K, T[]>} */
+function grouped(list, keyOf) {
+  const found = new Map();
+  for (const it of list) {
+    const key = keyOf(it), group = found.get(key);
+    if (group) group.push(it);
+    else found.set(key, [it]);
+  }
+  return found;
+}
+
 /** A recording: its kept events, what each rests on, its runs and its edges. */
 class Model {
   /** @param {Object<string, any>} data */
@@ -35,7 +47,10 @@ class Model {
     this.setNeeds();
     this.setEdges();
     this.setRuns();
-    this.setLooks();
+    this.looksOf = grouped(/** @type {any[][]} */ (data.looks), (it) => it[0]);
+    const leaves = [...this.kinds.keys()].filter((at) => /^(finish|touch)$/.test(this.kinds[at]));
+    /** The events that left each path as it is: the ends of the command that makes it, and its touches. */
+    this.left = grouped(leaves, (at) => this.pathOf(at));
   }
 
   /** Where each event stands on the axis: at its time, or by its place where the recording has no times. */
@@ -90,14 +105,6 @@ class Model {
     this.critical = new Set(/** @type {number[]} */ (this.data.critical).map((it) => this.runAt(it)));
   }
 
-  setLooks() {
-    this.looksOf = new Map();
-    for (const it of this.data.looks) {
-      if (!this.looksOf.has(it[0])) this.looksOf.set(it[0], []);
-      this.looksOf.get(it[0]).push(it);
-    }
-  }
-
   /** The run of the event of this number, or NONE. @param {?number} number */
   runAt(number) {
     const at = number === null ? undefined : this.placeOf.get(number);
@@ -116,10 +123,7 @@ class Model {
   named(at) { return `${this.events.number[at]} ${this.words(at)}`; }
 
   /** @param {number} at */
-  pathOf(at) {
-    const path = this.events.path[at];
-    return path === NONE ? '' : this.texts[path];
-  }
+  pathOf(at) { return this.events.path[at] === NONE ? '' : this.texts[this.events.path[at]]; }
 
   /** @param {number} run */
   output(run) { return this.pathOf(this.runStart[run]); }
@@ -131,10 +135,7 @@ class Model {
   }
 
   /** The last run of the command of this output, or NONE. @param {string} output */
-  lastRun(output) {
-    const edge = this.edgeOf.get(output), runs = edge === undefined ? [] : this.runsOfEdge[edge];
-    return runs.length ? runs[runs.length - 1] : NONE;
-  }
+  lastRun(output) { return (this.runsOfEdge[this.edgeOf.get(output)] || []).at(-1) ?? NONE; }
 
   /** @param {number} run */
   eventsOf(run) { return this.runEnd[run] === NONE ? [this.runStart[run]] : [this.runStart[run], this.runEnd[run]]; }
@@ -280,12 +281,9 @@ class Desk {
     return isOver ? {state: MARKS[model.runState[run]], by: runEnd[run]} : {state: 'running', by: runStart[run]};
   }
 
-  /** The last kept event that left a path: the end of its edge's run, or a touch.
-   * @param {number} path @param {number} edge */
-  leftBy(path, edge) {
-    const {model} = this;
-    return this.lastKept((at) => model.events.path[at] === path && model.kinds[at] === 'touch' ||
-      model.kinds[at] === 'finish' && model.runOf[at] !== NONE && model.runEdge[model.runOf[at]] === edge);
+  /** The last kept event that left a path as it is, or NONE. @param {string} path */
+  leftBy(path) {
+    return (this.model.left.get(path) || []).filter((at) => this.isKept(at)).at(-1) ?? NONE;
   }
 
   /** The last kept event that passes a test, or NONE. @param {(at: number) => boolean} isWanted */
@@ -328,13 +326,10 @@ function rowOf(model, label, runs, group = NONE, isHead = false, isFolded = fals
 function rowsOf(model, by, turned) {
   const all = Array.from({length: model.runs}, (_, run) => run);
   if (by === 'lanes') return packed(model, all).map((runs, at) => rowOf(model, `lane ${at + 1}`, runs));
-  const groups = new Map();
-  for (const run of all) {
+  const groups = grouped(all, (run) => {
     const group = model.runEdge[run] === NONE ? NONE : model.data.edges[by][model.runEdge[run]];
-    const name = group === NONE ? `no ${by}` : model.texts[group];
-    if (!groups.has(name)) groups.set(name, []);
-    groups.get(name).push(run);
-  }
+    return group === NONE ? `no ${by}` : model.texts[group];
+  });
   const names = [...groups.keys()].sort();
   const lanes = names.map((name) => packed(model, groups.get(name)));
   const isMany = lanes.reduce((sum, it) => sum + it.length, 0) > MOST_ROWS;
@@ -470,8 +465,4 @@ function lasting(milliseconds) {
 function stepOf(least) {
   const power = 10 ** Math.floor(Math.log10(Math.max(least, 1)));
   return [1, 2, 5, 10].map((it) => it * power).find((it) => it >= least) || power;
-}
-
-if (typeof module !== 'undefined') {
-  module.exports = {Model, Desk, packed, rowsOf, bandsOf, loadOf, searched, matcher, lasting, stepOf, NONE};
 }

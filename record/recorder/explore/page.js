@@ -6,9 +6,12 @@ const CHUNKED = [['listed', 'Its list of what it read'], ['besides', 'Read besid
 const OBSERVED = [['reads', 'Observed reads'], ['writes', 'Observed writes'], ['edits', 'Observed edits'],
   ['deletes', 'Observed deletions'], ['temps', 'Observed temporary files']];
 
+/** The buttons that do what a key does. */
+const BUTTONS = Object.entries(
+  {near: 'w', far: 's', help: '?', first: 'Home', back: ',', forth: '.', next: 'n', last: 'End', break: 'b'});
+
 /** An element of the document. Texts become text nodes, and are never read as markup.
- * @param {string} tag @param {Object<string, any>} [given] @param {...(Node|string|null|undefined|false)} inside
- * @return {any} */
+ * @param {string} tag @param {Object<string, any>} [given] @param {...any} inside @return {any} */
 function element(tag, given = {}, ...inside) {
   const made = document.createElement(tag);
   for (const [name, value] of Object.entries(given)) {
@@ -27,6 +30,16 @@ function button(given, click, ...inside) {
 
 const part = (/** @type {string} */ id) => /** @type {any} */ (document.getElementById(id));
 
+/** Gives a panel what it has now. What had the focus there has it again, or else the first heading or button.
+ * @param {HTMLElement} panel @param {any[]} inside */
+function fill(panel, inside) {
+  const held = /** @type {any} */ (document.activeElement), isIn = panel.contains(held);
+  panel.replaceChildren(...inside.filter((it) => it));
+  const {event} = isIn ? held.dataset : {}, [name, value] = event ? ['data-event', event] : ['id', isIn && held.id];
+  const found = value && panel.querySelector(`[${name}="${CSS.escape(value)}"]:enabled`);
+  if (isIn) (found || panel.querySelector('.finding[aria-pressed=true]') || panel.querySelector('h2, button')).focus();
+}
+
 /** A part of a panel: a heading that opens and shuts it, and entries, of which the first ones stand there until a
  * button is pressed. Nothing where there are no entries.
  * @param {string} title @param {number} count @param {(at: number) => Node|string} entry @param {boolean} [isOpen] */
@@ -34,16 +47,17 @@ function section(title, count, entry, isOpen = true) {
   if (!count) return null;
   const list = element('ul');
   const made = element('details', {open: isOpen}, element('summary', {}, `${title} (${count})`), list);
-  const fill = (/** @type {number} */ to) => {
+  const add = (/** @type {number} */ to) => {
     for (let at = list.childElementCount; at < to; at++) list.append(element('li', {}, entry(at)));
   };
   const show = () => {
     if (list.childElementCount || !made.open) return;
-    fill(Math.min(count, MOST_ENTRIES));
+    add(Math.min(count, MOST_ENTRIES));
     if (count <= MOST_ENTRIES) return;
     const more = button({}, () => {
       more.remove();
-      fill(count);
+      add(count);
+      made.firstChild.focus();
     }, `show all ${count}`);
     made.append(more);
   };
@@ -58,7 +72,7 @@ const throughOf = (/** @type {string} */ through) => through ? ` through ${throu
 class Page {
   /** @param {Object<string, any>} first */
   constructor(first) {
-    this.tracks = first.recordings.map((/** @type {any} */ it) => new Track(new Model(it)));
+    this.tracks = /** @type {Track[]} */ (first.recordings.map((/** @type {any} */ it) => new Track(new Model(it))));
     this.differences = first.differences;
     this.chosen = /** @type {?Chosen} */ (null);
     this.active = /** @type {Track} */ (this.tracks[0]);
@@ -74,7 +88,10 @@ class Page {
 
   /** Takes what is read behind the first look. @param {number} at @param {Object<string, any>} details */
   addDetails(at, details) {
-    this.tracks[at].details = details;
+    const track = this.tracks[at];
+    track.details = details;
+    track.makerOf = new Map(['implicit_outputs', 'outputs'].flatMap((name) => details[name].flatMap(
+      (/** @type {number[]} */ texts, /** @type {number} */ edge) => texts.map((it) => [details.texts[it], edge]))));
     this.showChosen();
     if (part('query').value) this.search();
   }
@@ -136,6 +153,8 @@ class Page {
   /** Works out how each run is drawn. */
   flag() {
     const {chosen, finding} = this;
+    const add = (/** @type {Track} */ track, /** @type {number[]} */ runs, /** @type {number} */ flag) =>
+      runs.forEach((run) => { track.flags[run] |= flag; });
     for (const track of this.tracks) {
       const {model, desk, flags} = track;
       for (let run = 0; run < model.runs; run++) {
@@ -145,8 +164,8 @@ class Page {
         else if (start >= desk.moment) flags[run] |= LATER;
         else if (end !== NONE && !desk.isKept(end)) flags[run] = flags[run] & ~(FAILED | STOPPED) | RUNNING;
       }
-      for (const edge of track.hits) model.runsOfEdge[edge].forEach((run) => { flags[run] |= HIT; });
-      if (finding && this.active === track) track.runsOf(finding).forEach((run) => { flags[run] |= CHOSEN; });
+      for (const edge of track.hits) add(track, model.runsOfEdge[edge], HIT);
+      if (finding && this.active === track) add(track, track.runsOf(finding), CHOSEN);
     }
     if (chosen) {
       const {track, at, run} = chosen, {model, flags, desk} = track;
@@ -155,14 +174,12 @@ class Page {
       };
       mark(desk.cone(at), IN_CONE);
       mark(model.past(at), IN_PAST);
-      for (const it of [...chosen.past, ...chosen.future]) flags[it] |= DIRECT;
+      add(track, [...chosen.past, ...chosen.future], DIRECT);
       if (run !== NONE) flags[run] |= CHOSEN;
       for (const it of chosen.same) it.track.flags[it.run] |= CHOSEN;
     }
     this.chart.ask();
   }
-
-  // What is chosen.
 
   /** A button that chooses an event. @param {Track} track @param {number} at @param {string} [behind] */
   eventButton(track, at, behind = '') {
@@ -183,8 +200,8 @@ class Page {
     const needs = model.needs(at), looks = model.looksOf.get(at) || [], dependents = model.dependents(at);
     const cone = desk.cone(at), name = model.named(at);
     const linked = (/** @type {number} */ it, /** @type {string} */ by) => this.eventButton(track, it, throughOf(by));
-    panel.replaceChildren(...[
-      element('h2', {}, run === NONE ? model.words(at) : model.output(run)),
+    fill(panel, [
+      element('h2', {tabindex: -1}, run === NONE ? model.words(at) : model.output(run)),
       this.facts(track, run, edge), this.deskButtons(track, at),
       section('Its events', events.length, (it) => {
         const made = this.eventButton(track, events[it]);
@@ -198,7 +215,16 @@ class Page {
       }),
       section(`On ${name} rest`, dependents.length, (it) => linked(dependents[it], model.through(dependents[it], at))),
       section('An undo with its cone takes', cone.length, (it) => this.eventButton(track, cone[it]), cone.length < 20),
-      ...edge === NONE ? [] : this.details(track, edge)].filter((it) => it));
+      ...edge === NONE ? [] : this.details(track, edge)]);
+  }
+
+  /** A path, and what left it as it is at the moment. @param {Track} track @param {string} path */
+  pathAt(track, path) {
+    const {model, desk, makerOf} = track, edge = makerOf.get(path);
+    const name = edge === undefined ? path : model.texts[model.edgeOutput[edge]], left = desk.leftBy(name);
+    if (!model.left.has(name)) return path;
+    return element('span', {}, `${path}, as `, left === NONE ? 'the recording found it' :
+      this.eventButton(track, left, ' left it'));
   }
 
   /** @param {Track} track @param {number} run @param {number} edge */
@@ -216,7 +242,7 @@ class Page {
       if (model.critical.has(run)) rows.push(['Critical', 'the end of the build waited for it']);
     }
     if (edge !== NONE) {
-      const mark = desk.markOf(edge), left = desk.leftBy(model.edgeOutput[edge], edge);
+      const mark = desk.markOf(edge), left = desk.leftBy(model.texts[model.edgeOutput[edge]]);
       rows.push(['At this moment', mark.by === NONE ? mark.state : `${mark.state}, by ${model.named(mark.by)}`]);
       rows.push(['Its output', left === NONE ? 'as the recording found it' : `as ${model.named(left)} left it`]);
     }
@@ -227,10 +253,11 @@ class Page {
   deskButtons(track, at) {
     const {desk} = track, cone = desk.cone(at).length, back = desk.redoWith(at).length;
     return element('p', {class: 'buttons'},
-      button({id: 'undo', disabled: !desk.isKept(at)}, () => this.undo(), 'Undo ', element('kbd', {}, 'u')),
-      button({id: 'cone', disabled: !cone}, () => this.undoCone(), `Undo its cone: ${cone} `, element('kbd', {}, 'U')),
-      button({id: 'redo', disabled: !back}, () => this.redo(), 'Redo ', element('kbd', {}, 'r')),
-      back > 1 && button({id: 'redo-with'}, () => this.redoWith(), `Redo with what it rests on: ${back}`));
+      button({id: 'undo', disabled: !desk.isKept(at)}, () => this.turn(true), 'Undo ', element('kbd', {}, 'u')),
+      button({id: 'cone', disabled: !cone},
+        () => this.turnAll(true), `Undo its cone: ${cone} `, element('kbd', {}, 'U')),
+      button({id: 'redo', disabled: !back}, () => this.turn(false), 'Redo ', element('kbd', {}, 'r')),
+      back > 1 && button({id: 'redo-with'}, () => this.turnAll(false), `Redo with what it rests on: ${back}`));
   }
 
   /** What is read behind the first look. @param {Track} track @param {number} edge @return {(Node|null)[]} */
@@ -248,13 +275,14 @@ class Page {
       failed && element('h3', {}, 'It printed'), failed && element('pre', {}, failed.printed.join('\n')),
       why && names(`Why it ran${why.of === output ? '' : `: ${why.of}`}`, why.lines, 20),
       planned !== undefined && element('p', {}, 'as the build stood at ', this.eventButton(track, planned)),
-      ...LISTS.map(([name, title]) => names(title, texts(details[name][edge]), 20)),
+      ...LISTS.map(([name, title]) => {
+        const list = texts(details[name][edge]);
+        return section(title, list.length, (it) => this.pathAt(track, list[it]), list.length < 20);
+      }),
       ...CHUNKED.map(([name, title]) => names(title, textsOf(details, details[name][edge]))),
       ...OBSERVED.map(([name, title]) => names(title, pathsOf(details.observed, seen[name]))),
     ];
   }
-
-  // Findings.
 
   showFindings() {
     const findings = (/** @type {Track} */ it) => /** @type {Finding[]} */ (it.model.data.findings);
@@ -268,14 +296,14 @@ class Page {
     }}, element('option', {value: ''}, `every kind (${all.length})`), ...[...counts].map(([kind, count]) =>
       element('option', {value: kind, selected: kind === this.kind}, `${kind} (${count})`)));
     const told = all.filter(({it}) => !this.kind || it.kind === this.kind);
-    part('panel-findings').replaceChildren(element('label', {}, 'Kind ', choice),
+    fill(part('panel-findings'), [element('label', {}, 'Kind ', choice),
       section('Findings', told.length, (at) => {
         const {track, it} = told[at], where = this.tracks.length > 1 ? [`in ${track.model.data.name}`] : [];
         const given = {class: 'finding', 'aria-pressed': String(it === this.finding), 'data-finding': it.id};
         return button(given, () => this.chooseFinding(track, it), element('strong', {}, it.title),
           ...[...it.lines, ...where].map((line) => element('div', {}, line)),
           it.printed && element('pre', {}, it.printed.join('\n')));
-      }) || element('p', {}, 'There are none.'));
+      }) || element('p', {}, 'There are none.')]);
   }
 
   /** Shows the commands of a finding. @param {Track} track @param {Finding} it */
@@ -286,12 +314,10 @@ class Page {
     if (runs.length) this.choose(track, track.model.runStart[runs[runs.length - 1]]);
     this.chart.bring(track, runs, true);
     this.turnTo('findings');
-    this.note(`finding=${it.id}`);
+    if (it.id) this.note(`finding=${it.id}`);
     this.showFindings();
     this.changed(`${it.title} is chosen`);
   }
-
-  // Two recordings.
 
   showDifferences() {
     const {differences} = this, moved = this.moved();
@@ -322,8 +348,6 @@ class Page {
     return found.sort((it, next) => Math.abs(next.by) - Math.abs(it.by));
   }
 
-  // Search.
-
   search() {
     const query = part('query').value.trim(), entries = /** @type {{track: Track, it: any}[]} */ ([]);
     for (const track of this.tracks) {
@@ -344,8 +368,6 @@ class Page {
     this.flag();
     this.say(query ? `${entries.length} commands found` : '');
   }
-
-  // Time.
 
   /** @param {number} moment */
   moveTo(moment) {
@@ -398,34 +420,24 @@ class Page {
     this.goOn(isMet, 'no later event is what the break names');
   }
 
-  undo() {
+  /** Undoes or redoes the chosen event, or says why not. @param {boolean} isUndone */
+  turn(isUndone) {
     if (!this.chosen) return;
-    const {track, at} = this.chosen, {model, desk} = track, why = desk.undoRefused(at), name = model.named(at);
-    if (!why) this.mark(track, [at], true);
-    else if (why.other === NONE) this.say(`refused: ${name} is not kept (${why.code})`);
-    else {
-      this.refuse(track, why.other, `refused: ${name}: a later kept event depends on it: ` +
-        `${model.named(why.other)}${throughOf(why.through)} (${why.code})`);
-    }
+    const {track, at} = this.chosen, {model, desk} = track, name = model.named(at);
+    const why = isUndone ? desk.undoRefused(at) : desk.redoRefused(at);
+    if (!why) return this.mark(track, [at], isUndone);
+    if (why.other === NONE) return this.say(`refused: ${name} is not ${isUndone ? 'kept' : 'undone'} (${why.code})`);
+    const other = model.named(why.other), through = throughOf(why.through);
+    this.refuse(track, why.other, `refused: ${name}${isUndone ?
+      `: a later kept event depends on it: ${other}${through} (${why.code})` :
+      ` rests on ${other}, which is undone${through}: redo that first`}`);
   }
 
-  undoCone() {
-    if (this.chosen) this.mark(this.chosen.track, this.chosen.track.desk.cone(this.chosen.at), true);
-  }
-
-  redo() {
+  /** Undoes the chosen event's cone, or redoes it with all that it rests on. @param {boolean} isUndone */
+  turnAll(isUndone) {
     if (!this.chosen) return;
-    const {track, at} = this.chosen, {model, desk} = track, why = desk.redoRefused(at), name = model.named(at);
-    if (!why) this.mark(track, [at], false);
-    else if (why.other === NONE) this.say(`refused: ${name} is not undone (${why.code})`);
-    else {
-      this.refuse(track, why.other, `refused: ${name} rests on ${model.named(why.other)}, which is undone` +
-        `${throughOf(why.through)}: redo that first`);
-    }
-  }
-
-  redoWith() {
-    if (this.chosen) this.mark(this.chosen.track, this.chosen.track.desk.redoWith(this.chosen.at), false);
+    const {track, at} = this.chosen, {desk} = track;
+    this.mark(track, isUndone ? desk.cone(at) : desk.redoWith(at), isUndone);
   }
 
   /** @param {Track} track @param {number[]} events @param {boolean} isUndone */
@@ -445,8 +457,6 @@ class Page {
     this.chart.ask();
   }
 
-  // Keys, pointer and tabs.
-
   /** @param {string} name */
   turnTo(name) {
     for (const tab of document.querySelectorAll('[role=tab]')) {
@@ -463,11 +473,30 @@ class Page {
     if (!model.runs) return;
     this.turnTo('chosen');
     if (!chosen || chosen.run === NONE) return this.choose(track, model.runStart[0]);
-    const row = track.rows[track.rowOfRun[chosen.run] + down];
-    if (!row) return;
-    const place = down ? firstBehind(Array.from(row.runs, (it) => model.runFrom[it]), model.runFrom[chosen.run]) :
+    const at = track.rowOfRun[chosen.run] + down, isHere = at >= 0 && at < track.rows.length;
+    const of = isHere ? track : this.tracks[this.tracks.indexOf(track) + down];
+    if (!of) return;
+    const row = of.rows[isHere ? at : down < 0 ? of.rows.length - 1 : 0];
+    const place = down ? firstBehind(Array.from(row.runs, (it) => of.model.runFrom[it]), model.runFrom[chosen.run]) :
       row.runs.indexOf(chosen.run) + along;
-    this.choose(track, model.runStart[row.runs[Math.max(0, Math.min(place, row.runs.length - 1))]]);
+    this.choose(of, of.model.runStart[row.runs[Math.max(0, Math.min(place, row.runs.length - 1))]]);
+  }
+
+  /** Folds a group of rows, or unfolds it. @param {Track} track @param {number} group */
+  fold(track, group) {
+    if (group === NONE) return this.say('lanes are not folded: choose folders or targets as rows');
+    if (!track.turned.delete(group)) track.turned.add(group);
+    this.chart.layOut();
+    const {label, isFolded} = track.rows.find((it) => it.group === group && it.isHead);
+    this.say(`${label} is ${isFolded ? 'folded' : 'unfolded'}`);
+  }
+
+  /** Folds or unfolds the group of the chosen command. */
+  foldChosen() {
+    const {track, run} = this.chosen || {track: this.active, run: NONE};
+    if (run === NONE) return this.say('nothing is chosen');
+    this.fold(track, track.rows[track.rowOfRun[run]].group);
+    this.chart.bring(track, [run], false);
   }
 
   letGo() {
@@ -484,7 +513,8 @@ class Page {
       w: () => chart.zoom(0.7), s: () => chart.zoom(1 / 0.7), a: () => chart.pan(-wide), d: () => chart.pan(wide),
       f: () => this.fit(), '/': () => part('query').focus(), '?': () => part('keys').showModal(),
       ',': () => this.moveTo(desk.moment - 1), '.': () => this.moveTo(desk.moment + 1), n: () => this.nextOfChosen(),
-      b: () => this.toBreak(), u: () => this.undo(), U: () => this.undoCone(), r: () => this.redo(),
+      b: () => this.toBreak(), g: () => this.foldChosen(),
+      u: () => this.turn(true), U: () => this.turnAll(true), r: () => this.turn(false),
       ArrowLeft: () => this.step(-1, 0), ArrowRight: () => this.step(1, 0),
       ArrowUp: () => this.step(0, -1), ArrowDown: () => this.step(0, 1),
       PageUp: () => chart.scrollTo(chart.scroll - high), PageDown: () => chart.scrollTo(chart.scroll + high),
@@ -499,7 +529,7 @@ class Page {
     if (event.key === 'Escape') {
       target.blur();
       this.letGo();
-    } else if (act && !/^(INPUT|SELECT)$/.test(target.tagName)) {
+    } else if (act && !target.matches('select, input:not([type=range])')) {
       // Keys that move a page or a list do so, but where the chart has the focus.
       if (event.key.length > 1 && target !== this.chart.canvas && target !== document.body) return;
       event.preventDefault();
@@ -535,35 +565,28 @@ class Page {
     tip.style.top = `${event.offsetY + 16}px`;
   }
 
-  /** @param {PointerEvent} event */
-  drag(event) {
-    const {canvas} = this.chart, first = [event.clientX, event.clientY];
-    let [x, y] = first, isMoved = false;
-    const move = (/** @type {PointerEvent} */ it) => {
-      isMoved = isMoved || Math.hypot(it.clientX - first[0], it.clientY - first[1]) > 4;
+  /** Has the chart follow the pointer, or takes a click where the pointer does not go. @param {PointerEvent} first */
+  drag(first) {
+    const {canvas} = this.chart, over = new AbortController(), {signal} = over;
+    let last = first, isMoved = false;
+    canvas.setPointerCapture(first.pointerId);
+    canvas.addEventListener('pointermove', (it) => {
+      isMoved = isMoved || Math.hypot(it.clientX - first.clientX, it.clientY - first.clientY) > 4;
       if (!isMoved) return;
-      this.chart.pan(x - it.clientX);
-      this.chart.scrollTo(this.chart.scroll + y - it.clientY);
-      [x, y] = [it.clientX, it.clientY];
-    };
-    const end = () => {
-      canvas.removeEventListener('pointermove', move);
-      canvas.removeEventListener('pointerup', end);
-      if (!isMoved) this.click(event.offsetX, event.offsetY);
-    };
-    canvas.setPointerCapture(event.pointerId);
-    canvas.addEventListener('pointermove', move);
-    canvas.addEventListener('pointerup', end);
+      this.chart.pan(last.clientX - it.clientX);
+      this.chart.scrollTo(this.chart.scroll + last.clientY - it.clientY);
+      last = it;
+    }, {signal});
+    canvas.addEventListener('lostpointercapture', () => over.abort(), {signal});
+    canvas.addEventListener('pointerup', () => isMoved || this.click(first.offsetX, first.offsetY), {signal});
   }
 
   /** @param {number} x @param {number} y */
   click(x, y) {
     const hit = this.chart.hit(x, y);
     if (!hit) return;
-    if (hit.head !== NONE) {
-      if (!hit.track.turned.delete(hit.head)) hit.track.turned.add(hit.head);
-      this.chart.layOut();
-    } else if (hit.count > 1) this.chart.zoom(0.25, x);
+    if (hit.head !== NONE) this.fold(hit.track, hit.head);
+    else if (hit.count > 1) this.chart.zoom(0.25, x);
     else {
       this.finding = null;
       this.choose(hit.track, hit.track.model.runStart[hit.run]);
@@ -573,25 +596,16 @@ class Page {
 
   listen() {
     const {chart} = this, {canvas} = chart;
-    const measure = () => {
-      chart.measure();
-      chart.layOut();
-    };
     document.addEventListener('keydown', (event) => this.key(event));
     window.addEventListener('hashchange', () => this.goTo(location.hash));
     canvas.addEventListener('wheel', (event) => this.wheel(event), {passive: false});
     canvas.addEventListener('pointermove', (event) => this.point(event));
     canvas.addEventListener('pointerleave', () => { part('tip').hidden = true; });
     canvas.addEventListener('pointerdown', (event) => this.drag(event));
-    new ResizeObserver(measure).observe(canvas);
-    matchMedia('(prefers-color-scheme: dark)').addEventListener('change', measure);
-    const acts = /** @type {Object<string, () => void>} */ ({
-      whole: () => chart.show(0, chart.end), near: () => chart.zoom(0.5), far: () => chart.zoom(2),
-      help: () => part('keys').showModal(), first: () => this.moveTo(0), next: () => this.nextOfChosen(),
-      back: () => this.moveTo(this.active.desk.moment - 1), forth: () => this.moveTo(this.active.desk.moment + 1),
-      last: () => this.moveTo(this.active.model.count), break: () => this.toBreak(),
-    });
-    for (const [id, act] of Object.entries(acts)) part(id).addEventListener('click', act);
+    new ResizeObserver(() => chart.measure()).observe(canvas);
+    matchMedia('(prefers-color-scheme: dark)').addEventListener('change', () => chart.measure());
+    part('whole').addEventListener('click', () => chart.show(0, chart.end));
+    for (const [id, key] of BUTTONS) part(id).addEventListener('click', () => this.keys()[key]());
     part('moment').addEventListener('input', () => this.moveTo(Number(part('moment').value)));
     part('rows').querySelector('[value=target]').hidden = !this.tracks.some((/** @type {Track} */ it) =>
       it.model.data.edges.target.some((/** @type {number} */ target) => target !== NONE));
@@ -612,21 +626,15 @@ class Page {
       const first = part('panel-search').querySelector('li button:not([disabled])');
       if (first) first.focus();
     });
-    this.listenToTabs();
-  }
-
-  listenToTabs() {
-    const tabs = /** @type {HTMLElement[]} */ ([...document.querySelectorAll('[role=tab]')]);
-    tabs.forEach((tab) => {
+    for (const tab of document.querySelectorAll('[role=tab]')) {
       tab.addEventListener('click', () => this.turnTo(tab.id.slice(4)));
-      tab.addEventListener('keydown', (event) => {
-        const shown = tabs.filter((it) => !it.hidden), by = {ArrowRight: 1, ArrowLeft: -1}[event.key];
-        if (!by) return;
-        const next = shown[(shown.indexOf(tab) + by + shown.length) % shown.length];
-        this.turnTo(next.id.slice(4));
-        next.focus();
+      tab.addEventListener('keydown', (/** @type {any} */ event) => {
+        const shown = /** @type {any[]} */ ([...document.querySelectorAll('[role=tab]:not([hidden])')]);
+        const by = {ArrowRight: 1, ArrowLeft: -1}[/** @type {string} */ (event.key)];
+        if (by) shown[(shown.indexOf(tab) + by + shown.length) % shown.length].focus();
+        if (by) this.turnTo(/** @type {HTMLElement} */ (document.activeElement).id.slice(4));
       });
-    });
+    }
   }
 }
 

@@ -40,7 +40,7 @@ _PAGE = """<!doctype html>
 def page_of(recordings: list[Pages], differences: list[Object] | None) -> bytes:
     """The page of one recording, or of two and what differs between them."""
     style, body = _source("style.css"), _source("body.html")
-    script = "\n".join(_source(it) for it in SCRIPTS)
+    script = "".join(_source(it) for it in SCRIPTS)
     first: Object = {"recordings": [it.first for it in recordings], "differences": differences}
     blocks = [("first", first), *((f"behind{place}", it.behind) for place, it in enumerate(recordings))]
     names = " and ".join(str(it.first["name"]) for it in recordings)
