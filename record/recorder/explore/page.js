@@ -35,9 +35,10 @@ const part = (/** @type {string} */ id) => /** @type {any} */ (document.getEleme
 function fill(panel, inside) {
   const held = /** @type {any} */ (document.activeElement), isIn = panel.contains(held);
   panel.replaceChildren(...inside.filter((it) => it));
-  const {event} = isIn ? held.dataset : {}, [name, value] = event ? ['data-event', event] : ['id', isIn && held.id];
+  const event = isIn && held.dataset.event, [name, value] = event ? ['data-event', event] : ['id', isIn && held.id];
   const found = value && panel.querySelector(`[${name}="${CSS.escape(value)}"]:enabled`);
-  if (isIn) (found || panel.querySelector('.finding[aria-pressed=true]') || panel.querySelector('h2, button')).focus();
+  const first = panel.querySelector('.finding[aria-pressed=true]') || panel.querySelector('h2, button');
+  if (isIn) /** @type {any} */ (found || first).focus();
 }
 
 /** A part of a panel: a heading that opens and shuts it, and entries, of which the first ones stand there until a
