@@ -22,7 +22,7 @@ _rebug() {
     schedule) COMPREPLY=($(compgen -W "-j --faster --pool --without --json" -- "$word")) ;;
     record) COMPREPLY=($(compgen -W "--check --rebug --help -j --from-logs --jobs-as-run --lanes --anyway --force --verbose --output --observe --observe=if-possible --observer --keep-log --contents" -- "$word")) ;;
     provoke) COMPREPLY=($(compgen -W "--help --all --stale --in-place --rebug" -- "$word")) ;;
-    shuffle) COMPREPLY=($(compgen -W "--help --list --runs --repeat --seed --overlap --blocks --mend-all --observe --in-copy --budget --limit --most-memory -j --json" -- "$word")) ;;
+    shuffle) COMPREPLY=($(compgen -W "--help --runs --repeat --seed --overlap --blocks --mend-all --observe --in-copy --budget --limit --most-memory -j --json" -- "$word")) ;;
     mend) COMPREPLY=($(compgen -W "--help --apply --json --rebug" -- "$word")) ;;
     explore) COMPREPLY=($(compgen -W "--help --compare --rebug" -- "$word")) ;;
     rerun) COMPREPLY=($(compgen -W "--help --stamps --date --folder --user -f -j --limit --json" -- "$word")) ;;

@@ -84,7 +84,6 @@ complete -c rebug -n '__fish_seen_subcommand_from provoke' -l stale -d 'Leave th
 complete -c rebug -n '__fish_seen_subcommand_from provoke' -l in-place -d 'Work in the folders themselves, where this system refuses a copy: what stands there is moved aside, and moved back at the end'
 complete -c rebug -n '__fish_seen_subcommand_from provoke' -l rebug -x -d 'The program to ask, in place of the launcher'
 complete -c rebug -n '__fish_seen_subcommand_from shuffle' -l help -d 'Tell these words'
-complete -c rebug -n '__fish_seen_subcommand_from shuffle' -l list -d 'Run nothing, and list the orders of a recording, which stands in place of BUILD_DIR: the program rebug answers'
 complete -c rebug -n '__fish_seen_subcommand_from shuffle' -l runs -x -d 'Run at most N orders; else as many as let each pair of commands stand both ways, at most 12'
 complete -c rebug -n '__fish_seen_subcommand_from shuffle' -l repeat -x -d 'Run the build'\''s own order and the one with this number alone'
 complete -c rebug -n '__fish_seen_subcommand_from shuffle' -l seed -x -d 'By which the last order is chosen, and the waits of --overlap; else 1'

@@ -26,7 +26,6 @@ mod runs;
 mod screen;
 mod seen;
 mod statements;
-mod target;
 mod times;
 mod told;
 mod values;
