@@ -4,14 +4,17 @@ left, and a planted pair is named."""
 from __future__ import annotations
 
 import itertools
+import pathlib
 import random
 import resource
 import subprocess
 import sys
+import tempfile
 import textwrap
 import time
 import unittest
 
+from recorder.shuffle.asked import chosen_by
 from recorder.shuffle.orders import Cycle, Graph, Pairs, blocks_of, chosen
 from recorder.shuffle.pairing import Pair, Swaps, bisected, walked
 
@@ -156,12 +159,32 @@ class Orders(unittest.TestCase):
                 last = time.process_time()
             print(len(graph.commands), max(took), resource.getrusage(resource.RUSAGE_SELF).ru_maxrss // 1024)
         """)
-        top = str(__import__("pathlib").Path(__file__).resolve().parent.parent)
+        top = str(pathlib.Path(__file__).resolve().parent.parent)
         done = subprocess.run([sys.executable, "-c", text, top], capture_output=True, text=True, check=True)
         commands, seconds, megabytes = done.stdout.split()
         self.assertEqual(int(commands), 20_071)
         self.assertLess(float(seconds), 6)  # 2 on a machine that has nothing else to do
         self.assertLess(int(megabytes), 300)
+
+
+class OfAProgram(unittest.TestCase):
+    """What a program answers that chooses orders; tests/orders/words asks the proved one."""
+
+    def test_one_that_gives_no_answer(self):
+        graph = Graph([[], []], [True, True])
+        for asked in ("/bin/false", "/bin/echo", "/nowhere/rebug_ask"):
+            self.assertIsNone(chosen_by(asked, graph, [0, 1], 12))
+
+    def test_one_that_answers_with_what_is_no_order(self):
+        graph = Graph([[], [0]], [True, True])
+        for answer in ('{"kind": "order", "outputs": ["1", "0"], "left": 0}', '{"kind": "order"}', "[]", "{", "1",
+                       '{"kind": "order", "outputs": ["0"], "left": 0}', '{"kind": "order", "outputs": 7, "left": 0}',
+                       '{"kind": "order", "outputs": ["0", "1", "2"], "left": 0}', ""):
+            with tempfile.TemporaryDirectory() as folder:
+                asked = pathlib.Path(folder, "asked")
+                asked.write_text(f"#!/bin/sh\necho '{answer}'\n")
+                asked.chmod(0o755)
+                self.assertIsNone(chosen_by(str(asked), graph, [0, 1], 12), answer)
 
 
 class Planted(unittest.TestCase):

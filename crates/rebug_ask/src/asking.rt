@@ -3,6 +3,7 @@ ghost use Rattle.std.specs.Prelude.{◌≤◌, length};
 
 use crate::replies::{Answered, Style, told, told_with, written_for};
 use crate::several::written_for_each;
+use crate::targeting::{read_targets, targets_in};
 use crate::told::{EndedDesk, leave, manifest_of, races_in, refuse, say_notes, trace_of, write};
 use indexmap::IndexMap;
 use rev_answers::{
@@ -21,6 +22,7 @@ use rev_program::ProgramFault;
 use rev_prompt::{LineFault, Question, Session, outputs_meant, question_of, texts_of};
 use rev_recording::{RecordingFault, open};
 use rev_script::turns_of;
+use rev_targets::Targets;
 use rev_trace::Trace;
 use rev_verdicts::Form;
 use std::alloc::{AllocError, Global};
@@ -141,7 +143,7 @@ fn races_text(alloc: Global, text: &[u8], all: bool, json: bool) -> Result<Vec<u
 // command that is typed makes an entry of the journal, whatever comes of it.
 fn ended_desk<'a, 'b>(
     session: &Session<'_>,
-    scene: Scene<'_, 'a>,
+    scene: Scene<'_, 'a, '_>,
     desk: &'b Desk,
 ) -> Option<EndedDesk<'a, 'b>> {
     let commands = session.turns.len();
@@ -160,7 +162,7 @@ fn ended_desk<'a, 'b>(
 fn written_for_races<R: Files + AllocGlobal>(
     rt: &R,
     session: &Session<'_>,
-    scene: Scene<'_, '_>,
+    scene: Scene<'_, '_, '_>,
     desk: &Desk,
     all: bool,
     style: Style<'_>,
@@ -193,7 +195,7 @@ fn written_for_texts<R: Files + AllocGlobal>(
     rt: &R,
     session: &Session<'_>,
     desk: &mut Desk,
-    scene: Scene<'_, '_>,
+    scene: Scene<'_, '_, '_>,
     texts: &[Vec<u8>],
     style: Style<'_>,
 ) -> Result<Answered, Ended> {
@@ -209,7 +211,7 @@ fn reply_to<R: Files + AllocGlobal>(
     rt: &R,
     session: &Session<'_>,
     desk: &mut Desk,
-    scene: Scene<'_, '_>,
+    scene: Scene<'_, '_, '_>,
     line: &[u8],
     style: Style<'_>,
 ) -> Result<Answered, Ended> {
@@ -282,7 +284,7 @@ fn answer_line<R: Files + Print + AllocGlobal>(
     rt: &R,
     session: &mut Session<'_>,
     desk: &mut Desk,
-    scene: Scene<'_, '_>,
+    scene: Scene<'_, '_, '_>,
     line: &[u8],
     style: Style<'_>,
 ) -> Result<Option<Since>, Ended> {
@@ -322,7 +324,7 @@ fn take_turn<R: Files + Input + Print + AllocGlobal>(
     rt: &R,
     session: &mut Session<'_>,
     desk: &mut Desk,
-    scene: Scene<'_, '_>,
+    scene: Scene<'_, '_, '_>,
     style: Style<'_>,
 ) -> Result<Turn, Ended> {
     let mut line = String::new(rt.alloc());
@@ -356,7 +358,7 @@ fn converse<R: Files + Input + Print + AllocGlobal>(
     session: &mut Session<'_>,
     desk: &mut Desk,
     manner: Manner,
-    scene: Scene<'_, '_>,
+    scene: Scene<'_, '_, '_>,
 ) -> Result<u8, Ended> {
     let mut since = Since {
         repeats: false,
@@ -373,6 +375,7 @@ fn converse<R: Files + Input + Print + AllocGlobal>(
             repeats: since.repeats && !manner.json,
             all: false,
             origins: &scene.beside.read.origins,
+            targets: scene.targets,
         };
         match take_turn(rt, session, desk, scene, style)? {
             Turn::Answered(next) => since = next,
@@ -409,7 +412,7 @@ fn parts_of(observed: Option<&Observed>) -> (Option<&Observation>, &[u32]) {
 }
 
 // A recording, and what was read of it: the files of the manifest and the trace, the bytes of what was observed, if it
-// was, the times of labels, and other names of files.
+// was, the times of labels, other names of files, and the bytes of the generator's targets, if these are there.
 #[derive(Clone, Copy)]
 struct Beside<'a> {
     recording: &'a str,
@@ -418,21 +421,22 @@ struct Beside<'a> {
     observed: Option<&'a [u8]>,
     times: &'a [LabelTime],
     names: &'a IndexMap<Name, Name>,
+    targets: Option<&'a [u8]>,
 }
 
-// The same, with the manifest of the files.
+// The same, with the manifest of the files, and the targets of its build statements.
 #[derive(Clone, Copy)]
-struct Scene<'a, 'b> {
+struct Scene<'a, 'b, 'c> {
     beside: Beside<'a>,
     manifest: &'b Manifest,
+    targets: Option<&'c Targets>,
 }
 
 // Tells what the recording has, and answers lines about it.
 fn asked<R: Files + Input + Print + AllocGlobal>(
     rt: &R,
-    manifest: &Manifest,
     trace: &Trace,
-    beside: Beside<'_>,
+    scene: Scene<'_, '_, '_>,
     observed: Option<&Observed>,
     desk: &mut Desk,
     manner: Manner,
@@ -447,18 +451,18 @@ fn asked<R: Files + Input + Print + AllocGlobal>(
         turns: &turns,
         taken: 0,
         lane: lanes,
-        builds: manifest.builds(),
+        builds: scene.manifest.builds(),
         opening: &trace.opening,
         observation,
         edges,
         times: &[],
-        files: &beside.read.files,
-        pools: manifest.pools(),
-        names: beside.names,
+        files: &scene.beside.read.files,
+        pools: scene.manifest.pools(),
+        names: scene.beside.names,
     };
     let edges = desk.history().graph().edges();
     put_opening(rt, turns.len(), edges, lanes, manner.json)?;
-    converse(rt, &mut session, desk, manner, Scene { beside, manifest })
+    converse(rt, &mut session, desk, manner, scene)
 }
 
 // What the bytes of a file say of the commands of a desk's graph, if there is one.
@@ -484,10 +488,22 @@ fn asked_at<R: Files + Input + Print + AllocGlobal>(
 ) -> Result<u8, Ended>
     requires { length trace.now.lanes.items ≤ Trace.MAX_LANES }
 {
-    match seen_in(rt.alloc(), desk, beside.observed) {
-        Ok(observed) => asked(rt, manifest, trace, beside, observed.as_ref(), desk, manner),
-        Err(fault) => Err(Ended::Recording(fault)),
-    }
+    let alloc = rt.alloc();
+    let observed = match seen_in(alloc, desk, beside.observed) {
+        Ok(observed) => observed,
+        Err(fault) => return Err(Ended::Recording(fault)),
+    };
+    let edges = desk.history().graph().edges();
+    let targets = match targets_in(alloc, edges, beside.targets) {
+        Ok(targets) => targets,
+        Err(fault) => return Err(Ended::Recording(fault)),
+    };
+    let scene = Scene {
+        beside,
+        manifest,
+        targets: targets.as_ref(),
+    };
+    asked(rt, trace, scene, observed.as_ref(), desk, manner)
 }
 
 // Answers lines about a trace that was read.
@@ -540,6 +556,7 @@ pub fn ask<'a, R: Files + Input + Print + Eprint + AllocGlobal>(
     let times = read_times(rt, recording, place)?;
     let labels = label_times(rt.alloc(), &times)?;
     let names = names_in(rt.alloc(), &read_names(rt, recording, place)?)?;
+    let targets = read_targets(rt, recording, place)?;
     let beside = Beside {
         recording,
         place,
@@ -547,6 +564,7 @@ pub fn ask<'a, R: Files + Input + Print + Eprint + AllocGlobal>(
         observed: observed.as_deref(),
         times: &labels,
         names: &names,
+        targets: targets.as_deref(),
     };
     match asked_about(rt, beside, manner) {
         Ok(status) => Ok(status),

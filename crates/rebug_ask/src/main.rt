@@ -10,6 +10,8 @@ mod replies;
 mod scheduling;
 mod separating;
 mod several;
+mod shuffling;
+mod targeting;
 mod timelining;
 mod told;
 
@@ -22,6 +24,7 @@ use rev_program::{ProgramFault, USAGE, explain, fail, words};
 use rev_verdicts::Form;
 use scheduling::schedule;
 use separating::separate;
+use shuffling::shuffle;
 use std::io::IsTerminal;
 use std::process::ExitCode;
 use std::rt::Files;
@@ -138,6 +141,7 @@ fn answer<'a, R: Files + Input + Print + Eprint + AllocGlobal>(
         Word::Timeline => timelined(rt, &asked),
         Word::Compare => compare(rt, &asked),
         Word::Schedule => schedule(rt, &asked, words),
+        Word::Shuffle => shuffle(rt, &asked),
         Word::Separate => separate(rt),
     }
 }

@@ -3,6 +3,7 @@ use rev_answers::{Context, answer_json, answer_words, fault_json, screen_of};
 use rev_desk::Desk;
 use rev_dyndep::Origins;
 use rev_prompt::{Answer, Question, Session, answer_to, has_answer, only_asks};
+use rev_targets::Targets;
 use std::alloc::{AllocError, Global};
 
 /// What is written for a line, how many commands of the recording were said by then, whether an empty line now asks for
@@ -18,7 +19,7 @@ pub(crate) struct Answered {
 
 /// How a line is answered: as JSON or in words, by which times of events, whether an empty line asks for the next
 /// command of the recording, and whether all is told and not a screen. `origins` has the paths that come from dyndep
-/// files.
+/// files, and `targets` the generator's targets.
 #[derive(Clone, Copy)]
 pub(crate) struct Style<'a> {
     pub(crate) json: bool,
@@ -26,6 +27,7 @@ pub(crate) struct Style<'a> {
     pub(crate) repeats: bool,
     pub(crate) all: bool,
     pub(crate) origins: &'a Origins,
+    pub(crate) targets: Option<&'a Targets>,
 }
 
 /// What is written for a line that has no answer, behind which an empty line asks for the next command or not.
@@ -139,6 +141,7 @@ pub(crate) fn written_for_answer(
         desk,
         question,
         origins: style.origins,
+        targets: style.targets,
     };
     let text = answer_text(alloc, told, answer, style.json)?;
     cut(alloc, text, question, style)

@@ -7,6 +7,7 @@ use crate::meant::unknown_paths;
 use crate::object::Object;
 use crate::seen::kind_word;
 use crate::statements::{build_of, file_name, is_phony, listed, rule_of};
+use crate::target::put_target;
 use crate::times::took;
 use crate::told::{Context, history_of};
 use crate::values::{View, because_value, names_value, put_edge, put_meant, run_value, text_value};
@@ -61,7 +62,8 @@ fn put_placed(
     };
     let file = shown_value(alloc, file_name(told, build))?;
     object.put(alloc, "file", file)?;
-    object.put_number(alloc, "line", build.line())
+    object.put_number(alloc, "line", build.line())?;
+    put_target(object, alloc, told, edge)
 }
 
 // An edge by its first output and the place of its build statement.

@@ -26,6 +26,7 @@ mod runs;
 mod screen;
 mod seen;
 mod statements;
+mod target;
 mod times;
 mod told;
 mod values;

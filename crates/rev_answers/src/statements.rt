@@ -1,12 +1,11 @@
 //! Where the build statement of an edge stands, which rule it names, and what its command listed.
 use crate::edges::push_edge;
+use crate::target::push_source;
 use crate::told::{Context, history_of};
 use rev_dirty::listed_inputs;
-use rev_fields::push_number;
 use rev_manifest::Build;
 use rev_paths::Name;
 use rev_queries::rule_in;
-use rev_shown::push_shown;
 use std::alloc::AllocError;
 
 /// The build of an edge.
@@ -40,7 +39,8 @@ pub(crate) fn file_name<'a>(told: Context<'a>, build: &Build) -> Option<&'a [u8]
     }
 }
 
-/// Adds an edge and the place of its build statement, as `main.o (build.ninja:19)`.
+/// Adds an edge and where it comes from, as `main.o (build.ninja:19)`, or `main.o (core, lib/CMakeLists.txt:1)`
+/// ([`push_source`]).
 pub(crate) fn push_placed(
     text: &mut Vec<u8>,
     told: Context<'_>,
@@ -51,11 +51,7 @@ pub(crate) fn push_placed(
         return Ok(());
     };
     text.extend_from_slice(b" (")?;
-    if let Some(name) = file_name(told, build) {
-        push_shown(text, name)?;
-    }
-    text.push(b':')?;
-    push_number(text, build.line())?;
+    push_source(text, told, edge, build)?;
     text.push(b')')?;
     Ok(())
 }

@@ -4,6 +4,7 @@ use rev_dyndep::Origins;
 use rev_history::History;
 use rev_paths::Name;
 use rev_prompt::{Question, Session};
+use rev_targets::Targets;
 
 /// What words and JSON of an answer are made from, beside the answer.
 #[derive(Clone, Copy)]
@@ -16,6 +17,8 @@ pub struct Context<'a> {
     pub question: &'a Question,
     /// Which paths of the manifest come from dyndep files.
     pub origins: &'a Origins,
+    /// The targets of the generator that wrote the manifest, where the recording names them.
+    pub targets: Option<&'a Targets>,
 }
 
 /// The history of the desk.

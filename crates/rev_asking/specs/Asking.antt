@@ -4,7 +4,7 @@ use Rattle.clap.specs.Words.{App, Row, Rule, Shape, Text, all_of, first_of, new_
 use Rattle.clap.specs.Simple.{new_shape, on_top}
 use Rattle.clap.specs.declared.builder.action.ArgAction.TheVariants.{Append, Set, SetTrue}
 use Rattle.rev_asking.specs.declared.words.Word.{Word}
-use Rattle.rev_asking.specs.declared.words.Word.TheVariants.{Ask, Certify, Compare, Picture, Races, Replay, Schedule, Separate, Timeline}
+use Rattle.rev_asking.specs.declared.words.Word.TheVariants.{Ask, Certify, Compare, Picture, Races, Replay, Schedule, Separate, Shuffle, Timeline}
 
 -- the recording, which has to be given
 abbrev pub recording_rule : Rule
@@ -107,6 +107,12 @@ schedule_shape =
     (jobs_rule ∷ repeated_rule (codes "faster") ∷ repeated_rule (codes "pool") ∷ value_rule (codes "without")
     ∷ flag_rule (codes "json") ∷ recording_rule ∷ [])
 
+-- `shuffle [--list] [--runs N] [--json] RECORDING`
+abbrev pub shuffle_shape : Shape
+shuffle_shape =
+    shape_with (codes "shuffle")
+    (flag_rule (codes "list") ∷ value_rule (codes "runs") ∷ flag_rule (codes "json") ∷ recording_rule ∷ [])
+
 -- `separate`
 abbrev pub separate_shape : Shape
 separate_shape = new_shape (codes "separate")
@@ -123,12 +129,14 @@ program =
     (with_subcommand
     (with_subcommand
     (with_subcommand
+    (with_subcommand
     (with_subcommand (with_subcommand (with_subcommand (with_subcommand bare_program races_shape) certify_shape)
     replay_shape) ask_shape)
     picture_shape)
     timeline_shape)
     compare_shape)
     schedule_shape)
+    shuffle_shape)
     separate_shape
 
 -- the word that a name is
@@ -141,6 +149,7 @@ word_named name =
     if bytes_eq name (codes "timeline") then Timeline else
     if bytes_eq name (codes "compare") then Compare else
     if bytes_eq name (codes "schedule") then Schedule else
+    if bytes_eq name (codes "shuffle") then Shuffle else
     if bytes_eq name (codes "separate") then Separate else Races
 
 -- the word that was given, and what was given to it

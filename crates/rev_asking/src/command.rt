@@ -2,7 +2,7 @@
 ghost use Rattle.std.specs.Prelude.{◌≡◌, codes, false, IfOk, IsOkAnd};
 ghost use Rattle.clap.specs.Words.{AddsSubcommand, app_of, rule_of, shape_of};
 ghost use Rattle.clap.specs.declared.builder.command.Command.TheViews.{out-Command};
-ghost use Rattle.rev_asking.specs.Asking.{ask_shape, bare_certify, bare_program, bare_races, certify_shape, compare_shape, flag_rule, jobs_rule, other_rule, out_rule, picture_shape, program, races_shape, recording_rule, repeated_rule, replay_shape, schedule_shape, separate_shape, timeline_shape, value_rule, with_findings};
+ghost use Rattle.rev_asking.specs.Asking.{ask_shape, bare_certify, bare_program, bare_races, certify_shape, compare_shape, flag_rule, jobs_rule, other_rule, out_rule, picture_shape, program, races_shape, recording_rule, repeated_rule, replay_shape, schedule_shape, separate_shape, shuffle_shape, timeline_shape, value_rule, with_findings};
 
 use clap::{Arg, ArgAction, Command};
 use std::alloc::{AllocError, Global};
@@ -332,6 +332,30 @@ fn schedule<'a>(alloc: Global) -> Result<Command<'a>, AllocError>
         .arg(recording(alloc))
 }
 
+// `shuffle [--list] [--runs N] [--json] RECORDING`
+fn shuffle<'a>(alloc: Global) -> Result<Command<'a>, AllocError>
+    ensures shape { IfOk result (λ c. shape_of c ≡ shuffle_shape) }
+    ensures local { IfOk result (λ c. (out-Command c).has_globals ≡ false) }
+{
+    Command::new(alloc, "shuffle")
+        .about(
+            "Lists orders in which the commands can run, and counts the pairs of commands that they reverse",
+        )
+        .arg(flag(
+            alloc,
+            "list",
+            "Lists the orders of a recording; without it rebug shuffle runs a build",
+        ))?
+        .arg(valued(
+            alloc,
+            "runs",
+            "N",
+            "Lists at most N orders; else as many as reverse each pair of commands that can be, at most 12",
+        ))?
+        .arg(json(alloc))?
+        .arg(recording(alloc))
+}
+
 // `separate`, which `rebug flakes` asks and no help names.
 fn separate<'a>(alloc: Global) -> Result<Command<'a>, AllocError>
     ensures shape { IfOk result (λ c. shape_of c ≡ separate_shape) }
@@ -381,5 +405,6 @@ pub(crate) fn command<'a>(alloc: Global) -> Result<Command<'a>, AllocError>
     let program = with_word(program, timeline(alloc))?;
     let program = with_word(program, compare(alloc))?;
     let program = with_word(program, schedule(alloc))?;
+    let program = with_word(program, shuffle(alloc))?;
     with_word(program, separate(alloc))
 }

@@ -8,7 +8,7 @@ use clap::{ArgMatches, Error};
 use std::alloc::{AllocError, Global};
 
 /// What is asked of a recording.
-#[derive(Clone, Copy, Debug, PartialEq, Eq)]
+#[derive(Clone, Copy)]
 pub enum Word {
     /// Its races.
     Races,
@@ -26,12 +26,14 @@ pub enum Word {
     Compare,
     /// How long its build takes by other schedules.
     Schedule,
+    /// In which orders its commands can run.
+    Shuffle,
     /// How the commands of many builds stood to each other. No recording is asked.
     Separate,
 }
 
 /// What the words of a command line ask for.
-#[derive(Clone, Copy, Debug, PartialEq, Eq)]
+#[derive(Clone, Copy)]
 pub struct Request<'a> {
     /// What is asked.
     pub word: Word,
@@ -71,6 +73,10 @@ pub struct Request<'a> {
     pub strict: bool,
     /// The file of trusted flags, if it was named.
     pub trust: Option<&'a str>,
+    /// Whether orders of its commands are listed, and nothing runs.
+    pub list: bool,
+    /// How many orders are wanted at most, as it was given, if it was.
+    pub runs: Option<&'a str>,
 }
 
 /// What the words of a command line ask for, the first of which is the program's name.
@@ -116,6 +122,10 @@ pub fn read_words<'a>(alloc: Global, words: &'a [String]) -> Result<Request<'a>,
         ↔ value_in (map string_bytes words.entry.now) (codes "strict") ≡ Some (codes "true")) }
     ensures trust { IfOk result (λ a. option_map (λ s. s.now) a.trust
         ≡ value_in (map string_bytes words.entry.now) (codes "trust")) }
+    ensures list { IfOk result (λ a. IsTrue a.list
+        ↔ value_in (map string_bytes words.entry.now) (codes "list") ≡ Some (codes "true")) }
+    ensures runs { IfOk result (λ a. option_map (λ s. s.now) a.runs
+        ≡ value_in (map string_bytes words.entry.now) (codes "runs")) }
     ensures fails { FailsBy (fault_of program (map string_bytes words.entry.now)) result }
 {
     let matches = matches_of(alloc, words)?;
@@ -194,6 +204,8 @@ fn asked_of<'a>(name: &str, given: &ArgMatches<'a>) -> Request<'a>
     ensures without { option_map (λ s. s.now) result.without ≡ first_value (found_of given.now) (codes "without") }
     ensures strict { IsTrue result.strict ↔ first_value (found_of given.now) (codes "strict") ≡ Some (codes "true") }
     ensures trust { option_map (λ s. s.now) result.trust ≡ first_value (found_of given.now) (codes "trust") }
+    ensures list { IsTrue result.list ↔ first_value (found_of given.now) (codes "list") ≡ Some (codes "true") }
+    ensures runs { option_map (λ s. s.now) result.runs ≡ first_value (found_of given.now) (codes "runs") }
 {
     Request {
         word: word_named(name),
@@ -215,6 +227,8 @@ fn asked_of<'a>(name: &str, given: &ArgMatches<'a>) -> Request<'a>
         without: given.get_str("without"),
         strict: is_on(given, "strict"),
         trust: given.get_str("trust"),
+        list: is_on(given, "list"),
+        runs: given.get_str("runs"),
     }
 }
 
@@ -239,6 +253,8 @@ fn nothing_asked<'a>() -> Request<'a>
     ensures without { result.without ≡ None }
     ensures strict { result.strict ≡ false }
     ensures trust { result.trust ≡ None }
+    ensures list { result.list ≡ false }
+    ensures runs { result.runs ≡ None }
 {
     Request {
         word: Word::Races,
@@ -260,6 +276,8 @@ fn nothing_asked<'a>() -> Request<'a>
         without: None,
         strict: false,
         trust: None,
+        list: false,
+        runs: None,
     }
 }
 
@@ -291,6 +309,8 @@ fn word_named(name: &str) -> Word
         Word::Compare
     } else if name == "schedule" {
         Word::Schedule
+    } else if name == "shuffle" {
+        Word::Shuffle
     } else if name == "separate" {
         Word::Separate
     } else {

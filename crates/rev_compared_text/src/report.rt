@@ -6,7 +6,7 @@ use crate::words::comparison_words;
 use std::alloc::{AllocError, Global};
 
 /// The form of an answer.
-#[derive(Clone, Copy, Debug, PartialEq, Eq)]
+#[derive(Clone, Copy, PartialEq, Eq)]
 pub enum Form {
     /// Words, a few entries of each section.
     Words,

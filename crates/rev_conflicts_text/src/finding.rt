@@ -6,7 +6,7 @@ use rev_paths::Name;
 use rev_races_text::{Edge, Id, Made, Shown, Sources, Story};
 
 /// What a finding is (docs/RACES.md, "By observation").
-#[derive(Clone, Copy, Debug, PartialEq, Eq)]
+#[derive(Clone, Copy, PartialEq, Eq)]
 pub enum Kind {
     /// The user looks at what the maker leaves, and neither waits for the other.
     Race,

@@ -7,7 +7,7 @@ use std::fmt;
 
 /// How many findings make a next build other than a build from nothing, though by them no schedule gives the commands
 /// of this build other inputs.
-#[derive(Clone, Copy, Debug, PartialEq, Eq)]
+#[derive(Clone, Copy)]
 pub struct Stale {
     /// Undeclared outputs and outputs of others ([`rev_undeclared`]).
     pub undeclared: u64,

@@ -56,7 +56,7 @@ pub struct Steps {
 }
 
 /// A wait of an edge for the maker of an input.
-#[derive(Clone, Copy, Debug, PartialEq, Eq, PartialOrd, Ord)]
+#[derive(Clone, Copy, PartialEq, Eq, PartialOrd, Ord)]
 pub struct WaitFor {
     /// The maker.
     pub maker: u32,

@@ -10,7 +10,7 @@ use rev_waits::{steps, waited_for};
 use std::alloc::{AllocError, Global};
 
 /// Why no patch has a race happen.
-#[derive(Clone, Copy, Debug, PartialEq, Eq)]
+#[derive(Clone, Copy)]
 pub enum Unprovoked {
     /// No race of two commands has the number.
     NoRace,

@@ -11,7 +11,7 @@ pub const FAULT: u8 = 1;
 pub const FAILURE: u8 = 3;
 
 /// Why a file is not read.
-#[derive(Clone, Copy, Debug, PartialEq, Eq, Error)]
+#[derive(Clone, Copy, Debug, Error)]
 pub enum Unread {
     /// No file has the name.
     #[error("it is not there")]

@@ -9,7 +9,7 @@ use std::os::unix::fs::MetadataExt;
 use std::rt::Files;
 
 /// Why the bytes of a file are not available.
-#[derive(Clone, Copy, Debug, PartialEq, Eq)]
+#[derive(Clone, Copy, Debug)]
 pub enum ReadFault {
     /// The system refused memory.
     Memory,

@@ -2,7 +2,7 @@
 use std::alloc::{AllocError, Global};
 
 /// Why a line is not cut.
-#[derive(Clone, Copy, Debug, PartialEq, Eq)]
+#[derive(Clone, Copy)]
 pub enum LineFault {
     /// The system refused memory.
     Memory,

@@ -29,7 +29,7 @@ impl Drop for EventName {
 }
 
 /// How far it is asked on what an event rests.
-#[derive(Clone, Copy, Debug, PartialEq, Eq)]
+#[derive(Clone, Copy, PartialEq, Eq)]
 pub enum Reach {
     /// On what the event itself rests.
     Itself,

@@ -7,7 +7,7 @@ use crate::names::NameIf;
 use std::fmt;
 
 /// How many findings an observation shows, of each kind.
-#[derive(Clone, Copy, Debug, PartialEq, Eq)]
+#[derive(Clone, Copy)]
 pub struct Seen {
     /// Races.
     pub races: u64,

@@ -8,7 +8,7 @@ use serde::Serialize;
 use std::fmt;
 
 /// How much an answer leaves out because the user asked for that.
-#[derive(Clone, Copy, Debug, PartialEq, Eq, Serialize)]
+#[derive(Clone, Copy, PartialEq, Eq, Serialize)]
 pub struct LeftOut {
     /// At how many places filters hide that commands meet.
     pub hidden: u64,

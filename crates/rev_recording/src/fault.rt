@@ -7,7 +7,7 @@ use std::alloc::{AllocError, AllocFailed, Global};
 use std::fmt;
 
 /// The first fault of the file `observed` or `filters`, which stand beside a trace.
-#[derive(Clone, Copy, Debug, PartialEq, Eq)]
+#[derive(Clone, Copy)]
 pub struct ObservedFault {
     /// The name of the file.
     pub file: &'static str,
@@ -44,7 +44,7 @@ impl fmt::Display for ObservedFault {
 }
 
 /// Why a recording is not replayed.
-#[derive(Debug, Drop)]
+#[derive(Drop)]
 pub enum RecordingFault {
     /// The system refused memory.
     Memory,

@@ -11,7 +11,7 @@ use rev_history::History;
 use std::alloc::{AllocError, Global};
 
 /// A run of a command that failed.
-#[derive(Clone, Copy, Debug, PartialEq, Eq)]
+#[derive(Clone, Copy)]
 pub struct Failure {
     /// The number of the `fail` event.
     pub number: u32,

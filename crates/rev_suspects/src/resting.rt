@@ -9,7 +9,7 @@ use rev_races::{finished_edges, listed, started_edges};
 use std::alloc::{AllocError, Global};
 
 /// What an edge's list of files rests on in a history.
-#[derive(Clone, Copy, Debug, PartialEq, Eq)]
+#[derive(Clone, Copy, PartialEq, Eq)]
 pub enum Basis {
     /// The edge's command ended well in this history, and its last such end gave the list.
     Finish,

@@ -23,7 +23,7 @@ use rev_paths::Name;
 use std::alloc::{AllocError, Global};
 
 /// How far a suspect was when the failed command began.
-#[derive(Clone, Copy, Debug, PartialEq, Eq)]
+#[derive(Clone, Copy, PartialEq, Eq)]
 pub enum Progress {
     /// Its command ran.
     Running,
@@ -34,7 +34,7 @@ pub enum Progress {
 }
 
 /// A command that was not through when a failed command began. Neither of the two waits for the other.
-#[derive(Clone, Copy, Debug, PartialEq, Eq)]
+#[derive(Clone, Copy)]
 pub struct Suspect {
     /// The number of the other command's `fail` event, as in [`Failure`].
     pub failed: u32,

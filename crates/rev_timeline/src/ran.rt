@@ -13,7 +13,7 @@ use rev_runs::{Run, runs};
 use std::alloc::{AllocError, Global};
 
 /// How a command ended.
-#[derive(Clone, Copy, Debug, PartialEq, Eq)]
+#[derive(Clone, Copy, PartialEq, Eq)]
 pub enum Ending {
     /// It ended well.
     Well,
@@ -26,7 +26,7 @@ pub enum Ending {
 }
 
 /// A kept run of a command, with its times.
-#[derive(Clone, Copy, Debug, PartialEq, Eq)]
+#[derive(Clone, Copy)]
 pub struct Ran {
     /// The run.
     pub run: Run,

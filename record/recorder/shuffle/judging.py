@@ -9,8 +9,9 @@ from typing import Callable, Hashable, Sequence
 
 from ..fields import canonical
 from ..manifest import Edge, Manifest
+from .asked import chosen_by, program
 from .commands import Commands, NoBuild, commands_of, read_dyndep
-from .orders import MOST_ORDERS, Pairs, blocks_of, chosen
+from .orders import MOST_ORDERS, Chosen, Pairs, blocks_of, chosen
 from .pairing import Pair, bisected, up_to, walked
 from .patching import blocked, chained, with_orders, with_waits
 from .places import Prepared
@@ -248,14 +249,20 @@ class Judge:
         most = self.options.runs or MOST_ORDERS
         with_chance = len(own) > 2 and most > 2
         found = [(number, f"order {number}", it.order)
-                 for number, it in enumerate(chosen(self.commands.graph, own, most - with_chance,
-                                                    self.options.blocks), 1)]
+                 for number, it in enumerate(self._reversing(own, most - with_chance), 1)]
         number = len(found) + 1
         if with_chance:
             by_chance = self.commands.graph.at_random(self.options.seed)
             if by_chance not in [it[2] for it in found]:
                 found.append((number, f"order {number}, by seed {self.options.seed}", by_chance))
         return found[1:]
+
+    def _reversing(self, own: list[int], most: int) -> list[Chosen]:
+        """The own order and at most so many in all, of which each reverses most of what is left. The proved program
+        chooses orders without blocks, where it is there."""
+        graph, size, asked = self.commands.graph, self.options.blocks, program()
+        found = chosen_by(asked, graph, own, most) if asked and size == 1 else None
+        return found or list(chosen(graph, own, most, size))
 
     def _seeds(self) -> range:
         return range(self.options.seed, self.options.seed + _OVERLAPS)

@@ -14,7 +14,8 @@ from ..words import read_words as read_ninja_words
 NAME = "rebug shuffle"
 _USAGE = """%(prog)s BUILD_DIR [OUT_DIR] [--runs N] [--repeat ORDER] [--seed S] [--overlap] [--blocks N] [--mend-all]
                      [-j N] [--json] [--limit SECONDS] [--budget N] [--most-memory MB] [--observe] [--in-copy]
-                     [-- TARGETS...]"""
+                     [-- TARGETS...]
+       %(prog)s --list RECORDING [--runs N] [--json]"""
 _ABOUT = """Builds BUILD_DIR from nothing in Ninja's own order and in orders that reverse it, in copies that are thrown
 away, and compares what they leave: status, files, bytes, links and modes. Where two differ it names the command in
 which they do first, the two commands whose order it comes from, and the line that mends it. OUT_DIR gets the orders,
@@ -88,6 +89,9 @@ def _words() -> argparse.ArgumentParser:
     words.add_argument("-h", "--help", action="store_true", help="tell these words")
     words.add_argument("names", metavar="BUILD_DIR [OUT_DIR]", nargs="*",
                        help="the folder that Ninja runs in, and a new folder for what is left of the runs")
+    words.add_argument("--list", action="store_true",
+                       help="run nothing, and list the orders of a recording, which stands in place of BUILD_DIR: the "
+                            "program rebug answers")
     words.add_argument("--runs", metavar="N", type=_number("--runs", 2, "so many orders, from 2 on"),
                        help="run at most N orders; else as many as let each pair of commands stand both ways, at most "
                             "12")
@@ -136,6 +140,8 @@ def read_words(words: Sequence[str]) -> Options:
     found, left = _words().parse_known_intermixed_args(own)
     if found.help:
         raise HelpWanted(_words().format_help().rstrip())
+    if found.list:
+        raise BadWords("--list is answered by the program: rebug shuffle --list RECORDING")
     build, out, *more = [*found.names, None, None][: max(2, len(found.names))]
     left += more
     if left:

@@ -3,7 +3,7 @@ use Rattle.std.proofs.lemmas.Result.{IfOk-weaker}
 use Rattle.clap.specs.Words.{AddsSubcommand, Shape, app_of, shape_of, with_subcommand}
 use Rattle.clap.specs.declared.builder.command.Command.{Command}
 use Rattle.clap.specs.declared.builder.command.Command.TheViews.{out-Command}
-use Rattle.rev_asking.specs.Asking.{ask_shape, certify_shape, compare_shape, picture_shape, program, races_shape, replay_shape, schedule_shape, separate_shape, timeline_shape}
+use Rattle.rev_asking.specs.Asking.{ask_shape, certify_shape, compare_shape, picture_shape, program, races_shape, replay_shape, schedule_shape, separate_shape, shuffle_shape, timeline_shape}
 use Rattle.rev_asking.proofs.command.command.Goals as goal
 
 -- a program to which the command of this shape was added
@@ -23,6 +23,7 @@ returns c =
     let sixth = c.in_ok-program-6.program in
     let seventh = c.in_ok-program-7.program in
     let eighth = c.in_ok-program-8.program in
+    let ninth = c.in_ok-program-9.program in
     let one = added c.races.result races_shape c.bare_command.result first c.races.ensures.shape c.races.ensures.local c.in_ok-program.ensures
     ∙ ap (λ a. with_subcommand a races_shape) c.bare_command.ensures in
     let two = added c.certify.result certify_shape first second c.certify.ensures.shape c.certify.ensures.local c.in_ok-program-2.ensures
@@ -38,8 +39,10 @@ returns c =
     let seven = added c.compare.result compare_shape sixth seventh c.compare.ensures.shape c.compare.ensures.local c.in_ok-program-7.ensures
     ∙ ap (λ a. with_subcommand a compare_shape) six in
     let eight = added c.schedule.result schedule_shape seventh eighth c.schedule.ensures.shape c.schedule.ensures.local c.in_ok-program-8.ensures
-    ∙ ap (λ a. with_subcommand a schedule_shape) seven in record {
-      program = IfOk-weaker c.with_word-9.result (λ k. IsOkAnd c.separate.result (λ w. AddsSubcommand eighth w k)) (λ (k : Command). app_of k ≡ program)
-          (λ k adds. added c.separate.result separate_shape eighth k c.separate.ensures.shape c.separate.ensures.local adds ∙ ap (λ a. with_subcommand a separate_shape) eight)
-          c.with_word-9.ensures;
+    ∙ ap (λ a. with_subcommand a schedule_shape) seven in
+    let nine = added c.shuffle.result shuffle_shape eighth ninth c.shuffle.ensures.shape c.shuffle.ensures.local c.in_ok-program-9.ensures
+    ∙ ap (λ a. with_subcommand a shuffle_shape) eight in record {
+      program = IfOk-weaker c.with_word-10.result (λ k. IsOkAnd c.separate.result (λ w. AddsSubcommand ninth w k)) (λ (k : Command). app_of k ≡ program)
+          (λ k adds. added c.separate.result separate_shape ninth k c.separate.ensures.shape c.separate.ensures.local adds ∙ ap (λ a. with_subcommand a separate_shape) nine)
+          c.with_word-10.ensures;
     }

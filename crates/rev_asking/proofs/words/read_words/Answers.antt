@@ -122,3 +122,16 @@ returns-in-Some-clause-trust c =
     let words = map string_bytes c.args.words.now in
     let rows = rows-given words c.in_ok-matches.matches (rows_of (found_of c.in-Some.given.now)) c.in_ok-matches.ensures.rows c.in-Some.ensures.rows in
     c.asked_of.ensures.trust ∙ same words c.in-Some.given.now (codes "trust") rows
+
+pub returns-in-Some-clause-list : goal.returns-in-Some-clause-list
+returns-in-Some-clause-list c =
+    let words = map string_bytes c.args.words.now in
+    let rows = rows-given words c.in_ok-matches.matches (rows_of (found_of c.in-Some.given.now)) c.in_ok-matches.ensures.rows c.in-Some.ensures.rows in
+    let is = same words c.in-Some.given.now (codes "list") rows in
+    ((λ on. sym is ∙ c.asked_of.ensures.list.0 on), (λ e. c.asked_of.ensures.list.1 (is ∙ e)))
+
+pub returns-in-Some-clause-runs : goal.returns-in-Some-clause-runs
+returns-in-Some-clause-runs c =
+    let words = map string_bytes c.args.words.now in
+    let rows = rows-given words c.in_ok-matches.matches (rows_of (found_of c.in-Some.given.now)) c.in_ok-matches.ensures.rows c.in-Some.ensures.rows in
+    c.asked_of.ensures.runs ∙ same words c.in-Some.given.now (codes "runs") rows
