@@ -1,0 +1,5 @@
+pub mod ListLemmas
+pub mod WithoutLemmas
+pub mod StayLemmas
+pub mod NeedlessLemmas
+pub mod LawLemmas

@@ -1,0 +1,4 @@
+pub mod Without
+pub mod Staying
+pub mod Needless
+pub mod Laws

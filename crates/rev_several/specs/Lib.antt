@@ -1,0 +1,3 @@
+pub mod Files
+pub mod Holders
+pub mod Makings
