@@ -9,6 +9,7 @@ import pathlib
 import random
 import shlex
 import shutil
+import signal
 import subprocess
 import sys
 import tempfile
@@ -23,10 +24,13 @@ from recorder.flakes.counting import counted
 from recorder.flakes.fisher import chance, is_below, tail
 from recorder.flakes.judging import judge, tests_of
 from recorder.flakes.main import _partial
-from recorder.flakes.reading import Summaries
-from recorder.flakes.sums import count_orders, failed_or_not
-from recorder.flakes.telling import lines_of
-from recorder.summary.packed import BadText, Run, packed, unpacked
+from recorder.flakes.reading import Build, Manifest, Summaries
+from recorder.flakes.sums import OrderCount, Orders, failed_or_not, is_stopped
+from recorder.flakes.telling import lines_of as told_lines
+from recorder.summary import recording as summary
+from recorder.summary.findings import Finding
+from recorder.summary.lines import lines_of
+from recorder.summary.packed import BadText, Run, in_order, packed, unpacked, unpacked_numbers
 from recorder.summary.recording import settled
 from shuffled import RULES, statement
 
@@ -35,22 +39,38 @@ from json_schema import misfits  # noqa: E402
 
 SUMMARY, FLAKES = (builds.RECORDER.parent / f"rebug-{it}" for it in ("summary", "flakes"))
 EXAMPLES = pathlib.Path(__file__).resolve().parents[2] / "examples/flaky"
-PROGRAM = os.environ.get("REBUG_PROGRAM")
 HAS_PARALLEL = shutil.which("parallel") is not None and b"GNU parallel" in subprocess.run(
     ["parallel", "--version"], stdin=subprocess.DEVNULL, capture_output=True).stdout
+EACH = shlex.join([sys.executable, str(FLAKES), "--partial", "--anchor", "use.o"])
 BUILDS, TRIES, SHARE_OF_TRIES = 40, 500, Fraction(1, 100)
 
-# Chances of scipy.stats.fisher_exact(.., alternative="greater") and of R's fisher.test, by their pages: of bad builds
-# with and without, and of good ones with and without. R's pages have the tea tasting (0.2429) and the convictions of
-# twins (0.0004652); the first two are whole fractions.
-TABLE = [((3, 1, 1, 3), 17 / 70), ((4, 0, 0, 4), 1 / 70), ((10, 3, 2, 15), 0.0004652), ((0, 5, 0, 5), 1.0),
-         ((5, 0, 5, 0), 1.0)]
+# Of bad builds with and without a property, and of good ones with and without: what scipy 1.10.1 has for
+# scipy.stats.fisher_exact([[a, b], [c, d]], alternative="greater")[1].
+TABLE = [
+    ((3, 1, 1, 3), 0.24285714285714283),
+    ((4, 0, 0, 4), 0.014285714285714284),
+    ((10, 3, 2, 15), 0.000465180943362905),
+    ((0, 5, 0, 5), 1.0),
+    ((5, 0, 5, 0), 1.0),
+    ((8, 2, 1, 5), 0.024475524475524483),
+    ((13, 0, 0, 27), 8.310325587520407e-11),
+    ((17, 0, 0, 23), 1.1269843246893772e-11),
+    ((9, 4, 6, 21), 0.005870507901703554),
+    ((1, 0, 0, 999), 0.001),
+    ((50, 0, 0, 950), 1.057030939762014e-85),
+    ((30, 20, 210, 740), 2.4648440532163158e-08),
+    ((12, 38, 60, 890), 0.00010420480979794109),
+    ((3, 0, 0, 37), 0.00010121457489878545),
+    ((20, 80, 180, 720), 0.544076000145843),
+    ((499, 1, 1, 499), 9.249421992075048e-295),
+]
+_DIGITS = 1e-10  # in which scipy's logarithms are sure
 
 
 class Numbers(unittest.TestCase):
     def test_chances_are_those_of_tables(self):
         for (a, b, c, d), due in TABLE:
-            self.assertAlmostEqual(chance(a, a + b, c, c + d), due, delta=5e-8, msg=str((a, b, c, d)))
+            self.assertAlmostEqual(chance(a, a + b, c, c + d) / due, 1, delta=_DIGITS, msg=str((a, b, c, d)))
 
     def test_chances_are_counted(self):
         """By each way to deal so many builds out, one by one."""
@@ -100,6 +120,15 @@ class Numbers(unittest.TestCase):
             unpacked(text(b"\0" * (1 << 27)), 1 << 27)
 
 
+def orders_of(anchor: int, them: list[Build], manifest: Manifest) -> Orders:
+    """How commands stood to an anchor that failed in some builds."""
+    counting = OrderCount(anchor, manifest, failed_or_not(anchor), False)
+    for it in them:
+        columns = it.columns(len(manifest.names))
+        counting.add(it, columns, is_stopped(it, columns))
+    return counting.total()
+
+
 class Case(unittest.TestCase):
     def setUp(self):
         self.room = pathlib.Path(tempfile.mkdtemp(prefix="rebug-flakes-"))
@@ -134,7 +163,8 @@ class Culprits(Case):
         (it,) = self.orders(path)
         self.assertEqual((it["named"], it["command"], it["anchor"], it["state"], it["moment"], it["holds"], it["ties"]),
                          (True, "tab.h", "use.o", "had ended", 0, False, []))
-        self.assertEqual((it["bad"][0], it["good"][0], it["finding"]), (it["bad"][1], 0, "a8a4fcf42eb58d0f"))
+        self.assertEqual((it["bad"][0], it["good"][0], [its["id"] for its in it["findings"]]),
+                         (it["bad"][1], 0, ["a8a4fcf42eb58d0f"]))
         self.assertEqual(it["bad"][1] + it["good"][1], BUILDS)
         self.assertTrue(9 <= it["bad"][1] <= 31, it)
         status, said, _ = self.told(path)
@@ -145,8 +175,8 @@ class Culprits(Case):
 
     def test_a_lock_that_nothing_observes(self):
         (it,) = self.orders(self.write(many_builds.lock(), range(BUILDS)))
-        self.assertEqual((it["named"], it["command"], it["state"], it["moment"], it["holds"], it["finding"]),
-                         (True, "holder", "ran", 0, True, None))
+        self.assertEqual((it["named"], it["command"], it["state"], it["moment"], it["holds"], it["findings"]),
+                         (True, "holder", "ran", 0, True, []))
         self.assertEqual((it["bad"][0], it["good"][0]), (it["bad"][1], 0))
 
     def test_a_file_that_is_gone_too_early(self):
@@ -195,7 +225,7 @@ class Culprits(Case):
             bad = set(chance_of.sample(range(BUILDS), BUILDS // 3))
             for at, it in enumerate(them):
                 it.failed = {anchor: ""} if at in bad else {}
-            orders = count_orders(anchor, them, manifest, failed_or_not(anchor))
+            orders = orders_of(anchor, them, manifest)
             found = judge(anchor, manifest, orders, tests_of(orders))
             names += found.culprits[0].is_named
         self.assertLessEqual(Fraction(names, TRIES), SHARE_OF_TRIES)
@@ -235,7 +265,7 @@ class ProvedCounts(Case):
             summaries.read([str(path)])
             with unittest.mock.patch("recorder.flakes.proved.asking_program", lambda it=it: it):
                 them = counted(summaries, [], False)
-            found.append([*_partial(them), *lines_of(them)])
+            found.append([*_partial(them), *told_lines(them)])
         return found[0], found[1]
 
     def test_a_program_that_has_no_answer_changes_nothing(self):
@@ -258,7 +288,9 @@ class Answers(Case):
         failed = next(it for it in found if it["kind"] == "failed")
         bad = [it for it, is_bad in enumerate(fails) if is_bad]
         self.assertEqual((failed["output"], failed["failed"], failed["ran"]), ("use.o", len(bad), BUILDS))
-        self.assertEqual((failed["first"], failed["last"]), (1_700_000_000 + (bad[0] or 0), 1_700_000_000 + bad[-1]))
+        self.assertEqual([failed[it]["when"] for it in ("first", "last")],
+                         [1_700_000_000 + bad[0], 1_700_000_000 + bad[-1]])
+        self.assertEqual(failed["last"]["labels"], {"commit": "abc"[bad[-1] % 3], "machine": "m"})
         due = {f"commit={'abc'[at]}": sum(it % 3 == at for it in bad) for at in range(3)}
         self.assertEqual(failed["labels"], {**due, "machine=m": len(bad)})
         self.assertRegex(self.told(path)[1], r"\n  by commit: [abc] \d+ of 1[34], [abc] \d+ of 1[34], [abc] ")
@@ -316,18 +348,24 @@ class Answers(Case):
         self.assertEqual(self.told(self.room / "sums", "--json"), self.told(*(self.room / f"{seed}.jsonl" for seed in
                                                                               range(64)), "--json"))
 
-    @unittest.skipUnless(HAS_PARALLEL, "there is no GNU parallel on the PATH")
-    def test_parts_that_gnu_parallel_counts_give_the_same_bytes(self):
-        """Ten of 64 files a part, which are counted side by side."""
+    def same_bytes_by(self, *words: str) -> None:
+        """Ten of 64 files a part, which the words count side by side."""
         project, sums = many_builds.race(), self.room / "sums"
         paths = [self.write(project, range(seed, seed + 1), f"{seed}.jsonl") for seed in range(64)]
         sums.mkdir()
-        each = shlex.join([sys.executable, str(FLAKES), "--partial", "--anchor", "use.o"])
-        ran = subprocess.run(["parallel", "-n", "10", f"{each} {{}} > {shlex.quote(str(sums))}/{{#}}"],
-                             input="".join(f"{path}\n" for path in paths), capture_output=True, text=True)
+        ran = subprocess.run(words, input="".join(f"{path}\n" for path in paths), capture_output=True, text=True,
+                             cwd=sums)
         self.assertEqual((ran.returncode, ran.stdout, len(os.listdir(sums))), (0, "", 7), ran.stderr)
         for words in ([], ["--json"]):
             self.assertEqual(self.told(sums, *words), self.told(*paths, *words))
+
+    @unittest.skipUnless(HAS_PARALLEL, "there is no GNU parallel on the PATH")
+    def test_parts_that_gnu_parallel_counts_give_the_same_bytes(self):
+        self.same_bytes_by("parallel", "-n", "10", f"{EACH} {{}} > {{#}}")
+
+    @unittest.skipUnless(shutil.which("xargs"), "there is no xargs on the PATH")
+    def test_parts_that_xargs_counts_give_the_same_bytes(self):
+        self.same_bytes_by("xargs", "-n", "10", "-P", "4", "sh", "-c", f'{EACH} "$@" > $$', "part")
 
     def test_sums_without_the_orders_of_an_anchor_say_so(self):
         """A part in which nothing fails has no anchor, unless it is named."""
@@ -339,13 +377,25 @@ class Answers(Case):
         self.assertIn("of these builds: write each sum with --anchor use.o\n", self.told(self.room / "sums")[1])
 
     def test_sizes(self):
-        """At most 12 bytes a command, of which a thousand are in a build, and 200 a finding."""
-        waits = {f"some/folder/with/names/{it}.o": [] for it in range(1000)}
-        project = many_builds.Project(waits, {}, lambda it: None)
-        *names, build = project.build(1).splitlines()
-        self.assertLess(len(build), 12 * 1000)
-        (_, finding, _) = many_builds.race().build(1).splitlines()
-        self.assertLess(len(finding), 250)
+        """Compressed at most 12 bytes a command, 20 with digests of what commands left, and 200 a finding."""
+        chance_of, count = random.Random(3), 1_000
+        names = [f"some/folder/with/names/{it}.o" for it in range(count)]
+        runs = [Run(it, 7 * it, 7 * it + chance_of.randrange(60_000)) for it in range(count)]
+        processor = {it: chance_of.randrange(60_000) for it in range(count)}
+        left = {it: chance_of.randbytes(6) for it in range(count)}
+        findings = [Finding(f"{chance_of.getrandbits(64):016x}", "race", name, at, 0, "before",
+                            f"build.ninja:{at}: build {names[0]}: ... || {name}") for at, name in enumerate(names)]
+
+        def size(found: list[Finding], **members: dict) -> int:
+            build = summary.Build(names, [("build.ninja", it) for it in range(count)], [[] for _ in names], "0" * 16,
+                                  runs, {}, "1.11.1", 4, 1_700_000_000, True, **members)
+            _, *lines = lines_of(build, found, {})
+            return len(zlib.compress("\n".join(lines).encode(), 9))
+
+        self.assertLessEqual(size([], processor=processor), 12 * count)
+        self.assertLessEqual(size([], processor=processor, left=left), 20 * count)
+        self.assertLessEqual(size(findings) - size([]), 200 * count)
+        self.assertGreater(size([], processor=processor), size([]))
 
 
 class OtherBytes(Case):
@@ -427,10 +477,59 @@ class BadInput(Case):
 
     def test_many_lines(self):
         good = self.write(many_builds.race(), range(3)).read_text()
-        (self.room / "many").write_text("x\n" * 200_000 + good)
+        (self.room / "many").write_text("x\n" * 1_000_000 + good)
         status, said, errors = self.told(self.room / "many")
         self.assertIn("3 builds, ", said)
-        self.assertEqual((errors.count("\n"), "199,990 more lines do not count" in errors), (11, True), errors[-200:])
+        self.assertEqual((errors.count("\n"), "999,990 more lines do not count" in errors), (11, True), errors[-200:])
+        self.assertIn(f"{self.room}/many:1: it is cut off", errors)
+
+    def test_an_anchor_that_no_manifest_has(self):
+        path = self.write(many_builds.race(), range(3))
+        status, said, errors = self.told("--partial", "--anchor", "other", path)
+        self.assertEqual(errors, "rebug flakes: --anchor other: no manifest has a command of which that is the first "
+                                 "output\n")
+        self.assertEqual((status, json.loads(said.splitlines()[-1])["builds"]), (0, 3))
+
+    def test_a_failed_command_that_the_manifest_does_not_have(self):
+        *more, build = self.write(many_builds.race(), range(3)).read_text().splitlines()
+        it = json.loads(build)
+        (self.room / "bad").write_text("\n".join([*more, json.dumps({**it, "id": "x", "failed": {"18": ""}})]) + "\n")
+        self.assertIn("build x: a command failed there that its manifest does not have\n",
+                      self.told(self.room / "bad")[2])
+
+    def test_manifests_of_which_commands_wait_for_each_other(self):
+        """No manifest of Ninja's is so. Each command that separates waits for each other one."""
+        text = []
+        for seed in range(BUILDS):
+            for line in many_builds.race().build(seed).splitlines():
+                it = json.loads(line)
+                if it["rebug"] == "names":
+                    it["waits"] = [[(at + 1) % 18] if at not in (7, 6) else [] for at in range(18)]
+                text.append(json.dumps(it))
+        (self.room / "round").write_text("\n".join(text) + "\n")
+        status, _, errors = self.told(self.room / "round")
+        self.assertEqual((status, errors), (4, ""))
+
+    def test_signals_and_a_full_disk(self):
+        """A call that waits for more of its input is ended by a signal."""
+        good = self.write(many_builds.race(), range(3)).read_text()
+        for number in (signal.SIGINT, signal.SIGTERM, signal.SIGHUP, signal.SIGKILL):
+            asked = subprocess.Popen([sys.executable, FLAKES, "-"], stdin=subprocess.PIPE, stdout=subprocess.PIPE,
+                                     stderr=subprocess.PIPE, text=True)
+            asked.stdin.write(good)
+            asked.stdin.flush()
+            builds.wait_until_asleep(asked.pid)
+            asked.send_signal(number)
+            said, errors = asked.communicate(timeout=builds.LONGEST_SECONDS)
+            due = (-9, "") if number == signal.SIGKILL else (128 + number, f"rebug flakes: ended by {number.name}\n")
+            self.assertEqual((asked.returncode, errors, said), (*due, ""))
+        for word, path in ((FLAKES, self.room / "builds"), (SUMMARY, EXAMPLES / "failed")):
+            with open("/dev/full", "wb") as full:
+                more = ["--without-findings"] if word == SUMMARY else []
+                ran = subprocess.run([sys.executable, word, path, *more], stdin=subprocess.DEVNULL, stdout=full,
+                                     stderr=subprocess.PIPE, text=True)
+            self.assertEqual((ran.returncode, ran.stderr.count("\n")), (3, 1), ran.stderr)
+            self.assertIn(" cannot be written\n", ran.stderr)
 
     def test_words_and_files(self):
         path = self.write(many_builds.race(), range(3))
@@ -452,6 +551,7 @@ class Summary(Case):
         ran = self.summary(*words)
         self.assertEqual((ran.returncode, ran.stderr), (0, ""))
         found: dict[str, list[dict]] = {}
+        self.assertEqual(misfits(ran.stdout.encode(), "summary"), [])
         for it in map(json.loads, ran.stdout.splitlines()):
             found.setdefault(it["rebug"], []).append(it)
         return found
@@ -471,15 +571,41 @@ class Summary(Case):
         self.assertEqual(runs["main.o"], (int(times["0:8"]), int(times["0:10"])))
         self.assertEqual(set(runs), {"version.h", "table.h", "list.o", "text.o", "main.o"})
 
-    def test_findings_and_how_they_fell(self):
-        if not PROGRAM:
-            self.skipTest("REBUG_PROGRAM names no program that answers `races`")
-        for name, fell in (("passed", "before"), ("failed", "at once"), ("observed", "read")):
-            found = self.lines(EXAMPLES / name, "--rebug", PROGRAM)
-            (finding,) = found["finding"]
-            self.assertEqual((finding["id"], finding["path"], finding["maker"], finding["user"], finding["mend"]),
-                             ("a8a4fcf42eb58d0f", "version.h", 0, 5, "build.ninja:19: build main.o: ... || version.h"))
-            self.assertEqual(found["build"][0]["findings"], {"a8a4fcf42eb58d0f": fell})
+    def test_processor_times(self):
+        """They stand beside the ends of commands in version 2 of `times`, and nothing else of the summary changes."""
+        copy = self.room / "copy"
+        shutil.copytree(EXAMPLES / "failed", copy)
+        (plain,) = self.lines(copy, "--without-findings")["build"]
+        self.assertNotIn("processor", plain)
+        spent = {"0:8": "340 2048", "0:10": "12 1024"}  # table.h ends there, and main.o fails
+        lines = (copy / "times").read_text().splitlines()[1:]
+        (copy / "times").write_text("rebug-times 2\n" + "".join(
+            " ".join([it, *filter(None, [spent.get(it.split()[0])])]) + "\n" for it in lines))
+        (build,) = self.lines(copy, "--without-findings")["build"]
+        self.assertEqual({**plain, "processor": build["processor"], "id": build["id"]}, build)
+        its = dict(zip([it.command for it in in_order(unpacked(build["runs"], 7))],
+                       unpacked_numbers(build["processor"])))
+        self.assertEqual(its, {0: -1, 1: 340, 2: -1, 3: -1, 5: 12})
+
+    def test_what_commands_left(self):
+        """Where the recording has contents. A date is other bytes in another build, and what copies it, too."""
+        found = []
+        for text in ("one", "two"):
+            folder = self.room / text
+            (folder / "build").mkdir(parents=True)
+            (folder / "build/build.ninja").write_text(
+                RULES + statement("a", "cat ../date > a", "../date") + statement("b", "cat a > b", "a")
+                + statement("c", "echo c > c") + statement("d", "false", "c"))
+            (folder / "date").write_text(text)
+            ran = subprocess.run([sys.executable, builds.RECORDER, folder / "build", folder / "out", "--observe",
+                                  "--contents", "--", "-k", "0"], capture_output=True, stdin=subprocess.DEVNULL)
+            self.assertTrue((folder / "out/contents").is_file(), ran.stderr)
+            (build,) = self.lines(folder / "out", "--without-findings")["build"]
+            left = base64.b64decode(build["left"])
+            found.append([left[at : at + 6] for at in range(0, len(left), 6)])
+        one, two = found
+        self.assertEqual([it == other for it, other in zip(one, two)], [False, False, True, True])
+        self.assertEqual((len(one), one[3], bytes(6) in one[:3]), (4, bytes(6), False))
 
     def test_a_manifest_is_the_same_in_each_folder(self):
         """No whole path is in a summary, and the manifest's name is that of the same build elsewhere."""
@@ -503,7 +629,7 @@ class Summary(Case):
 
     def test_bad_words_and_recordings(self):
         for words, status, due in (([], 2, "wants one recording"), ([self.room / "no"], 2, "there is no recording"),
-                                   ([self.room], 2, "cannot read"),
+                                   ([self.room], 2, "it has no file build.ninja"),
                                    ([EXAMPLES / "failed", "--label", "x"], 2, "a name"),
                                    ([EXAMPLES / "failed", "--rebug", "/nowhere"], 3, "races cannot be asked")):
             ran = self.summary(*words)
@@ -511,6 +637,20 @@ class Summary(Case):
             self.assertIn(due, ran.stderr)
         copy = self.room / "copy"
         shutil.copytree(EXAMPLES / "failed", copy)
+        (self.room / "rules.ninja").write_text("rule r\n  command = true\n")
+        for text, due in (("include ../rules.ninja\n", "no file of a recording has this name"),
+                          (f"include {self.room}/rules.ninja\n", "no file of a recording has this name"),
+                          (None, "it is a link")):
+            (copy / "build.ninja").unlink()
+            if text:
+                (copy / "build.ninja").write_text(text)
+            else:
+                (copy / "build.ninja").symlink_to(self.room / "rules.ninja")
+            ran = self.summary(copy, "--without-findings")
+            self.assertEqual((ran.returncode, ran.stdout, ran.stderr.count("\n")), (2, "", 1), ran.stderr)
+            self.assertIn(due, ran.stderr)
+        (copy / "build.ninja").unlink()
+        shutil.copy(EXAMPLES / "failed" / "build.ninja", copy)
         (copy / "trace").write_bytes((copy / "trace").read_bytes().replace(b"start text.o", b"start other.o"))
         ran = self.summary(copy, "--without-findings")
         self.assertEqual((ran.returncode, ran.stderr.count("\n")), (2, 1), ran.stderr)

@@ -3,14 +3,14 @@
 from __future__ import annotations
 
 from collections import Counter
-from collections.abc import Callable, Sequence
+from collections.abc import Callable, Iterator, Sequence
 from dataclasses import dataclass, field
 
 from ..summary.packed import BadText
 from .judging import Anchor, judge, tests_of
-from .proved import good_of
+from .proved import good_of, has_program
 from .reading import Build, Fault, Manifest, Summaries
-from .sums import Fate, Orders, Sums, count_orders, failed_or_not, sums_of
+from .sums import Fate, OrderCount, Orders, Sums, failed_or_not, is_stopped, sums_of
 
 _MOST_CONTENTS = 8
 """A command that leaves more different contents than this leaves other bytes in any order."""
@@ -41,62 +41,102 @@ def counted(summaries: Summaries, anchors: Sequence[str], is_partial: bool) -> l
     found = {name: Counted(name, manifest, Sums()) for name, manifest in summaries.manifests.items()}
     builds: dict[str, list[Build]] = {name: [] for name in found}
     for build in sorted(summaries.builds.values(), key=lambda it: it.id):
-        it = found[build.manifest]
-        try:
-            it.sums.count(build, it.manifest)
-            builds[build.manifest].append(build)
-        except BadText as why:
-            summaries.faults.append(f"build {build.id}: {why}")
+        builds[build.manifest].append(build)
     for name, it in found.items():
-        wanted = _wanted(it, anchors)
-        good = good_of(builds[name], it.manifest, wanted)
-        for command in wanted:
-            it.sums.orders[command] = count_orders(command, builds[name], it.manifest, failed_or_not(command),
-                                                   good.get(command))
-        if not is_partial:
-            _count_left(it, builds[name], summaries)
+        _Counting(it, builds[name], summaries).count(_wanted(it, builds[name], anchors), is_partial)
     for name, told in summaries.sums:
         try:
             if name not in found:
                 raise Fault(f"no line has the names of its manifest {name}")
             found[name].sums.add(sums_of(told, found[name].manifest))
         except Fault as why:
-            summaries.faults.append(f"sums: {why}")
+            summaries.faults.add(f"sums: {why}")
     return sorted((it for it in found.values() if it.sums.builds), key=lambda it: (-it.sums.builds, it.name))
 
 
-def _wanted(it: Counted, anchors: Sequence[str]) -> list[int]:
+def _wanted(it: Counted, builds: Sequence[Build], anchors: Sequence[str]) -> list[int]:
     """The anchors: those that are named, or each command that failed."""
     if anchors:
         return [at for at, name in enumerate(it.manifest.names) if name in anchors]
-    return sorted(command for command, its in it.sums.commands.items() if its.failed)
+    return sorted(command for command in {command for build in builds for command in build.failed}
+                  if command < len(it.manifest.names))
 
 
-def _count_left(it: Counted, builds: Sequence[Build], summaries: Summaries) -> None:
-    """Looks for commands that left other bytes in some builds, and of which no command before did."""
-    contents: dict[int, Counter[bytes]] = {}
-    lefts: dict[str, list[bytes]] = {}
-    for build in builds:
-        try:
-            left = build.left(len(it.manifest.names))
-        except BadText as why:
-            summaries.faults.append(f"build {build.id}: {why}")
-            continue
-        if left is None or build.failed:
-            continue
-        lefts[build.id] = left
-        for command, digest in enumerate(left):
-            if digest:
-                contents.setdefault(command, Counter())[digest] += 1
-    vary = {command for command, them in contents.items() if len(them) > 1}
-    for command in sorted(vary):
-        if it.manifest.before(command) & vary:
-            continue
-        if len(contents[command]) > _MOST_CONTENTS:
-            it.restless.append(command)
-            continue
-        common = min(contents[command], key=lambda digest: (-contents[command][digest], digest))
-        it.left[command] = count_orders(command, builds, it.manifest, _left_or_not(lefts, command, common))
+class _Counting:
+    """Counts the builds of one manifest, of which each is unpacked once."""
+
+    def __init__(self, found: Counted, builds: Sequence[Build], summaries: Summaries) -> None:
+        self._found, self._builds, self._summaries = found, builds, summaries
+        self._sound: list[Build] = []
+        self._stopped: set[str] = set()
+
+    def count(self, anchors: Sequence[int], is_partial: bool) -> None:
+        """Counts all builds, and the orders with anchors."""
+        manifest, sums = self._found.manifest, self._found.sums
+        is_asked = bool(anchors) and has_program()
+        orders = {it: OrderCount(it, manifest, failed_or_not(it), is_asked) for it in anchors}
+        left = {} if is_partial else self._left()
+        self._pass([*orders.values(), *left.values()])
+        good = good_of(self._sound, self._stopped, manifest, anchors) if is_asked else None
+        if is_asked and good is None:  # the program has no answer
+            orders = {it: OrderCount(it, manifest, failed_or_not(it), False) for it in anchors}
+            self._pass_over_sound(list(orders.values()))
+        sums.orders = {it: its.total(good[it] if good else None) for it, its in orders.items()}
+        self._found.left = {it: its.total() for it, its in left.items()}
+
+    def _pass(self, orders: Sequence[OrderCount]) -> None:
+        """One pass over all builds. Those that cannot be unpacked are noted, and do not count."""
+        manifest, sums = self._found.manifest, self._found.sums
+        for build in self._builds:
+            try:
+                its = build.columns(len(manifest.names))
+                sums.count(build, manifest, its)
+            except BadText as why:
+                self._summaries.faults.add(f"build {build.id}: {why}")
+                continue
+            self._sound.append(build)
+            if is_stopped(build, its):
+                self._stopped.add(build.id)
+            for it in orders:
+                it.add(build, its, build.id in self._stopped)
+        sums.settle()
+
+    def _pass_over_sound(self, orders: Sequence[OrderCount]) -> None:
+        for build in self._sound:
+            its = build.columns(len(self._found.manifest.names))
+            for it in orders:
+                it.add(build, its, build.id in self._stopped)
+
+    def _left(self) -> dict[int, OrderCount]:
+        """Commands that left other bytes in some builds in which nothing failed, and that wait for none that did."""
+        lefts = dict(self._digests())
+        contents: dict[int, Counter[bytes]] = {}
+        for left in lefts.values():
+            for command, digest in enumerate(left):
+                if digest:
+                    contents.setdefault(command, Counter())[digest] += 1
+        vary = {command for command, them in contents.items() if len(them) > 1}
+        found, manifest = {}, self._found.manifest
+        for command in sorted(vary):
+            if manifest.before(command) & vary:
+                continue
+            if len(contents[command]) > _MOST_CONTENTS:
+                self._found.restless.append(command)
+                continue
+            common = min(contents[command], key=lambda digest: (-contents[command][digest], digest))
+            found[command] = OrderCount(command, manifest, _left_or_not(lefts, command, common), False)
+        return found
+
+    def _digests(self) -> Iterator[tuple[str, list[bytes]]]:
+        """What the commands left, of each build in which nothing failed."""
+        for build in self._builds:
+            try:
+                left = None if build.failed else build.left(len(self._found.manifest.names))
+            except BadText as why:
+                self._summaries.faults.add(f"build {build.id}: {why}")
+                continue
+            if left is not None:
+                yield build.id, left
 
 
 def _left_or_not(lefts: dict[str, list[bytes]], command: int, common: bytes) -> Callable[[Build], Fate]:

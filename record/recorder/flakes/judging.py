@@ -9,9 +9,10 @@ number of all tests of the manifest. A culprit is named where that is below one 
 from __future__ import annotations
 
 import enum
-from collections.abc import Iterator, Sequence
+from collections.abc import Collection, Iterable, Iterator, Sequence
 from dataclasses import dataclass, field
 from fractions import Fraction
+from itertools import accumulate
 
 from .fisher import chance, is_below
 from .reading import Finding, Manifest
@@ -64,23 +65,24 @@ class Separation:
     c: int
     good: int
 
-    @property
     def chance(self) -> float:
+        """How often luck alone separates so well, or better."""
         return chance(self.a, self.bad, self.c, self.good)
 
 
 @dataclass
 class Culprit:
     """A separation with a chance that is small enough, or else the smallest. `ties` are commands that separate as well,
-    of which none waits for another; `followers` is how many more do so and wait for one of these. `corrected` is the
-    chance times the number of tests. `finding` is of these two commands."""
+    of which none waits for another, and `followers` are those that do so and wait for one of these. `corrected` is the
+    chance times the number of tests. `findings` are of the command and the anchor. `more` is how many further builds
+    would be needed where the chance is not small enough, None where thousands would not do."""
 
     separation: Separation
     ties: list[int]
-    followers: int
+    followers: list[int]
     corrected: float
     is_named: bool
-    finding: Finding | None = None
+    findings: list[Finding]
     more: int | None = None
 
 
@@ -108,10 +110,10 @@ def _counted(row: str) -> int:
 
 
 def _properties(orders: Orders) -> Iterator[tuple[State, int]]:
-    """The properties without their opposites: by moments up to the shortest run of the anchor, since what comes later
-    the anchor itself may cause."""
+    """The properties without their opposites: by moments up to which the orders are known, since what comes later a
+    failure may cause."""
     for at, moment in enumerate(MOMENTS):
-        if at and moment > (orders.shortest or 0):
+        if at and moment > (orders.known or 0):
             return
         yield State.ENDED, at
         if not at:
@@ -122,14 +124,19 @@ def _properties(orders: Orders) -> Iterator[tuple[State, int]]:
 def judge(anchor: int, manifest: Manifest, orders: Orders, tests: int, left: bool = False) -> Anchor:
     """What separates the bad builds of an anchor, where `tests` are made in all."""
     rows = {name: _spans(row) for name, row in sorted(orders.bad.items())}
-    good = orders.used - len(rows)
-    found = Anchor(anchor, len(rows), good, len(orders.good), left)
+    found = Anchor(anchor, len(rows), orders.used - len(rows), len(orders.good), left)
+    near: dict[int, list[Finding]] = {}
+    for name in sorted(manifest.findings):
+        it = manifest.findings[name]
+        if anchor in (it.maker, it.user):
+            near.setdefault(it.user if it.maker == anchor else it.maker, []).append(it)
     remaining = set(rows)
     while remaining and len(found.culprits) < _MOST_CULPRITS:
-        them = list(_separations(orders, [rows[it] for it in sorted(remaining)]))
-        if not them:
+        counts = _counts(rows[it] for it in sorted(remaining))
+        its = _best(orders, counts)
+        if not its:
             break
-        culprit = _culprit(them, manifest, anchor, tests)
+        culprit = _culprit(its, {it: _lateness(counts[it], orders.good[it]) for it in its}, manifest, near, tests)
         if found.culprits and not culprit.is_named:
             break
         found.culprits.append(culprit)
@@ -145,71 +152,80 @@ def _spans(row: str) -> dict[int, tuple[int, int]]:
     return {at // 2: (int(row[at]), int(row[at + 1])) for at in range(0, len(row), 2) if row[at] != "-"}
 
 
-def _separations(orders: Orders, rows: Sequence[dict[int, tuple[int, int]]]) -> Iterator[Separation]:
-    """All separations, of each property the direction in which it is more frequent in bad builds."""
-    bad: dict[int, list[int]] = {}
+def _counts(rows: Iterable[dict[int, tuple[int, int]]]) -> dict[int, list[int]]:
+    """Of bad builds, by each command how often it ended and began in each span."""
+    found: dict[int, list[int]] = {}
     for row in rows:
         for command, (ended, began) in row.items():
-            counts = bad.setdefault(command, [0] * (2 * SPANS))
+            counts = found.setdefault(command, [0] * (2 * SPANS))
             counts[ended] += 1
             counts[SPANS + began] += 1
-    properties = list(_properties(orders))
-    for command, counts in bad.items():
-        goods = orders.good.get(command)
-        if goods is None:
+    return found
+
+
+def _best(orders: Orders, counts: dict[int, list[int]]) -> dict[int, Separation]:
+    """By each command that separates with the smallest chance of all how it does so. Of each property that direction
+    counts in which it is more frequent in bad builds."""
+    best, found = 2.0, dict[int, Separation]()
+    properties = sorted(_properties(orders), key=lambda pair: (_RANKS[pair[0]], pair[1]))
+    for command, of_bad in counts.items():
+        if command not in orders.good:
             continue
-        ours, theirs = _sums(counts), _sums(goods)
-        all_bad, all_good = ours[SPANS - 1], theirs[SPANS - 1]
+        ours, theirs = _sums(of_bad), _sums(orders.good[command])
+        bad, good = ours[SPANS - 1], theirs[SPANS - 1]
         for state, at in properties:
             a, c = _count(state, at, ours), _count(state, at, theirs)
-            holds = a * all_good >= c * all_bad
-            yield Separation(command, Property(state, MOMENTS[at], holds), a if holds else all_bad - a, all_bad,
-                             c if holds else all_good - c, all_good)
+            holds = a * good >= c * bad
+            if not holds:
+                a, c = bad - a, good - c
+            its = chance(a, bad, c, good)
+            if its < best:
+                best, found = its, {}
+            if its == best:
+                found.setdefault(command, Separation(command, Property(state, MOMENTS[at], holds), a, bad, c, good))
+    return found
 
 
 def _sums(counts: Sequence[int]) -> list[int]:
     """Of spans of ends and of begins how many builds are in each or in one before."""
-    found: list[int] = []
-    for part in (counts[:SPANS], counts[SPANS:]):
-        total = 0
-        for it in part:
-            total += it
-            found.append(total)
-    return found
+    return [*accumulate(counts[:SPANS]), *accumulate(counts[SPANS:])]
 
 
 def _count(state: State, at: int, sums: Sequence[int]) -> int:
     ended, begun = sums[at], sums[SPANS + at]
-    return {State.ENDED: ended, State.BEGUN: begun, State.RAN: begun - ended}[state]
+    return ended if state is State.ENDED else begun if state is State.BEGUN else begun - ended
+
+
+def _lateness(*counts: Sequence[int]) -> int:
+    """How late a command ended and began, by spans and over all builds."""
+    return sum(at % SPANS * count for its in counts for at, count in enumerate(its))
 
 
 _RANKS = {State.ENDED: 0, State.RAN: 1, State.BEGUN: 2}
 
 
-def _culprit(them: Sequence[Separation], manifest: Manifest, anchor: int, tests: int) -> Culprit:
-    """The best separation: of those with one chance the command comes first that waits for none of the others."""
-    best = min(it.chance for it in them)
-    its: dict[int, Separation] = {}
-    for it in sorted((it for it in them if it.chance == best),
-                     key=lambda it: (_RANKS[it.property.state], it.property.moment)):
-        its.setdefault(it.command, it)
+def _culprit(its: dict[int, Separation], lateness: dict[int, int], manifest: Manifest,
+             near: dict[int, list[Finding]], tests: int) -> Culprit:
+    """The culprit of commands that separate equally well. One with a finding comes first. Of the others one does that
+    waits for none of these, and then the one that ends first: what runs behind a culprit separates as well."""
     first = _first(its, manifest)
-    chosen = min((its[it] for it in first), key=lambda it: (_RANKS[it.property.state], it.property.moment, it.command))
-    ties = sorted(it for it in first if it != chosen.command)
-    corrected = min(1.0, best * tests)
+
+    def rank(it: int) -> tuple[int, int, int, int]:
+        property_ = its[it].property
+        return _RANKS[property_.state], property_.moment, lateness[it], it
+
+    chosen = its[min([it for it in its if it in near] or first, key=rank)]
+    ties = sorted((it for it in first if it != chosen.command), key=rank)
+    followers = sorted(its.keys() - {chosen.command, *first})
     is_named = is_below(chosen.a, chosen.bad, chosen.c, chosen.good, tests, LEAST)
-    finding = next((it for it in manifest.findings.values() if {it.maker, it.user} == {chosen.command, anchor}), None)
-    return Culprit(chosen, ties, len(its) - len(first), corrected, is_named, finding,
-                   None if is_named else _more(chosen, tests))
+    return Culprit(chosen, ties, followers, min(1.0, chosen.chance() * tests), is_named,
+                   near.get(chosen.command, []), None if is_named else _more(chosen, tests))
 
 
-def _first(commands: dict[int, Separation], manifest: Manifest) -> list[int]:
-    """Those commands that wait for none of the others."""
-    waiting: set[int] = set()
-    for it in sorted(commands):
-        if it not in waiting:
-            waiting |= manifest.after(it) & commands.keys()
-    return [it for it in commands if it not in waiting]
+def _first(commands: Collection[int], manifest: Manifest) -> list[int]:
+    """Those commands that wait for none of the others; all where each one does, as in no manifest of Ninja's."""
+    waiting = manifest.after_all(commands)
+    return [it for it in commands if it not in waiting] or list(commands)
 
 
 def _more(it: Separation, tests: int) -> int | None:

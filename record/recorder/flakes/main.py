@@ -54,6 +54,9 @@ def _answered(words: Sequence[str]) -> int:
 def _run(options: Options) -> int:
     summaries = Summaries()
     summaries.read(options.paths)
+    for it in options.anchors:
+        if not any(it in manifest.names for manifest in summaries.manifests.values()):
+            summaries.faults.add(f"--anchor {it}: no manifest has a command of which that is the first output")
     them = counted(summaries, options.anchors, options.is_partial)
     for it in faults_of(summaries):
         say(it)
@@ -70,7 +73,11 @@ def _run(options: Options) -> int:
 
 
 def _show(text: str) -> bool:
-    return write_all(1, text.encode("utf-8", "backslashreplace"))
+    """Writes the answer, or says that it cannot be written."""
+    is_written = write_all(1, text.encode("utf-8", "backslashreplace"))
+    if not is_written:
+        say("the answer cannot be written")
+    return is_written
 
 
 def _partial(them: Sequence[Counted]) -> Iterator[str]:

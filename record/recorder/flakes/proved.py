@@ -5,6 +5,7 @@ from __future__ import annotations
 import json
 import os
 import subprocess
+import tempfile
 from collections.abc import Iterator, Sequence
 
 from ..installed import asking_program
@@ -16,32 +17,37 @@ Goods = dict[int, dict[int, list[int]]]
 """By anchors and other commands how often these ended and began in each span, of builds in which the anchor passed."""
 
 
-def good_of(builds: Sequence[Build], manifest: Manifest, anchors: Sequence[int]) -> Goods:
-    """The counts of all anchors, if the program gives them; else of none. Raises BadText."""
-    program = asking_program()
-    if not anchors or not os.access(program, os.X_OK):
-        return {}
-    text = "".join(f"{line}\n" for line in _lines(builds, manifest, anchors))
-    try:
-        asked = subprocess.run([program, WORD], input=text.encode(), capture_output=True)
-    except OSError:
-        return {}
-    return _read(asked.stdout, len(manifest.names), anchors) if asked.returncode == 0 else {}
+def has_program() -> bool:
+    """Whether the program is there."""
+    return os.access(asking_program(), os.X_OK)
 
 
-def _lines(builds: Sequence[Build], manifest: Manifest, anchors: Sequence[int]) -> Iterator[str]:
+def good_of(builds: Sequence[Build], stopped: set[str], manifest: Manifest, anchors: Sequence[int]) -> Goods | None:
+    """The counts of all anchors, or None where the program does not give them. `stopped` has the names of the builds
+    that Ninja stopped. Raises BadText."""
+    lines = _lines(builds, stopped, manifest, anchors)
+    with tempfile.TemporaryFile() as text:
+        text.writelines(f"{line}\n".encode() for line in lines)
+        text.seek(0)
+        try:
+            asked = subprocess.run([asking_program(), WORD], stdin=text, capture_output=True)
+        except OSError:
+            return None
+    return _read(asked.stdout, len(manifest.names), anchors) if asked.returncode == 0 else None
+
+
+def _lines(builds: Sequence[Build], stopped: set[str], manifest: Manifest, anchors: Sequence[int]) -> Iterator[str]:
     yield f"builds 1 {len(manifest.names)}"
     yield f"anchors {' '.join(map(str, anchors))}"
     yield f"moments {' '.join(map(str, MOMENTS))}"
     for it in builds:
         runs = it.plain_runs()
         if runs:
-            kind = "stopped" if it.is_from_nothing and it.failed else "build"
-            yield " ".join([kind, runs, *map(str, it.failed)])
+            yield " ".join(["stopped" if it.id in stopped else "build", runs, *map(str, it.failed)])
 
 
-def _read(answer: bytes, commands: int, anchors: Sequence[int]) -> Goods:
-    """The answer of the program; nothing where it has another form."""
+def _read(answer: bytes, commands: int, anchors: Sequence[int]) -> Goods | None:
+    """The answer of the program; None where it has another form."""
     tables: dict[int, list[list[list[int]]]] = {it: [] for it in anchors}
     try:
         for line in answer.splitlines():
@@ -49,7 +55,7 @@ def _read(answer: bytes, commands: int, anchors: Sequence[int]) -> Goods:
             tables[it["anchor"]].append(it["passing"])
         return {anchor: dict(_rows(table, commands)) for anchor, table in tables.items()}
     except (ValueError, KeyError, IndexError, TypeError):
-        return {}
+        return None
 
 
 def _rows(table: Sequence[Sequence[Sequence[int]]], commands: int) -> Iterator[tuple[int, list[int]]]:

@@ -7,15 +7,17 @@ import binascii
 import json
 import os
 import re
-from collections.abc import Iterator, Sequence
+from collections.abc import Iterable, Iterator, Sequence
 from dataclasses import dataclass, field
 from typing import Any
 
 from ..regular import NoFile
 from ..summary.lines import VERSION
-from ..summary.packed import BadText, columns, plain
+from ..summary.packed import BadText, Columns, columns, plain
 
 MOST_LINE = 1 << 28
+MOST_FAULTS = 10
+"""So many sentences are printed about lines that do not count; the others are counted."""
 _DIGEST_BYTES = 6
 _MOST_NODES = 1 << 20
 _NAME = re.compile(r"[0-9a-f]{16}")
@@ -53,29 +55,34 @@ class Manifest:
 
     def before(self, command: int) -> set[int]:
         """The nodes that a command waits for, also through others."""
-        return _reached(self.waits, command)
+        return _reached(self.waits, [command]) - {command}
 
     def after(self, command: int) -> set[int]:
-        """The nodes that wait for a command."""
+        """The nodes that wait for a command, also through others."""
+        return self.after_all([command]) - {command}
+
+    def after_all(self, commands: Iterable[int]) -> set[int]:
+        """The nodes that wait for one of some commands, also through others."""
         if self._users is None:
             self._users = [[] for _ in self.waits]
             for node, them in enumerate(self.waits):
                 for it in them:
                     self._users[it].append(node)
-        return _reached(self._users, command)
+        return _reached(self._users, commands)
 
     def shown(self, command: int) -> str:
         return f"{self.names[command]} ({self.places[command]})"
 
 
-def _reached(steps: list[list[int]], node: int) -> set[int]:
-    found, todo = set(), [node]
+def _reached(steps: list[list[int]], nodes: Iterable[int]) -> set[int]:
+    """What some nodes reach by a step or more."""
+    found, todo = set(), list(nodes)
     while todo:
         for it in steps[todo.pop()]:
             if it not in found:
                 found.add(it)
                 todo.append(it)
-    return found - {node}
+    return found
 
 
 @dataclass
@@ -93,7 +100,7 @@ class Build:
     _runs: str
     _left: str
 
-    def columns(self, count: int) -> tuple[list[int], list[int]]:
+    def columns(self, count: int) -> Columns:
         """When each of so many commands began and ended. Raises BadText."""
         return columns(self._runs, count)
 
@@ -116,33 +123,45 @@ class Build:
 
 
 @dataclass
+class Faults:
+    """Sentences about what does not count: the first ones, and how many there are."""
+
+    count: int = 0
+    first: list[str] = field(default_factory=list)
+
+    def add(self, sentence: str) -> None:
+        self.count += 1
+        if self.count <= MOST_FAULTS:
+            self.first.append(sentence)
+
+
+@dataclass
 class Summaries:
-    """All that was read: manifests and builds by their names, sums of other builds, and sentences about lines that do
-    not count."""
+    """All that was read: manifests and builds by their names, sums of other builds, and what does not count."""
 
     manifests: dict[str, Manifest] = field(default_factory=dict)
     builds: dict[str, Build] = field(default_factory=dict)
     sums: list[tuple[str, dict[str, Any]]] = field(default_factory=list)
-    faults: list[str] = field(default_factory=list)
-    lines: int = 0
+    faults: Faults = field(default_factory=Faults)
+    _known: set[bytes] = field(default_factory=set)
 
     def read(self, paths: Sequence[str]) -> None:
         """Reads files, and all files below folders. Raises OSError."""
         waiting: list[tuple[str, Any]] = []
         for path in _files(paths):
             for place, line in _lines(path):
-                self.lines += 1
                 try:
-                    self._take(line, place, waiting)
+                    if line not in self._known:
+                        self._take(line, place, waiting)
                 except Fault as why:
-                    self.faults.append(f"{place}: {why}")
+                    self.faults.add(f"{place}: {why}")
         for place, it in waiting:
             try:
                 self._take_finding(it)
             except Fault as why:
-                self.faults.append(f"{place}: {why}")
+                self.faults.add(f"{place}: {why}")
         for name in [name for name, it in self.builds.items() if it.manifest not in self.manifests]:
-            self.faults.append(f"build {name}: no line has the names of its manifest {self.builds.pop(name).manifest}")
+            self.faults.add(f"build {name}: no line has the names of its manifest {self.builds.pop(name).manifest}")
 
     def _take(self, line: bytes, place: str, waiting: list[tuple[str, Any]]) -> None:
         try:
@@ -160,8 +179,10 @@ class Summaries:
             found = _manifest(it)
             if self.manifests.setdefault(name, found) != found:
                 raise Fault(f"it has other names for manifest {name} than a line before")
+            self._known.add(line)  # each summary has it again
         elif it["rebug"] == "finding":
             waiting.append((place, it))
+            self._known.add(line)
         elif it["rebug"] == "sums":
             self.sums.append((name, it))
         else:
@@ -177,7 +198,8 @@ class Summaries:
         if not all(isinstance(text, str) for text in texts) or not all(_is_number(end, len(manifest.names))
                                                                        for end in ends):
             raise Fault("a finding with other members")
-        manifest.findings.setdefault(it["id"], Finding(it["id"], it["finding"], it["path"], *ends, it["mend"]))
+        maker, user = ends
+        manifest.findings.setdefault(it["id"], Finding(it["id"], it["finding"], it["path"], maker, user, it["mend"]))
 
 
 def _files(paths: Sequence[str]) -> Iterator[str]:

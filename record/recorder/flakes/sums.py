@@ -11,17 +11,17 @@ import enum
 import re
 from bisect import bisect_left, bisect_right
 from collections import Counter
-from collections.abc import Callable, Iterable, Iterator
+from collections.abc import Callable, Mapping
 from dataclasses import dataclass, field
+from itertools import repeat
 from typing import Any
 
-from ..summary.packed import NOT_RUN
+from ..summary.packed import NEVER, BadText, Columns
 from .reading import Build, Fault, Manifest
 
 MOMENTS = (0, 10, 30, 100, 300, 1_000, 3_000, 10_000, 30_000)
 """Milliseconds from the begin of the anchor on, by which another command had begun or ended."""
 SPANS = len(MOMENTS) + 1
-NEVER = SPANS - 1
 _ROW = re.compile(r"(?:[0-9]{2}|--)*")
 
 
@@ -37,12 +37,13 @@ class Fate(enum.Enum):
 class Orders:
     """How commands stand to one anchor. `good` has by each other command how often it ended and began in each span, of
     builds in which the anchor ended well. `bad` has by each other build two digits a command: the spans in which it
-    ended and began, or `--` where the two do not count. `shortest` is the shortest run of the anchor, in milliseconds,
-    and `used` is how many builds count."""
+    ended and began, or `--` where the two do not count. `used` is how many builds count. `known` is how long after the
+    begin of the anchor the orders are known in each of them, in milliseconds: up to its end, and up to the failure at
+    which Ninja stopped."""
 
     good: dict[int, list[int]] = field(default_factory=dict)
     bad: dict[str, str] = field(default_factory=dict)
-    shortest: int | None = None
+    known: int | None = None
     used: int = 0
 
     def add(self, other: Orders) -> None:
@@ -53,26 +54,46 @@ class Orders:
                 own[at] += count
         self.used += other.used - len(self.bad.keys() & other.bad.keys())
         self.bad.update(other.bad)
-        self.shortest = min((it for it in (self.shortest, other.shortest) if it is not None), default=None)
+        self.known = min((it for it in (self.known, other.known) if it is not None), default=None)
+
+
+@dataclass(frozen=True)
+class Occasion:
+    """A build in which a command failed: when it ended, its name and its labels."""
+
+    when: int
+    build: str
+    labels: dict[str, str]
+
+    def rank(self) -> tuple[int, str]:
+        """Which of two builds was the first: of those that ended in one second the one with the first name."""
+        return self.when, self.build
+
+
+def _earlier(one: Occasion | None, other: Occasion | None) -> Occasion | None:
+    return one or other if not (one and other) else one if one.rank() <= other.rank() else other
+
+
+def _later(one: Occasion | None, other: Occasion | None) -> Occasion | None:
+    return one or other if not (one and other) else one if one.rank() >= other.rank() else other
 
 
 @dataclass
 class Failures:
-    """Of a command that failed: in how many builds it did and in how many it ran, the first and the last time that it
-    did, by labels in how many builds it failed, and first lines of its errors."""
+    """Of a command that failed: in how many builds it did and in how many it ran, the first and the last of those, by
+    labels in how many builds it failed, and first lines of its errors."""
 
     failed: int = 0
     ran: int = 0
-    first: int | None = None
-    last: int | None = None
+    first: Occasion | None = None
+    last: Occasion | None = None
     labels: Counter[str] = field(default_factory=Counter)
     texts: Counter[str] = field(default_factory=Counter)
 
     def add(self, other: Failures) -> None:
         """Adds the counts of other builds."""
         self.failed, self.ran = self.failed + other.failed, self.ran + other.ran
-        self.first = min((it for it in (self.first, other.first) if it is not None), default=None)
-        self.last = max((it for it in (self.last, other.last) if it is not None), default=None)
+        self.first, self.last = _earlier(self.first, other.first), _later(self.last, other.last)
         self.labels.update(other.labels)
         self.texts.update(other.texts)
 
@@ -89,6 +110,7 @@ class Sums:
     commands: dict[int, Failures] = field(default_factory=dict)
     findings: Counter[str] = field(default_factory=Counter)
     orders: dict[int, Orders] = field(default_factory=dict)
+    _ran: Counter[int] = field(default_factory=Counter)
 
     def add(self, other: Sums) -> None:
         """Adds the counts of other builds."""
@@ -100,27 +122,42 @@ class Sums:
         for anchor, them in other.orders.items():
             self.orders.setdefault(anchor, Orders()).add(them)
 
-    def count(self, build: Build, manifest: Manifest) -> None:
+    def count(self, build: Build, manifest: Manifest, its: Columns) -> None:
         """Counts one build, without its orders. Raises BadText."""
-        (_, ends), is_bad = build.columns(len(manifest.names)), bool(build.failed)
+        if any(command >= len(manifest.names) for command in build.failed):
+            raise BadText("a command failed there that its manifest does not have")
+        is_bad = bool(build.failed)
         self.builds, self.bad = self.builds + 1, self.bad + is_bad
         self.labels.update(_labels(build))
         self.findings.update(f"{name} {'bad' if is_bad else 'good'} {fell}" for name, fell in build.findings.items()
                              if name in manifest.findings)
-        for command, ended in enumerate(ends):
-            if ended >= 0:
-                its = self.commands.get(command)
-                if its is None:
-                    its = self.commands[command] = Failures()
-                its.ran += 1
+        self._ran.update(it for it in its.ran if its.ends[it] != NEVER)
         for command, text in build.failed.items():
-            if command < len(manifest.names):
-                its = Failures(1, 0, build.when, build.when, Counter(_labels(build)), Counter([text] if text else []))
-                self.commands.setdefault(command, Failures()).add(its)
+            occasion = Occasion(build.when, build.id, build.labels)
+            failure = Failures(1, 0, occasion, occasion, Counter(_labels(build)), Counter([text] if text else []))
+            self.commands.setdefault(command, Failures()).add(failure)
+
+    def settle(self) -> None:
+        """Says of each command in how many of the builds that were counted it ran."""
+        for command, ran in self._ran.items():
+            self.commands.setdefault(command, Failures()).ran += ran
+        self._ran.clear()
 
 
 def _labels(build: Build) -> list[str]:
     return [f"{name}={value}" for name, value in build.labels.items()]
+
+
+def is_stopped(build: Build, its: Columns) -> bool:
+    """Whether Ninja stopped a build from nothing at its first failure, so that a command without a run had not begun by
+    then. A build in which a command began later went on after it (`-k`)."""
+    return build.is_from_nothing and bool(build.failed) and bool(its.ran) and (
+        its.begins[its.ran[-1]] <= first_failure(build, its))
+
+
+def first_failure(build: Build, its: Columns) -> int:
+    """When the first command of a build failed."""
+    return min((its.ends[it] for it in build.failed), default=NEVER)
 
 
 def failed_or_not(command: int) -> Callable[[Build], Fate]:
@@ -128,63 +165,89 @@ def failed_or_not(command: int) -> Callable[[Build], Fate]:
     return lambda build: Fate.BAD if command in build.failed else Fate.GOOD
 
 
-def count_orders(anchor: int, builds: Iterable[Build], manifest: Manifest, fate: Callable[[Build], Fate],
-                 good: dict[int, list[int]] | None = None) -> Orders:
-    """Counts how the commands that are not ordered with an anchor stood to it. Raises BadText.
+_NO_ORDER = 255
+_CODES = [[SPANS * ended + min(ended, began) for began in range(SPANS)] for ended in range(SPANS)]
+_TEXTS = ["%d%d" % divmod(it, SPANS) for it in range(SPANS * SPANS)] + ["--"] * (256 - SPANS * SPANS)
+_MOST_ROWS = 64
+
+
+class OrderCount:
+    """Counts how the commands that are not ordered with an anchor stood to it, build by build.
 
     Two commands count in a build where both ran; also where the other one never began, since Ninja had stopped before,
-    in a build from nothing. `good` has the counts of the builds in which the anchor passed, where they are known."""
-    found, count = Orders(), len(manifest.names)
-    ordered = manifest.before(anchor) | manifest.after(anchor) | {anchor}
-    others = [it for it in range(count) if it not in ordered]
-    if good is not None:
-        found.good = {it: good[it] for it in others if it in good}
-    for build in builds:
-        (begins, ends), its = build.columns(count), fate(build)
-        began, ended = begins[anchor], ends[anchor]
-        if ended < 0 or its is Fate.NONE:
-            continue
-        found.used += 1
-        found.shortest = min(ended - began, ended - began if found.shortest is None else found.shortest)
-        if its is Fate.GOOD and good is not None:
-            continue
-        spans = _spans(others, begins, ends, began, build.is_from_nothing and bool(build.failed))
-        if its is Fate.BAD:
-            row = ["--"] * count
-            for it, its_end, its_begin in spans:
-                row[it] = f"{its_end}{its_begin}"
-            found.bad[build.id] = "".join(row)
-            continue
-        for it, its_end, its_begin in spans:
-            counts = found.good.get(it)
-            if counts is None:
-                counts = found.good[it] = [0] * (2 * SPANS)
-            counts[its_end] += 1
-            counts[SPANS + its_begin] += 1
-    return found
+    in a build from nothing. `good` has the counts of the builds in which the anchor passed, where they are known.
+    """
 
+    def __init__(self, anchor: int, manifest: Manifest, fate: Callable[[Build], Fate], is_good_counted: bool) -> None:
+        count = len(manifest.names)
+        ordered = manifest.before(anchor) | manifest.after(anchor) | {anchor}
+        self.orders = Orders()
+        self._anchor, self._fate, self._is_good_counted = anchor, fate, is_good_counted
+        self._count, self._others = count, [it for it in range(count) if it not in ordered]
+        self._rows: list[bytes] = []
 
-def _spans(others: Iterable[int], begins: list[int], ends: list[int], from_here: int,
-           is_stopped: bool) -> Iterator[tuple[int, int, int]]:
-    """Of each command that counts the spans in which it ended and began, from a moment on."""
-    for it in others:
-        began, ended = begins[it], ends[it]
-        if began == NOT_RUN:
-            if is_stopped:
-                yield it, NEVER, NEVER
-            continue
-        its_end = bisect_left(MOMENTS, ended - from_here) if ended >= 0 else NEVER
-        its_begin = bisect_right(MOMENTS, began - from_here)
-        yield it, its_end, min(its_end, its_begin)
+    def add(self, build: Build, its: Columns, has_stopped: bool) -> None:
+        """Counts one more build. `has_stopped` says whether Ninja stopped it, as `is_stopped` has it."""
+        began, ended, fate = its.begins[self._anchor], its.ends[self._anchor], self._fate(build)
+        if ended == NEVER or fate is Fate.NONE:
+            return
+        orders, until = self.orders, min(ended, first_failure(build, its)) if has_stopped else ended
+        orders.used += 1
+        orders.known = max(0, min(until - began, until - began if orders.known is None else orders.known))
+        if fate is Fate.GOOD and self._is_good_counted:
+            return
+        row = self._row(its, began, has_stopped)
+        if fate is Fate.BAD:
+            texts = ["--"] * self._count
+            for it, code in zip(self._others, row):
+                texts[it] = _TEXTS[code]
+            orders.bad[build.id] = "".join(texts)
+            return
+        self._rows.append(row)
+        if len(self._rows) >= _MOST_ROWS:
+            self._fold()
+
+    def total(self, good: Mapping[int, list[int]] | None = None) -> Orders:
+        """What was counted. `good` has the counts of the builds in which the anchor passed, where these are not counted
+        here."""
+        self._fold()
+        if self._is_good_counted and good is not None:
+            self.orders.good = {it: good[it] for it in self._others if it in good}
+        return self.orders
+
+    def _row(self, its: Columns, began: int, has_stopped: bool) -> bytes:
+        """Of each other command one number for the spans in which it ended and began, from the begin of the anchor
+        on."""
+        begins, ends = ([column[it] - began for it in self._others] for column in (its.begins, its.ends))
+        row = bytes([_CODES[ended][begun] for ended, begun in zip(
+            map(bisect_left, repeat(MOMENTS), ends), map(bisect_right, repeat(MOMENTS), begins))])
+        if has_stopped or len(its.ran) == self._count:
+            return row
+        never = NEVER - began
+        return bytes([_NO_ORDER if begun == never else code for code, begun in zip(row, begins)])
+
+    def _fold(self) -> None:
+        """Adds the rows of some builds to the counts."""
+        rows, self._rows, width = b"".join(self._rows), [], len(self._others)
+        if not rows:
+            return
+        for at, other in enumerate(self._others):
+            column = rows[at::width]
+            for code in set(column):
+                if code == _NO_ORDER:
+                    continue
+                counts, its = self.orders.good.setdefault(other, [0] * (2 * SPANS)), column.count(code)
+                counts[code // SPANS] += its
+                counts[SPANS + code % SPANS] += its
 
 
 def members_of(sums: Sums) -> dict[str, Any]:
     """The counts as members of a JSON object."""
-    commands = {str(name): {"failed": it.failed, "ran": it.ran, "first": it.first, "last": it.last,
+    commands = {str(name): {"failed": it.failed, "ran": it.ran, "first": _told(it.first), "last": _told(it.last),
                             "labels": dict(it.labels), "texts": dict(it.texts)}
                 for name, it in sums.commands.items()}
     orders = {str(anchor): {"good": {str(name): counts for name, counts in it.good.items()}, "bad": it.bad,
-                            "shortest": it.shortest, "used": it.used} for anchor, it in sums.orders.items()}
+                            "known": it.known, "used": it.used} for anchor, it in sums.orders.items()}
     return {"builds": sums.builds, "failing": sums.bad, "labels": dict(sums.labels), "commands": commands,
             "findings": dict(sums.findings), "orders": orders}
 
@@ -197,7 +260,7 @@ def sums_of(it: dict[str, Any], manifest: Manifest) -> Sums:
                      findings=_counter(it["findings"]))
         for name, its in it["commands"].items():
             found.commands[_command(name, count)] = Failures(
-                _whole(its["failed"]), _whole(its["ran"]), _whole_or_none(its["first"]), _whole_or_none(its["last"]),
+                _whole(its["failed"]), _whole(its["ran"]), _occasion(its["first"]), _occasion(its["last"]),
                 _counter(its["labels"]), _counter(its["texts"]))
         for name, its in it["orders"].items():
             good = {_command(of, count): [_whole(number) for number in counts] for of, counts in its["good"].items()}
@@ -205,11 +268,21 @@ def sums_of(it: dict[str, Any], manifest: Manifest) -> Sums:
             if not all(len(counts) == 2 * SPANS for counts in good.values()) or not all(
                     len(row) == 2 * count and _ROW.fullmatch(row) for row in bad.values()):
                 raise Fault("sums with orders of another length")
-            found.orders[_command(name, count)] = Orders(good, bad, _whole_or_none(its["shortest"]),
-                                                         _whole(its["used"]))
+            found.orders[_command(name, count)] = Orders(good, bad, _whole_or_none(its["known"]), _whole(its["used"]))
     except (KeyError, TypeError, ValueError, AttributeError) as why:
         raise Fault("sums with other members") from why
     return found
+
+
+def _told(it: Occasion | None) -> dict[str, Any] | None:
+    return {"when": it.when, "build": it.build, "labels": it.labels} if it else None
+
+
+def _occasion(it: Any) -> Occasion | None:
+    if it is None:
+        return None
+    labels = {str(name): str(value) for name, value in it["labels"].items()}
+    return Occasion(_whole(it["when"]), str(it["build"]), labels)
 
 
 def _whole(it: Any) -> int:

@@ -3,6 +3,7 @@
 from __future__ import annotations
 
 import json
+import shlex
 import time
 from collections import Counter
 from collections.abc import Iterator, Sequence
@@ -11,9 +12,10 @@ from ..fields import printable
 from .counting import Counted
 from .judging import Anchor, Culprit
 from .reading import Summaries
-from .sums import Failures
+from .sums import Failures, Occasion
 
-_MOST_LABELS, _MOST_TIES, _MOST_FINDINGS, _MOST_FAULTS = 5, 4, 5, 10
+_MOST_LABELS, _MOST_TIES, _MOST_FINDINGS = 5, 4, 5
+_PROVOKE = "rebug provoke BUILD RECORDING N"
 _FELL = ("before", "after", "at once", "read", "missed")
 
 
@@ -47,6 +49,8 @@ def _lines_of_anchor(it: Counted, anchor: Anchor) -> Iterator[str]:
 
 
 def _lines_of_failures(it: Counted, its: Failures) -> Iterator[str]:
+    if its.first and its.last and its.first.labels != its.last.labels:
+        yield f"  first in {_labels(its.first)}; last in {_labels(its.last)}"
     if its.texts:
         text, count = min(its.texts.items(), key=lambda pair: (-pair[1], pair[0]))
         yield f"  {text}" + (f" (and {len(its.texts) - 1} other texts)" if len(its.texts) > 1 else "")
@@ -69,19 +73,42 @@ def _lines_of_culprit(it: Counted, anchor: Anchor, culprit: Culprit) -> Iterator
            f"(chance {culprit.corrected:.1g})")
     yield f"    {it.manifest.shown(best.command)}, which is not ordered with {it.manifest.shown(anchor.command)}"
     if culprit.ties:
-        more = f" and {len(culprit.ties) - _MOST_TIES} more" if culprit.ties[_MOST_TIES:] else ""
-        yield f"    so do, as a tie: {', '.join(names[tie] for tie in culprit.ties[:_MOST_TIES])}{more}"
+        yield f"    so do, as a tie: {_some(culprit.ties, names)}"
     if culprit.followers:
-        them = "command that waits" if culprit.followers == 1 else "commands that wait"
-        yield f"    {culprit.followers} {them} for it: as well"
-    if culprit.finding:
-        yield f"    {culprit.finding.kind} {culprit.finding.path} ({culprit.finding.id})"
-        if culprit.finding.mend:
-            yield f"    mend: {culprit.finding.mend}"
+        yield f"    so do, since they wait for one of these: {_some(culprit.followers, names)}"
+    yield from _lines_of_conflicts(culprit)
     if not culprit.is_named:
         if culprit.more is not None:
             yield f"    {_count(culprit.more, 'more build')} with the same shares would be needed"
-        yield f"    try: rebug shuffle BUILD --overlap -- {names[anchor.command]}"
+        yield f"    try: {_shuffle(names[anchor.command])}"
+
+
+def _lines_of_conflicts(culprit: Culprit) -> Iterator[str]:
+    """The findings of a culprit and its anchor, what mends them, and what makes the first one happen."""
+    for finding in culprit.findings[:_MOST_FINDINGS]:
+        yield f"    {finding.kind} {finding.path} ({finding.id})"
+        if finding.mend:
+            yield f"    mend: {finding.mend}"
+    if culprit.findings[_MOST_FINDINGS:]:
+        yield f"    {len(culprit.findings) - _MOST_FINDINGS} more findings of these two"
+    if culprit.findings:
+        yield (f"    provoke: {_PROVOKE}, with the number N of {culprit.findings[0].kind} "
+               f"{culprit.findings[0].path} in RECORDING")
+
+
+def _some(commands: Sequence[int], names: Sequence[str]) -> str:
+    """The first ones of some commands."""
+    more = f" and {len(commands) - _MOST_TIES:,} more" if commands[_MOST_TIES:] else ""
+    return ", ".join(names[it] for it in commands[:_MOST_TIES]) + more
+
+
+def _labels(it: Occasion) -> str:
+    return ", ".join(f"{name}={value}" for name, value in sorted(it.labels.items())) or "a build without labels"
+
+
+def _shuffle(target: str) -> str:
+    """What builds a target in other orders."""
+    return f"rebug shuffle BUILD --overlap -- {shlex.quote(target)}"
 
 
 def _lines_of_steady(it: Counted) -> Iterator[str]:
@@ -119,8 +146,9 @@ def objects_of(them: Sequence[Counted]) -> Iterator[str]:
         for command, its in sorted(it.sums.commands.items()):
             if its.failed:
                 yield _json(kind="failed", manifest=it.name, output=it.manifest.names[command],
-                            place=it.manifest.places[command], failed=its.failed, ran=its.ran, first=its.first,
-                            last=its.last, labels=dict(its.labels), texts=dict(its.texts))
+                            place=it.manifest.places[command], failed=its.failed, ran=its.ran,
+                            first=_occasion(its.first), last=_occasion(its.last), labels=dict(its.labels),
+                            texts=dict(its.texts))
         for anchor in anchors:
             for culprit in anchor.culprits:
                 yield _culprit(it, anchor, culprit)
@@ -137,24 +165,30 @@ def _culprit(it: Counted, anchor: Anchor, culprit: Culprit) -> str:
                  command=names[best.command], place=it.manifest.places[best.command], state=best.property.state.value,
                  moment=best.property.moment, holds=best.property.holds, bad=[best.a, best.bad],
                  good=[best.c, best.good], chance=f"{culprit.corrected:.6e}", named=culprit.is_named,
-                 ties=[names[tie] for tie in culprit.ties], followers=culprit.followers, more=culprit.more,
-                 finding=culprit.finding.id if culprit.finding else None,
-                 mend=culprit.finding.mend if culprit.finding else None)
+                 ties=[names[tie] for tie in culprit.ties], followers=[names[them] for them in culprit.followers],
+                 more=culprit.more, findings=[{"id": finding.id, "finding": finding.kind, "path": finding.path,
+                                               "mend": finding.mend} for finding in culprit.findings],
+                 provoke=_PROVOKE if culprit.findings else None,
+                 shuffle=None if culprit.is_named else _shuffle(names[anchor.command]))
 
 
 def faults_of(summaries: Summaries) -> Iterator[str]:
     """Sentences about what does not count."""
     faults = summaries.faults
-    yield from map(printable, faults[:_MOST_FAULTS])
-    if faults[_MOST_FAULTS:]:
-        yield f"{len(faults) - _MOST_FAULTS:,} more lines do not count"
+    yield from map(printable, faults.first)
+    if faults.count > len(faults.first):
+        yield f"{faults.count - len(faults.first):,} more lines do not count"
 
 
 def _when(its: Failures) -> str:
     if not its.first or not its.last:
         return ""
-    first, last = (time.strftime("%Y-%m-%d %H:%M", time.gmtime(it)) for it in (its.first, its.last))
+    first, last = (time.strftime("%Y-%m-%d %H:%M", time.gmtime(it.when)) for it in (its.first, its.last))
     return f", at {first}" if first == last else f", from {first} to {last}"
+
+
+def _occasion(it: Occasion | None) -> dict[str, object] | None:
+    return {"when": it.when, "build": it.build, "labels": it.labels} if it else None
 
 
 def _json(**members: object) -> str:

@@ -8,6 +8,7 @@ from collections.abc import Iterator
 from dataclasses import dataclass
 from typing import Any
 
+from ..stable import finding_name
 from .recording import Build
 
 _ANSWERED = (0, 4, 5)  # the statuses of `races` with an answer
@@ -58,11 +59,15 @@ def _read(text: str, build: Build) -> Iterator[Finding]:
         ends = [it.get(one) or it.get(other) for one, other in (("maker", "first"), ("user", "other"))]
         numbers = [number.get(str(end.get("output"))) if isinstance(end, dict) else None for end in ends]
         maker, user = numbers
-        if maker is None or user is None or it["id"] in seen:
+        if maker is None or user is None:
             continue
-        seen.add(it["id"])
+        kind = "race" if it["kind"] == "suspect" else it["kind"]
+        name = finding_name(it["id"], kind, str(it.get("path")), build.names[maker], build.names[user])
+        if name in seen:
+            continue
+        seen.add(name)
         mend = f"{build.places[user][0]}:{build.places[user][1]}: build {build.names[user]}: ... || {it['mend']}"
-        yield Finding(it["id"], "race" if it["kind"] == "suspect" else it["kind"], str(it.get("path")), maker, user,
+        yield Finding(name, kind, str(it.get("path")), maker, user,
                       _fell(it.get("look"), maker, user, build), mend if it.get("mend") else "")
 
 

@@ -7,9 +7,10 @@ import hashlib
 import json
 from collections.abc import Iterator, Mapping, Sequence
 
+from ..stable import text_without_folders as without_folders
 from .findings import Finding
-from .packed import packed
-from .recording import Build, without_folders
+from .packed import in_order, packed, packed_numbers
+from .recording import Build
 
 VERSION = 1
 _NO_DIGEST = b"\0" * 6
@@ -31,6 +32,8 @@ def _build(build: Build, findings: Sequence[Finding], labels: Mapping[str, str])
         "labels": dict(labels), "nothing": build.is_from_nothing, "runs": packed(build.runs),
         "failed": {str(number): without_folders(build.failed[number]) for number in sorted(build.failed)},
         "findings": {it.id: it.fell for it in findings}}
+    if build.processor:
+        told["processor"] = packed_numbers([build.processor.get(it.command, -1) for it in in_order(build.runs)])
     if build.left:
         digests = b"".join(build.left.get(it, _NO_DIGEST) for it in range(len(build.names)))
         told["left"] = base64.b64encode(digests).decode("ascii")

@@ -12,12 +12,14 @@ from dataclasses import dataclass, field
 from ..fields import canonical, shown
 from ..manifest import Manifest
 from ..regular import NoFile, read_regular
+from ..rerun.entries import File
 from ..rerun.lines import BadRecording, Fields
 from ..rerun.preparing import manifest_of
-from ..rerun.recorded import File, read_recording
+from ..rerun.recorded import read_recording
+from ..stable import manifest_name
+from ..times import Time, moments
 from .packed import Run
 
-_ABSOLUTE = re.compile(rb"(^|[\s\"'=:,;@(]|-[A-Za-z]+)/(?:[^\s\"':,;()/]*/)*([^\s\"':,;()/]*)")
 _DIGEST_BYTES = 6
 _MOST_ERROR = 200
 _ESCAPES = {"s": " ", "t": "\t", "n": "\n", "r": "\r", "\\": "\\", "0": ""}
@@ -26,9 +28,11 @@ _ESCAPES = {"s": " ", "t": "\t", "n": "\n", "r": "\r", "\\": "\\", "0": ""}
 @dataclass
 class Build:
     """A recorded build. `waits` has by each node the nodes that it waits for: the commands come first, and phony edges
-    behind them. `runs` has when commands ran, `failed` the numbers of those that failed with the first line of what they
-    wrote. `when` is when it ended, in seconds since 1970, as its outputs' stamps show. `is_from_nothing` where Ninja's
-    log was empty before. `left` has a digest of what each command left, where the recording has contents."""
+    behind them. `runs` has when commands ran, `failed` the numbers of those that failed with the first line of what
+    they wrote. `processor` has of commands how long their processes used a processor, in milliseconds, where the
+    recording has that. `when` is when it ended, in seconds since 1970, as its outputs' stamps show. `is_from_nothing`
+    where Ninja's log was empty before. `left` has a digest of what each command left, where the recording has
+    contents."""
 
     names: list[str]
     places: list[tuple[str, int]]
@@ -41,6 +45,7 @@ class Build:
     when: int
     is_from_nothing: bool
     left: dict[int, bytes] = field(default_factory=dict)
+    processor: dict[int, int] = field(default_factory=dict)
 
 
 def read_build(folder: bytes) -> Build:
@@ -49,7 +54,7 @@ def read_build(folder: bytes) -> Build:
     edges = [it for it in manifest.edges if not it.phony]
     number = {it.number: at for at, it in enumerate(edges)}
     trace = _Trace(_read(folder, b"trace"), _read(folder, b"times"), manifest)
-    about = dict(it.split(b" ", 1) for it in _read(folder, b"ninja").splitlines() if b" " in it)
+    about = {name: rest for name, _, rest in (it.partition(b" ") for it in _read(folder, b"ninja").splitlines())}
     runs = [Run(number[edge], begin, end) for edge, (begin, end) in trace.runs.items()]
     waits, jobs = _waits(manifest, number), _jobs(about.get(b"words", b""))
     unsure = {number[it] for it in trace.unsure if not manifest.edges[it].pool}
@@ -57,23 +62,9 @@ def read_build(folder: bytes) -> Build:
     texts = dict(_errors(_read(folder, b"output", is_needed=False), manifest))
     failed = {number[it]: texts.get(it, "") for it in trace.failed}
     return Build([shown(it.name) for it in edges], [(shown(it.file), it.line) for it in edges],
-                 waits, identity(manifest), runs, failed,
+                 waits, manifest_name(manifest), runs, failed,
                  shown(about.get(b"version", b"")), jobs, trace.when, not trace.has_log,
-                 dict(_left(folder, manifest, number)))
-
-
-def identity(manifest: Manifest) -> str:
-    """A name of the manifest, which is the same in each folder: of whole paths in it the last part counts alone."""
-    found = hashlib.sha256()
-    for it in manifest.edges:
-        parts = [*it.outputs, b"|", *it.inputs, b"|", it.command]
-        found.update(b"\0".join(_ABSOLUTE.sub(rb"\1/\2", part) for part in parts) + b"\n")
-    return found.hexdigest()[:16]
-
-
-def without_folders(text: str) -> str:
-    """A text in which of each whole path the last part alone stands behind its `/`."""
-    return _ABSOLUTE.sub(rb"\1/\2", text.encode("utf-8", "surrogateescape")).decode("utf-8", "surrogateescape")
+                 dict(_left(folder, manifest, number)), {number[it]: its for it, its in trace.processor.items()})
 
 
 def _waits(manifest: Manifest, number: dict[int, int]) -> list[list[int]]:
@@ -92,8 +83,8 @@ def settled(runs: list[Run], unsure: set[int], waits: list[list[int]], jobs: int
     """The runs, each with the moment at which Ninja could begin it: the build's begin, or the end of another run.
 
     Ninja's log has no begin of a command that failed or was stopped (`unsure`), and a recorder sees such a command
-    some time after it began. Ninja begins a command as soon as all that it waits for has ended and a job is free. So the
-    moment is the first one from which on one of the jobs was not taken by others, until the command was seen."""
+    some time after it began. Ninja begins a command as soon as all that it waits for has ended and a job is free. So
+    the moment is the first one from which on one of the jobs was not taken by others, until the command was seen."""
     ends = sorted(it.ended for it in runs if it.ended is not None)
     end_of = {it.command: it.ended for it in runs}
     found = []
@@ -146,11 +137,12 @@ class _Trace:
 
     def __init__(self, trace: bytes, times: bytes, manifest: Manifest) -> None:
         self.runs: dict[int, tuple[int, int | None]] = {}
+        self.processor: dict[int, int] = {}
         self.failed: list[int] = []
         self.unsure: set[int] = set()
         self.when, self.has_log = 0, False
         self._manifest, self._lines = manifest, Fields("trace")
-        moments = dict(_moments(times))
+        known = dict(moments(times))
         lane, place = b"", 0
         for at, line in enumerate(trace.split(b"\n")):
             words = line.split(b" ")
@@ -160,16 +152,19 @@ class _Trace:
                 self.has_log |= words[0] == b"built"
             elif words[0]:
                 place += 1
-                self._take(at, words, moments.get(b"%s:%d" % (lane, place)))
+                self._take(at, words, known.get(b"%s:%d" % (lane, place)))
 
-    def _take(self, at: int, words: list[bytes], moment: int | None) -> None:
+    def _take(self, at: int, words: list[bytes], its: Time | None) -> None:
         if words[0] not in (b"start", b"finish", b"fail", b"abort") or len(words) < 2:
             return
         edge = self._manifest.producer.get(canonical(self._lines.text(at, words[1])))
         if edge is None or edge.phony:
             raise self._lines.fault(at, "a command that the manifest does not have")
-        if moment is None:
+        if its is None:
             return
+        moment = its.moment
+        if its.processor is not None:
+            self.processor[edge.number] = its.processor
         if words[0] == b"start":
             self.runs.setdefault(edge.number, (moment, None))
             return
@@ -182,13 +177,6 @@ class _Trace:
             self.failed.append(edge.number)
         stamps = words[2].split(b",") if len(words) > 2 else []
         self.when = max([self.when, *(int(it) // 10**9 for it in stamps if it.isdigit() and len(it) < 20)])
-
-
-def _moments(times: bytes) -> Iterator[tuple[bytes, int]]:
-    for line in times.split(b"\n")[1:]:
-        label, _, moment = line.partition(b" ")
-        if moment.isdigit() and len(moment) < 16:
-            yield label, int(moment)
 
 
 def _errors(output: bytes, manifest: Manifest) -> Iterator[tuple[int, str]]:
