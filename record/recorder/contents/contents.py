@@ -88,7 +88,7 @@ class Contents:
             packed = run.command.packed
             if packed is None:
                 continue
-            its = packed.touched.keys() - self._ninjas
+            its = (packed.touched.keys() | packed.besides) - self._ninjas
             for inode in packed.contents:
                 its |= {place for first in inodes.get(inode, ()) for place in names.get(first, ())}
             found[id(run)] = its

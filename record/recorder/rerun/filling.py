@@ -15,7 +15,8 @@ from dataclasses import dataclass, field
 from typing import BinaryIO
 
 from ..fields import shown
-from .recorded import Command, File, Link, Names
+from .entries import File, Names
+from .recorded import Command
 
 _PART = 1 << 20
 _OPEN = os.O_RDONLY | os.O_NOFOLLOW | os.O_NONBLOCK | os.O_NOCTTY | os.O_CLOEXEC

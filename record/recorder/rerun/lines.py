@@ -37,14 +37,18 @@ class Fields:
 
     def numbers(self, at: int, words: Sequence[bytes], count: int) -> list[int]:
         """The numbers of ranges that rise, all below a count. Raises BadRecording."""
-        found: list[int] = []
+        return [number for its in self.ranges(at, words, count) for number in its]
+
+    def ranges(self, at: int, words: Sequence[bytes], count: int) -> list[range]:
+        """The same ranges as they are written. Raises BadRecording."""
+        found: list[range] = []
         for word in words:
             first, is_range, last = word.partition(b"-")
             begin = self.number(at, first, count)
             end = self.number(at, last, count) if is_range else begin
-            if end < begin or found and begin <= found[-1]:
+            if end < begin or found and begin < found[-1].stop:
                 raise self.fault(at, "numbers that do not rise")
-            found += range(begin, end + 1)
+            found.append(range(begin, end + 1))
         if not found:
             raise self.fault(at, "no number")
         return found
@@ -55,7 +59,7 @@ class Fields:
             if found[1] not in _ESCAPES:
                 raise self.fault(at, "an escape that stands for nothing")
             return _ESCAPES[found[1]]
-        return _ESCAPED.sub(back, word)
+        return _ESCAPED.sub(back, word) if b"\\" in word else word
 
 
 class Lines(Fields):

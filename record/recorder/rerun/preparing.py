@@ -6,12 +6,14 @@ import os
 from collections.abc import Sequence
 from dataclasses import dataclass
 
+from ..actions.files import Files, Unreadable
 from ..contents.environment import digest, digests, key
 from ..fields import canonical, shown
-from ..manifest import Edge, Manifest
+from ..manifest import BadManifest, Edge, Manifest
 from ..shuffle.commands import read_manifest
 from .filling import Project, Store
 from .judging import Case, case_of, task_of
+from .lines import BadRecording, Fields
 from .recorded import Command, Recorded, read_recording
 from .words import Options
 
@@ -117,13 +119,14 @@ def _others(recorded: Recorded) -> list[str] | None:
 
 
 def manifest_of(folder: bytes) -> Manifest:
-    """The manifest in a recording's folder. Raises NoBuild."""
-    name = b"build.ninja"
+    """The manifest of a recording: its files are looked up below the recording's folder, and through no link. Raises
+    BadRecording."""
+    name, lines = b"build.ninja", Fields("ninja")
     try:
-        with open(os.path.join(folder, b"ninja"), "rb") as file:
-            for line in file.read(1 << 20).splitlines():
-                if line.startswith(b"manifest "):
-                    name = canonical(line.split(b" ", 1)[1])
-    except OSError:
-        pass
-    return read_manifest(folder, name)
+        files = Files(os.fsdecode(folder))
+        for at, line in enumerate((files.read(b"ninja") or b"").split(b"\n")):
+            if line.startswith(b"manifest "):
+                name = lines.text(at, line.split(b" ", 1)[1])
+        return Manifest(name, files.needed)
+    except (BadManifest, RecursionError, Unreadable) as why:
+        raise BadRecording(f"the manifest: {why}") from why

@@ -17,7 +17,7 @@ from dataclasses import dataclass, field
 from ..provoke.copies import Refused, end_with_parent
 from ..shuffle.rooms import Layer, enter
 from .filling import Inputs, digest_of
-from .recorded import File, Link
+from .entries import File, Link
 
 _PART = 1 << 20
 _NEW_USER = 0x10000000  # CLONE_NEWUSER
