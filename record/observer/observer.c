@@ -16,6 +16,7 @@
 #include <arpa/inet.h>
 #include <errno.h>
 #include <fcntl.h>
+#include <ftw.h>
 #include <limits.h>
 #include <linux/audit.h>
 #include <linux/filter.h>
@@ -63,7 +64,7 @@ enum { TRACEME = 0, ATTACH = 16, SEIZE = 0x4206, GET_SYSCALL_INFO = 0x420e };
 /* The kinds of a record, as own_records.py has them too; those behind LAST_TOLD are not written. */
 enum kind { SPAWN, EXEC, EXIT, UNSHARE, OPEN, STAT, LIST, LINK, SYMLINK, RENAME, EXCHANGE, UNLINK, RMDIR, MKDIR, MKNOD,
             TRUNCATE, META, SOCKET, URING, NAMESPACE, UNRESOLVED, TRACE, CHDIR, READLINK, LOAD, MODE, BIND, IPC, LOCK,
-            SIGNAL, ATTRIBUTES, NOTIFIED, UNKNOWN, DEEP, LOOKED, LAST_TOLD = LOOKED,
+            SIGNAL, ATTRIBUTES, NOTIFIED, UNKNOWN, DEEP, LOOKED, MOVED, LAST_TOLD = MOVED,
             OTHER_USER, ADDRESS, MESSAGE, STATFS, IOCTL };
 enum { LONGEST_TRY = 120 }; /* seconds; a busy machine takes a hundred times as long as a quiet one */
 enum { NOT_ASKED = 1 << 30 }; /* the result of an open that went well: nobody asks for its descriptor */
@@ -72,7 +73,7 @@ enum { NOT_ASKED = 1 << 30 }; /* the result of an open that went well: nobody as
    call always has, and for IF_ANY those of which it must have one, for IF_OTHER_SIZE the size that it must not have. */
 enum { NO = 6 };
 enum reading { FIXED, OPENING, STRUCTURE, AT, FOLLOWING, REMOVING, RENAMING };
-enum when { ALWAYS, IF_NAMED, IF_GIVEN, IF_ANY, IF_TRACING, IF_ADDRESSED, IF_OTHER_SIZE, IF_LOCKING, IF_LISTENING,
+enum when { ALWAYS, IF_NAMED, IF_ANY, IF_TRACING, IF_ADDRESSED, IF_OTHER_SIZE, IF_LOCKING, IF_LISTENING,
             IF_OF_OTHERS, IF_OF_FILE, IF_OF_MEMORY };
 /* The room for a link's text that the C library's realpath gives: what its questions show is not told (README.md). */
 enum { REALPATH_ROOM = 1023 };
@@ -106,9 +107,9 @@ static const struct rule rules[] = {
     RULE(mknodat, MKNOD, 0, 1, NO, NO, NO, FIXED, ALWAYS, O_NOFOLLOW)
     RULE(truncate, TRUNCATE, NO, 0, NO, NO, NO, FIXED, ALWAYS, 0)
     RULE(fchmodat, META, 0, 1, NO, NO, NO, FIXED, ALWAYS, 0)
-    {SYS_NEW_fchmodat2, "fchmodat2", META, 0, 1, NO, NO, 3, AT, IF_NAMED, 0},
+    {SYS_NEW_fchmodat2, "fchmodat2", META, 0, 1, NO, NO, 3, AT, ALWAYS, 0},
     RULE(fchownat, META, 0, 1, NO, NO, 4, AT, ALWAYS, 0)
-    RULE(utimensat, META, 0, 1, NO, NO, 3, AT, IF_GIVEN, 0)
+    RULE(utimensat, META, 0, 1, NO, NO, 3, AT, ALWAYS, 0)
     RULE(fchmod, META, 0, NO, NO, NO, NO, FIXED, ALWAYS, 0)
     RULE(fchown, META, 0, NO, NO, NO, NO, FIXED, ALWAYS, 0)
     RULE(setxattr, META, NO, 0, NO, NO, NO, FIXED, ALWAYS, 0)
@@ -169,7 +170,7 @@ static const struct rule rules[] = {
     RULE(lchown, META, NO, 0, NO, NO, NO, FIXED, ALWAYS, O_NOFOLLOW)
     RULE(utime, META, NO, 0, NO, NO, NO, FIXED, ALWAYS, 0)
     RULE(utimes, META, NO, 0, NO, NO, NO, FIXED, ALWAYS, 0)
-    RULE(futimesat, META, 0, 1, NO, NO, NO, FIXED, IF_GIVEN, 0)
+    RULE(futimesat, META, 0, 1, NO, NO, NO, FIXED, ALWAYS, 0)
 #endif
 };
 enum { RULES = sizeof rules / sizeof *rules, FOREIGN = RULES, STRANGE };
@@ -274,15 +275,13 @@ static int set_filter(void) {
             JUMP(BPF_JEQ, (uint32_t)AT_FDCWD, 1, 0);
             END(SECCOMP_RET_ALLOW);
             break;
-        case IF_GIVEN: case IF_ADDRESSED: { /* no path: a descriptor's stamps are set; no address: a connection's */
-            unsigned at = r->when == IF_GIVEN ? 1 : r->flags;
-            LOAD(args[at]);
+        case IF_ADDRESSED: /* no address: that of a connection */
+            LOAD(args[r->flags]);
             JUMP(BPF_JEQ, 0, 0, 3);
-            LOAD_HIGH(args[at]);
+            LOAD_HIGH(args[r->flags]);
             JUMP(BPF_JEQ, 0, 0, 1);
             END(SECCOMP_RET_ALLOW);
             break;
-        }
         case IF_ANY: case IF_LISTENING: /* seccomp: SECCOMP_FILTER_FLAG_NEW_LISTENER */
             LOAD(args[r->when == IF_ANY ? 0 : 1]);
             JUMP(BPF_JSET, r->when == IF_ANY ? r->mask : 8, 1, 0);
@@ -446,7 +445,12 @@ static void tell(pid_t process, struct call call, int32_t value) {
 /* A thread that is observed, by its number: the call that it is in, where that is told at its end, and whether it may
    see other files than the observer. */
 enum { MOST_LOADED = 6 };
-struct pending { struct call call; bool is_scoped, is_new; uint32_t entry, other_entry; uint32_t loaded[MOST_LOADED]; int socket; };
+struct pending {
+    struct call call;
+    bool is_scoped, is_new, is_folder;
+    uint32_t entry, other_entry, loaded[MOST_LOADED];
+    int socket;
+};
 struct task { struct pending *pending; uint32_t clone_flags, command; bool is_elsewhere, is_known; };
 static struct task *tasks;
 enum { MOST_TASKS = 1 << 22 };
@@ -591,18 +595,27 @@ static void has_changed(uint32_t entry, bool is_folder) {
     made_era++;
 }
 
-/* The folder or file behind a descriptor (AT_FDCWD: the thread's folder). 0 where it has no name in a file system. */
+/* The folder or file behind a descriptor (AT_FDCWD: the thread's folder). 0 where it has no name in a file system. The
+   path of a folder that is gone is in `to`, and its length in `gone`: what is asked for in it is not there, but `..`
+   leads to the folder where it was. */
+static ssize_t gone;
 static ssize_t behind(pid_t pid, int descriptor, char *to) {
     char name[64], mark[] = " (deleted)";
     struct stat itself, named;
+    gone = 0;
     ssize_t n = descriptor == AT_FDCWD ? link_of(pid, "cwd", -1, to) : link_of(pid, "fd", descriptor, to);
     if (n <= 0) return n;
     if (to[0] != '/') return 0;
     to[n] = 0;
     if (n < (ssize_t)sizeof mark || strcmp(to + n - (sizeof mark - 1), mark)) return n;
     snprintf(name, sizeof name, descriptor == AT_FDCWD ? "/proc/%d/cwd" : "/proc/%d/fd/%d", pid, descriptor);
-    bool is_name = !stat(name, &itself) && !stat(to, &named) && itself.st_ino == named.st_ino && itself.st_dev == named.st_dev;
-    return is_name ? n : 0;
+    if (stat(name, &itself)) return 0;
+    if (!stat(to, &named) && itself.st_ino == named.st_ino && itself.st_dev == named.st_dev) return n;
+    n -= sizeof mark - 1;
+    if (S_ISDIR(itself.st_mode)) gone = n;
+    else if (itself.st_nlink) { errno = EACCES; return -1; } /* it has another name, which nobody says */
+    to[n] = 0;
+    return 0;
 }
 /* How a path is taken name by name: where it is, what it came through. A link on the way is a pair of its entry and its
    text; an entry that was asked for on the way, since `..` follows it or no folder is there, is one of it and what stands
@@ -761,7 +774,7 @@ static uint32_t way_of(pid_t pid, bool is_elsewhere, const char *base, size_t le
     static uint32_t record_of[WAY_HEAD + 4 * MOST_LINKS + 2 * MOST_ASKED];
     bool is_absolute = given[0] == '/', is_own = !strncmp(given, "/proc", 5) || !strncmp(given, "/dev", 4);
     uint32_t from = is_absolute ? 0 : text(base, length), path = *given ? text(given, strlen(given)) : text("/.", 2);
-    struct found *f = is_elsewhere || is_own || root ? NULL : found_slot(from, path);
+    struct found *f = is_elsewhere || is_own || root || (gone && !is_absolute) ? NULL : found_slot(from, path);
     if (record < 0 || !path) return 0;
     if (f && still_counts(f)) {
         struct kept *k = &texts.kept[f->entry - 1];
@@ -770,7 +783,7 @@ static uint32_t way_of(pid_t pid, bool is_elsewhere, const char *base, size_t le
         return f->way;
     }
     struct way_head h = {.base = from};
-    w.links_count = w.asked_count = w.flags = w.process = 0;
+    w.links_count = w.asked_count = w.process = 0, w.flags = gone && !is_absolute ? BROKEN : 0;
     w.task = pid, w.is_elsewhere = is_elsewhere, w.is_of_process = false, w.root = root;
     put(&w, base, is_absolute ? root : length);
     if (w.length == 1 && !root) put(&w, "", 0);
@@ -807,13 +820,29 @@ static uint32_t way_of(pid_t pid, bool is_elsewhere, const char *base, size_t le
     }
     return number;
 }
+/* Where a path that begins in a folder that is gone goes on: each `..` at its beginning leads one folder up. 0 where it
+   is that folder itself. A name in it leads to nothing, which way_of goes by while `gone` is not 0. */
+static ssize_t out_of_gone(char *base, const char **given) {
+    const char *at = *given;
+    ssize_t n = gone;
+    for (;;) {
+        while (*at == '/' || (at[0] == '.' && (at[1] == '/' || !at[1]))) at++;
+        if (at[0] != '.' || at[1] != '.' || (at[2] && at[2] != '/')) break;
+        at += 2, gone = 0;
+        while (n > 1 && base[--n] != '/') continue;
+    }
+    if (!*at && gone) return 0;
+    base[n] = 0;
+    *given = *at ? at : ".";
+    return n;
+}
 enum place { TOLD, NOWHERE, HIDDEN, TOO_DEEP };
 /* Where a call's path leads: its way and entry, what stands there, and the real path in `whole`. Without a path it is
    the descriptor's. */
 static enum place place(pid_t pid, struct task *t, int descriptor, uint64_t at, bool may_be_empty, uint32_t *way,
                         uint32_t *entry, uint32_t *standing, char *whole) {
     static char given[PATH_MAX + 512], base[PATH_MAX + 1];
-    errno = 0;
+    errno = 0, gone = 0;
     ssize_t n = at ? path_at(pid, at, given) : 0, begin = 0, root = 0;
     if (n < 0) return errno == EPERM ? HIDDEN : NOWHERE;
     if (!n && !may_be_empty) return NOWHERE; /* the call fails */
@@ -822,7 +851,8 @@ static enum place place(pid_t pid, struct task *t, int descriptor, uint64_t at, 
     if (!is_absolute) begin = behind(pid, descriptor, base);
     else if (!is_plain) begin = root = link_of(pid, "root", -1, base); /* "/", where no process has another root */
     if (begin < 0) return errno == ENAMETOOLONG ? TOO_DEEP : errno == EACCES || errno == EPERM ? HIDDEN : NOWHERE;
-    if (!begin && !is_absolute) return NOWHERE;
+    const char *rest = given;
+    if (!begin && !is_absolute && !(begin = out_of_gone(base, &rest))) return NOWHERE;
     if (root == 1) root = 0;
     if (!is_plain && !is_absolute) {
         char to[PATH_MAX + 1];
@@ -830,7 +860,7 @@ static enum place place(pid_t pid, struct task *t, int descriptor, uint64_t at, 
         root = length > 1 && begin >= length && !memcmp(base, to, (size_t)length) ? length : 0;
     }
     *standing = 0;
-    *way = way_of(pid, t->is_elsewhere, base, (size_t)begin, (size_t)root, given, entry, standing, whole);
+    *way = way_of(pid, t->is_elsewhere, base, (size_t)begin, (size_t)root, rest, entry, standing, whole);
     if (!*way) return *standing & IS_DEEP ? TOO_DEEP : NOWHERE;
     if (n > 1 && given[n - 1] == '/') strcat(whole, "/");
     return TOLD;
@@ -963,7 +993,7 @@ static void enter_address(pid_t pid, struct task *t, const struct rule *r, const
     uint32_t standing = 0, entry = 0;
     char base[PATH_MAX + 1];
     ssize_t n = *path == '/' ? 0 : *path ? behind(pid, AT_FDCWD, base) : -1;
-    if (n >= 0 && *path) c.way = way_of(pid, t->is_elsewhere, base, (size_t)n, 0, path, &entry, &standing, whole);
+    if (n > 0 || *path == '/') c.way = way_of(pid, t->is_elsewhere, base, (size_t)n, 0, path, &entry, &standing, whole);
     struct pending *p = await(t, c);
     if (p) p->entry = entry, p->socket = is_bind && !*path ? (int)a[0] + 1 : 0;
 }
@@ -974,7 +1004,8 @@ static void find_loaded(pid_t pid, struct task *t, struct pending *p, const char
     uint32_t entry, standing;
     ssize_t n = behind(pid, AT_FDCWD, base);
     strcpy(whole, program);
-    for (int i = 0; i < MOST_LOADED && n > 0; i++) {
+    gone = 0;
+    for (int i = 0; i < MOST_LOADED; i++) {
         int file = open(whole, O_RDONLY | O_NONBLOCK | O_CLOEXEC | O_NOCTTY);
         struct stat it;
         ssize_t got = file < 0 || fstat(file, &it) || !S_ISREG(it.st_mode) ? -1 : pread(file, head, sizeof head - 1, 0);
@@ -998,8 +1029,8 @@ static void find_loaded(pid_t pid, struct task *t, struct pending *p, const char
                     memcpy(name, head + offset, size), name[size - 1] = 0;
             }
         }
-        if (!name[0]) return;
-        p->loaded[i] = way_of(pid, t->is_elsewhere, base, (size_t)n, 0, name, &entry, &standing, whole);
+        if (!name[0] || (n <= 0 && name[0] != '/')) return;
+        p->loaded[i] = way_of(pid, t->is_elsewhere, base, n > 0 ? (size_t)n : 0, 0, name, &entry, &standing, whole);
         if (!p->loaded[i]) return;
     }
 }
@@ -1044,7 +1075,7 @@ static void enter_of_file(pid_t pid, const struct rule *r, const uint64_t *a, st
     static const uint32_t copying[] = {0x40049409, 0x4020940d, 0xc020660b}; /* FICLONE, FICLONERANGE, FIEMAP */
     static const uint32_t attributes[] = {0x80086601, 0x40086602, 0x801c581f, 0x401c5820, 0x80087601, 0x40087602};
     char to[24];
-    if (standing != A_FILE && standing != A_FOLDER) return;
+    if (standing != A_FILE && standing != A_FOLDER && (r->kind != LOCK || standing != A_DEVICE)) return;
     if (r->kind == IOCTL) {
         c.kind = UNKNOWN;
         for (int i = 0; i < 3; i++)
@@ -1054,6 +1085,14 @@ static void enter_of_file(pid_t pid, const struct rule *r, const uint64_t *a, st
         if (c.kind == UNKNOWN) c.name = text(to, (size_t)snprintf(to, sizeof to, "ioctl-0x%x", (uint32_t)a[1]));
     } else if (r->kind == STATFS) c.kind = UNKNOWN;
     tell(pid, c, 0);
+}
+/* A lock of a file that has lost its name, which others may have open by that name. */
+static void tell_lock_of_gone(pid_t pid, struct task *t, int descriptor, struct call c) {
+    static char lost[PATH_MAX + 1], whole[2 * PATH_MAX + 2];
+    uint32_t entry, standing;
+    if (behind(pid, descriptor, lost) || lost[0] != '/' || gone || !strncmp(lost, "/memfd:", 7)) return;
+    c.way = way_of(pid, t->is_elsewhere, "", 0, 0, lost, &entry, &standing, whole);
+    if (c.way) tell(pid, c, 0);
 }
 /* A call that the filter stopped. */
 static void enter(pid_t pid, struct task *t) {
@@ -1076,7 +1115,9 @@ static void enter(pid_t pid, struct task *t) {
     int from = r->folder == NO ? AT_FDCWD : (int)a[r->folder];
     int to = r->other_folder == NO ? AT_FDCWD : (int)a[r->other_folder];
     bool is_of_descriptor = r->path == NO && r->other == NO;
-    bool may_be_empty = is_of_descriptor || ((r->reading == AT || r->reading == FOLLOWING) && a[r->flags] & AT_EMPTY_PATH);
+    bool is_of_stamps = r->kind == META && !is_of_descriptor && !a[r->path]; /* utimensat of a descriptor */
+    bool has_flags = r->reading == AT || r->reading == FOLLOWING;
+    bool may_be_empty = is_of_descriptor || is_of_stamps || (has_flags && a[r->flags] & AT_EMPTY_PATH);
     if (c.kind == STAT && may_be_empty && from != AT_FDCWD && !path_is_given(pid, a[r->path])) return; /* a descriptor's */
     if (r->other != NO) found = place(pid, t, to, a[r->other], false, &c.other, &other_entry, &other_standing, whole);
     if (found == TOLD && (r->path != NO || is_of_descriptor)) {
@@ -1084,6 +1125,7 @@ static void enter(pid_t pid, struct task *t) {
         found = place(pid, t, from, path, may_be_empty, &c.way, &entry, &standing, whole);
         if (found == NOWHERE && c.kind == LINK) found = TOLD; /* a file without a name gets one */
     }
+    if (found == NOWHERE && r->kind == LOCK) tell_lock_of_gone(pid, t, from, c);
     if (found == HIDDEN) tell(pid, (struct call){.kind = UNRESOLVED, .name = c.name}, 0);
     if (found == TOO_DEEP) tell(pid, (struct call){.kind = DEEP, .name = c.name}, 0);
     if (found == NOWHERE && c.kind == EXEC) await(t, c);
@@ -1098,12 +1140,13 @@ static void enter(pid_t pid, struct task *t) {
     bool is_look = c.kind == STAT || c.kind == MODE || c.kind == READLINK || c.kind == CHDIR || c.kind == EXEC ||
                    (c.kind == OPEN && !(c.flags & (O_ACCMODE | O_CREAT | O_TRUNC)));
     if (is_plain && is_look && is_simple) {
-        c.result = look(r, a, &c, standing, whole);
+        c.result = gone ? -ENOENT : look(r, a, &c, standing, whole);
         if (c.kind != EXEC || c.result < 0) { tell(pid, c, 0); return; }
     }
     struct pending *p = await(t, c);
     if (!p) return;
     p->is_scoped = is_scoped, p->is_new = (standing & 0xff) == MISSING || end_of_last;
+    p->is_folder = c.kind == RENAME && standing == A_FOLDER;
     p->entry = c.kind == OPEN && end_of_last ? end_of_last : entry, p->other_entry = other_entry;
     if (c.kind == EXEC && !t->is_elsewhere) find_loaded(pid, t, p, whole);
 }
@@ -1123,6 +1166,28 @@ static void note_change(struct task *t, const struct pending *p) {
     default: break;
     }
 }
+/* A folder was renamed: what stands below it, while the process that did so stands still. */
+enum { MOST_MOVED = 10001 }; /* more are not named (effects.py) */
+static struct { pid_t process; uint32_t name; int count; } moved;
+static int tell_moved(const char *path, const struct stat *it, int type, struct FTW *at) {
+    char whole[2 * PATH_MAX + 2];
+    uint32_t entry, standing;
+    (void)it, (void)type;
+    gone = 0;
+    if (!at->level || strlen(path) >= PATH_MAX) return 0;
+    struct call c = {.kind = MOVED, .name = moved.name};
+    c.way = way_of(moved.process, false, "", 0, 0, path, &entry, &standing, whole);
+    if (c.way) tell(moved.process, c, 0);
+    return ++moved.count > MOST_MOVED;
+}
+static void tell_what_moved(pid_t pid, const struct call *c, uint32_t entry) {
+    char path[PATH_MAX];
+    struct kept *k = &texts.kept[entry - 1];
+    if (k->length >= sizeof path) return;
+    memcpy(path, k->bytes, k->length), path[k->length] = 0;
+    moved.process = pid, moved.name = c->name, moved.count = 0;
+    nftw(path, tell_moved, 64, FTW_PHYS);
+}
 /* The end of a call that was awaited. A call that a signal cut off begins again, and is met again. */
 static void leave(pid_t pid, struct task *t) {
     char to[PATH_MAX + 1], whole[2 * PATH_MAX + 2];
@@ -1139,6 +1204,8 @@ static void leave(pid_t pid, struct task *t) {
             p->call.text = address ? address : p->call.text;
         }
         if (result >= 0) note_change(t, p);
+        if (result >= 0 && p->is_folder && p->other_entry && !t->is_elsewhere)
+            tell_what_moved(pid, &p->call, p->other_entry);
         p->call.result = result < 0 ? (int32_t)result : p->call.kind == OPEN ? NOT_ASKED : 0;
         tell(pid, p->call, 0);
     }

@@ -61,22 +61,24 @@ def _lone_cr(text: bytes, at: int) -> bool:
 
 
 def _word(text: bytes, at: int, has_colon: bool) -> tuple[bytes, int]:
-    word = b""
+    word = bytearray()
     while at < len(text):
         if text[at : at + 1] in (b" ", b"\t", b"\n") or text.startswith(b"\r\n", at):
             break
         if text.startswith(b":", at) and not has_colon and _ends_word(text, at + 1):
             break
         if text.startswith(b"$$", at):
-            word, at = word + b"$", at + 2
+            word += b"$"
+            at += 2
         elif text.startswith(b"\\", at):
             piece, at, is_over = _backslashes(text, at)
             word += piece
             if is_over:
                 break
         else:
-            word, at = word + text[at : at + 1], at + 1
-    return word, at
+            word += text[at : at + 1]
+            at += 1
+    return bytes(word), at
 
 
 def _backslashes(text: bytes, at: int) -> tuple[bytes, int, bool]:

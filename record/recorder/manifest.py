@@ -109,10 +109,10 @@ class Edge:
 
     def binding(self, name):
         """The value of a binding as Ninja looks it up, and shows it (`command`, `description`)."""
-        return _Lookup(self, as_ninja=True).value(name)
+        return Lookup(self, as_ninja=True).value(name)
 
 
-class _Lookup:
+class Lookup:
     """Expands the variables of an edge whose texts stand in its rule."""
 
     def __init__(self, edge, as_ninja=False, escape=quoted):
@@ -172,7 +172,7 @@ class Manifest:
         # where rules bind `dyndep`, and where a file binds it at its own level
         self.dyndeps_of_rules: list[tuple[bytes, int, int]] = []
         self.dyndeps_of_files: list[tuple[bytes, int]] = []
-        self.scope = Scope()
+        self.scope = self.new_scope()
         self._read(name, self.scope, 0)
         for edge in self.edges:
             self._end(edge)
@@ -180,6 +180,10 @@ class Manifest:
         for edge in self.edges:
             for path in edge.outputs:
                 self.producer.setdefault(path, edge)
+
+    def new_scope(self, parent=None):
+        """A scope of variables and rules, for a file that this scope names."""
+        return Scope(parent)
 
     def _read(self, name, scope, depth):
         if depth > 100:
@@ -196,10 +200,10 @@ class Manifest:
         """What is expanded once all files are read."""
         if edge.phony:
             return
-        lookup = _Lookup(edge)
+        lookup = Lookup(edge)
         edge.command, edge.content = _compared(lookup), lookup.value(b"rspfile_content")
-        edge.ninja_command = edge.command if edge.block else _compared(_Lookup(edge, as_ninja=True))
-        as_it_stands = _Lookup(edge, as_ninja=True, escape=lambda it: it)
+        edge.ninja_command = edge.command if edge.block else _compared(Lookup(edge, as_ninja=True))
+        as_it_stands = Lookup(edge, as_ninja=True, escape=lambda it: it)
         edge.depfile = as_it_stands.value(b"depfile")
         edge.rspfile = as_it_stands.value(b"rspfile")
         edge.dyndep = as_it_stands.value(b"dyndep")
@@ -396,7 +400,8 @@ class Reader:
         end = self.at - self.text.endswith(b"\n", 0, self.at)
         if not self.is_again:
             self.includes.append(Include(begin, end, keyword, path))
-        self.manifest._read(path, self.scope if keyword == b"include" else Scope(self.scope), self.depth + 1)
+        self.manifest._read(path, self.scope if keyword == b"include" else self.manifest.new_scope(self.scope),
+                            self.depth + 1)
 
     def build(self):
         line = self.line()

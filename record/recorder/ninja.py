@@ -69,6 +69,11 @@ class Ninja:
         return self.version >= (1, 13)
 
     @property
+    def makes_folders_of_depfiles(self) -> bool:
+        """Whether it makes the folders above a depfile before the command begins, as it does above outputs."""
+        return self.version >= (1, 13)
+
+    @property
     def ends_deps_logs_at_unknown_paths(self) -> bool:
         """Whether a list of the deps log with a path that the log does not have ends the log; an earlier Ninja ends by
         a fault of its own there."""

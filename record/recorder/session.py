@@ -139,7 +139,8 @@ class Session(OneBuild):
         log = out.staging.create(LOG) if self.options.keep_log else None
         if self.dyndeps:  # so that the outputs are known which dyndep files say
             manifest = Dyndeps(self.build, manifest).by_present_files()[0]
-        return Observation(observer, self.build, manifest, log, self.options.contents)
+        return Observation(observer, self.build, manifest, log, self.options.contents,
+                           self.ninja.makes_folders_of_depfiles)
 
     def snapshot_before(self, manifest):
         """What is there before the run. Where the log's hash is not known, Ninja says which commands are others."""

@@ -18,6 +18,7 @@ from recorder.observed.effects import Build
 from recorder.observed.matching import match
 from recorder.observed.places import Places
 from recorder.observed.processes import Command
+from recorder.observed.servers import Address
 from recorder.observed.shares import Changes, flag_what_two_share
 from recorder.observed.writing import KINDS, kinds_of, ranges
 
@@ -335,7 +336,7 @@ class Rules(unittest.TestCase):
         """The flags of commands that bind (`True`) or connect to addresses."""
         found = [Command(b"c", 0, None) for _ in commands]
         for it, addresses in zip(found, commands):
-            it.addresses = [(is_bind, address, b"connect", b"p") for is_bind, address in addresses]
+            it.addresses = [Address(is_bind, address, b"connect", b"p") for is_bind, address in addresses]
         flag_what_two_share(found, Changes([], Places(), ()))
         return [it.flags for it in found]
 

@@ -257,6 +257,68 @@ build both: sh user table
   do = cat user table > both
 """,
         {"in": "x\n"}, certain=True),
+    "two outputs in a folder that Ninja makes": Planted(
+        """build d/one: sh in
+  do = cp in d/one
+build d/two: sh in
+  do = cp in d/two
+build user: sh in | d/one
+  do = test -d d && cat in d/one > user
+""",
+        {"in": "x\n"}, certain=True),
+    "a command asks for a folder that Ninja makes for another": Planted(
+        """build d/one: sh in
+  do = cp in d/one
+build user: sh in
+  do = sleep 1; test -d d && cat in > user
+""",
+        {"in": "x\n"}),
+    "a command takes a folder of outputs away before it is made again": Planted(
+        """build clean: sh in
+  do = rm -rf d; touch clean
+build d/one: sh in || clean
+  do = cp in d/one
+build d/two: sh in || clean
+  do = cp in d/two
+""",
+        {"in": "x\n", "d/old": "y\n"}, certain=True),
+    "a command goes through a link that another one moves, for its output alone": Planted(
+        """build slow: sh in
+  do = sleep 1; touch slow
+build move: sh in
+  do = ln -sfn v2 cur; touch move
+build cur/d/one: sh in || slow
+  do = true
+""",
+        {"in": "x\n", "v1/old": "y\n", "v2/old": "y\n"}, links={"cur": "v1"}),
+    "a command waits for the link on the way to its output": Planted(
+        """build cur: sh in
+  do = mkdir -p v1 && ln -s v1 cur
+build cur/d/one: sh in || cur
+  do = cp in cur/d/one
+""",
+        {"in": "x\n"}, certain=True),
+    "a link to an output leads to nothing until another command has run": Planted(
+        """build slow: sh in
+  do = sleep 1; touch slow
+build make: sh in
+  do = mkdir -p none; touch make
+build cur/d/one: sh in || slow
+  do = true
+""",
+        {"in": "x\n"}, links={"cur": "none"}),
+    "a response file in a folder that Ninja makes for another command": Planted(
+        """rule by_file
+  command = cp d/words $out
+  rspfile = d/words
+  rspfile_content = x
+build slow: sh in
+  do = sleep 1; touch slow
+build d/one: sh in
+  do = cp in d/one
+build two: by_file in || slow
+""",
+        {"in": "x\n"}),
     "two commands make one folder": Planted(
         """build d/one: sh in
   do = mkdir -p d && cp in d/one

@@ -13,9 +13,8 @@ class Mended:
     build lines that the patch is to write, and the kinds of what `races` still finds in the patched build.
 
     The patched build is certain unless an unstable file is among these: there each build changes what the next one
-    begins with, and no order mends that. It is not certain either where `by_ninja` says that Ninja makes a folder which
-    a command takes away: a certificate takes Ninja's folders as made at any time. `unwritten` are parts of lines that
-    neither the answer nor the patch may have."""
+    begins with, and no order mends that. `unwritten` are parts of lines that neither the answer nor the patch may
+    have."""
 
     build: str
     sources: dict[str, str] = field(default_factory=dict)
@@ -23,7 +22,6 @@ class Mended:
     patched: tuple[str, ...] = ()
     left: tuple[str, ...] = ()
     unwritten: tuple[str, ...] = ()
-    by_ninja: bool = False
 
 
 ONE_LISTED = """rule cc
@@ -150,7 +148,7 @@ build doc/logo: sh in
   do = sleep 1; mkdir -p doc; cp in doc/logo
 """, {"in": "x\n"}, ("mend: build.ninja:5: build doc/logo: ... || clean (what it does comes last, as here)\n"
                      "    or: build.ninja:3: build clean: ... || doc/logo (what it does comes last)\n",),
-        ("build doc/logo: sh in || clean",), by_ninja=True),
+        ("build doc/logo: sh in || clean",)),
     "a file that one takes away and another leaves": Mended(
         """build clean: sh in
   do = rm -f logo; touch clean

@@ -262,12 +262,11 @@ class Dyndeps:
 
     def _late(self, look: Look, before: Snapshot, build: Build) -> Late:
         """Records of outputs that Ninja planned before it knew of their `restat`, and stamps of sources that it looked
-        at only once a file was loaded."""
+        at only once a file was loaded. Of an output that only the file says, Ninja knew the `restat` with the output."""
         late = Late()
         for number in self._restat_told_late(look.found):
-            edge = self.resolving.manifest.edges[number]
-            shows = [build.visible(path) for path in edge.explicit + edge.implicit]
-            newest = max([*shows, *(build.stamps.get(path, 0) for path in build.listed(edge))], default=0)
+            edge = self.manifest.edges[number]  # without what the file says: its outputs and inputs were not known yet
+            newest = build.newest(edge)
             for path in edge.outputs:
                 record = build.built.get(path)
                 if record and build.stamps.get(path, 0) < newest <= record[0]:
@@ -279,8 +278,9 @@ class Dyndeps:
         return late
 
     def _restat_told_late(self, looked: Looked) -> list[int]:
-        return [number for path in looked.late for number in self.resolving.files[path]
-                if self.resolving.told[number].restat and not self.manifest.edges[number].restat]
+        """The edges that Ninja looked at before it loaded the file that says their `restat`."""
+        return [number for number in looked.seen_before if self.resolving.told[number].restat
+                and not self.manifest.edges[number].restat]
 
     def _late_notes(self, look: Look, late: Late, before: Snapshot) -> list[str]:
         notes = []

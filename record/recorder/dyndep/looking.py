@@ -39,13 +39,15 @@ class Apart:
 class Looked:
     """What Ninja's look shows: which files were loaded with what content, and of edges their marks before anything ran.
 
-    `late` has the files that were loaded while the build ran, `late_edges` the edges that only these led to. `failed`
-    is the file that could not be loaded, and why.
+    `late` has the files that were loaded while the build ran, `seen_before` the edges that name these and that Ninja had
+    looked at before the load, and `late_edges` the edges that only these led to. `failed` is the file that could not be
+    loaded, and why.
     """
 
     marks: dict[int, str] = field(default_factory=dict)
     early: list[bytes] = field(default_factory=list)
     late: list[bytes] = field(default_factory=list)
+    seen_before: list[int] = field(default_factory=list)
     late_edges: list[int] = field(default_factory=list)
     apart: list[Apart] = field(default_factory=list)
     failed: Optional[tuple[bytes, str]] = None
@@ -228,9 +230,10 @@ class Look:
                 continue
             try:
                 self._load(file)
-                for number in self.resolving.files[file]:
-                    if number in self._begun:
-                        self._look_again(self.edges[number])
+                seen = [it for it in self.resolving.files[file] if it in self._begun]
+                self.found.seen_before += seen
+                for number in seen:
+                    self._look_again(self.edges[number])
             except BadDyndep:
                 self._stop()
                 return

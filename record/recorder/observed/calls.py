@@ -20,6 +20,8 @@ changed, and what stands behind it works faster with calls that it has met befor
     DUP          the old descriptor     -                    -               the descriptor made (dup, dup2, dup3,
                  (no path)                                                   fcntl F_DUPFD and F_DUPFD_CLOEXEC)
     NO_FILE      -                      -                    -               a descriptor of no file (memfd_create)
+    RECEIVED     -                      -                    -               0; `text` has the descriptors that another
+                                                                             process passed
     OPEN         what                   -                    O_...           the descriptor, or NOT_ASKED
     STAT         what                   -                    O_NOFOLLOW or 0 0 (stat, statx, getxattr and their kin)
     MODE         what                   -                    O_NOFOLLOW, 1   0 (access and its kin; 1: only whether it is
@@ -37,6 +39,8 @@ changed, and what stands behind it works faster with calls that it has met befor
     MKNOD        what                   -                    -               0
     BIND         the socket's file,     -                    -               0; `text` is the address
                  where it has one
+    MOVED        what stands below a    -                    -               - (a RENAME of that folder follows)
+                 folder's new name
     TRUNCATE     what                   -                    -               0
     META         what                   -                    O_NOFOLLOW or 0 0 (chmod, utimensat, setxattr and their kin)
     SOCKET       -                      -                    -               0 or -EINPROGRESS (connect, or what is sent
@@ -118,6 +122,8 @@ class Kind(IntEnum):
     UNKNOWN = auto()
     TRACE = auto()
     LOOKED = auto()
+    MOVED = auto()
+    RECEIVED = auto()
 
 
 @dataclass(eq=False, slots=True)

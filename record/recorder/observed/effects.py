@@ -9,12 +9,13 @@ from collections.abc import Callable, Container, Iterable, Iterator
 
 from .calls import Call, Event, Kind
 from .flags import Flag
-from .footprints import FOLDER, MISSING, MODE, NEEDED, READ, STATUS, THERE, WANTED, Footprint
+from .footprints import FOLDER, MISSING, MODE, NEEDED, READ, STATUS, THERE, WANTED, Footprint, Opening
 from .imports import Imports
 from .places import Places
-from .processes import Command, Process, Processes, path_is_own
+from .processes import Command, Moved, Process, Processes, path_is_own
 from .programs import MAY_ENSURE, SEARCHING, ensures, is_python
 from .resolving import Resolver
+from .servers import Address, Bound
 from .ways import HIDDEN, Numbered, Standing
 
 _NOT_THERE = (-errno.ENOENT, -errno.ENOTDIR)
@@ -41,6 +42,7 @@ class Build:
         self.processes = Processes(texts, folder, places, present)
         self.resolver = Resolver(places, is_late)
         self._changes: Counter[int] = Counter()
+        self._bound = Bound()
         self._running = self.processes.running
         named = {it: getattr(self, f"_on_{it.name.lower()}") for it in Kind}
         self._handlers: list[Callable[[Process, Call], None]] = [named[Kind(max(it, 1))] for it in range(len(Kind) + 1)]
@@ -180,6 +182,10 @@ class Build:
     def _on_no_file(self, process: Process, call: Call) -> None:
         process.note(call.result, None)
 
+    def _on_received(self, process: Process, call: Call) -> None:
+        for it in call.text.split():
+            process.received(int(it))
+
     # looks
 
     def _on_open(self, process: Process, call: Call) -> None:
@@ -231,15 +237,16 @@ class Build:
         if not was_there and flags & os.O_CREAT:
             self._made(process, footprint, place, call)
         self.resolver.wrote(place)
-        if not flags & (os.O_ACCMODE | os.O_TRUNC) and was_there:
-            footprint.look(way, READ, True)  # O_RDONLY | O_CREAT of what is there already
+        is_emptied = bool(flags & os.O_TRUNC)
+        if flags & os.O_CREAT:
+            how = Opening(bool(was_there), bool(flags & (os.O_ACCMODE | os.O_TRUNC)), is_emptied)
+            footprint.open_or_make(way, place, process.program, how)
             return
-        is_edit = not flags & os.O_TRUNC
-        footprint.write_through(way, is_edit)
-        if is_edit:
-            footprint.edit(place)
-        else:
+        footprint.write_through(way, not is_emptied)
+        if is_emptied:
             footprint.write(place)
+        else:
+            footprint.edit(place)
 
     def _made(self, process: Process, footprint: Footprint, place: int, call: Call) -> None:
         """The call makes an entry: it asks for the folder, whose names are others from then on."""
@@ -373,8 +380,10 @@ class Build:
                 call.memo = way.place
             return way
         path = process.path(call.path, call.folder)
+        if path is not None and path.startswith(b"/proc/"):
+            path = self.processes.of_another(path)
         if path is None:
-            if call.path and not path_is_own(call.path):
+            if call.path and not path_is_own(call.path) or process.is_received(call.folder):
                 process.flag(Flag.UNRESOLVED, call.name)
             return None
         way = self.resolver.way(path)
@@ -436,8 +445,15 @@ class Build:
             footprint, way = found
             place, standing = footprint.walked(way, False)
             self._late(process, call, place)
-            self.resolver.gone(place)
+            self._gone(place, way, call)
             footprint.remove(place, standing is Standing.LINK)
+
+    def _gone(self, place: int, way: Numbered, call: Call) -> None:
+        """A file or a link is no longer at an entry."""
+        self.resolver.gone(place)
+        self.places.parted(place, bool(_inode_of(way)))
+        if call.way is None:
+            self.processes.removed(self.places.paths[place])
 
     def _on_rmdir(self, process: Process, call: Call) -> None:
         footprint = process.footprint
@@ -496,11 +512,12 @@ class Build:
             footprint.write(place, is_made=True)
 
     def _on_bind(self, process: Process, call: Call) -> None:
+        way = None
         if call.path:
             self._on_mknod(process, call)
-        is_bound = call.result >= 0 or call.result == -errno.EADDRINUSE
-        if is_bound and process.command is not None and call.text:
-            process.command.addresses.append((True, call.text, call.name, process.program))
+            way = self._way(process, call)
+        if call.result >= 0 or call.result == -errno.EADDRINUSE:
+            self._note_address(process, call, way)
 
     def _on_truncate(self, process: Process, call: Call) -> None:
         self._edit(process, call, not call.flags & os.O_NOFOLLOW)
@@ -537,7 +554,8 @@ class Build:
                 place, _ = footprint.look(way, READ, not call.flags & os.O_NOFOLLOW)
                 other = self._other_way(process, call)
                 if other is not None and other.place != place:
-                    self.places.join(place, other.place)
+                    is_new = not self.opening.get(other.place, other.place in self.present)
+                    self.places.join(place, other.place, is_new)
             elif way is not None and call.result in _NOT_THERE and way.standing is Standing.MISSING:
                 self._failed(process, footprint, way, call)
         self._make_entry(process, call, None)
@@ -570,13 +588,20 @@ class Build:
         other, _ = footprint.walked(other_way, False)
         if place == other:
             return
+        if self.places.are_one(way, other_way):  # two names of one file: the call does nothing
+            footprint.see(place, THERE)
+            footprint.see(other, THERE)
+            return
         self._made(process, footprint, other, call)
         own = footprint.touched.get(place)
         if standing is Standing.FOLDER or own is not None and own.is_folder or \
                 call.way is None and self.resolver.is_folder(place, other):
             self.resolver.renamed(place, other)
-            self._rename_folder(process, footprint, place, other)
+            below = _below(self.places.paths[other]) if call.way is None else process.moved
+            self._rename_folder(process, footprint, place, other, below)
+            process.moved = []
             return
+        self._moved(place, other, way)
         text = own.text if own is not None else _text_at(way) if standing is Standing.LINK else None
         if standing is Standing.LINK:
             footprint.look(way, READ, False)
@@ -584,12 +609,27 @@ class Build:
             footprint.see(place, READ)
         footprint.remove(place, standing is Standing.LINK)
         if footprint.walked(other_way, False)[1] is Standing.LINK:
-            footprint.special.add(other)
+            footprint.note_link(other)
         footprint.write(other, text=text)
         self.resolver.renamed(place, other)
+        if call.way is None:
+            self.processes.removed(self.places.paths[other])
+            self.processes.renamed(self.places.paths[place], self.places.paths[other])
 
-    def _rename_folder(self, process: Process, footprint: Footprint, place: int, other: int) -> None:
-        """Each file in the folder is taken away and made: those of the command, and those that the disk shows."""
+    def _moved(self, place: int, other: int, way: Numbered | None = None) -> None:
+        """A file got another name; `way` led to it."""
+        is_new = not self.opening.get(other, other in self.present)
+        self.places.moved(place, other, _inode_of(way) if way is not None else b"", is_new)
+
+    def _on_moved(self, process: Process, call: Call) -> None:
+        way = self._way(process, call)
+        if way is not None:
+            text = _text_at(way) if way.standing is Standing.LINK else None
+            process.moved.append((self.places.paths[way.place], way.standing is Standing.FOLDER, text))
+
+    def _rename_folder(self, process: Process, footprint: Footprint, place: int, other: int,
+                       its: Iterable[Moved]) -> None:
+        """Each file in the folder is taken away and made: those of the command, and those that stand below it now."""
         paths = self.places.paths
         old, new = paths[place] + b"/", paths[other] + b"/"
         self.processes.renamed(paths[place], paths[other])
@@ -599,8 +639,10 @@ class Build:
             mine = footprint.touched[it]
             is_folder, text = mine.is_folder, mine.text
             footprint.remove(it)
-            _make(footprint, self.places.number(new + paths[it][len(old) :]), is_folder, text)
-        for count, (real, is_folder, text) in enumerate(_below(paths[other])):
+            moved = self.places.number(new + paths[it][len(old) :])
+            self._moved(it, moved)
+            _make(footprint, moved, is_folder, text)
+        for count, (real, is_folder, text) in enumerate(its):
             it = self.places.number(real)
             if count >= _MOST_MOVED:
                 process.flag(Flag.UNRESOLVED, b"rename", paths[other])
@@ -608,6 +650,7 @@ class Build:
             if it not in footprint.touched:
                 before = self.places.number(old + real[len(new) :])
                 footprint.see(before, FOLDER if is_folder else READ)
+                self._moved(before, it)
                 footprint.remove(before)
                 footprint.touched[before].is_folder = is_folder
                 _make(footprint, it, is_folder, text)
@@ -625,15 +668,30 @@ class Build:
             self._note_opening(its)
             if standing is Standing.FOLDER:
                 process.flag(Flag.UNRESOLVED, call.name, self.places.paths[place])
-            self.resolver.gone(place)
+            self._gone(place, its, call)
             footprint.see(place, READ)
             footprint.write(place)
+            if Standing.LINK in (way.standing, other_way.standing):
+                footprint.note_link(place)
 
     # what stands for a part of what is read and written
 
     def _on_socket(self, process: Process, call: Call) -> None:
-        if process.command is not None:
-            process.command.addresses.append((False, call.text, call.name, process.program))
+        way, footprint = self._way(process, call) if call.path else None, process.footprint
+        if way is not None and footprint is not None:
+            if call.result in _NOT_THERE:
+                self._failed(process, footprint, way, call)
+                return
+            footprint.look(way, THERE, True)
+        self._note_address(process, call, way)
+
+    def _note_address(self, process: Process, call: Call, way: Numbered | None) -> None:
+        if process.command is not None and call.text:
+            place = None if way is None else way.end
+            text = call.text if place is None else self.places.paths[place]
+            is_answered = call.result >= 0 or call.result == -errno.EINPROGRESS
+            address = Address(call.kind is Kind.BIND, text, call.name, process.program, place, is_answered)
+            self._bound.used(process.command, address)
 
     def _on_ipc(self, process: Process, call: Call) -> None:
         if call.result >= 0 or call.result in (-errno.ENOENT, -errno.EEXIST):
@@ -641,7 +699,7 @@ class Build:
 
     def _on_lock(self, process: Process, call: Call) -> None:
         way = self._way(process, call)
-        if process.command is not None and way is not None and way.end_standing not in HIDDEN:
+        if process.command is not None and way is not None and way.end_standing is not Standing.OF_KERNEL:
             process.command.locks[way.end] = call.name, process.program
 
     def _on_signal(self, process: Process, call: Call) -> None:
@@ -698,12 +756,17 @@ def _make(footprint: Footprint, place: int, is_folder: bool, text: bytes | None)
         footprint.write(place, text=text)
 
 
+def _inode_of(way: Numbered) -> bytes:
+    """What names the file at the last name of a way, where it has several names."""
+    return way.way.inode if way.standing is Standing.FILE else b""
+
+
 def _text_at(way: Numbered) -> bytes | None:
     """The text of the link at the last name of a way."""
     return way.ends[0][1] if way.ends else None
 
 
-def _below(folder: bytes) -> Iterator[tuple[bytes, bool, bytes | None]]:
+def _below(folder: bytes) -> Iterator[Moved]:
     """The real paths below a folder, as the disk shows them, whether each is a folder, and the text of each link."""
     todo = [folder]
     while todo:

@@ -7,6 +7,7 @@ entry is AFTER and nothing else.
 from __future__ import annotations
 
 from array import array
+from collections.abc import Container
 from dataclasses import dataclass, field
 from itertools import islice
 
@@ -44,6 +45,15 @@ class Asked:
     places: dict[int, int] = field(default_factory=dict)
 
 
+@dataclass(frozen=True, slots=True)
+class Opening:
+    """How a file is opened that is made where it is missing: whether it was there, to write, and emptied."""
+
+    was_there: bool
+    writes: bool
+    empties: bool
+
+
 @dataclass(slots=True)
 class Footprint:
     """The footprint of a command.
@@ -51,7 +61,10 @@ class Footprint:
     `present` is common to all commands of a build: whether an entry was there when last a command changed it, or, of
     outputs, when the build began. `settled` has each entry that the command changed, or found where it would have
     made a folder. `own` are those that it changed before it listed their folder. At those of `special` a link came
-    or went, or a renamed folder. `contents` are the files of several names whose content it changed.
+    or went, or a renamed folder, at those of `linked` a link. `contents` are the files of several names whose content
+    it changed, each with the moments (`Places.clock`) when it did so. `besides` are the other names that such files had
+    then, as far as calls show it. `ensured` has the files that it opened and would have made where they were missing,
+    and with which it did nothing else, each with the program. Of these, it opened those of `written` to write.
     """
 
     places: Places
@@ -65,7 +78,11 @@ class Footprint:
     asked: dict[tuple[bytes, bool], Asked] = field(default_factory=dict)
     hidden: set[bytes] = field(default_factory=set)
     special: set[int] = field(default_factory=set)
-    contents: set[bytes] = field(default_factory=set)
+    linked: set[int] = field(default_factory=set)
+    contents: dict[bytes, set[int]] = field(default_factory=dict)
+    besides: set[int] = field(default_factory=set)
+    ensured: dict[int, bytes] = field(default_factory=dict)
+    written: set[int] = field(default_factory=set)
     _passed: set[int] = field(default_factory=set)
     _counted: int = 0
     _listed: set[int] = field(default_factory=set)
@@ -78,6 +95,7 @@ class Footprint:
         if place in self.settled and bit & LOOKS:
             bit = AFTER
         looks[place] = looks.get(place, 0) | bit
+        self.ensured.pop(place, None)
 
     def link(self, place: int, text: bytes) -> None:
         """A link was met."""
@@ -165,7 +183,7 @@ class Footprint:
         if is_made and touched.existed is None:
             touched.existed = False
         if text is not None or touched.text is not None:
-            self.special.add(place)
+            self.note_link(place)
         touched.is_there, touched.is_folder, touched.text = True, False, text
         self.present[place] = True
 
@@ -174,7 +192,13 @@ class Footprint:
         if way.ends:
             self._through(way, LINK_EDITED if is_edit else LINK_WRITTEN, True)
         if way.way.inode:
-            self.contents.add(way.way.inode)
+            self.contents.setdefault(way.way.inode, set()).add(self.places.clock)
+        self.besides.update(self.places.besides(way.end))
+
+    def note_link(self, place: int) -> None:
+        """A link came or went."""
+        self.special.add(place)
+        self.linked.add(place)
 
     def edit(self, place: int) -> None:
         """Changed in place, if it was there before; else made."""
@@ -185,12 +209,28 @@ class Footprint:
         touched.is_there = True
         self.present[place] = True
 
+    def open_or_make(self, way: Numbered, place: int, program: bytes, how: Opening) -> None:
+        """A file was opened, and was to be made where it was missing. A lock file is opened so."""
+        is_alone = place in self.ensured or place not in self.looks and place not in self.touched
+        if how.was_there and not how.writes:
+            self.look(way, READ, True)
+        else:
+            self.write_through(way, not how.empties)
+            if how.empties:
+                self.write(place)
+            else:
+                self.edit(place)
+        if is_alone:
+            self.ensured[place] = program
+            if how.writes:
+                self.written.add(place)
+
     def remove(self, place: int, is_link: bool = False) -> None:
         """Taken away."""
         is_first = place not in self.touched
         touched = self._touch(place)
         if is_link or touched.text is not None:
-            self.special.add(place)
+            self.note_link(place)
         if is_first:
             touched.existed = True
         touched.is_there = False
@@ -201,6 +241,8 @@ class Footprint:
         touched = self._touch(place)
         if touched.existed is None:
             touched.existed = False
+        if touched.text is not None:
+            self.note_link(place)
         touched.is_there = touched.is_folder = True
         touched.text = None
         self.present[place] = True
@@ -225,6 +267,7 @@ class Footprint:
         self.settled.add(place)
 
     def _touch(self, place: int) -> Touched:
+        self.ensured.pop(place, None)
         found = self.touched.get(place)
         if found is None:
             found = self.touched[place] = Touched(self.was_there(place))
@@ -255,8 +298,8 @@ class Footprint:
         paths = self.places.paths
         return [it for it, touched in self.touched.items() if touched.is_there and paths[it].startswith(folder)]
 
-    def pack(self) -> Packed:
-        """What is kept of it when the command has ended."""
+    def pack(self, locked: Container[int] = ()) -> Packed:
+        """What is kept of it when the command has ended. `locked` are the files that the command locked."""
         self._count_passed()
         folders, passed = self.places.folders, self._passed
         for place in (*self.touched, *(it for it, _ in self.links), *(it for its in self.asked.values() for it in its.places)):
@@ -267,14 +310,18 @@ class Footprint:
         looks = self.looks
         return Packed(array("I", looks.keys()), array("H", looks.values()), tuple(self.links), self.touched,
                       frozenset(self.found), frozenset(self.own & {it for it in self.own if folders[it] in self._listed}),
-                      tuple(self.asked.values()), frozenset(self.hidden), frozenset(self.special), frozenset(self.contents),
-                      array("I", sorted(passed)))
+                      tuple(self.asked.values()), frozenset(self.hidden), frozenset(self.special), self.contents,
+                      array("I", sorted(passed)),
+                      {place: program for place, program in self.ensured.items() if place in locked},
+                      frozenset(it for it in self.written if it in locked), frozenset(self.besides),
+                      frozenset(self.linked))
 
 
 @dataclass(slots=True)
 class Packed:
     """The footprint of a command that has ended: entries and their looks, and the rest as in the footprint. `passed`
-    are the folders on the ways to all that it had to do with."""
+    are the folders on the ways to all that it had to do with. `ensured` and `written` have those files alone that it
+    locked."""
 
     places: array[int]
     looks: array[int]
@@ -285,8 +332,12 @@ class Packed:
     asked: tuple[Asked, ...]
     hidden: frozenset[bytes]
     special: frozenset[int]
-    contents: frozenset[bytes]
+    contents: dict[bytes, set[int]]
     passed: array[int]
+    ensured: dict[int, bytes] = field(default_factory=dict)
+    written: frozenset[int] = frozenset()
+    besides: frozenset[int] = frozenset()
+    linked: frozenset[int] = frozenset()
 
 
 def _text_of(way: Numbered, place: int) -> bytes:

@@ -22,6 +22,7 @@ from ..folders import OPTIONAL
 from ..held import HeldFolder
 from ..contents.contents import FILE as CONTENTS, Contents, Names as OfBuild
 from ..other_names import in_order, outputs_in_order
+from .before import Preparing
 from .caches import Caches, known_folders
 from .calls import Observer
 from .effects import Build
@@ -32,6 +33,7 @@ from .matching import match, text_of
 from .naming import Names, source_folders
 from .places import Places
 from .processes import Command
+from .servers import servers
 from .shares import Changes, flag_what_two_share
 from .version_2 import Blocks, Head, Version2
 from .writing import Observed
@@ -69,12 +71,15 @@ class Unobserved:
 
 
 class Observation:
-    """Observes one run of Ninja. Used by `with`, which leaves no file behind."""
+    """Observes one run of Ninja. Used by `with`, which leaves no file behind. `makes_folders_of_depfiles`: as this
+    Ninja does."""
 
     def __init__(self, observer: Observer, build: bytes, manifest: Any, keep_log: BinaryIO | None = None,
-                 with_contents: bool = False) -> None:
+                 with_contents: bool = False, makes_folders_of_depfiles: bool = False) -> None:
         self.observer, self.manifest, self.folder = observer, manifest, os.path.realpath(build)
         self.places = Places()
+        self._preparing = Preparing(self.places, self.folder, makes_folders_of_depfiles)
+        self._preparing.begin(manifest.edges)
         self._missing: set[int] = set()
         self.texts = {text_of(it) for it in manifest.edges if not it.phony}
         self.build = Build(self.texts, self.folder, self.places, self._present(), observer.is_late)
@@ -105,11 +110,12 @@ class Observation:
                 real = os.path.join(self.folder, path)
                 place = self.places.of(real)
                 found[place] = os.path.lexists(real)
-                self._note_missing(place)
+            for path in self._preparing.made_for(edge) if not edge.phony else ():
+                self._note_missing(self.places.of(os.path.join(self.folder, path)))
         return found
 
     def _note_missing(self, place: int) -> None:
-        """The folders above an output that are missing: Ninja is to make them."""
+        """The folders above a file that are missing: Ninja is to make them."""
         folders, paths = self.places.folders, self.places.paths
         above = folders[place]
         while above not in self._missing and not os.path.lexists(paths[above] or b"/"):
@@ -178,6 +184,7 @@ class Observation:
                                  f"reading that took {self.seconds:.2f} s of processor time")
         if self.contents is not None:
             recording.remarks.append(self.contents.remark())
+        recording.notes += _of_servers(pairs, names, self.places)
         if left:
             recording.remarks.append(f"{len(left)} commands were observed of which no edge could be told")
 
@@ -211,9 +218,7 @@ class Observation:
         blocks = Blocks(changes, names, self.places, Caches(self.places, known_folders()))
         own_files = tuple(self.places.of(self.folder + b"/" + it) for it in (b".ninja_log", b".ninja_deps"))
         head = Head(self.observer.name, self.observer.release, self.observer.machine, self.build.opening, own_files)
-        outputs = {edge.number: [self.places.of(os.path.join(self.folder, it)) for it in edge.outputs]
-                   for edge, _ in pairs}
-        return Version2(pairs, self._ninja(), blocks, head, outputs)
+        return Version2(pairs, self._ninja(), blocks, head, self._preparing)
 
     def _notes(self, pairs: list[tuple[Any, Command]], runs: list[Any]) -> Iterator[str]:
         """What the user is told: what was not observed whole, and what the commands could not do."""
@@ -245,6 +250,22 @@ def _of_inner_ninjas(logs: dict[bytes, list[Any]]) -> Iterator[str]:
             runs = "1 command runs" if len(edges) == 1 else f"{len(edges)} commands run"
             yield (f"{runs} a Ninja that writes {shown(log)}: {_some([it.name for it in edges])}. What its commands do "
                    f"is taken to be done by these, and no finding is about its logs")
+
+
+def _of_servers(pairs: list[tuple[Any, Command]], names: Names, places: Places) -> Iterator[str]:
+    """What the user is told of each server: its address, who started it, and who spoke to it."""
+    found = list(servers([it for _, it in pairs]))
+    for it in found[:_NAMED]:
+        known = places.known(it.address) if it.address.startswith(b"/") else None
+        address = shown(it.address if known is None else names.of(known))
+        starters = _some([pairs[number][0].name for number in sorted(it.starters)])
+        users = [pairs[number][0].name for number in sorted(it.users)]
+        whose = f"that {starters} started" if starters else "that no command of this build started"
+        many = "1 command" if len(users) == 1 else f"{len(users)} commands"
+        yield (f"{many} spoke to a server {whose}, at {address}: {_some(users)}. What that server reads and writes for "
+               f"them is not seen to be theirs")
+    if len(found) > _NAMED:
+        yield f"and to {len(found) - _NAMED} more servers"
 
 
 def _some(names: list[bytes]) -> str:

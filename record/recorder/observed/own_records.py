@@ -29,7 +29,7 @@ KINDS = (Kind.SPAWN, Kind.EXEC, Kind.EXIT, Kind.UNSHARE, Kind.OPEN, Kind.STAT, K
          Kind.RENAME, Kind.EXCHANGE, Kind.UNLINK, Kind.RMDIR, Kind.MKDIR, Kind.MKNOD, Kind.TRUNCATE, Kind.META,
          Kind.SOCKET, Kind.URING, Kind.NAMESPACE, Kind.UNRESOLVED, Kind.TRACE, Kind.CHDIR, Kind.READLINK, Kind.LOAD,
          Kind.MODE, Kind.BIND, Kind.IPC, Kind.LOCK, Kind.SIGNAL, Kind.ATTRIBUTES, Kind.NOTIFIED, Kind.UNKNOWN, Kind.DEEP,
-         Kind.LOOKED)
+         Kind.LOOKED, Kind.MOVED)
 """The kinds of calls, as the observer numbers them (`enum kind`)."""
 
 FIRST_LINE = b"rebug-observer 2 "

@@ -7,6 +7,7 @@ process outside of every command, where that is `/bin/sh -c TEXT` and TEXT is a 
 
 from __future__ import annotations
 
+import re
 from collections.abc import Container
 from dataclasses import dataclass, field
 
@@ -16,8 +17,13 @@ from .flags import Cause, Flag, Flags
 from .footprints import Footprint, Packed
 from .imports import Imports
 from .places import Places
+from .servers import Address
+
+Moved = tuple[bytes, bool, bytes | None]
 
 _OF_PROCESS = (b"/proc/self/", b"/proc/thread-self/", b"/dev/fd/", b"/dev/std")
+_OF_ANOTHER = re.compile(rb"/proc/(\d+)/(?:cwd|fd/(\d+))(?=/|$)")
+_NOT_KNOWN = b""
 _STANDARD = {b"/dev/stdin": 0, b"/dev/stdout": 1, b"/dev/stderr": 2}
 
 
@@ -40,8 +46,7 @@ class Command:
 
     `footprint` is there while a process of it runs, `packed` afterwards. `status` is that of its shell, None where
     that was not seen to end. `members` are the numbers of its processes. `standard_input` is what it reads there,
-    where that is something. `addresses` are those of sockets: whether it was bound there, the address, the call and
-    the program. `locks` are by the entry, with call and program.
+    where that is something. `addresses` are those of its sockets. `locks` are by the entry, with call and program.
     """
 
     text: bytes
@@ -55,7 +60,7 @@ class Command:
     members: set[int] = field(default_factory=set)
     standard_input: bytes = b""
     whole: Flags = field(default_factory=Flags)
-    addresses: list[tuple[bool, bytes, bytes, bytes]] = field(default_factory=list)
+    addresses: list[Address] = field(default_factory=list)
     locks: dict[int, tuple[bytes, bytes]] = field(default_factory=dict)
     wanted_trace: bool = False
     lost_rights: bool = False
@@ -72,7 +77,7 @@ class Command:
     def pack(self) -> None:
         """Its last process has ended, or nothing more of it is seen."""
         if self.footprint is not None:
-            self.packed, self.footprint = self.footprint.pack(), None
+            self.packed, self.footprint = self.footprint.pack(self.locks), None
 
 
 @dataclass(eq=False, slots=True)
@@ -81,6 +86,7 @@ class Process:
 
     `program` is the name of the program that it runs. `imports` is there while that is Python. `asks` are looks of a
     program that may make the folder that it asks for, by the entry; `tried` are the folders that it tried to make.
+    `moved` has what stands below a folder that it renames: real paths, whether each is a folder, and texts of links.
     `misses` is where a vain question is noted, where that needs nothing else.
     """
 
@@ -99,6 +105,7 @@ class Process:
     is_elsewhere: bool = False
     asks: dict[int, int] = field(default_factory=dict)
     tried: list[int] = field(default_factory=list)
+    moved: list[Moved] = field(default_factory=list)
     misses: dict[int, int] | None = None
 
     @property
@@ -112,6 +119,14 @@ class Process:
             self.descriptors[descriptor] = path
         else:
             self.descriptors.pop(descriptor, None)
+
+    def received(self, descriptor: int) -> None:
+        """Another process passed the descriptor, and nobody says for which file."""
+        self.descriptors[descriptor] = _NOT_KNOWN
+
+    def is_received(self, folder: int | bytes) -> bool:
+        """Whether a path begins at such a descriptor."""
+        return isinstance(folder, int) and self.descriptors.get(folder) == _NOT_KNOWN
 
     def flag(self, flag: Flag, call: bytes = b"", text: bytes = b"") -> None:
         """The process's command is not observed whole."""
@@ -128,7 +143,7 @@ class Process:
             base = self.folders.current
         else:
             base = folder if isinstance(folder, bytes) else self.descriptors.get(folder)
-        if base is None:
+        if not base:
             return None
         return base + b"/" + path if path else base
 
@@ -172,6 +187,17 @@ class Processes:
             held = self._early[number] = [], [it for it in self.commands if it.alive]
         held[0].append(call)
         return None
+
+    def of_another(self, path: bytes) -> bytes | None:
+        """A path through another process's descriptors or folder, as the system shows them; the same path where it is
+        none, and None where that process is none of the build's, or nothing is known of its descriptor."""
+        found = _OF_ANOTHER.match(path)
+        if found is None:
+            return path
+        process = self.running.get(int(found[1]))
+        base = None if process is None else process.folders.current if found[2] is None else \
+            process.descriptors.get(int(found[2]))
+        return base + path[found.end() :] if base else None
 
     def spawned(self, parent: Process, call: Call) -> tuple[Process, list[Call]]:
         """A process began; with the calls of it that came too early."""
@@ -269,8 +295,16 @@ class Processes:
             process.flag(Flag.NAMESPACE, call.name or b"unshare")
             process.is_elsewhere = True
 
+    def removed(self, real: bytes) -> None:
+        """A file has this real path no longer: who has it open has a file that this path does not name."""
+        name = real.rpartition(b"/")[2]
+        for process in self.running.values():
+            for number, path in list(process.descriptors.items()):
+                if path.endswith(name) and canonical(path) == real:
+                    del process.descriptors[number]
+
     def renamed(self, old: bytes, new: bytes) -> None:
-        """A folder has another real path: processes that stand in it, or have it open, go with it."""
+        """A folder or file has another real path: processes that stand in it, or have it open, go with it."""
 
         def moved(path: bytes) -> bytes:
             real = canonical(path)

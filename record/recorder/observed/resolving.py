@@ -74,8 +74,8 @@ class Resolver:
             last = end
         inode = text if end_standing is Standing.FILE else b""
         of_files = tuple(it for it in links[:on_the_way] if not _is_of_kernel(it[0]))
-        return Way(entry, standing, end, end_standing, inode=inode, is_broken=is_broken, links=of_files,
-                   ends=tuple(links[on_the_way:]), asked=tuple(asked))
+        return Way(entry, standing, end, end_standing, inode=inode, process=_process_of(path), is_broken=is_broken,
+                   links=of_files, ends=tuple(links[on_the_way:]), asked=tuple(asked))
 
     def _walk(self, real: bytes, path: bytes, links: list[tuple[bytes, bytes]], asked: list[tuple[bytes, Standing]],
               keeps_last: bool) -> tuple[bytes, bool]:
@@ -173,6 +173,12 @@ class Resolver:
         if found is None:
             found = self._programs[real] = _program(real)
         return found
+
+
+def _process_of(path: bytes) -> int:
+    """The process in whose folder in /proc a path leads, as it was used; 0 for none, and for the process itself."""
+    number = path[len(_PROC) + 1 :].partition(b"/")[0] if path.startswith(_PROC + b"/") else b""
+    return int(number) if number.isdigit() else 0
 
 
 def _is_of_kernel(real: bytes) -> bool:

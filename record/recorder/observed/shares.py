@@ -3,23 +3,27 @@ use."""
 
 from __future__ import annotations
 
-import re
+import os
+import stat
 from collections import defaultdict
 from collections.abc import Iterable, Mapping
 
 from .flags import Flag
-from .footprints import LISTED, Packed
+from .footprints import IMPORTED, LISTED, Packed
 from .places import Places
 from .processes import Command
-
-_LOCAL = re.compile(rb"(?:0\.0\.0\.0|127\.[\d.]+|\[::1?\]):(\d+)")
+from .programs import can_be_module
+from .servers import flag_servers
 
 
 class Changes:
     """What is changed in a build, by commands and by Ninja. `declared` are the entries that the manifest's edges make.
 
     `made` are folders that somebody made or found where one was to be made, `special` are the entries at which a
-    link came or went, or a renamed folder, `removed` are folders that were taken away.
+    link came or went, or a renamed folder, `linked` are those where a link did, `removed` are folders that were taken
+    away. `locks` are files of which commands made sure that they are there, and which they locked: nobody did anything
+    else with one of them, and nobody read the names in its folder. One that somebody opened to write is empty when the
+    build has ended.
     """
 
     def __init__(self, packed: Iterable[Packed], places: Places, declared: Iterable[int],
@@ -31,6 +35,7 @@ class Changes:
         self.left: set[int] = set()
         self.made: set[int] = set()
         self.special: set[int] = set()
+        self.linked: set[int] = set()
         self.removed: set[int] = set()
         uses: defaultdict[int, int] = defaultdict(int)
         all_packed = list(packed)
@@ -40,11 +45,31 @@ class Changes:
         self.shared = self._shared_temps(all_packed, uses)
         self.changed |= self.shared
         self.names = _same_files(places)
+        self.locks = self._locks(all_packed)
+        self.left -= self.locks
+
+    def _locks(self, all_packed: list[Packed]) -> set[int]:
+        """The lock files that commands made, or opened to write."""
+        found = {place for it in all_packed for place in it.ensured} & self.changed
+        written = {place for it in all_packed for place in it.written} & found
+        found -= {place for place in written if not _is_empty(self.places.paths[place])}
+        found -= self.declared | self.special | self.names.keys()
+        folders = self.places.folders
+        for it in all_packed if found else ():
+            used = {*it.touched, *it.places, *(place for place, _ in it.links)}
+            used.update(*(asked.places for asked in it.asked))
+            listed = {place: look for place, look in zip(it.places, it.looks) if look & (LISTED | IMPORTED)}
+            found -= used - it.ensured.keys()
+            found = {place for place in found if not _shows(listed.get(folders[place], 0), self.places.paths[place])}
+        return found
 
     def _add(self, packed: Packed, uses: dict[int, int]) -> None:
         self.special |= packed.special
+        self.linked |= packed.linked
         self.made |= packed.found
         self.found |= packed.found
+        self.changed |= packed.besides
+        self.left |= packed.besides
         for place, it in packed.touched.items():
             if not it.is_there and not it.existed and not it.is_edited:
                 uses[place] += 1
@@ -85,6 +110,20 @@ class Changes:
         return place in self.made and place not in self.special
 
 
+def _shows(look: int, path: bytes) -> bool:
+    """Whether a look at a folder shows whether this entry of it is there: import looks for modules alone."""
+    return bool(look & LISTED or look & IMPORTED and can_be_module(path))
+
+
+def _is_empty(path: bytes) -> bool:
+    """Whether a file without content is there."""
+    try:
+        it = os.lstat(path)
+    except OSError:
+        return False
+    return stat.S_ISREG(it.st_mode) and not it.st_size
+
+
 def _same_files(places: Places) -> dict[int, set[int]]:
     """By the entry, all entries that were names of one file."""
     groups: dict[int, set[int]] = {}
@@ -99,18 +138,8 @@ def _same_files(places: Places) -> dict[int, set[int]]:
 
 
 def flag_what_two_share(commands: list[Command], changes: Changes) -> None:
-    """Sets the flags of sockets and locks that more than one command has to do with. A command that speaks to itself
-    alone has none."""
-    users: defaultdict[bytes, set[int]] = defaultdict(set)
-    for number, command in enumerate(commands):
-        for _, address, _, _ in command.addresses:
-            users[_key(address)].add(number)
-    for command in commands:
-        bound = {_key(address) for is_bind, address, _, _ in command.addresses if is_bind}
-        for _, address, call, program in command.addresses:
-            if address == b"netlink" or _key(address) in bound and len(users[_key(address)]) == 1:
-                continue
-            command.flag(Flag.SOCKET, call, program, address)
+    """Sets the flags of sockets and locks that more than one command has to do with."""
+    flag_servers(commands)
     _flag_locks(commands, changes)
     _flag_inputs(commands)
 
@@ -122,12 +151,6 @@ def _flag_inputs(commands: list[Command]) -> None:
     if len(readers) > 1:
         for it in readers:
             it.flag(Flag.IPC, b"read", b"sh", it.standard_input)
-
-
-def _key(address: bytes) -> bytes:
-    """An address of this machine by its port, however it is written."""
-    local = _LOCAL.fullmatch(address)
-    return b"port " + local[1] if local else address
 
 
 def _flag_locks(commands: list[Command], changes: Changes) -> None:

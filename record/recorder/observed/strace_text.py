@@ -44,6 +44,8 @@ _TWO = re.compile(_PATH + rb", " + _PATH)
 _TWO_FOLDERS = re.compile(rb", ".join([_FOLDER, _PATH, _FOLDER, _PATH]))
 _LINK_FOLDER = re.compile(rb", ".join([_PATH, _FOLDER, _PATH]))
 _DESCRIPTOR = re.compile(rb"(\d+)")
+_DESCRIPTOR_ALONE = re.compile(rb"(\d+), NULL")
+_PASSED = re.compile(rb"cmsg_type=SCM_RIGHTS, cmsg_data=\[([\d, ]+)\]")
 _OPEN_FLAG = re.compile(rb"\bO_[A-Z]+")
 _CLONE_FLAG = re.compile(rb"\bCLONE_[A-Z]+")
 _WORDS = re.compile(rb"\[(.*)\], 0x")
@@ -216,7 +218,8 @@ def _reader_of_one(kind: Kind, is_at: bool) -> Callable[[bytes, bytes, int], Cal
     def reads(name: bytes, text: bytes, result: int) -> Call | None:
         found = (_AT_FOLDER if is_at else _AT).match(text)
         if not found:
-            return None
+            alone = _DESCRIPTOR_ALONE.match(text) if kind is Kind.META else None
+            return Call(kind, folder=int(alone[1]), result=result, name=name) if alone else None
         path, rest = plain(found[found.lastindex or 1]), text[found.end() :]
         if not path and kind is not Kind.EXEC:
             return None
@@ -320,9 +323,14 @@ def _read_address(name: bytes, text: bytes, result: int) -> Call | None:
     address = _address(text)
     if not address:
         return None
-    is_file = name == b"bind" and b"AF_UNIX" in text and not address.startswith(b"@")
+    is_file = b"AF_UNIX" in text and not address.startswith(b"@")
     kind = Kind.BIND if name == b"bind" else Kind.SOCKET
     return Call(kind, address if is_file else b"", result=min(result, 0), text=address, name=name)
+
+
+def _read_passed(name: bytes, text: bytes, result: int) -> Call | None:
+    found = b" ".join(_PASSED.findall(text)).replace(b",", b" ")
+    return Call(Kind.RECEIVED, text=found, name=name) if found and result >= 0 else None
 
 
 def _read_ipc(name: bytes, text: bytes, result: int) -> Call | None:
@@ -397,6 +405,7 @@ def _readers() -> dict[bytes, Callable[[bytes, bytes, int], Call | None]]:
         ("fchmodat fchmodat2 fchownat utimensat futimesat", one(Kind.META, True)),
         ("fchmod fchown fsetxattr fremovexattr", _reader_of_descriptor(Kind.META)),
         ("connect bind sendto sendmsg sendmmsg", _read_address),
+        ("recvmsg", _read_passed),
         ("msgget msgctl msgsnd msgrcv semget semctl semop semtimedop shmget shmctl shmat mq_open mq_unlink", _read_ipc),
         ("kill", _read_kill),
         ("seccomp", _read_seccomp),

@@ -10,6 +10,7 @@ from dataclasses import dataclass, field as made_field
 from typing import Any, BinaryIO
 
 from ..fields import field
+from .before import Before, FolderWays, Preparing
 from .caches import Caches
 from .footprints import (AFTER, FOLDER, IMPORTED, LINK_EDITED, LINK_READ, LINK_SEEN, LINK_WRITTEN, LISTED, MISSING, MODE,
                          NEEDED, PASSED, READ, STATUS, THERE, WANTED, Packed)
@@ -18,6 +19,7 @@ from .places import Places
 from .processes import Command
 from .programs import can_be_module
 from .shares import Changes
+from .ways import Standing
 from .writing import ranges
 
 _LOOKS = (("read", READ | LINK_READ), ("status", STATUS), ("mode", MODE),
@@ -26,6 +28,9 @@ _LOOKS = (("read", READ | LINK_READ), ("status", STATUS), ("mode", MODE),
 WORDS = ("cached", "read", "status", "mode", "there", "folder", "link", "missing", "passed", "listed", "own", "searched",
          "after", "left", "edited", "taken", "temps", "linked", "made", "found", "ensured", "removed", "prepared")
 """The words of a block's lines, in the order of the file."""
+
+_STANDING = {Standing.FOLDER: "folder", Standing.MISSING: "missing"}
+"""The words of looks by what stood at the entry; `there` for all else."""
 
 Lines = dict[tuple[str, bytes], set[int]]
 
@@ -67,10 +72,10 @@ class Blocks:
         """Whether looks at an entry are told though nobody changes it."""
         return self.changes.matters(place) or self.names.is_inside(place) or self.places.folders[place] in self._busy
 
-    def of(self, packed: Packed, outputs: Iterable[int]) -> Block:
-        """What is written of a command. `outputs` are those of its edge."""
+    def of(self, packed: Packed, before: Before, ways: FolderWays) -> Block:
+        """What is written of a command, `before` which Ninja did this. `ways` are those at the build's end."""
         block, changes = Block(), self.changes
-        prepared = self._prepared(outputs)
+        prepared = before.made
         self._looks(block, packed, prepared)
         self._asked(block, packed, prepared)
         for place, text in packed.links:
@@ -83,19 +88,19 @@ class Blocks:
         self.changes_of(block, packed)
         for place in prepared:
             block.add("prepared", place)
+        self._asked_before(block, before, ways)
         self._cached(block, packed)
         self._count_outside(block, packed)
         return block
 
-    def _prepared(self, outputs: Iterable[int]) -> set[int]:
-        """The folders above an edge's outputs, which Ninja makes where they are missing, so far as they matter."""
-        found: set[int] = set()
-        for place in outputs:
-            above = self.places.folders[place]
-            while above and above not in found:
-                found.add(above)
-                above = self.places.folders[above]
-        return {it for it in found if self.changes.matters(it)}
+    def _asked_before(self, block: Block, before: Before, ways: FolderWays) -> None:
+        """What Ninja asked for the command."""
+        for place, text in before.links:
+            block.add("link", place, text)
+        for place in before.asked:
+            standing = ways.standing(place)
+            if standing is not Standing.LINK:
+                block.add(_STANDING.get(standing, "there"), place)
 
     def _is_quiet(self, place: int, prepared: set[int]) -> bool:
         """Whether Ninja sees to it that a folder is there before the command begins, and nobody takes it away."""
@@ -103,12 +108,15 @@ class Blocks:
 
     def _looks(self, block: Block, packed: Packed, prepared: set[int]) -> None:
         for place, look in zip(packed.places, packed.looks):
-            self._look(block, place, look, prepared)
+            if place not in self.changes.locks:
+                self._look(block, place, look, prepared)
+            elif place not in packed.touched:
+                block.add("ensured", place, packed.ensured[place])
             if look & LISTED and (self.names.is_inside(place) or place in self._busy):
                 block.add("listed", place)
             if look & IMPORTED:
                 self._imported(block, packed, place)
-            if look & AFTER and self.changes.matters(place):
+            if look & AFTER and self.changes.matters(place) and place not in self.changes.locks:
                 block.add("after", place)
             if look & READ:
                 self._compiled(block, packed, place)
@@ -201,16 +209,22 @@ class Blocks:
                     block.add("removed" if it.is_folder else "taken", place)
             elif it.is_folder:
                 block.add("made", place)
+            elif place in self.changes.locks and it.existed is not False:
+                block.add("ensured", place, packed.ensured[place])
+            elif place in self.changes.locks:
+                block.add("made", place)
             elif it.text is not None:
                 block.add("linked", place, it.text)
             else:
                 block.add("edited" if it.is_edited else "left", place)
         for place in packed.found - packed.touched.keys():
             block.add("found", place)
-        for inode in packed.contents:
+        for place in packed.besides - packed.touched.keys():
+            block.add("edited", place)
+        for inode, moments in packed.contents.items():
             for first in self.places.inodes.get(inode, ()):
                 for place in self.changes.names.get(first, ()):
-                    if place not in packed.touched:
+                    if place not in packed.touched and any(self.places.was_name(place, it) for it in moments):
                         block.add("edited", place)
 
     def _cached(self, block: Block, packed: Packed) -> None:
@@ -243,15 +257,18 @@ class Head:
 
 class Version2:
     """The text of a build: `pairs` has each command with its edge, in the order of the starts, `ninja` what Ninja
-    did."""
+    did, `preparing` what it did before commands."""
 
     def __init__(self, pairs: list[tuple[Any, Command]], ninja: Packed, blocks: Blocks, head: Head,
-                 outputs_of: dict[int, list[int]]) -> None:
+                 preparing: Preparing) -> None:
         self.pairs, self.blocks, self.head, self.places = pairs, blocks, head, blocks.places
+        before = [preparing.before(edge, blocks.changes) for edge, _ in pairs]
+        self.found = [blocks.of(it.packed, its, preparing.last) if it.packed is not None else Block()
+                      for (_, it), its in zip(pairs, before)]
         self.ninja = Block()
         blocks.changes_of(self.ninja, ninja)
-        self.found = [blocks.of(it.packed, outputs_of.get(edge.number, ())) if it.packed is not None else Block()
-                      for edge, it in pairs]
+        if all(its.is_steady for its in before):
+            self.ninja.lines["made", b""] -= {place for its in before for place in its.made}
         self.numbers = self._numbered()
 
     def _numbered(self) -> dict[int, int]:
@@ -286,13 +303,18 @@ class Version2:
         lines += self._head_lines(set(paths))
         lines += self._block_lines(b"ninja", self.ninja)
         for (edge, command), block in zip(self.pairs, self.found):
-            flags = [b" ".join([b"flag", it.flag.value.encode(), *map(field, (it.call, it.program, it.text))])
-                     for it in command.whole.sorted()]
+            flags = [b" ".join([b"flag", it.flag.value.encode(), field(it.call), field(it.program),
+                                field(self.shown(it.text))]) for it in command.whole.sorted()]
             lines += self._block_lines(b"edge " + field(edge.name), block, flags)
         body = b"".join(it + b"\n" for it in lines)
         file.write(body + b"end %d %d %d %s\n" % (len(self.numbers), len(self.pairs), len(lines),
                                                   hashlib.sha256(body).hexdigest().encode()))
         return paths
+
+    def shown(self, text: bytes) -> bytes:
+        """The text of a flag. A path in it is that by which the build names the entry."""
+        place = self.places.known(text) if text.startswith(b"/") else None
+        return text if place is None else self.blocks.names.of(place)
 
     def _head_lines(self, paths: set[bytes]) -> Iterator[bytes]:
         numbers = self.numbers
