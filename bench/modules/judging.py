@@ -18,7 +18,7 @@ from recorder.manifest import Manifest  # noqa: E402
 from recorder.shuffle.commands import read_dyndep  # noqa: E402
 
 TAKEN = re.compile(r"(\d+) events?, none refused\n$")
-OWN_FILES = {".ninja_log", ".ninja_deps", ".ninja_lock"}
+OWN_FILES = {".ninja_log", ".ninja_deps", ".ninja_lock", "CMakeOutput.log"}
 BY = re.compile(r"  (implicit|implicit outputs) \(by (.+?)\): (.*)")
 PLAN_REFUSED = "1 event, 1 refused\n"
 FINDINGS = ("race", "cycle", "own", "clash", "unstable")

@@ -5,6 +5,7 @@ from __future__ import annotations
 
 import os
 import pathlib
+import re
 import shutil
 import signal
 import subprocess
@@ -97,6 +98,25 @@ HIDDEN_FORTRAN_FILES = {
     "c": "program c\nuse base\nuse am\nprint *, one, two\nend program\n",
     "hidden.inc": "use base\n", "scan": HIDDEN_FILES["scan"],
 }
+# A module with a submodule, and a program. CMake puts a dyndep file of its own beside each target.
+SHAPES = {
+    "shapes.f90": """module shapes
+  interface
+    module integer function area(side)
+      integer, intent(in) :: side
+    end function
+  end interface
+end module
+""",
+    "areas.f90": "submodule (shapes) areas\ncontains\n  module procedure area\n    area = side * side\n"
+                 "  end procedure\nend submodule\n",
+    "main.f90": "program main\n  use shapes\n  print *, area(2)\nend program\n",
+    "CMakeLists.txt": "cmake_minimum_required(VERSION 3.20)\nproject(p Fortran)\n"
+                      "set(CMAKE_Fortran_MODULE_DIRECTORY ${CMAKE_BINARY_DIR}/mods)\n"
+                      "add_executable(app shapes.f90 areas.f90 main.f90)\n",
+}
+SIDES = "module sides\n  integer, parameter :: one = 1\nend module\n"
+
 # The recordings of a hidden `use`, and the manifest of each.
 HIDDEN_BY = {"hidden": HIDDEN, "hidden-fortran": HIDDEN_FORTRAN}
 OUTPUTS = ("a.o", "base.o", "c.o", "all.dd", ".ninja_log", "base.mod", "am.mod")
@@ -156,6 +176,40 @@ class Modules(unittest.TestCase):
             self.record(room, "failing", f"-j{jobs}", "-k", "0", status=1)
             write(source, **{"m2.f90": text})
             self.record(room, "mended", f"-j{jobs}")
+
+    def test_modules_of_fortran_that_a_compile_leaves_alone(self):
+        """gfortran writes a module file again only where its content is another one. So the file is older than the
+        source from then on. No later build compiles that source for it, also where the dyndep file is made anew."""
+        lacking = builds.missing_tools("cmake", "gfortran", "ninja")
+        if lacking:
+            self.skipTest(lacking)
+        for jobs, own in zip(JOBS, ((), ("--observe", "--observer", "own"))):
+            room = self.room(f"left-alone.{jobs}")
+            source = room / "source"
+            write(source, **SHAPES)
+            subprocess.run(["cmake", "-G", "Ninja", "-S", source, "-B", room / "build"], check=True,
+                           stdout=subprocess.DEVNULL)
+
+            def compiled(name: str, **files: str) -> list[str]:
+                write(source, **files)
+                self.record(room, name, f"-j{jobs}", own=own)
+                ends = re.findall(r"^finish (?:\S+/)?(\w+)\.f90\.o ", (room / name / "trace").read_text(), re.M)
+                return sorted(ends)
+
+            self.assertEqual(compiled("clean"), ["areas", "main", "shapes"])
+            areas = self.edge(room / "clean", "mods/shapes@areas.smod")
+            self.assertEqual((areas.name, areas.implicit), (b"CMakeFiles/app.dir/areas.f90.o", [b"mods/shapes.mod"]))
+            shapes, main = SHAPES["shapes.f90"], SHAPES["main.f90"]
+            self.assertEqual(compiled("left-alone", **{"shapes.f90": shapes}), ["shapes"])
+            self.assertEqual(compiled("another", **{"main.f90": main.replace("2", "3")}), ["main"])
+            self.assertEqual(compiled("second", **{"shapes.f90": shapes + SIDES}), ["shapes"])
+            main = main.replace("  print *, area(2)", "  use sides\n  print *, area(one)")
+            self.assertEqual(compiled("used", **{"main.f90": main}), ["main"])
+            self.assertEqual(self.edge(room / "used", "mods/sides.mod").outputs,
+                             self.edge(room / "used", "mods/shapes.mod").outputs)
+            body = SHAPES["areas.f90"].replace("side * side", "side ** 2")
+            self.assertEqual(compiled("submodule", **{"areas.f90": body}), ["areas"])
+            self.assertEqual(compiled("nothing"), [])
 
     def fortran(self) -> dict[str, str]:
         """The files of a project: each module uses the one before it."""
