@@ -371,6 +371,8 @@ PARTS: dict[str, tuple[str, Part]] = {
                                   "orders")),
     "a schedule as JSON": ("timed", asked("schedule", ".", "--json")),
     "no schedule": ("observed", found("schedule", ".")),
+    "orders": ("observed", asked("shuffle", ".", "--list", "--runs", "3")),
+    "orders as JSON": ("observed", asked("shuffle", ".", "--list", "--json")),
     "a comparison": ("observed", found("compare", "--all", ".", "../failed")),
     "a comparison as JSON": ("observed", found("compare", "--json", ".", "../failed")),
     "help": ("observed", asked("help", "races")),

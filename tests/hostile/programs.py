@@ -43,6 +43,7 @@ ASKED: list[tuple[list[str], tuple[int, ...]]] = [
     (["ask"], (0, 1)), (["ask", "--json"], (0, 1)), (["picture"], (0, 1)), (["picture", "--html"], (0, 1)),
     (["picture", "--event", "3"], (0, 1, 2)), (["timeline"], (0, 1, 2)), (["schedule"], (0, 1, 2, 4)),
     (["schedule", "--json", "-j", "1,3"], (0, 1, 2, 4)), (["compare", "."], (0, 1)),
+    (["shuffle", "--list"], (0, 1, 2)), (["shuffle", "--list", "--json", "--runs", "3"], (0, 1, 2)),
     (["compare", "--all", f"{TOP}/examples/flaky/failed"], (0, 1, 4)),
     (["compare", "--json", f"{TOP}/examples/flaky/failed"], (0, 1, 4))]
 # What is asked at the prompt, with the name of an output or of another path.
@@ -222,7 +223,7 @@ class RebugAsk:
                 except xml.etree.ElementTree.ParseError as why:
                     yield f"no picture: {why}"
         elif "--json" in words:
-            odd = misfits(out, words[0])
+            odd = misfits(out, "orders" if words[0] == "shuffle" else words[0])
             if odd:
                 yield f"no object by the schema of docs/JSON.md: {odd[0]}"
             lines = out.splitlines()
