@@ -4,11 +4,11 @@ _rebug() {
   if [ "$first" = --try ]; then first=${COMP_WORDS[2]} place=2; fi
   COMPREPLY=()
   if [ "$COMP_CWORD" -le "$place" ]; then
-    COMPREPLY=($(compgen -W "record provoke mend shuffle rerun summary flakes explore help races certify replay ask picture timeline compare schedule --try --manifest --trace --script --workers --migrate --help --version" -- "$word"))
+    COMPREPLY=($(compgen -W "record provoke mend shuffle rerun actions reuse summary flakes explore help races certify replay ask picture timeline compare schedule --try --manifest --trace --script --workers --migrate --help --version" -- "$word"))
     return
   fi
   if [ "$first" = help ]; then
-    COMPREPLY=($(compgen -W "record provoke shuffle mend explore rerun summary flakes races certify replay ask picture timeline compare schedule" -- "$word"))
+    COMPREPLY=($(compgen -W "record provoke shuffle mend explore rerun actions reuse summary flakes races certify replay ask picture timeline compare schedule" -- "$word"))
     return
   fi
   case $word in -*) ;; *) return ;; esac
@@ -22,10 +22,12 @@ _rebug() {
     schedule) COMPREPLY=($(compgen -W "-j --faster --pool --without --json" -- "$word")) ;;
     record) COMPREPLY=($(compgen -W "--check --rebug --help -j --from-logs --jobs-as-run --lanes --anyway --force --verbose --output --observe --observe=if-possible --observer --keep-log --contents" -- "$word")) ;;
     provoke) COMPREPLY=($(compgen -W "--help --all --stale --in-place --rebug" -- "$word")) ;;
-    shuffle) COMPREPLY=($(compgen -W "--help --runs --repeat --seed --overlap --blocks --mend-all --observe --in-copy --budget --limit --most-memory -j --json" -- "$word")) ;;
+    shuffle) COMPREPLY=($(compgen -W "--help --list --runs --repeat --seed --overlap --blocks --mend-all --observe --in-copy --budget --limit --most-memory -j --json" -- "$word")) ;;
     mend) COMPREPLY=($(compgen -W "--help --apply --json --rebug" -- "$word")) ;;
     explore) COMPREPLY=($(compgen -W "--help --compare --rebug" -- "$word")) ;;
     rerun) COMPREPLY=($(compgen -W "--help --stamps --date --folder --user -f -j --limit --json" -- "$word")) ;;
+    actions) COMPREPLY=($(compgen -W "--help --json" -- "$word")) ;;
+    reuse) COMPREPLY=($(compgen -W "--help --without --any-environment --json" -- "$word")) ;;
     summary) COMPREPLY=($(compgen -W "--help --label --without-findings" -- "$word")) ;;
     flakes) COMPREPLY=($(compgen -W "--help --anchor --partial --json" -- "$word")) ;;
     -*) COMPREPLY=($(compgen -W "--try --manifest --trace --script --workers --migrate --help --version" -- "$word")) ;;
