@@ -243,6 +243,8 @@ class Differences(Case):
         found = self.differs(it, ("v.h", "m.o"))
         self.assertEqual((found.difference["statuses"], found.difference["failed"]), ([0, 1], "m.o"))
         self.assertEqual(found.difference["mend"], "build.ninja:5: build m.o: ... || v.h")
+        # printf 'race\0v.h\0v.h\0m.o' | sha256sum
+        self.assertEqual(found.difference["id"], "a8c36cf9ce18c1ab")
 
     def test_a_command_leaves_other_bytes_in_another_order(self):
         found = self.differs(self.made(SOFT + statement("c", "cat b > c", "b")), ("a", "b"))

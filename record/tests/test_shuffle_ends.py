@@ -106,7 +106,14 @@ class BadInput(Case):
 
     def test_a_ninja_that_refuses_the_manifest(self):
         it = self.made("ninja_required_version = 99\n" + SOUND)
-        self.refused(it, "Ninja refuses the build: ninja: ", status=3)
+        self.refused(it, "Ninja refuses the build: ninja: ")
+
+    def test_a_target_that_cannot_be_built(self):
+        """Its source is not there, and no statement makes it."""
+        it = self.made(SOUND + statement("a", "cp gone.c a", "gone.c"))
+        for words in ([], ["--", "a"]):
+            self.refused(it, "'gone.c', needed by 'a', missing and no known rule to make it. Nothing has run", *words)
+        self.assertEqual(it.shuffle("--", "m.o", "n").status, 0)
 
     def test_a_build_folder_that_changes_meanwhile(self):
         it = self.made(SOUND + statement("slow", "sleep 1; touch slow"))

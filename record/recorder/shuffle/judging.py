@@ -54,8 +54,8 @@ class Outcome:
 class Finding:
     """A difference: between which two outcomes, at which paths, in which command first, and the pair that it comes
     from. `beside` has the commands that overlapped with the user, and `is_overlap` says that it comes from an overlap
-    in a block. `is_mended` says whether the user does the same once
-    the order is put in, and `left` has the paths that differ still."""
+    in a block. `is_mended` says whether the user does the same once the order is put in, and `left` has the paths that
+    differ still."""
 
     own: Outcome
     other: Outcome
@@ -85,6 +85,7 @@ class Report:
     leftovers: list[bytes] = field(default_factory=list)
     compared: int = 0
     runs: int = 0
+    budget: int = 0
     own_processor: float = 0.0
     is_cut: bool = False
 
@@ -101,7 +102,7 @@ class Judge:
     def __post_init__(self) -> None:
         self.commands, self.manifest = self.build.commands, self.build.place.manifest
         self.before = self.build.place.before
-        self.report = Report(commands=len(self.commands.graph.commands))
+        self.report = Report(commands=len(self.commands.graph.commands), budget=self.options.budget)
         self.away: tuple[bytes, ...] = ()
         self.more: dict[int, tuple[list[bytes], list[bytes]]] = {}
         self.unsteady: set[bytes] = set()
@@ -171,7 +172,8 @@ class Judge:
         if not first.is_manifest_kept:
             raise Unfit("the build makes its manifest anew: bring it up to date before, by Ninja")
         if first.fault and not first.failed and not first.order and b"build stopped" not in first.fault:
-            raise Unfit(f"Ninja refuses the build: {first.fault.decode('utf-8', 'backslashreplace')}")
+            why = first.fault.decode("utf-8", "backslashreplace")
+            raise NoBuild(f"Ninja refuses the build: {why}. Nothing has run")
         self.report.own_processor = first.processor
         if dyndeps:
             self.more = read_dyndep(self.manifest, {dyndeps[it]: content for it, content in first.contents.items()})

@@ -207,6 +207,9 @@ def _run(place: Place, task: Task, progress: mmap.mmap) -> Ran:
     except BaseException:
         _end(process)
         raise
+    finally:
+        if process.stdout:
+            process.stdout.close()
     said.end()
     after = resource.getrusage(resource.RUSAGE_CHILDREN)
     os.lseek(errors, max(0, os.fstat(errors).st_size - _MOST_SAID), os.SEEK_SET)

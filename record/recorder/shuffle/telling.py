@@ -10,6 +10,7 @@ from ..fields import shown
 from ..manifest import Edge
 from ..provoke.answering import visible
 from ..provoke.races import shown_name
+from ..stable import name_of
 from .judging import Finding, Outcome, Report
 from .places import Prepared
 from .states import MISSING
@@ -28,9 +29,10 @@ def lines_of(report: Report, build: Prepared) -> Iterator[str]:
     if report.leftovers:
         yield f"taken away before, since an earlier build left it: {_names(report.leftovers, build)}"
     if report.unsteady:
-        yield f"not compared, since it differs between two runs of one order: {_names(report.unsteady, build)}"
+        yield (f"not compared, since it differs between two runs of one order: "
+               f"{_names(report.unsteady, build, has_lines=True)}")
     if report.is_cut:
-        yield "not ended: so many runs were made as --budget allows"
+        yield f"not ended: --budget allows {_count(report.budget, 'run')}"
     yield from _lines_of_end(report)
 
 
@@ -93,6 +95,11 @@ def mend_of(maker: Edge, user: Edge) -> str:
     return f"{shown(user.file)}:{user.line}: build {shown_name(user.name)}: ... || {shown_name(maker.name)}"
 
 
+def id_of(maker: Edge, user: Edge) -> str:
+    """The name of the finding: that of a race by the maker's first output."""
+    return name_of((b"race", maker.name, maker.name, user.name))
+
+
 def objects_of(report: Report, build: Prepared) -> Iterator[str]:
     """The answer as JSON objects."""
     for it in report.outcomes:
@@ -100,7 +107,8 @@ def objects_of(report: Report, build: Prepared) -> Iterator[str]:
                     late=it.ran.is_late, milliseconds=round(1000 * it.ran.seconds),
                     processor=round(1000 * it.ran.processor))
     for them in report.findings:
-        yield _json(kind="difference", own=them.own.number, other=them.other.number,
+        yield _json(kind="difference", id=id_of(them.maker, them.user) if them.maker and them.user else None,
+                    own=them.own.number, other=them.other.number,
                     statuses=[them.own.ran.status, them.other.ran.status], late=them.other.ran.is_late,
                     failed=shown_name(them.failed[0]) if them.failed else None,
                     paths=[_path(path, build) for path in them.paths[:_MOST_PATHS]], count=len(them.paths),
@@ -133,9 +141,12 @@ def _path(path: bytes, build: Prepared) -> str:
     return shown_name(path[len(top) :] if path.startswith(top) else path)
 
 
-def _names(paths: list[bytes], build: Prepared) -> str:
+def _names(paths: list[bytes], build: Prepared, has_lines: bool = False) -> str:
+    """The first of these paths, with the statements that make them where `has_lines`."""
     more = f" and {len(paths) - _MOST_NAMES:,} more" if paths[_MOST_NAMES:] else ""
-    return ", ".join(_path(it, build) for it in paths[:_MOST_NAMES]) + more
+    edges = build.place.manifest.edges if has_lines else []
+    lines = {path: f" ({shown(edge.file)}:{edge.line})" for edge in edges for path in build.outputs(edge)}
+    return ", ".join(_path(it, build) + lines.get(it, "") for it in paths[:_MOST_NAMES]) + more
 
 
 def _edge(edge: Edge) -> str:
