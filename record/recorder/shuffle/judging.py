@@ -217,7 +217,7 @@ class Judge:
     def _why_not(self, first: Ran) -> str:
         lines = [f"{os.fsdecode(name)} failed" for name, _ in first.failed[:1]]
         text = first.failed[0][1].decode("utf-8", "backslashreplace").strip() if first.failed else ""
-        told = text.splitlines()[-1:] or [first.fault.decode("utf-8", "backslashreplace")]
+        told = text.splitlines()[-1:] if first.failed else [first.fault.decode("utf-8", "backslashreplace")]
         return ": ".join(["the build fails in each order, in a copy that has no network and can write only in its own "
                           "folders", *lines, *told])
 

@@ -28,7 +28,7 @@ from .recorded import Recording, record
 from .rooms import Layer, enter
 from .states import Before, changed
 
-_STATUS = b"[%f/%t] "
+_STATUS, _STOPPED = b"[%f/%t] ", b"ninja: build stopped: "
 _MOST_SAID = 4096
 _MOST_KEPT = 64 << 20
 _LEAST_ROOM, _NO_SPACE = 1 << 20, os.strerror(errno.ENOSPC).encode()
@@ -216,6 +216,8 @@ def _run(place: Place, task: Task, progress: mmap.mmap) -> Ran:
     lines = [line for line in os.read(errors, _MOST_SAID).splitlines() if line.startswith(b"ninja: ")]
     os.close(errors)
     failed = [(it.edge.outputs[0], it.written.text if it.written else b"") for it in said.failed]
+    if said.stopped:  # of what it finds as it builds Ninja writes among what its commands wrote
+        lines.append(_STOPPED + said.stopped)
     return Ran(status if status >= 0 else 128 - status, failed, lines[-1] if status and lines else b"", is_late=is_late,
                seconds=time.monotonic() - begin,
                processor=after.ru_utime - used.ru_utime + after.ru_stime - used.ru_stime)
