@@ -3,6 +3,7 @@ is changed, and nothing goes on."""
 
 from __future__ import annotations
 
+import concurrent.futures
 import contextlib
 import os
 import pathlib
@@ -14,13 +15,19 @@ import tempfile
 import time
 import unittest
 import uuid
+from collections.abc import Callable, Sequence
+from dataclasses import dataclass
+from typing import TypeVar
 
 from builds import wait_until
 from recorder.observed.observers import chosen
 from shuffled import RULES, Shuffled, statement
-from test_shuffle import HIDDEN, LACKING, SOFT, SOUND, Case
+from test_shuffle import DIFFERS, HIDDEN, LACKING, SOFT, SOUND, Case
 
+T, U = TypeVar("T"), TypeVar("U")
 SEED = 5
+LANES = 3
+"""How many calls are ended side by side, each over a build of its own."""
 KILLS = 60
 KILLS_OF_RECORDERS = 20
 SIGNALS = (signal.SIGKILL, signal.SIGTERM, signal.SIGINT, signal.SIGHUP)
@@ -35,6 +42,32 @@ def processes(mark: str) -> list[int]:
             if name.isdigit() and mark.encode() in pathlib.Path("/proc", name, "environ").read_bytes():
                 found.append(int(name))
     return found
+
+
+@dataclass(frozen=True)
+class Kill:
+    """A signal, after how many seconds it comes, and the words of the call."""
+
+    number: int
+    seconds: float
+    words: tuple[str, ...]
+
+
+def in_lanes(work: Callable[[Shuffled, T], U], made: Sequence[Shuffled], tasks: Sequence[T]) -> list[U]:
+    """What comes of the tasks, in their order. Each build has a thread, in which its tasks run one after the other."""
+    def lane(number: int) -> list[U]:
+        return [work(made[number], it) for it in tasks[number :: len(made)]]
+
+    with concurrent.futures.ThreadPoolExecutor(len(made)) as pool:
+        lanes = list(pool.map(lane, range(len(made))))
+    return [lanes[number % len(made)][number // len(made)] for number in range(len(tasks))]
+
+
+def seconds_of(it: Shuffled, *words: str) -> float:
+    """How long a call takes that finds a difference."""
+    begun = time.monotonic()
+    assert it.shuffle(*words).status == DIFFERS
+    return time.monotonic() - begun
 
 
 def wait_for_commands(mark: str) -> None:
@@ -199,35 +232,31 @@ class Ends(Case):
         return status
 
     def test_signals_at_any_moment(self):
-        more = (statement(f"n{it}", f"sleep 0.02; echo {it} > n{it}; echo {it} >> s") for it in range(6))
-        it = self.made(HIDDEN + SOFT + "".join(more), {"build/s": "s\n"})
-        at_work, begun = 0, time.monotonic()
-        it.shuffle()
-        undisturbed = time.monotonic() - begun
-        for _ in range(KILLS):
-            number = self.chance.choice(SIGNALS)
-            words = ["--in-copy"] if self.chance.random() < 0.3 else []
-            status = self.ended(it, number, self.chance.random() * undisturbed, *words)
-            self.assertIn(status, (4, -number, 128 + number))
-            at_work += status != 4
-        self.assertGreater(at_work, KILLS // 2)
+        more = "".join(statement(f"n{it}", f"sleep 0.02; echo {it} > n{it}; echo {it} >> s") for it in range(6))
+        made = [self.made(HIDDEN + SOFT + more, {"build/s": "s\n"}) for _ in range(LANES)]
+        undisturbed = min(in_lanes(lambda it, _: seconds_of(it), made, range(LANES)))
+        kills = [Kill(self.chance.choice(SIGNALS), self.chance.random() * undisturbed,
+                      ("--in-copy",) if self.chance.random() < 0.3 else ()) for _ in range(KILLS)]
+        statuses = in_lanes(lambda it, kill: self.ended(it, kill.number, kill.seconds, *kill.words), made, kills)
+        for kill, status in zip(kills, statuses):
+            self.assertIn(status, (4, -kill.number, 128 + kill.number))
+        self.assertGreater(sum(it != 4 for it in statuses), KILLS // 2)
 
     @unittest.skipIf(chosen(None)[1], "no observer")
     def test_signals_while_orders_are_recorded(self):
         """Nothing of the build changes, and nothing goes on, also none of the observers."""
-        it = self.made(HIDDEN + SOFT + statement("n", "sleep 0.1; echo n > n"))
+        made = [self.made(HIDDEN + SOFT + statement("n", "sleep 0.1; echo n > n")) for _ in range(LANES)]
         above = tempfile.TemporaryDirectory(prefix="rebug-out-")
         self.addCleanup(above.cleanup)
-        begun = time.monotonic()
-        self.assertEqual(it.shuffle(f"{above.name}/whole", "--observe").status, 4)
-        undisturbed = time.monotonic() - begun
-        for number in range(KILLS_OF_RECORDERS):
-            out = pathlib.Path(above.name, str(number))
-            which = self.chance.choice(SIGNALS)
-            status = self.ended(it, which, self.chance.uniform(0.2, 1) * undisturbed, str(out), "--observe")
-            self.assertIn(status, (4, -which, 128 + which))
+        whole = in_lanes(lambda it, lane: seconds_of(it, f"{above.name}/whole{lane}", "--observe"), made, range(LANES))
+        kills = [Kill(self.chance.choice(SIGNALS), self.chance.uniform(0.2, 1) * min(whole),
+                      (f"{above.name}/{number}", "--observe")) for number in range(KILLS_OF_RECORDERS)]
+        statuses = in_lanes(lambda it, kill: self.ended(it, kill.number, kill.seconds, *kill.words), made, kills)
+        for kill, status in zip(kills, statuses):
+            self.assertIn(status, (4, -kill.number, 128 + kill.number))
+            out = pathlib.Path(kill.words[0])
             if status != 4 and out.exists():  # the signal came as the folder was written
-                self.assertLessEqual({them.name for them in out.iterdir()}, set(os.listdir(f"{above.name}/whole")))
+                self.assertLessEqual({them.name for them in out.iterdir()}, set(os.listdir(f"{above.name}/whole0")))
 
     def test_a_command_that_goes_on_is_ended(self):
         """A process that a command leaves behind, and that takes no signal that can be refused."""
