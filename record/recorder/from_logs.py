@@ -37,6 +37,8 @@ _NANOSECONDS = 1_000_000
 # By how much the beginning of a run that a stamp tells may be late, in nanoseconds: the disk's clock is coarse, and a
 # busy machine slow.
 _LATE = 1_000 * _NANOSECONDS
+# How seldom the clock of a file system may tick: a stamp may be so much earlier than the write.
+_TICK = 10 * _NANOSECONDS
 _NAMED = 5
 # The first Ninja that writes a log of this version; docs/NINJA.md has the table.
 _NINJAS = {5: (1, 11), 6: (1, 12), 7: (1, 13)}
@@ -297,7 +299,8 @@ def _snapshots(build: bytes, manifest: Manifest, ninja: Ninja, logged: LoggedBui
     stamps = dict(after.stamps)
     for edge in edges.values():
         for path in edge.outputs:
-            was_left_alone = edge.restat and not edge.generator and 0 < after.stamps.get(path, 0) < begin
+            is_older = 0 < after.stamps.get(path, 0) < begin - _TICK
+            was_left_alone = edge.restat and not edge.generator and is_older
             stamps[path] = after.stamps[path] if was_left_alone else 0
     before = Snapshot(stamps, BuildLog(ninja.log_version, logged.earlier),
                       {name: it for name, it in after.deps.items() if name not in edges},

@@ -112,6 +112,7 @@ class FromLogs(unittest.TestCase):
 
     def ninja(self, *words, status=0):
         self.assertEqual(subprocess.run(["ninja", *words], cwd=self.build, capture_output=True).returncode, status)
+        builds.wait_for_another_stamp()
 
     def record(self, *words, build=None, status=0):
         """A recording of the logs: what was said, and the lines of the trace."""
@@ -168,6 +169,20 @@ class FromLogs(unittest.TestCase):
         stamps = {it.split(" ")[1]: it.split(" ")[2] for it in trace if it.startswith("stamp ")}
         self.assertIn(f"finish r.h {stamps['r.h']}", trace)
         self.assertNotIn("rules differ", said)
+
+    def test_the_first_output_of_restat_is_made_where_the_clock_is_coarse(self):
+        """Its stamp is that of the last tick, which may be earlier than the beginning of Ninja."""
+        begin = 1_700_000_000 * SECOND
+        for early, was_there in ((2, False), (40, True)):
+            stamps = {"h.in": begin - SECOND, "r.h": begin - early * 1_000_000, "h.h": begin + 59_000_000}
+            for name, stamp in stamps.items():
+                self.write(name, "")
+                os.utime(self.build / name, ns=(stamp, stamp))
+            self.write(".ninja_log", f"# ninja log v5\n0\t3\t{stamps['r.h']}\tr.h\t1\n"
+                                     f"0\t60\t{stamps['h.h']}\th.h\t1\n")
+            trace = self.record("--", "r.h", "h.h")[1]
+            self.assertEqual(f"stamp r.h {stamps['r.h']}" in trace, was_there)
+            self.assertIn(f"finish r.h {stamps['r.h']}", trace)
 
     def test_the_logs_are_enough(self):
         """A job of CI that kept its manifest and both logs, and nothing else."""
