@@ -224,11 +224,12 @@ class FromLogs(OneBuild):
             manifest = self.manifest()
             self.look_at_limits(manifest)
             out.look_at_places([*names_of_files(manifest).values(), *WRITTEN, TARGETS])
-            dyndeps, kept, notes = Dyndeps.of(self.build, manifest), None, list[str]()
+            dyndeps, kept = Dyndeps.of(self.build, manifest), None
             if dyndeps:  # by what they say now: the logs do not have it
-                manifest, kept, notes = dyndeps.by_present_files()
+                manifest, kept = dyndeps.by_logs(open_build_log(self.log_of(manifest)).entries)
             found = self.found(manifest)
-            found.dyndep, found.notes = kept, notes + found.notes
+            if kept is not None:
+                found.dyndep, found.notes = kept, kept.notes + found.notes
             write_recording(found, out.staging, self.options.lanes, self.launcher, at=out.folder)
             write_targets(self.build, manifest, out.staging)
             self.signals.is_switching = True
@@ -236,9 +237,13 @@ class FromLogs(OneBuild):
         self.tell_notes(found)
         return 128 + self.signals.held[0] if self.signals.held else 0
 
+    def log_of(self, manifest: Manifest) -> bytes:
+        """The path of the build log."""
+        return os.path.join(self.build, manifest.log_folder(), b".ninja_log")
+
     def found(self, manifest: Manifest) -> Recording:
         """The recording that the logs give."""
-        log = open_build_log(os.path.join(self.build, manifest.log_folder(), b".ninja_log"))
+        log = open_build_log(self.log_of(manifest))
         where = shlex.join([os.path.join(self.options.build, os.fsdecode(manifest.log_folder()), ".ninja_log")])
         ninja = _ninja_of(log, where)
         entries = _without_makers_of_manifest(ninja.as_read(log).entries, manifest)

@@ -39,6 +39,14 @@ build all: phony app
 default all
 """
 SECOND = 1_000_000_000
+OF_DYNDEP = """\
+rule cp
+  command = cp $in $out
+build dd: cp dd-in
+build o: cp s || dd
+  dyndep = dd
+build p: cp o
+"""
 
 
 def manifest(text):
@@ -183,6 +191,38 @@ class FromLogs(unittest.TestCase):
             trace = self.record("--", "r.h", "h.h")[1]
             self.assertEqual(f"stamp r.h {stamps['r.h']}" in trace, was_there)
             self.assertIn(f"finish r.h {stamps['r.h']}", trace)
+
+    def of_dyndep(self, told, *lines):
+        """A recording of these lines of a log, and of a dyndep file as it is now: what was said, the trace, the notes."""
+        begin = 1_700_000_000 * SECOND
+        self.write("build.ninja", OF_DYNDEP)
+        for place, name in enumerate(("s", "dd-in", "dd", "o", "p")):
+            self.write(name, f"ninja_dyndep_version = 1\n{told}" if name == "dd" else "")
+            os.utime(self.build / name, ns=(begin + place, begin + place))
+        log = "".join(f"{start}\t{start + 5}\t{begin}\t{output}\t1\n" for start, output in lines)
+        self.write(".ninja_log", f"# ninja log v5\n{log}")
+        said, trace = self.record("--", "p")
+        return said, trace, (self.folder / "out/dyndep/notes").read_text().splitlines()
+
+    def test_a_dyndep_file_that_was_written_again(self):
+        """Ninja logs all outputs of a command, and `new` was none of them."""
+        said, trace, notes = self.of_dyndep("build o | new: dyndep\n", (0, "dd"), (5, "o"), (5, "old"), (10, "p"))
+        self.assertIn("the dyndep file dd now says it makes: the file was written again since", said)
+        self.assertIn("left-out o output new", notes)
+        self.assertEqual([it.count(",") for it in trace if it.startswith("finish o ")], [0])
+        self.assertIn("\nbuild o: cp s || dd\n", (self.folder / "out/build.ninja").read_text())
+
+    def test_a_dyndep_file_that_was_made_again_and_whose_user_did_not_run(self):
+        _, trace, notes = self.of_dyndep("build o | new: dyndep\n", (0, "dd"), (5, "o"), (5, "old"), (10, "p"), (0, "dd"))
+        self.assertEqual(self.words(trace, "start", "finish"), ["start dd", "finish dd"])
+        self.assertFalse([it for it in notes if it.startswith("left-out")])
+        self.assertIn("\nbuild o | new : cp s || dd\n", (self.folder / "out/build.ninja").read_text())
+
+    def test_a_dyndep_file_by_which_a_command_needs_itself(self):
+        said, trace, notes = self.of_dyndep("build o: dyndep | p\n", (0, "dd"), (5, "o"), (10, "p"))
+        self.assertIn("the dyndep file dd cannot be loaded (o would need itself), so what it says is left out", said)
+        self.assertIn("not-loaded dd o\\swould\\sneed\\sitself", notes)
+        self.assertEqual(self.words(trace, "finish"), ["finish dd", "finish o", "finish p"])
 
     def test_the_logs_are_enough(self):
         """A job of CI that kept its manifest and both logs, and nothing else."""
