@@ -3,9 +3,9 @@
 The build log has a line for each output of a command that ended well: start and end in milliseconds since its Ninja
 began, and a stamp. It says nothing of which Ninja wrote a line, but times count anew with each Ninja, so the lines of
 one run can be told apart. The last run is recorded, with the runs before it that belong to the same build (`ninja` and
-then `ninja test`): each ended before the next began, no command of them ran again later, and none waits for a command
-that did. Of an edge that ran in several builds the logs have the last deps list alone, so no earlier build can be
-recorded.
+then `ninja test`): each ended before the next began, no command of them ran again later, none waits for a command that
+did, and what uses their outputs ran behind them. Of an edge that ran in several builds the logs have the last deps
+list alone, so no earlier build can be recorded.
 
 No log says what was there before. So each output of a command that ran is taken to have been missing, as in a build
 from nothing, unless `restat` left it alone. What earlier builds made, and the last one did not, stands in the opening.
@@ -184,12 +184,41 @@ class _Again:
         return any(_edge(self.manifest, it).number in self.marked for it in run.entries)
 
 
+class _Used:
+    """Which commands have to run again where some ran: those that have an output of these as an input, also by way of
+    phony edges. Where one did not, the lines are of another build, or Ninja wrote the log anew and their order is lost,
+    as it does where CMake has written the manifest anew."""
+
+    def __init__(self, manifest: Manifest, runs: list[LoggedRun]) -> None:
+        self.manifest = manifest
+        self.logged = {_edge(manifest, it).number for run in runs for it in run.entries}
+        self.ran, self.users = set[int](), dict[int, list[Edge]]()
+        for edge in manifest.edges:
+            for maker in {it.number for it in map(manifest.producer.get, edge.explicit + edge.implicit) if it}:
+                self.users.setdefault(maker, []).append(edge)
+
+    def add(self, run: LoggedRun) -> bool:
+        """Takes a run before those that were added. Whether no command of earlier lines had to run again."""
+        todo = [_edge(self.manifest, it).number for it in run.entries]
+        self.ran.update(todo)
+        seen = set(todo)
+        while todo:
+            for user in self.users.get(todo.pop(), ()):
+                if user.number in self.logged and user.number not in self.ran:
+                    return False
+                if user.phony and user.number not in seen:
+                    seen.add(user.number)
+                    todo.append(user.number)
+        return True
+
+
 def last_build(runs: list[LoggedRun], manifest: Manifest) -> LoggedBuild:
     """The last run, with those before it that belong to the same build."""
-    chosen, again = runs[-1:], _Again(manifest)
+    chosen, again, used = runs[-1:], _Again(manifest), _Used(manifest, runs)
     again.add(chosen[0])
+    used.add(chosen[0])
     for run in reversed(runs[:-1]):
-        if not run.is_followed_by(chosen[0]) or again.has_one_of(run):
+        if not run.is_followed_by(chosen[0]) or again.has_one_of(run) or not used.add(run):
             break
         chosen.insert(0, run)
         again.add(run)

@@ -86,8 +86,16 @@ class RunsOfALog(unittest.TestCase):
     def test_a_run_whose_order_is_lost_is_none_of_the_build(self):
         """Ninja wrote its log anew: the lines of the first build stand in no order, and begin at one time."""
         self.assertEqual(self.build((60, 9_000, 100, b"app"), (0, 5_000, 100, b"h.h"), (3, 5_500, 100, b"a.o"),
-                                    (0, 9, 200, b"test")),
-                         ([b"app", b"h.h"], [(3, 5_500, b"a.o"), (100_000, 100_009, b"test")]))
+                                    (0, 9, 200, b"test")), ([b"app", b"h.h", b"a.o"], [(0, 9, b"test")]))
+
+    def test_a_run_whose_user_did_not_run_behind_it_is_none_of_the_build(self):
+        """`app` has `b.o` as an input, and `group` is a name for it."""
+        self.assertEqual(self.build((60, 90, 100, b"app"), (0, 50, 100, b"b.o"), (0, 9, 200, b"test")),
+                         ([b"app", b"b.o"], [(0, 9, b"test")]))
+        it = manifest(MANIFEST + "build group: phony b.o\nbuild late: make group\n")
+        log = lines((60, 90, 100, b"late"), (0, 50, 100, b"b.o"), (0, 9, 200, b"h.h"))
+        found = last_build(runs_of(log, it, Ninja("", (1, 12))), it)
+        self.assertEqual([one.output for one in found.ran], [b"h.h"])
 
     def test_what_began_before_its_input_was_made_is_of_a_later_run(self):
         """`rest` has `restat`, so its stamp does not tell when Ninja began; `a.o` waits for it."""
