@@ -167,6 +167,16 @@ class FromLogs(unittest.TestCase):
         self.assertIn("4 commands of earlier builds that did not run in the last one", said)
         self.assertNotIn("rules differ", said)
 
+    def test_a_log_that_was_written_anew_between_two_builds(self):
+        """As CMake has Ninja do where it writes the manifest anew: the lines then stand in no order."""
+        self.ninja("app", "test")
+        self.ninja("-t", "recompact")
+        self.write("b.c", "other\n")
+        self.ninja("app")
+        said, trace = self.record()
+        self.assertEqual(self.words(trace, "start", "finish"), ["start b.o", "finish b.o", "start app", "finish app"])
+        self.assertNotIn("rules differ", said)
+
     def test_builds_one_after_the_other_are_one(self):
         self.ninja("app")
         self.ninja("test")
