@@ -211,7 +211,7 @@ class FromLogs(unittest.TestCase):
             self.assertIn(f"finish r.h {stamps['r.h']}", trace)
 
     def of_dyndep(self, told, *lines):
-        """A recording of these lines of a log, and of a dyndep file as it is now: what was said, the trace, the notes."""
+        """A recording of these lines of a log, and of a dyndep file as it is now: what was said, trace and notes."""
         begin = 1_700_000_000 * SECOND
         self.write("build.ninja", OF_DYNDEP)
         for place, name in enumerate(("s", "dd-in", "dd", "o", "p")):
@@ -231,7 +231,8 @@ class FromLogs(unittest.TestCase):
         self.assertIn("\nbuild o: cp s || dd\n", (self.folder / "out/build.ninja").read_text())
 
     def test_a_dyndep_file_that_was_made_again_and_whose_user_did_not_run(self):
-        _, trace, notes = self.of_dyndep("build o | new: dyndep\n", (0, "dd"), (5, "o"), (5, "old"), (10, "p"), (0, "dd"))
+        _, trace, notes = self.of_dyndep("build o | new: dyndep\n", (0, "dd"), (5, "o"), (5, "old"), (10, "p"),
+                                         (0, "dd"))
         self.assertEqual(self.words(trace, "start", "finish"), ["start dd", "finish dd"])
         self.assertFalse([it for it in notes if it.startswith("left-out")])
         self.assertIn("\nbuild o | new : cp s || dd\n", (self.folder / "out/build.ninja").read_text())

@@ -117,8 +117,8 @@ class Dyndeps:
                 kept.not_load(path, str(why))
 
     def _leave_out_unlogged(self, kept: Kept, entries: Iterable[LogEntry]) -> None:
-        """Ninja logs all outputs of a command that ran, also those that a file says which it had loaded. So what the log
-        lacks was not said then, unless the file was made again since, and the command was not."""
+        """Ninja logs all outputs of a command that ran, also those that a file says which it had loaded. So what the
+        log lacks was not said then, unless the file was made again since, and the command was not."""
         wanted = {path for it in self.resolving.told for path in self.resolving.manifest.edges[it].outputs}
         wanted.update(self.resolving.files)
         named = ((canonical(it.output), place) for place, it in enumerate(entries))
