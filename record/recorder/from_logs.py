@@ -3,9 +3,9 @@
 The build log has a line for each output of a command that ended well: start and end in milliseconds since its Ninja
 began, and a stamp. It says nothing of which Ninja wrote a line, but times count anew with each Ninja, so the lines of
 one run can be told apart. The last run is recorded, with the runs before it that belong to the same build (`ninja` and
-then `ninja test`): each ended before the next began, no command of them ran again later, and none waits for a command
-that did. Of an edge that ran in several builds the logs have the last deps list alone, so no earlier build can be
-recorded.
+then `ninja test`): each ended before the next began, no command of them ran again later, none waits for a command that
+did, and what uses their outputs ran behind them. Of an edge that ran in several builds the logs have the last deps
+list alone, so no earlier build can be recorded.
 
 No log says what was there before. So each output of a command that ran is taken to have been missing, as in a build
 from nothing, unless `restat` left it alone. What earlier builds made, and the last one did not, stands in the opening.
@@ -37,6 +37,8 @@ _NANOSECONDS = 1_000_000
 # By how much the beginning of a run that a stamp tells may be late, in nanoseconds: the disk's clock is coarse, and a
 # busy machine slow.
 _LATE = 1_000 * _NANOSECONDS
+# How seldom the clock of a file system may tick: a stamp may be so much earlier than the write.
+_TICK = 10 * _NANOSECONDS
 _NAMED = 5
 # The first Ninja that writes a log of this version; docs/NINJA.md has the table.
 _NINJAS = {5: (1, 11), 6: (1, 12), 7: (1, 13)}
@@ -182,12 +184,41 @@ class _Again:
         return any(_edge(self.manifest, it).number in self.marked for it in run.entries)
 
 
+class _Used:
+    """Which commands have to run again where some ran: those that have an output of these as an input, also by way of
+    phony edges. Where one did not, the lines are of another build, or Ninja wrote the log anew and their order is lost,
+    as it does where CMake has written the manifest anew."""
+
+    def __init__(self, manifest: Manifest, runs: list[LoggedRun]) -> None:
+        self.manifest = manifest
+        self.logged = {_edge(manifest, it).number for run in runs for it in run.entries}
+        self.ran, self.users = set[int](), dict[int, list[Edge]]()
+        for edge in manifest.edges:
+            for maker in {it.number for it in map(manifest.producer.get, edge.explicit + edge.implicit) if it}:
+                self.users.setdefault(maker, []).append(edge)
+
+    def add(self, run: LoggedRun) -> bool:
+        """Takes a run before those that were added. Whether no command of earlier lines had to run again."""
+        todo = [_edge(self.manifest, it).number for it in run.entries]
+        self.ran.update(todo)
+        seen = set(todo)
+        while todo:
+            for user in self.users.get(todo.pop(), ()):
+                if user.number in self.logged and user.number not in self.ran:
+                    return False
+                if user.phony and user.number not in seen:
+                    seen.add(user.number)
+                    todo.append(user.number)
+        return True
+
+
 def last_build(runs: list[LoggedRun], manifest: Manifest) -> LoggedBuild:
     """The last run, with those before it that belong to the same build."""
-    chosen, again = runs[-1:], _Again(manifest)
+    chosen, again, used = runs[-1:], _Again(manifest), _Used(manifest, runs)
     again.add(chosen[0])
+    used.add(chosen[0])
     for run in reversed(runs[:-1]):
-        if not run.is_followed_by(chosen[0]) or again.has_one_of(run):
+        if not run.is_followed_by(chosen[0]) or again.has_one_of(run) or not used.add(run):
             break
         chosen.insert(0, run)
         again.add(run)
@@ -222,11 +253,12 @@ class FromLogs(OneBuild):
             manifest = self.manifest()
             self.look_at_limits(manifest)
             out.look_at_places([*names_of_files(manifest).values(), *WRITTEN, TARGETS])
-            dyndeps, kept, notes = Dyndeps.of(self.build, manifest), None, list[str]()
+            dyndeps, kept = Dyndeps.of(self.build, manifest), None
             if dyndeps:  # by what they say now: the logs do not have it
-                manifest, kept, notes = dyndeps.by_present_files()
+                manifest, kept = dyndeps.by_logs(open_build_log(self.log_of(manifest)).entries)
             found = self.found(manifest)
-            found.dyndep, found.notes = kept, notes + found.notes
+            if kept is not None:
+                found.dyndep, found.notes = kept, kept.notes + found.notes
             write_recording(found, out.staging, self.options.lanes, self.launcher, at=out.folder)
             write_targets(self.build, manifest, out.staging)
             self.signals.is_switching = True
@@ -234,9 +266,13 @@ class FromLogs(OneBuild):
         self.tell_notes(found)
         return 128 + self.signals.held[0] if self.signals.held else 0
 
+    def log_of(self, manifest: Manifest) -> bytes:
+        """The path of the build log."""
+        return os.path.join(self.build, manifest.log_folder(), b".ninja_log")
+
     def found(self, manifest: Manifest) -> Recording:
         """The recording that the logs give."""
-        log = open_build_log(os.path.join(self.build, manifest.log_folder(), b".ninja_log"))
+        log = open_build_log(self.log_of(manifest))
         where = shlex.join([os.path.join(self.options.build, os.fsdecode(manifest.log_folder()), ".ninja_log")])
         ninja = _ninja_of(log, where)
         entries = _without_makers_of_manifest(ninja.as_read(log).entries, manifest)
@@ -297,7 +333,8 @@ def _snapshots(build: bytes, manifest: Manifest, ninja: Ninja, logged: LoggedBui
     stamps = dict(after.stamps)
     for edge in edges.values():
         for path in edge.outputs:
-            was_left_alone = edge.restat and not edge.generator and 0 < after.stamps.get(path, 0) < begin
+            is_older = 0 < after.stamps.get(path, 0) < begin - _TICK
+            was_left_alone = edge.restat and not edge.generator and is_older
             stamps[path] = after.stamps[path] if was_left_alone else 0
     before = Snapshot(stamps, BuildLog(ninja.log_version, logged.earlier),
                       {name: it for name, it in after.deps.items() if name not in edges},

@@ -2,9 +2,12 @@
 
 from __future__ import annotations
 
+import bisect
+import math
 import os
 import statistics
 from dataclasses import dataclass, field, replace
+from itertools import accumulate
 
 from .dyndep.kept import Kept
 from .disk import built_records, deps_records, stamp_of
@@ -345,14 +348,34 @@ def _touches(it, before, after, runs, begin, ran_begin, folder):
         last.update(run.touched)
         ends.update(dict.fromkeys(run.edge.outputs, run.end))
     touches = []
+    latest = _LatestTimes(runs, begin)
     for path in last:
         stamp = after.stamps[path] if path in after.stamps else stamp_of(folder, path)
         if stamp != last[path]:
-            time = (stamp - begin) // _NANOSECONDS if stamp >= begin else None
+            time = min((stamp - begin) // _NANOSECONDS, latest.of(stamp)) if stamp >= begin else None
             if time is not None and path in ends:  # the disk's clock is coarse, and its maker had ended
                 time = max(time, ends[path] + 1)
             touches.append((time, path, stamp))
     return touches
+
+
+class _LatestTimes:
+    """When a change came at the latest, in milliseconds since Ninja began: a command whose outputs are as new had not
+    ended. The disk's clock ticks seldom, and the beginning that it tells may be early by a tick, so that a change would
+    else stand behind the end of the very command that made it."""
+
+    def __init__(self, runs, begin):
+        found = [(max(run.stamps), run.end) for run in runs if run.word == "finish" and run.stamps]
+        # a command may have set a stamp that is still to come
+        found = [(stamp, end) for stamp, end in found if stamp <= begin + end * _NANOSECONDS + _LATEST_STAMP]
+        found.sort()
+        self.stamps = [stamp for stamp, _ in found]
+        self.ends = [*accumulate((end for _, end in reversed(found)), min)]
+
+    def of(self, stamp):
+        """The first end of a command whose outputs are not older than this stamp."""
+        newer = len(self.stamps) - bisect.bisect_left(self.stamps, stamp)
+        return self.ends[newer - 1] if newer else math.inf
 
 
 def _note_order(it, runs):

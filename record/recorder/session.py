@@ -138,7 +138,7 @@ class Session(OneBuild):
             return Unobserved()
         log = out.staging.create(LOG) if self.options.keep_log else None
         if self.dyndeps:  # so that the outputs are known which dyndep files say
-            manifest = Dyndeps(self.build, manifest).by_present_files()[0]
+            manifest = Dyndeps(self.build, manifest).by_present_files()
         return Observation(observer, self.build, manifest, log, self.options.contents,
                            self.ninja.makes_folders_of_depfiles)
 

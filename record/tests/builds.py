@@ -56,6 +56,12 @@ def recordings():
     return pathlib.Path(os.environ["REBUG_RECORDINGS"])
 
 
+def wait_for_another_stamp():
+    """Waits until a file that is written from now on has a later stamp than each file that is there: the clock of a
+    file system may tick every ten milliseconds. Ninja takes a source for unchanged that has its output's stamp."""
+    time.sleep(0.02)
+
+
 def wait_until(is_so, what, every=0.01):
     """Waits until the function says so. `what` says what has not come where it never does."""
     end = time.monotonic() + LONGEST_SECONDS
@@ -145,7 +151,7 @@ class Chain:
         os.makedirs(os.path.dirname(path), exist_ok=True)
         with open(path, "wb") as file:
             file.write(text if isinstance(text, bytes) else text.encode())
-        time.sleep(0.02)  # a file system's clock may tick every ten milliseconds
+        wait_for_another_stamp()
 
     def record(self, name, *words, status=0, jobs=4, own=(), interrupt_when=None):
         """Records a run, and what the disk and Ninja's logs say after it. `interrupt_when` is a file that a command
@@ -432,7 +438,7 @@ def switched_chain(other):
 
     def built_before():
         subprocess.run([other, "-k0"], cwd=it.build, stdin=subprocess.DEVNULL, capture_output=True)
-        time.sleep(0.02)
+        wait_for_another_stamp()
 
     built_before()
     it.record("nothing_changed")

@@ -23,7 +23,7 @@ class Difference(Chain):
 
     def ninja(self, *words):
         subprocess.run(["ninja", *words], cwd=self.build, stdin=subprocess.DEVNULL, capture_output=True)
-        builds.time.sleep(0.02)
+        builds.wait_for_another_stamp()
 
     def touch(self, path):
         self.write(path, (self.build / path).read_bytes())

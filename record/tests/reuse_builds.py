@@ -69,6 +69,7 @@ class Reuse(Rerun):
         """Writes a file of the build folder anew, with another stamp than before."""
         path = self.build / name
         path.parent.mkdir(parents=True, exist_ok=True)
+        builds.wait_for_another_stamp()
         path.write_text(text)
 
     def clean(self) -> None:

@@ -67,7 +67,9 @@ class Shuffled:
             path.write_text(content.replace("@ROOM@", str(self.room)))
 
     def ninja(self, *words: str) -> None:
+        """Runs Ninja. What a test writes next is newer than all that was built."""
         subprocess.run(["ninja", *words], cwd=self.build, check=True, stdin=subprocess.DEVNULL, capture_output=True)
+        builds.wait_for_another_stamp()
 
     def words(self, *words: object) -> list[str]:
         return [sys.executable, str(SHUFFLE), str(self.build), *map(str, words)]

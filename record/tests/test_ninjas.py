@@ -40,7 +40,7 @@ class Recorded(Kept):
     def ninja(self, *words, program="ninja"):
         done = subprocess.run([program, *words], cwd=self.build, stdin=subprocess.DEVNULL, capture_output=True,
                               text=True)
-        time.sleep(0.02)
+        builds.wait_for_another_stamp()
         return done.stdout + done.stderr
 
     def record(self, *words, status=0, **how):
@@ -59,7 +59,7 @@ class Recorded(Kept):
 
     def touch(self, path):
         (self.build / path).write_text(str(time.time_ns()))
-        time.sleep(0.02)
+        builds.wait_for_another_stamp()
 
     def events(self, *kinds):
         """The events of these kinds, each as its word and its path."""

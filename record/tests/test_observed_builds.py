@@ -180,12 +180,12 @@ class Cases(WithRoom):
         (found.folder / "build.ninja").write_text(CHAIN)
         nothing = self.room.record(self.observer, found.folder)
         self.assertEqual((nothing.status, nothing.commands), (0, {}), nothing.said)
-        builds.time.sleep(0.02)
+        builds.wait_for_another_stamp()
         (found.folder / "s1").write_text("1")
         restat = self.room.record(self.observer, found.folder)  # `kept` leaves what is there, so `user` does not run
         self.assertEqual(set(restat.commands), {b"one", b"kept"}, restat.said)
         self.assertEqual((restat.commands[b"kept"].reads, restat.commands[b"kept"].writes), ({b"one", b"kept"}, set()))
-        builds.time.sleep(0.02)
+        builds.wait_for_another_stamp()
         (found.folder / "list.h").write_text("more")
         self.assertEqual(set(self.room.record(self.observer, found.folder).commands), {b"listed"})
 

@@ -39,6 +39,14 @@ build all: phony app
 default all
 """
 SECOND = 1_000_000_000
+OF_DYNDEP = """\
+rule cp
+  command = cp $in $out
+build dd: cp dd-in
+build o: cp s || dd
+  dyndep = dd
+build p: cp o
+"""
 
 
 def manifest(text):
@@ -78,8 +86,16 @@ class RunsOfALog(unittest.TestCase):
     def test_a_run_whose_order_is_lost_is_none_of_the_build(self):
         """Ninja wrote its log anew: the lines of the first build stand in no order, and begin at one time."""
         self.assertEqual(self.build((60, 9_000, 100, b"app"), (0, 5_000, 100, b"h.h"), (3, 5_500, 100, b"a.o"),
-                                    (0, 9, 200, b"test")),
-                         ([b"app", b"h.h"], [(3, 5_500, b"a.o"), (100_000, 100_009, b"test")]))
+                                    (0, 9, 200, b"test")), ([b"app", b"h.h", b"a.o"], [(0, 9, b"test")]))
+
+    def test_a_run_whose_user_did_not_run_behind_it_is_none_of_the_build(self):
+        """`app` has `b.o` as an input, and `group` is a name for it."""
+        self.assertEqual(self.build((60, 90, 100, b"app"), (0, 50, 100, b"b.o"), (0, 9, 200, b"test")),
+                         ([b"app", b"b.o"], [(0, 9, b"test")]))
+        it = manifest(MANIFEST + "build group: phony b.o\nbuild late: make group\n")
+        log = lines((60, 90, 100, b"late"), (0, 50, 100, b"b.o"), (0, 9, 200, b"h.h"))
+        found = last_build(runs_of(log, it, Ninja("", (1, 12))), it)
+        self.assertEqual([one.output for one in found.ran], [b"h.h"])
 
     def test_what_began_before_its_input_was_made_is_of_a_later_run(self):
         """`rest` has `restat`, so its stamp does not tell when Ninja began; `a.o` waits for it."""
@@ -112,6 +128,7 @@ class FromLogs(unittest.TestCase):
 
     def ninja(self, *words, status=0):
         self.assertEqual(subprocess.run(["ninja", *words], cwd=self.build, capture_output=True).returncode, status)
+        builds.wait_for_another_stamp()
 
     def record(self, *words, build=None, status=0):
         """A recording of the logs: what was said, and the lines of the trace."""
@@ -150,6 +167,16 @@ class FromLogs(unittest.TestCase):
         self.assertIn("4 commands of earlier builds that did not run in the last one", said)
         self.assertNotIn("rules differ", said)
 
+    def test_a_log_that_was_written_anew_between_two_builds(self):
+        """As CMake has Ninja do where it writes the manifest anew: the lines then stand in no order."""
+        self.ninja("app", "test")
+        self.ninja("-t", "recompact")
+        self.write("b.c", "other\n")
+        self.ninja("app")
+        said, trace = self.record()
+        self.assertEqual(self.words(trace, "start", "finish"), ["start b.o", "finish b.o", "start app", "finish app"])
+        self.assertNotIn("rules differ", said)
+
     def test_builds_one_after_the_other_are_one(self):
         self.ninja("app")
         self.ninja("test")
@@ -168,6 +195,53 @@ class FromLogs(unittest.TestCase):
         stamps = {it.split(" ")[1]: it.split(" ")[2] for it in trace if it.startswith("stamp ")}
         self.assertIn(f"finish r.h {stamps['r.h']}", trace)
         self.assertNotIn("rules differ", said)
+
+    def test_the_first_output_of_restat_is_made_where_the_clock_is_coarse(self):
+        """Its stamp is that of the last tick, which may be earlier than the beginning of Ninja."""
+        begin = 1_700_000_000 * SECOND
+        for early, was_there in ((2, False), (40, True)):
+            stamps = {"h.in": begin - SECOND, "r.h": begin - early * 1_000_000, "h.h": begin + 59_000_000}
+            for name, stamp in stamps.items():
+                self.write(name, "")
+                os.utime(self.build / name, ns=(stamp, stamp))
+            self.write(".ninja_log", f"# ninja log v5\n0\t3\t{stamps['r.h']}\tr.h\t1\n"
+                                     f"0\t60\t{stamps['h.h']}\th.h\t1\n")
+            trace = self.record("--", "r.h", "h.h")[1]
+            self.assertEqual(f"stamp r.h {stamps['r.h']}" in trace, was_there)
+            self.assertIn(f"finish r.h {stamps['r.h']}", trace)
+
+    def of_dyndep(self, told, *lines):
+        """A recording of these lines of a log, and of a dyndep file as it is now: what was said, trace and notes."""
+        begin = 1_700_000_000 * SECOND
+        self.write("build.ninja", OF_DYNDEP)
+        for place, name in enumerate(("s", "dd-in", "dd", "o", "p")):
+            self.write(name, f"ninja_dyndep_version = 1\n{told}" if name == "dd" else "")
+            os.utime(self.build / name, ns=(begin + place, begin + place))
+        log = "".join(f"{start}\t{start + 5}\t{begin}\t{output}\t1\n" for start, output in lines)
+        self.write(".ninja_log", f"# ninja log v5\n{log}")
+        said, trace = self.record("--", "p")
+        return said, trace, (self.folder / "out/dyndep/notes").read_text().splitlines()
+
+    def test_a_dyndep_file_that_was_written_again(self):
+        """Ninja logs all outputs of a command, and `new` was none of them."""
+        said, trace, notes = self.of_dyndep("build o | new: dyndep\n", (0, "dd"), (5, "o"), (5, "old"), (10, "p"))
+        self.assertIn("the dyndep file dd now says it makes: the file was written again since", said)
+        self.assertIn("left-out o output new", notes)
+        self.assertEqual([it.count(",") for it in trace if it.startswith("finish o ")], [0])
+        self.assertIn("\nbuild o: cp s || dd\n", (self.folder / "out/build.ninja").read_text())
+
+    def test_a_dyndep_file_that_was_made_again_and_whose_user_did_not_run(self):
+        _, trace, notes = self.of_dyndep("build o | new: dyndep\n", (0, "dd"), (5, "o"), (5, "old"), (10, "p"),
+                                         (0, "dd"))
+        self.assertEqual(self.words(trace, "start", "finish"), ["start dd", "finish dd"])
+        self.assertFalse([it for it in notes if it.startswith("left-out")])
+        self.assertIn("\nbuild o | new : cp s || dd\n", (self.folder / "out/build.ninja").read_text())
+
+    def test_a_dyndep_file_by_which_a_command_needs_itself(self):
+        said, trace, notes = self.of_dyndep("build o: dyndep | p\n", (0, "dd"), (5, "o"), (10, "p"))
+        self.assertIn("the dyndep file dd cannot be loaded (o would need itself), so what it says is left out", said)
+        self.assertIn("not-loaded dd o\\swould\\sneed\\sitself", notes)
+        self.assertEqual(self.words(trace, "finish"), ["finish dd", "finish o", "finish p"])
 
     def test_the_logs_are_enough(self):
         """A job of CI that kept its manifest and both logs, and nothing else."""

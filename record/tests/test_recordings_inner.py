@@ -13,7 +13,7 @@ MANIFEST = """rule cp
   command = cp $in $out
   description = CP $out
 rule inner
-  command = ninja b$quiet && touch $out
+  command = sleep 0.05; ninja b$quiet && touch $out
   description = INNER $out
 build a: cp in
 build b: cp a

@@ -506,6 +506,18 @@ class Whole(unittest.TestCase):
             f"finish a.o {at(59)} list a.c x.h", "start app 0", "fail app 0"])
         self.assertEqual(self.found.found.refused, [])
 
+    def test_a_change_is_no_later_than_the_end_of_a_command_whose_output_is_as_new(self):
+        """Both stamps are of one tick of the disk's clock, by which Ninja began 11 milliseconds before it did."""
+        at = lambda time: self.begin + time * MILLISECOND
+        found = manifest(b"rule r\n  command = r\nbuild a: r s\nbuild b: r a m\nbuild c: r b\n")
+        new = [LogEntry(1, 20, at(10), b"a", 1), LogEntry(20, 60, at(50), b"b", 1), LogEntry(60, 90, at(75), b"c", 1)]
+        before = {b"s": at(-40), b"m": at(-40), b"a": 0, b"b": 0, b"c": 0}
+        after = {**before, b"m": at(50), b"a": at(10), b"b": at(50), b"c": at(75)}
+        it = record(NINJA_1_11, "nowhere", found, read_words([]), 1, Snapshot(before, BuildLog(5, []), {}, {}),
+                    Snapshot(after, BuildLog(5, new), {}, {}), Ran(0, at(-30)))
+        self.assertEqual([command(one).decode() for one in it.found.events][3:7],
+                         ["start b 0", f"touch m {at(50)}", f"finish b {at(50)}", "start c 0"])
+
     def written(self, folder, with_lanes):
         with HeldFolder.at(folder) as room:
             return write_recording(self.found, room, with_lanes, "/nowhere/rebug", folder)

@@ -9,10 +9,14 @@ import pathlib
 import random
 import subprocess
 import sys
+import time
 from dataclasses import dataclass, replace
 
 TOP = pathlib.Path(__file__).resolve().parent.parent.parent
 RECORDER = TOP / "record/rebug-record"
+# Seconds between two builds of one folder: the clock of a file system may tick every ten milliseconds, and Ninja takes
+# a source for unchanged that has its output's stamp.
+APART = 0.02
 
 
 @dataclass
@@ -181,6 +185,7 @@ def record(name: str, room: pathlib.Path) -> pathlib.Path:
         write(build, it.files | it.before)
         subprocess.run(["ninja", "-C", build, "-j", "1"], stdin=subprocess.DEVNULL, stdout=subprocess.DEVNULL,
                        timeout=600, check=True)
+        time.sleep(APART)
     write(build, it.files)
     words = [sys.executable, RECORDER, build, recorded, "-j", "4"]
     done = subprocess.run(words, stdin=subprocess.DEVNULL, stdout=subprocess.PIPE, stderr=subprocess.STDOUT,

@@ -5,7 +5,7 @@ from __future__ import annotations
 import os
 import time
 from dataclasses import dataclass, field, replace
-from typing import Any, Optional
+from typing import Any, Iterable, Optional
 
 from ..disk import Snapshot, built_records, deps_records, stamp_of, stand_in
 from ..fields import canonical, shown
@@ -92,20 +92,61 @@ class Dyndeps:
         """The paths that the files say something of now."""
         return self.outputs | self.inputs
 
-    def by_present_files(self) -> tuple[Manifest, Kept, list[str]]:
+    def by_present_files(self) -> Manifest:
         """The manifest by all files that can be loaded, whether Ninja loaded them or not."""
+        self._load_present(Kept(self.manifest))
+        return self.resolving.finish()
+
+    def by_logs(self, entries: Iterable[LogEntry]) -> tuple[Manifest, Kept]:
+        """The manifest by all files that can be loaded, as far as the lines of a log do not show that a file said
+        something else when the command ran."""
         kept = Kept(self.manifest)
-        notes = ["Ninja's logs do not say which dyndep files were loaded: each that can be loaded counts as loaded, "
-                 "with what it has now"]
+        kept.notes.append("Ninja's logs do not say which dyndep files were loaded: each that can be loaded counts as "
+                          "loaded, with what it has now")
+        self._load_present(kept)
+        self._leave_out_unlogged(kept, entries)
+        self._unload_circles(kept)
+        return self.resolving.finish(), kept
+
+    def _load_present(self, kept: Kept) -> None:
         for path in self.resolving.files:
             try:
                 self.resolving.load(path, self.contents[path])
                 kept.loaded[path] = self.contents[path] or b"", False
             except (BadDyndep, Unresolvable) as why:
-                kept.not_loaded[path] = str(why)
-                notes.append(f"the dyndep file {shown(path)} cannot be loaded ({why}), so what it says is left out")
-        kept.notes = notes
-        return self.resolving.finish(), kept, notes
+                kept.not_load(path, str(why))
+
+    def _leave_out_unlogged(self, kept: Kept, entries: Iterable[LogEntry]) -> None:
+        """Ninja logs all outputs of a command that ran, also those that a file says which it had loaded. So what the
+        log lacks was not said then, unless the file was made again since, and the command was not."""
+        wanted = {path for it in self.resolving.told for path in self.resolving.manifest.edges[it].outputs}
+        wanted.update(self.resolving.files)
+        named = ((canonical(it.output), place) for place, it in enumerate(entries))
+        last = {path: place for path, place in named if path in wanted}
+        for number, told in list(self.resolving.told.items()):
+            edge, own = self.resolving.manifest.edges[number], self.manifest.edges[number]
+            file = self.resolving.file_of[number]
+            ran = max((last.get(it, -1) for it in own.outputs), default=-1)
+            unlogged = {it for it in told.outputs if it not in last} if ran > last.get(file, -1) else set[bytes]()
+            if unlogged:
+                self.resolving.leave_out(number, set(), unlogged)
+                kept.left_out += [(number, path, True) for path in sorted(unlogged)]
+                kept.notes.append(f"Ninja's log has {shown(edge.name)} as made, and not {shown(min(unlogged))}, which "
+                                  f"the dyndep file {shown(file)} now says it makes: the file was written again since, "
+                                  f"and the recording leaves that output out")
+
+    def _unload_circles(self, kept: Kept) -> None:
+        """Takes away what files say by which edges need themselves: with these files Ninja ran none of the edges."""
+        while True:
+            build = Build(self.resolving.manifest)
+            circle = _circle(build, build.in_order(build.edges)[1])
+            files = {self.resolving.file_of[it]: it for it in circle if it in self.resolving.told}
+            if not files:
+                return
+            for path, number in files.items():
+                self.resolving.unload(path)
+                del kept.loaded[path]
+                kept.not_load(path, f"{shown(build.edges[number].name)} would need itself")
 
     def resolved(self, ninja: Ninja, targets: list[bytes], before: Snapshot, ran: Any, status: int,
                  anyway: bool) -> Resolved:
@@ -307,6 +348,16 @@ class Dyndeps:
         if looked.failed is not None:
             found[looked.failed[0]] = looked.failed[1]
         return found
+
+
+def _circle(build: Build, left: list[Edge]) -> list[int]:
+    """Of the edges that need themselves, or stand on edges that do, those that others of them need."""
+    found = {it.number: it for it in left}
+    while True:
+        used = {maker.number for it in found.values() for maker in build.producers(it)}
+        if used.issuperset(found):
+            return list(found)
+        found = {number: it for number, it in found.items() if number in used}
 
 
 def log_outputs(log: BuildLog) -> set[bytes]:

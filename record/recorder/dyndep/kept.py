@@ -7,7 +7,7 @@ import os
 from dataclasses import dataclass, field
 from typing import Iterator
 
-from ..fields import line
+from ..fields import line, shown
 from ..manifest import Manifest
 
 FOLDER = b"dyndep"
@@ -25,6 +25,11 @@ class Kept:
     not_loaded: dict[bytes, str] = field(default_factory=dict)
     left_out: list[tuple[int, bytes, bool]] = field(default_factory=list)
     notes: list[str] = field(default_factory=list)
+
+    def not_load(self, path: bytes, why: str) -> None:
+        """Notes that a file is there that cannot be loaded."""
+        self.not_loaded[path] = why
+        self.notes.append(f"the dyndep file {shown(path)} cannot be loaded ({why}), so what it says is left out")
 
     def files(self, copies: Iterator[tuple[bytes, bytes]]) -> Iterator[tuple[bytes, bytes]]:
         """Each file of the folder: its name in the recording, and what it has. `copies` are those of the manifest."""
