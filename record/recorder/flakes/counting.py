@@ -78,7 +78,7 @@ def counted(summaries: Summaries, anchors: Sequence[str], is_partial: bool) -> l
     builds: dict[str, list[Build]] = {name: [] for name in found}
     for build in sorted(summaries.builds.values(), key=lambda it: it.id):
         builds[build.manifest].append(build)
-    added = found.keys() if is_partial else {name for name, _ in summaries.sums}
+    added = set(found) if is_partial else {name for name, _ in summaries.sums}
     for name, it in found.items():
         wanted = _wanted(it, builds[name], anchors)
         _Counting(it, builds[name], summaries).count(wanted, is_partial, bool(wanted) and name in added)
@@ -89,8 +89,9 @@ def counted(summaries: Summaries, anchors: Sequence[str], is_partial: bool) -> l
             found[name].sums.add(sums_of(told, found[name].manifest))
         except Fault as why:
             summaries.faults.add(f"sums: {why}")
-    for name in found.keys() - added if has_program() else ():
-        found[name].check()
+    if has_program():
+        for it in [it for name, it in found.items() if name not in added]:
+            it.check()
     return sorted((it for it in found.values() if it.sums.builds), key=lambda it: (-it.sums.builds, it.name))
 
 
