@@ -310,7 +310,7 @@ class Questions(Case):
     def test_other_counts_are_no_answer(self) -> None:
         self.assertEqual(self.asked(self.answer(1, 1, 0, 0)).sums.bad, 1)
         for wrong in ((1, 0, 0, 0), (2, 2, 0, 0), (0, 0, 0, 0)):
-            with self.assertRaisesRegex(counting.OtherCounts, "^no answer: of maker and user Python counts 1 of 1 and "):
+            with self.assertRaisesRegex(counting.OtherCounts, "^no answer: of maker and user Python counts 1 of 1"):
                 self.asked(self.answer(*wrong))
 
     def test_an_answer_of_another_form_changes_nothing(self) -> None:

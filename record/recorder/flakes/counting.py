@@ -66,8 +66,8 @@ class Counted:
     def _compare(self, anchor: Anchor, culprit: Culprit, due: list[tuple[int, int]]) -> None:
         its, names = culprit.separation, self.manifest.names
         if [(its.bad, its.a), (its.good, its.c)] != due:
-            raise OtherCounts(f"no answer: of {names[its.command]} and {names[anchor.command]} Python counts {its.a} of "
-                              f"{its.bad} and {its.c} of {its.good}, and the proved program {due[0][1]} of {due[0][0]} "
+            pair = f"{names[its.command]} and {names[anchor.command]}"
+            raise OtherCounts(f"no answer: of {pair} Python counts {its.a} of {its.bad} and {its.c} of {its.good}, and the proved program {due[0][1]} of {due[0][0]} "
                               f"and {due[1][1]} of {due[1][0]}")
 
 

@@ -81,8 +81,8 @@ class Culprit:
     """A separation with a chance that is small enough, or else the smallest. `ties` are commands that separate as well,
     of which none waits for another, and `followers` are those that do so and wait for one of these. `corrected` is the
     chance times the number of tests. `findings` are of the command and the anchor. `more` is how many further builds
-    would be needed where the chance is not small enough, None where thousands would not do. `builds` has the names of the
-    bad builds that are counted."""
+    would be needed where the chance is not small enough, None where thousands would not do. `builds` has the names of
+    the bad builds that are counted."""
 
     separation: Separation
     ties: list[int]

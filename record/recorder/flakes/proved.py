@@ -39,8 +39,8 @@ def good_of(builds: Sequence[Build], stopped: set[str], manifest: Manifest, anch
 
 @dataclass(frozen=True)
 class Printed:
-    """An order that is printed: the anchor, the other command, and the moment after the begin of the anchor; what became
-    of the anchor in a build; and the names of the bad builds that are counted."""
+    """An order that is printed: the anchor, the other command, and the moment after the begin of the anchor; what
+    became of the anchor in a build; and the names of the bad builds that are counted."""
 
     anchor: int
     other: int

@@ -79,8 +79,8 @@ _MOST_MOMENT = 1 << 60
 
 @dataclass(frozen=True)
 class Columns:
-    """The commands that ran, in the order in which they began, when each began and ended, or NEVER where it was stopped,
-    and whether some were stopped."""
+    """The commands that ran, in the order in which they began, when each began and ended, or NEVER where it was
+    stopped, and whether some were stopped."""
 
     ran: list[int]
     begins: list[int]
