@@ -67,8 +67,8 @@ class Counted:
         its, names = culprit.separation, self.manifest.names
         if [(its.bad, its.a), (its.good, its.c)] != due:
             pair = f"{names[its.command]} and {names[anchor.command]}"
-            raise OtherCounts(f"no answer: of {pair} Python counts {its.a} of {its.bad} and {its.c} of {its.good}, and the "
-                              f"proved program {due[0][1]} of {due[0][0]} and {due[1][1]} of {due[1][0]}")
+            raise OtherCounts(f"no answer: of {pair} Python counts {its.a} of {its.bad} and {its.c} of {its.good}, and "
+                              f"the proved program {due[0][1]} of {due[0][0]} and {due[1][1]} of {due[1][0]}")
 
 
 def counted(summaries: Summaries, anchors: Sequence[str], is_partial: bool) -> list[Counted]:
