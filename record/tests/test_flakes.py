@@ -257,14 +257,14 @@ class Culprits(Case):
 class ProvedCounts(Case):
     """The counts of the proved program, where it is built: tests/separation compares them with those of Python."""
 
-    def both(self, path: pathlib.Path, program: str) -> tuple[list[str], list[str]]:
+    def both(self, path: pathlib.Path, program: str, is_partial: bool) -> tuple[list[str], list[str]]:
         """The sums and the words by Python alone and by a program."""
         found = []
         for it in ("/nowhere", program):
             summaries = Summaries()
             summaries.read([str(path)])
             with unittest.mock.patch("recorder.flakes.proved.asking_program", lambda it=it: it):
-                them = counted(summaries, [], False)
+                them = counted(summaries, [], is_partial)
             found.append([*_partial(them), *told_lines(them)])
         return found[0], found[1]
 
@@ -274,8 +274,10 @@ class ProvedCounts(Case):
             program = self.room / name
             program.write_text(f"#!/bin/sh\ncat > /dev/null\n{text}\n")
             program.chmod(0o755)
-            own, other = self.both(self.write(many_builds.race(), range(9)), str(program))
-            self.assertEqual(own, other)
+            path = self.write(many_builds.race(), range(9))
+            for is_partial in (False, True):
+                own, other = self.both(path, str(program), is_partial)
+                self.assertEqual(own, other)
 
 
 class Answers(Case):

@@ -2,6 +2,7 @@
 
 from __future__ import annotations
 
+import base64
 import contextlib
 import json
 import pathlib
@@ -243,6 +244,78 @@ class WhatIsNamed(Case):
             self.assertEqual(self.culprits(found, "user")[0].followers, [0])
 
         self.fails_with(check, body(judging, "_first", lambda commands, _: list(commands)))
+
+
+class HowAFindingFell(Case):
+    """A build of two commands by hand, and what `races` says of them: the user ran from 10 to 20."""
+
+    def fell(self, maker: Span | None, look: str | None, user: Span | None = (10, 20)) -> str:
+        """How the finding fell. `maker` is when the maker ran."""
+        program = self.room / "races"
+        line = {"kind": "race", "id": "0" * 16, "path": "gen.h", "look": look, "mend": None,
+                "maker": {"output": "gen.h"}, "user": {"output": "use.o"}}
+        program.write_text(f"#!/bin/sh\necho '{json.dumps(line)}'\n")
+        program.chmod(0o755)
+        runs = [Run(command, *span) for command, span in enumerate((maker, user)) if span]
+        build = Build(["gen.h", "use.o"], [("build.ninja", 1), ("build.ninja", 2)], [[], []], "0" * 16, runs, {}, "", 2,
+                      0, True)
+        (it,) = findings_of(str(program), "recording", build)
+        return it.fell
+
+    def test_by_times_where_the_user_was_not_observed(self) -> None:
+        for maker, due in (((0, 5), "before"), ((0, 10), "before"), ((20, 30), "after"), ((25, 30), "after"),
+                           ((0, 11), "at once"), ((10, 20), "at once"), ((19, 30), "at once"), ((0, None), "at once"),
+                           (None, "after")):
+            self.assertEqual(self.fell(maker, None), due, maker)
+        self.assertEqual(self.fell((0, 5), None, None), "not run")
+        self.assertEqual(self.fell((25, 30), None, (10, None)), "at once")
+
+    def test_by_what_the_user_was_observed_to_see(self) -> None:
+        """Times say nothing there: one millisecond has many reads."""
+        for maker in ((0, 5), (0, 15), (25, 30)):
+            self.assertEqual([self.fell(maker, it) for it in ("read", "miss")], ["read", "missed"])
+
+
+class Questions(Case):
+    """What the proved program is asked where an order is printed, and what its answer changes."""
+
+    def make(self, is_bad: bool) -> Made:
+        return Made({"user": (5, 9), "maker": (0, 10)}, ["user"]) if is_bad else Made({"user": (6, 9), "maker": (0, 5)})
+
+    def asked(self, text: str) -> Counted:
+        """One failing and one passing build, counted beside a program."""
+        project, program = Project({"user": [], "other": [], "maker": []}), self.room / "program"
+        (self.room / "builds").write_text("".join(project.summary(self.make(bool(it)), it) for it in range(2)))
+        program.write_text(f"#!/bin/sh\ncat > {self.room}/asked\n{text}\n")
+        program.chmod(0o755)
+        summaries = Summaries()
+        summaries.read([str(self.room / "builds")])
+        with unittest.mock.patch("recorder.flakes.proved.asking_program", lambda: str(program)):
+            (found,) = counted(summaries, [], False)
+        return found
+
+    def answer(self, *failing: int) -> str:
+        """The program's answer where one build passed, in which both commands ran and `maker` had ended."""
+        its = {"anchor": 0, "moment": 0, "failing": [[1, 1, 1, 0], failing], "passing": [[1, 1, 1, 0], [1, 0, 0, 0]]}
+        return f"echo '{json.dumps(its)}'"
+
+    def test_two_commands_of_each_build(self) -> None:
+        """The text is packed by hand: begins, then differences, of which n is 2n, and -1 is 1."""
+        self.asked("exit 1")
+        first, second, third, *lines = (self.room / "asked").read_text().splitlines()
+        self.assertEqual([first, second, third], ["builds 1 2", "anchors 0", "moments 0"])
+        runs = [base64.b64encode(bytes(it)).decode() for it in ([2, 0, 20, 1, 10, 8], [2, 0, 10, 1, 12, 6])]
+        self.assertEqual(set(lines), {f"stopped {runs[0]} 0", f"build {runs[1]}"})
+
+    def test_other_counts_are_no_answer(self) -> None:
+        self.assertEqual(self.asked(self.answer(1, 1, 0, 0)).sums.bad, 1)
+        for wrong in ((1, 0, 0, 0), (2, 2, 0, 0), (0, 0, 0, 0)):
+            with self.assertRaisesRegex(counting.OtherCounts, "^no answer: of maker and user Python counts 1 of 1"):
+                self.asked(self.answer(*wrong))
+
+    def test_an_answer_of_another_form_changes_nothing(self) -> None:
+        for text in ("exit 2", "echo no", "echo {}", "echo '{\"failing\":[],\"passing\":[]}'"):
+            self.assertEqual(self.asked(text).sums.bad, 1)
 
 
 class NamesOfFindings(Case):

@@ -27,7 +27,7 @@ sys.path.append(str(TOP / "tests"))
 from json_schema import misfits  # noqa: E402
 
 SUMMARY, EXAMPLES = builds.RECORDER.parent / "rebug-summary", TOP / "examples/flaky"
-SEEDS, asked_program = range(40), counting.good_of
+SEEDS, asked_program, tallies_of = range(40), counting.good_of, counting.tallies_of
 
 
 def program() -> str:
@@ -92,9 +92,10 @@ class Asked(unittest.TestCase):
         for make in (many_builds.race, many_builds.lock, many_builds.gone, many_builds.two_culprits):
             path = self.room / make.__name__
             path.write_text("".join(map(self.changed, SEEDS, map(make().build, SEEDS))))
-            own, others = self.sums(path, "/nowhere"), self.sums(path, program())
-            self.assertEqual(own, others)
-            self.assertIn(" failed in ", own)
+            for is_partial in (False, True):
+                own, others = (self.sums(path, it, is_partial) for it in ("/nowhere", program()))
+                self.assertEqual(own, others)
+                self.assertIn(" failed in ", own)
 
     def changed(self, seed: int, text: str) -> str:
         """The summary with other words in some builds."""
@@ -110,13 +111,16 @@ class Asked(unittest.TestCase):
         build["runs"] = packed(runs) if seed != 3 else "AAAA"
         return "\n".join([*more, json.dumps(build)]) + "\n"
 
-    def sums(self, path: pathlib.Path, asked: str) -> str:
+    def sums(self, path: pathlib.Path, asked: str, is_partial: bool) -> str:
+        """Sums and words. Of sums all passing builds are asked, and of words the orders that are printed."""
         summaries, answers = Summaries(), []
         summaries.read([str(path)])
         with unittest.mock.patch("recorder.flakes.proved.asking_program", lambda: asked), unittest.mock.patch.object(
-                counting, "good_of", lambda *words: answers.append(asked_program(*words)) or answers[-1]):
-            them = counted(summaries, [], False)
-        self.assertEqual([it is not None for it in answers], [] if asked == "/nowhere" else [True])
+                counting, "good_of", lambda *words: answers.append(asked_program(*words)) or answers[-1]), \
+                unittest.mock.patch.object(counting, "tallies_of",
+                                           lambda *words: answers.extend(tallies_of(*words)) or answers):
+            them = counted(summaries, [], is_partial)
+        self.assertEqual({it is not None for it in answers}, set() if asked == "/nowhere" else {True})
         return "\n".join([*_partial(them), *lines_of(them)])
 
 

@@ -53,6 +53,12 @@ class Property:
         found = {State.ENDED: has_ended, State.BEGUN: has_begun, State.RAN: has_begun and not has_ended}[self.state]
         return found is self.holds
 
+    def count(self, builds: int, ended: int, begun: int) -> int:
+        """How many of so many builds have the property, where the command had ended and begun in some of them by the
+        moment."""
+        found = {State.ENDED: ended, State.BEGUN: begun, State.RAN: begun - ended}[self.state]
+        return found if self.holds else builds - found
+
 
 @dataclass(frozen=True)
 class Separation:
@@ -75,7 +81,8 @@ class Culprit:
     """A separation with a chance that is small enough, or else the smallest. `ties` are commands that separate as well,
     of which none waits for another, and `followers` are those that do so and wait for one of these. `corrected` is the
     chance times the number of tests. `findings` are of the command and the anchor. `more` is how many further builds
-    would be needed where the chance is not small enough, None where thousands would not do."""
+    would be needed where the chance is not small enough, None where thousands would not do. `builds` has the names of
+    the bad builds that are counted."""
 
     separation: Separation
     ties: list[int]
@@ -84,6 +91,7 @@ class Culprit:
     is_named: bool
     findings: list[Finding]
     more: int | None = None
+    builds: frozenset[str] = frozenset()
 
 
 @dataclass
@@ -139,6 +147,7 @@ def judge(anchor: int, manifest: Manifest, orders: Orders, tests: int, left: boo
         culprit = _culprit(its, {it: _lateness(counts[it], orders.good[it]) for it in its}, manifest, near, tests)
         if found.culprits and not culprit.is_named:
             break
+        culprit.builds = frozenset(remaining)
         found.culprits.append(culprit)
         if not culprit.is_named:
             break

@@ -11,7 +11,7 @@ from ..provoke.copies import SHIELD, Ended
 from ..regular import NoFile
 from ..signals import NUMBERS, write_all
 from ..summary.lines import VERSION
-from .counting import Counted, counted
+from .counting import Counted, OtherCounts, counted
 from .reading import Summaries
 from .sums import members_of
 from .telling import faults_of, lines_of, objects_of
@@ -46,6 +46,9 @@ def _answered(words: Sequence[str]) -> int:
     except (FileNotFoundError, NoFile) as why:
         say(f"{why.filename}: {why.strerror}")
         return _AT_FAULT
+    except OtherCounts as why:
+        say(why)
+        return _NO_ANSWER
     except OSError as why:
         say(f"cannot read {os.fsdecode(why.filename or b'a file')}: {why.strerror}")
         return _NO_ANSWER

@@ -1,4 +1,8 @@
-"""Asks the proved program how the commands of many builds stood to some anchors, where it is there."""
+"""Asks the proved program how commands of many builds stood to anchors, where it is there.
+
+Each order that is printed is a question of its own, with two commands in each build. Sums are added to others before
+anything is printed, so of them all commands are asked.
+"""
 
 from __future__ import annotations
 
@@ -6,13 +10,17 @@ import json
 import os
 import subprocess
 import tempfile
-from collections.abc import Iterator, Sequence
+from collections.abc import Callable, Iterable, Iterator, Mapping, Sequence
+from dataclasses import dataclass
 
 from ..installed import asking_program
+from ..summary.packed import Run, plain_text
 from .reading import Build, Manifest
-from .sums import MOMENTS, SPANS
+from .sums import MOMENTS, SPANS, Fate
 
 WORD = "separate"
+Tally = tuple[int, int, int]
+"""In how many builds an order counts, and in how many of these a command had ended and had begun."""
 Goods = dict[int, dict[int, list[int]]]
 """By anchors and other commands how often these ended and began in each span, of builds in which the anchor passed."""
 
@@ -25,7 +33,61 @@ def has_program() -> bool:
 def good_of(builds: Sequence[Build], stopped: set[str], manifest: Manifest, anchors: Sequence[int]) -> Goods | None:
     """The counts of all anchors, or None where the program does not give them. `stopped` has the names of the builds
     that Ninja stopped. Raises BadText."""
-    lines = _lines(builds, stopped, manifest, anchors)
+    answer = _answer(_lines(builds, stopped, manifest, anchors))
+    return None if answer is None else _read(answer, len(manifest.names), anchors)
+
+
+@dataclass(frozen=True)
+class Printed:
+    """An order that is printed: the anchor, the other command, and the moment after the begin of the anchor; what
+    became of the anchor in a build; and the names of the bad builds that are counted."""
+
+    anchor: int
+    other: int
+    moment: int
+    fate: Callable[[Build], Fate]
+    bad: frozenset[str]
+
+    def line(self, build: Build, runs: Mapping[int, Run], has_stopped: bool) -> str | None:
+        """A build, in which the anchor is command 0 and the other one is command 1. None where it does not count."""
+        fate = self.fate(build)
+        if self.anchor not in runs or fate is Fate.NONE or fate is Fate.BAD and build.id not in self.bad:
+            return None
+        text = plain_text([Run(number, runs[it].began, runs[it].ended)
+                           for number, it in enumerate((self.anchor, self.other)) if it in runs])
+        return f"{'stopped' if has_stopped else 'build'} {text}{' 0' if fate is Fate.BAD else ''}"
+
+
+def tallies_of(them: Sequence[Printed], builds: Sequence[Build], stopped: set[str],
+               count: int) -> list[tuple[Tally, Tally] | None]:
+    """Of each order the tallies of bad and of good builds; None where the program does not give them. `stopped` has the
+    names of the builds that Ninja stopped, and `count` is how many commands the manifest has. Raises BadText."""
+    wanted = {command for it in them for command in (it.anchor, it.other)}
+    texts = [["builds 1 2", "anchors 0", f"moments {it.moment}"] for it in them]
+    for build in builds:
+        runs = build.columns(count).runs_of(wanted)
+        for it, text in zip(them, texts):
+            line = it.line(build, runs, build.id in stopped)
+            if line is not None:
+                text.append(line)
+    return [_tallies(_answer(text)) for text in texts]
+
+
+def _tallies(answer: bytes | None) -> tuple[Tally, Tally] | None:
+    """The tallies of command 1; None where the answer has another form."""
+    try:
+        it = json.loads(answer or b"")
+        return _tally(*it["failing"][1]), _tally(*it["passing"][1])
+    except (ValueError, KeyError, IndexError, TypeError):
+        return None
+
+
+def _tally(both: int, not_ended: int, not_begun: int, alone: int) -> Tally:
+    return both + alone, both - not_ended, both - not_begun
+
+
+def _answer(lines: Iterable[str]) -> bytes | None:
+    """What the program writes; None where it has no answer."""
     with tempfile.TemporaryFile() as text:
         text.writelines(f"{line}\n".encode() for line in lines)
         text.seek(0)
@@ -33,7 +95,7 @@ def good_of(builds: Sequence[Build], stopped: set[str], manifest: Manifest, anch
             asked = subprocess.run([asking_program(), WORD], stdin=text, capture_output=True)
         except OSError:
             return None
-    return _read(asked.stdout, len(manifest.names), anchors) if asked.returncode == 0 else None
+    return asked.stdout if asked.returncode == 0 else None
 
 
 def _lines(builds: Sequence[Build], stopped: set[str], manifest: Manifest, anchors: Sequence[int]) -> Iterator[str]:

@@ -19,6 +19,7 @@ MOST_LINE = 1 << 28
 MOST_FAULTS = 10
 """So many sentences are printed about lines that do not count; the others are counted."""
 _DIGEST_BYTES = 6
+_MARK_BYTES, _BUFFER_BYTES = 64, 1 << 20
 _MOST_NODES = 1 << 20
 _NAME = re.compile(r"[0-9a-f]{16}")
 _WORDS = ("names", "finding", "build", "sums")
@@ -143,7 +144,7 @@ class Summaries:
     builds: dict[str, Build] = field(default_factory=dict)
     sums: list[tuple[str, dict[str, Any]]] = field(default_factory=list)
     faults: Faults = field(default_factory=Faults)
-    _known: set[bytes] = field(default_factory=set)
+    _known: dict[tuple[int, bytes], bytes] = field(default_factory=dict)
 
     def read(self, paths: Sequence[str]) -> None:
         """Reads files, and all files below folders. Raises OSError."""
@@ -151,7 +152,7 @@ class Summaries:
         for path in _files(paths):
             for place, line in _lines(path):
                 try:
-                    if line not in self._known:
+                    if self._known.get(_mark(line)) != line:
                         self._take(line, place, waiting)
                 except Fault as why:
                     self.faults.add(f"{place}: {why}")
@@ -179,10 +180,10 @@ class Summaries:
             found = _manifest(it)
             if self.manifests.setdefault(name, found) != found:
                 raise Fault(f"it has other names for manifest {name} than a line before")
-            self._known.add(line)  # each summary has it again
+            self._known[_mark(line)] = line  # each summary has it again
         elif it["rebug"] == "finding":
             waiting.append((place, it))
-            self._known.add(line)
+            self._known[_mark(line)] = line
         elif it["rebug"] == "sums":
             self.sums.append((name, it))
         else:
@@ -202,6 +203,11 @@ class Summaries:
         manifest.findings.setdefault(it["id"], Finding(it["id"], it["finding"], it["path"], maker, user, it["mend"]))
 
 
+def _mark(line: bytes) -> tuple[int, bytes]:
+    """What two equal lines share: less than the line, since those of names are long."""
+    return len(line), line[:_MARK_BYTES]
+
+
 def _files(paths: Sequence[str]) -> Iterator[str]:
     for path in paths:
         if not os.path.isdir(path):
@@ -218,11 +224,11 @@ def _lines(path: str) -> Iterator[tuple[str, bytes]]:
         if os.path.exists(path):
             raise NoFile(22, "it is no file", path)
         raise FileNotFoundError(2, "there is no such file", path)
-    with open(0 if path == "-" else path, "rb", closefd=path != "-") as file:
+    with open(0 if path == "-" else path, "rb", _BUFFER_BYTES, closefd=path != "-") as file:
         number = 0
         while line := file.readline(MOST_LINE):
             number += 1
-            if line.strip():
+            if not line.isspace():
                 yield f"{path}:{number}", line
 
 

@@ -13,7 +13,6 @@ from bisect import bisect_left, bisect_right
 from collections import Counter
 from collections.abc import Callable, Mapping
 from dataclasses import dataclass, field
-from itertools import repeat
 from typing import Any
 
 from ..summary.packed import NEVER, BadText, Columns
@@ -111,6 +110,7 @@ class Sums:
     findings: Counter[str] = field(default_factory=Counter)
     orders: dict[int, Orders] = field(default_factory=dict)
     _ran: Counter[int] = field(default_factory=Counter)
+    _whole: int = 0
 
     def add(self, other: Sums) -> None:
         """Adds the counts of other builds."""
@@ -131,17 +131,26 @@ class Sums:
         self.labels.update(_labels(build))
         self.findings.update(f"{name} {'bad' if is_bad else 'good'} {fell}" for name, fell in build.findings.items()
                              if name in manifest.findings)
-        self._ran.update(it for it in its.ran if its.ends[it] != NEVER)
+        if its.has_stopped:
+            self._ran.update(it for it, end in zip(its.ran, its.ends) if end != NEVER)
+        elif len(its.ran) == len(manifest.names):
+            self._whole += 1
+        else:
+            self._ran.update(its.ran)
         for command, text in build.failed.items():
             occasion = Occasion(build.when, build.id, build.labels)
             failure = Failures(1, 0, occasion, occasion, Counter(_labels(build)), Counter([text] if text else []))
             self.commands.setdefault(command, Failures()).add(failure)
 
-    def settle(self) -> None:
-        """Says of each command in how many of the builds that were counted it ran."""
+    def settle(self, manifest: Manifest) -> None:
+        """Says of each command in how many of the builds that were counted it ran. `_whole` is how many of these builds
+        ran all of them."""
+        if self._whole:
+            self._ran.update(dict.fromkeys(range(len(manifest.names)), self._whole))
         for command, ran in self._ran.items():
             self.commands.setdefault(command, Failures()).ran += ran
         self._ran.clear()
+        self._whole = 0
 
 
 def _labels(build: Build) -> list[str]:
@@ -152,12 +161,12 @@ def is_stopped(build: Build, its: Columns) -> bool:
     """Whether Ninja stopped a build from nothing at its first failure, so that a command without a run had not begun by
     then. A build in which a command began later went on after it (`-k`)."""
     return build.is_from_nothing and bool(build.failed) and bool(its.ran) and (
-        its.begins[its.ran[-1]] <= first_failure(build, its))
+        its.begins[-1] <= first_failure(build, its))
 
 
 def first_failure(build: Build, its: Columns) -> int:
     """When the first command of a build failed."""
-    return min((its.ends[it] for it in build.failed), default=NEVER)
+    return min((its.span(it)[1] for it in build.failed), default=NEVER)
 
 
 def failed_or_not(command: int) -> Callable[[Build], Fate]:
@@ -165,10 +174,15 @@ def failed_or_not(command: int) -> Callable[[Build], Fate]:
     return lambda build: Fate.BAD if command in build.failed else Fate.GOOD
 
 
-_NO_ORDER = 255
-_CODES = [[SPANS * ended + min(ended, began) for began in range(SPANS)] for ended in range(SPANS)]
+_NO_ORDER, _LATE = 255, SPANS * SPANS - 1
 _TEXTS = ["%d%d" % divmod(it, SPANS) for it in range(SPANS * SPANS)] + ["--"] * (256 - SPANS * SPANS)
 _MOST_ROWS = 64
+
+
+def _code(begin: int, end: int) -> int:
+    """The spans in which a command ended and began, as one number."""
+    ended = bisect_left(MOMENTS, end)
+    return SPANS * ended + min(ended, bisect_right(MOMENTS, begin))
 
 
 class OrderCount:
@@ -182,13 +196,13 @@ class OrderCount:
         count = len(manifest.names)
         ordered = manifest.before(anchor) | manifest.after(anchor) | {anchor}
         self.orders = Orders()
-        self._anchor, self._fate, self._is_good_counted = anchor, fate, is_good_counted
+        self._anchor, self.fate, self._is_good_counted = anchor, fate, is_good_counted
         self._count, self._others = count, [it for it in range(count) if it not in ordered]
         self._rows: list[bytes] = []
 
     def add(self, build: Build, its: Columns, has_stopped: bool) -> None:
         """Counts one more build. `has_stopped` says whether Ninja stopped it, as `is_stopped` has it."""
-        began, ended, fate = its.begins[self._anchor], its.ends[self._anchor], self._fate(build)
+        (began, ended), fate = its.span(self._anchor), self.fate(build)
         if ended == NEVER or fate is Fate.NONE:
             return
         orders, until = self.orders, min(ended, first_failure(build, its)) if has_stopped else ended
@@ -199,8 +213,8 @@ class OrderCount:
         row = self._row(its, began, has_stopped)
         if fate is Fate.BAD:
             texts = ["--"] * self._count
-            for it, code in zip(self._others, row):
-                texts[it] = _TEXTS[code]
+            for it in self._others:
+                texts[it] = _TEXTS[row[it]]
             orders.bad[build.id] = "".join(texts)
             return
         self._rows.append(row)
@@ -216,23 +230,25 @@ class OrderCount:
         return self.orders
 
     def _row(self, its: Columns, began: int, has_stopped: bool) -> bytes:
-        """Of each other command one number for the spans in which it ended and began, from the begin of the anchor
-        on."""
-        begins, ends = ([column[it] - began for it in self._others] for column in (its.begins, its.ends))
-        row = bytes([_CODES[ended][begun] for ended, begun in zip(
-            map(bisect_left, repeat(MOMENTS), ends), map(bisect_right, repeat(MOMENTS), begins))])
+        """Of each command one number for the spans in which it ended and began, from the begin of the anchor on."""
+        late = bisect_right(its.begins, began + MOMENTS[-1])
         if has_stopped or len(its.ran) == self._count:
-            return row
-        never = NEVER - began
-        return bytes([_NO_ORDER if begun == never else code for code, begun in zip(row, begins)])
+            row = bytearray([_LATE]) * self._count
+        else:
+            row = bytearray([_NO_ORDER]) * self._count
+            for command in its.ran[late:]:
+                row[command] = _LATE
+        for command, begin, end in zip(its.ran[:late], its.begins, its.ends):
+            row[command] = 0 if end <= began else _code(begin - began, end - began)
+        return bytes(row)
 
     def _fold(self) -> None:
         """Adds the rows of some builds to the counts."""
-        rows, self._rows, width = b"".join(self._rows), [], len(self._others)
+        rows, self._rows = b"".join(self._rows), []
         if not rows:
             return
-        for at, other in enumerate(self._others):
-            column = rows[at::width]
+        for other in self._others:
+            column = rows[other :: self._count]
             for code in set(column):
                 if code == _NO_ORDER:
                     continue

@@ -5,9 +5,10 @@ from __future__ import annotations
 import base64
 import binascii
 import zlib
-from collections.abc import Iterator, Sequence
+from collections.abc import Container, Iterator, Sequence
 from dataclasses import dataclass
 from itertools import accumulate
+from operator import add
 
 MOST_BYTES = 1 << 26
 """The most bytes that a text stands for: one that stands for more is refused before memory is full."""
@@ -30,13 +31,22 @@ class BadText(Exception):
 def packed(runs: Sequence[Run]) -> str:
     """Runs as a text: differences of numbers and begins from run to run, and durations, as numbers of seven bits a
     byte, compressed."""
+    return _text(_bytes_of(runs))
+
+
+def plain_text(runs: Sequence[Run]) -> str:
+    """The same in base64 alone, without compression."""
+    return base64.b64encode(_bytes_of(runs)).decode("ascii")
+
+
+def _bytes_of(runs: Sequence[Run]) -> bytearray:
     found = bytearray()
     command = began = 0
     for it in in_order(runs):
         for number in (it.command - command, it.began - began, -1 if it.ended is None else it.ended - it.began):
             _append(found, number)
         command, began = it.command, it.began
-    return _text(found)
+    return found
 
 
 def in_order(runs: Sequence[Run]) -> list[Run]:
@@ -69,11 +79,26 @@ _MOST_MOMENT = 1 << 60
 
 @dataclass(frozen=True)
 class Columns:
-    """By the commands of a manifest when each began and ended, or NEVER; and which commands ran, as they began."""
+    """The commands that ran, in the order in which they began, when each began and ended, or NEVER where it was
+    stopped, and whether some were stopped."""
 
+    ran: list[int]
     begins: list[int]
     ends: list[int]
-    ran: list[int]
+    has_stopped: bool
+
+    def span(self, command: int) -> tuple[int, int]:
+        """When a command began and ended; NEVER where it did not run, or was stopped."""
+        try:
+            at = self.ran.index(command)
+        except ValueError:
+            return NEVER, NEVER
+        return self.begins[at], self.ends[at]
+
+    def runs_of(self, commands: Container[int]) -> dict[int, Run]:
+        """The runs of some commands, of those that ran."""
+        return {it: Run(it, self.begins[at], None if self.ends[at] == NEVER else self.ends[at])
+                for at, it in enumerate(self.ran) if it in commands}
 
 
 def columns(text: str, count: int) -> Columns:
@@ -81,17 +106,20 @@ def columns(text: str, count: int) -> Columns:
     numbers = _numbers(_bytes(text))
     if len(numbers) % 3:
         raise BadText("its runs are cut off")
-    commands, moments, lengths = list(accumulate(numbers[::3])), list(accumulate(numbers[1::3])), numbers[2::3]
-    begins, ends = [NEVER] * count, [NEVER] * count
-    if commands and not (0 <= min(commands) <= max(commands) < count and len(set(commands)) == len(commands)
-                         and 0 <= min(moments) <= max(moments) < _MOST_MOMENT
-                         and -1 <= min(lengths) <= max(lengths) < _MOST_MOMENT):
+    ran, waits, lengths = list(accumulate(numbers[::3])), numbers[1::3], numbers[2::3]
+    if not ran:
+        return Columns([], [], [], False)
+    begins = list(accumulate(waits))
+    if not (0 <= min(ran) <= max(ran) < count and len(set(ran)) == len(ran)
+            and 0 <= min(begins) <= max(begins) < _MOST_MOMENT and -1 <= min(lengths) <= max(lengths) < _MOST_MOMENT):
         raise BadText("its runs are of no commands of that manifest")
-    for command, began, length in zip(commands, moments, lengths):
-        begins[command] = began
-        if length >= 0:
-            ends[command] = began + length
-    return Columns(begins, ends, commands)
+    ends = list(map(add, begins, lengths))
+    if has_stopped := -1 in lengths:
+        ends = [end if length >= 0 else NEVER for end, length in zip(ends, lengths)]
+    if min(waits) < 0:
+        order = sorted(range(len(ran)), key=begins.__getitem__)
+        ran, begins, ends = ([column[at] for at in order] for column in (ran, begins, ends))
+    return Columns(ran, begins, ends, has_stopped)
 
 
 def plain(text: str) -> str:
@@ -102,7 +130,8 @@ def plain(text: str) -> str:
 def unpacked(text: str, count: int) -> list[Run]:
     """The runs of a text, in a manifest with so many commands. Raises BadText."""
     its = columns(text, count)
-    return [Run(it, its.begins[it], None if its.ends[it] == NEVER else its.ends[it]) for it in sorted(its.ran)]
+    return [Run(command, began, None if ended == NEVER else ended)
+            for command, began, ended in sorted(zip(its.ran, its.begins, its.ends))]
 
 
 def _bytes(text: str) -> bytes:
@@ -128,25 +157,20 @@ def _signed(number: int) -> int:
     return -(number >> 1) - 1 if number & 1 else number >> 1
 
 
-_SHORT = [_signed(it) for it in range(1 << 14)]
-"""Numbers of one byte or two, which most are."""
+_ONE = [_signed(it) for it in range(128)]
+_TWO = [[_signed(low & 127 | high << 7) for high in range(128)] for low in range(256)]
+"""Numbers of one byte, and those of two by the first and the second one, which most are."""
 
 
 def _numbers(data: bytes) -> list[int]:
     """The numbers of seven bits a byte. Raises BadText."""
-    found: list[int] = []
     rest = iter(data)
+    take = rest.__next__
     try:
-        for byte in rest:
-            if byte < 128:
-                found.append(_SHORT[byte])
-                continue
-            high = next(rest)
-            low = byte & 127 | (high & 127) << 7
-            found.append(_SHORT[low] if high < 128 else _signed(_longer(low, rest)))
+        return [_ONE[byte] if byte < 128 else _TWO[byte][high] if (high := take()) < 128
+                else _signed(_longer(byte & 127 | (high & 127) << 7, rest)) for byte in rest]
     except StopIteration:
         raise BadText("its runs are cut off") from None
-    return found
 
 
 def _longer(number: int, rest: Iterator[int]) -> int:
