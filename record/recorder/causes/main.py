@@ -14,8 +14,8 @@ from ..rerun.lines import BadRecording
 from ..reuse.beside import Without
 from ..reuse.recording import Recording
 from ..signals import NUMBERS, write_all
-from .bytes import Side
-from .judging import Judge
+from .differing import Side
+from .judging import Judge, Verdict
 from .telling import Sides, Teller
 from .words import NAME, BadWords, HelpWanted, Options, read_words
 
@@ -65,12 +65,20 @@ def _compared(options: Options) -> int:
     one, other = _recording(options.one), _recording(options.other)
     judge = Judge(one, other, Without(options.without, options.any_environment))
     teller = Teller(judge, _sides(options, judge), options.all)
-    if options.why is not None:
+    if options.why is None:
+        _write(teller.objects() if options.json else teller.lines())
+        wanted = judge.outcomes
+    else:
         number = _number(judge, options.why)
         _write(teller.why_objects(number) if options.json else teller.why_lines(number))
-    else:
-        _write(teller.objects() if options.json else teller.lines())
-    return _FOUND if teller.is_found else _NOTHING if teller.is_whole else _NOT_KNOWN
+        wanted = judge.outcomes[number : number + 1]
+    return _status({it.verdict for it in wanted})
+
+
+def _status(verdicts: set[Verdict]) -> int:
+    if verdicts <= {Verdict.SAME, Verdict.ABSORBED}:
+        return _NOTHING
+    return _NOT_KNOWN if verdicts <= {Verdict.SAME, Verdict.ABSORBED, Verdict.UNCERTAIN} else _FOUND
 
 
 def _sides(options: Options, judge: Judge) -> Sides | None:

@@ -9,13 +9,12 @@ from ..fields import shown
 from ..manifest import Edge
 from ..provoke.races import shown_name
 from ..reuse.recording import Recording
-from . import bytes as of_bytes
+from .differing import OtherBytes, Side, other_bytes
 from .judging import Doubt, Judge, Left, Outcome, Verdict
 from .tracing import Causes
 
 _MOST_NAMES, _MOST_LINES, _MOST_PLACES = 3, 8, 16
 _ROOTS = (Verdict.FIRST, Verdict.SURROUNDINGS, Verdict.COMMAND, Verdict.UNCERTAIN)
-_OTHER_BYTES = (Verdict.FIRST, Verdict.SURROUNDINGS, Verdict.COMMAND, Verdict.PROPAGATED)
 _DOUBTS = {
     Doubt.FAILED: "it failed in one of the builds",
     Doubt.UNOBSERVED: "it was not observed in one of the builds",
@@ -23,7 +22,7 @@ _DOUBTS = {
     Doubt.UNSURE: "it is not certain which bytes it met",
     Doubt.UNSETTLED: "it is not certain which bytes it left",
 }
-Sides = tuple[of_bytes.Side, of_bytes.Side]
+Sides = tuple[Side, Side]
 
 
 class Teller:
@@ -36,16 +35,6 @@ class Teller:
         self._causes = Causes(judge.outcomes)
         self._of = {verdict: [number for number, it in enumerate(judge.outcomes) if it.verdict is verdict]
                     for verdict in Verdict}
-
-    @property
-    def is_found(self) -> bool:
-        """Whether a command left other bytes."""
-        return any(self._of[it] for it in _OTHER_BYTES)
-
-    @property
-    def is_whole(self) -> bool:
-        """Whether it is certain of each command whether it left other bytes."""
-        return not self._of[Verdict.UNCERTAIN]
 
     def lines(self) -> Iterator[str]:
         """The answer in words."""
@@ -193,12 +182,14 @@ class Teller:
             if isinstance(found, str):
                 yield f"{indent}{self._path(one.place)}: {found}"
             elif found is not None:
-                yield f"{indent}{self._path(one.place)}: byte {found.at:,} of {found.sizes[0]:,} is the first other one, " \
-                      f"of {found.count:,}: {shown(found.texts[0].encode())} / {shown(found.texts[1].encode())}"
+                one_size, other_size = found.sizes
+                size = f"{one_size:,}" + f" and {other_size:,}" * (one_size != other_size)
+                yield f"{indent}{self._path(one.place)}: {found.count:,} of {size} bytes differ, the first at " \
+                      f"{found.at:,}: {found.texts[0]} / {found.texts[1]}"
                 if found.looks is not None:
-                    yield f"{indent}it looks like {found.looks.value}"
+                    yield f"{indent}that looks like {found.looks.value}"
 
-    def _difference(self, it: Left) -> of_bytes.Difference | str | None:
+    def _difference(self, it: Left) -> OtherBytes | str | None:
         """Where the files at a place differ; None where no folders with files were named."""
         if self._sides is None:
             return None
@@ -207,7 +198,7 @@ class Teller:
             return "it is not below the build folder"
         contents = self._judge.shared.contents
         before, now = (None if answer is None else contents[answer] for answer in (it.before, it.now))
-        return of_bytes.difference(path[len(build) :], self._sides, (before, now))
+        return other_bytes(path[len(build) :], self._sides, (before, now))
 
     def _tree(self) -> Iterator[str]:
         """The commands that follow from others, below these."""
@@ -262,11 +253,11 @@ class Teller:
         before, now = (None if answer is None else word(answer) for answer in (one.before, one.now))
         found = self._difference(one) if it.verdict in _ROOTS else None
         its: dict[str, object] | None = None
-        if isinstance(found, of_bytes.Difference):
+        if isinstance(found, OtherBytes):
             its = {"at": found.at, "count": found.count, "sizes": list(found.sizes), "texts": list(found.texts),
                    "looks": None if found.looks is None else found.looks.value}
         return {"path": self._path(one.place), "before": before, "now": now, "bytes": its,
-                "without": found if isinstance(found, str) else None}
+                "no_bytes": found if isinstance(found, str) else None}
 
     def _names(self, places: Iterable[int]) -> str:
         names = list(map(self._path, places))

@@ -40,7 +40,7 @@ class Looks(enum.Enum):
 
 
 @dataclass(frozen=True)
-class Difference:
+class OtherBytes:
     """Two contents: where the first other byte is, how many bytes are others, and what stands there in both."""
 
     at: int
@@ -76,8 +76,8 @@ class Side:
         return found
 
 
-def difference(path: bytes, sides: tuple[Side, Side], contents: tuple[Content | None, Content | None]) \
-        -> Difference | str:
+def other_bytes(path: bytes, sides: tuple[Side, Side], contents: tuple[Content | None, Content | None]) \
+        -> OtherBytes | str:
     """Where the files of an output differ, or why that cannot be printed."""
     one, other = (side.read(path, content) for side, content in zip(sides, contents))
     for it in (one, other):
@@ -88,7 +88,7 @@ def difference(path: bytes, sides: tuple[Side, Side], contents: tuple[Content | 
         return "its bytes are the same, and its x bit is another"
     at = next((at for at, (a, b) in enumerate(zip(one, other)) if a != b), min(len(one), len(other)))
     count = sum(a != b for a, b in zip(one, other)) + abs(len(one) - len(other))
-    return Difference(at, count, (len(one), len(other)), (_around(one, at), _around(other, at)),
+    return OtherBytes(at, count, (len(one), len(other)), (_around(one, at), _around(other, at)),
                       _looks(one, other, at, sides))
 
 
