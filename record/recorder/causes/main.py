@@ -15,7 +15,7 @@ from ..reuse.beside import Without
 from ..reuse.recording import Recording
 from ..signals import NUMBERS, write_all
 from .differing import Side
-from .judging import Judge, Verdict
+from .judging import Judge, Outcome, Verdict
 from .telling import Sides, Teller
 from .words import NAME, BadWords, HelpWanted, Options, read_words
 
@@ -42,8 +42,9 @@ def main(words: Sequence[str]) -> int:
 
 def _answered(words: Sequence[str]) -> int:
     try:
-        options = read_words(words)
-        return _compared(options)
+        status, lines = answer(read_words(words))
+        _write(lines)
+        return status
     except HelpWanted as why:
         _write([str(why)])
         return _NOTHING
@@ -60,37 +61,37 @@ def _answered(words: Sequence[str]) -> int:
     return _NO_ANSWER
 
 
-def _compared(options: Options) -> int:
-    """Compares, and writes the answer. Raises BadRecording, Unreadable and OSError."""
+def answer(options: Options) -> tuple[int, Iterable[str]]:
+    """The status and the lines of an answer. Raises BadWords, BadRecording and Unreadable."""
     one, other = _recording(options.one), _recording(options.other)
     judge = Judge(one, other, Without(options.without, options.any_environment))
     teller = Teller(judge, _sides(options, judge), options.all)
     if options.why is None:
-        _write(teller.objects() if options.json else teller.lines())
-        wanted = judge.outcomes
-    else:
-        number = _number(judge, options.why)
-        _write(teller.why_objects(number) if options.json else teller.why_lines(number))
-        wanted = judge.outcomes[number : number + 1]
-    return _status({it.verdict for it in wanted})
+        return _status(judge.outcomes), teller.objects() if options.json else teller.lines()
+    number = _number(judge, options.why)
+    lines = teller.why_objects(number) if options.json else teller.why_lines(number)
+    return _status(judge.outcomes[number : number + 1]), lines
 
 
-def _status(verdicts: set[Verdict]) -> int:
-    if verdicts <= {Verdict.SAME, Verdict.ABSORBED}:
-        return _NOTHING
-    return _NOT_KNOWN if verdicts <= {Verdict.SAME, Verdict.ABSORBED, Verdict.UNCERTAIN} else _FOUND
+def _status(outcomes: Sequence[Outcome]) -> int:
+    """The status where these commands are asked for."""
+    others = {it.verdict for it in outcomes} - {Verdict.SAME, Verdict.ABSORBED}
+    return _NOTHING if not others else _NOT_KNOWN if others == {Verdict.UNCERTAIN} else _FOUND
 
 
 def _sides(options: Options, judge: Judge) -> Sides | None:
-    """The folders that have the outputs of both builds; None where none were named. Raises Unreadable."""
+    """The folders that have the outputs of both builds; None where none were named. Raises BadWords and Unreadable."""
     if options.files is None:
         return None
+    one, other = options.files
+    return _side(one, judge.one), _side(other, judge.other)
+
+
+def _side(folder: str, recording: Recording) -> Side:
     try:
-        one, other = (Side(Files(folder), it.folders, it.history.ended // _NANOSECONDS)
-                      for folder, it in zip(options.files, (judge.one, judge.other)))
+        return Side(Files(folder), recording.folders, recording.history.ended // _NANOSECONDS)
     except BadRecording as why:
-        raise Unreadable(f"--files wants two folders: {' and '.join(options.files)} are not both there") from why
-    return one, other
+        raise BadWords(f"--files wants two folders, and {folder} is none") from why
 
 
 def _number(judge: Judge, output: str) -> int:
