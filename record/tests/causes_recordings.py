@@ -20,7 +20,8 @@ KEY = "0123456789abcdef"
 
 
 def sha(text: str) -> str:
-    return hashlib.sha256(text.encode()).hexdigest()
+    """The digest of a text that has one byte for each character."""
+    return hashlib.sha256(text.encode("latin-1")).hexdigest()
 
 
 def ended(lines: list[str], *counts: int) -> str:

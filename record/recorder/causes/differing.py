@@ -59,10 +59,8 @@ class Side:
     folders: Sequence[bytes]
     ended: int
 
-    def read(self, path: bytes, content: Content | None) -> bytes | str:
+    def read(self, path: bytes, content: File) -> bytes | str:
         """The bytes that a build left, or why they are not there."""
-        if not isinstance(content, File):
-            return "it is no file in both builds"
         if content.size > MOST_BYTES:
             return f"it has more than {MOST_BYTES:,} bytes"
         try:
@@ -79,11 +77,12 @@ class Side:
 def other_bytes(path: bytes, sides: tuple[Side, Side], contents: tuple[Content | None, Content | None]) \
         -> OtherBytes | str:
     """Where the files of an output differ, or why that cannot be printed."""
-    one, other = (side.read(path, content) for side, content in zip(sides, contents))
-    for it in (one, other):
-        if isinstance(it, str):
-            return it
-    assert isinstance(one, bytes) and isinstance(other, bytes)
+    before, now = contents
+    if not isinstance(before, File) or not isinstance(now, File):
+        return "it is not a file in both builds"
+    one, other = sides[0].read(path, before), sides[1].read(path, now)
+    if isinstance(one, str) or isinstance(other, str):
+        return one if isinstance(one, str) else other
     if one == other:
         return "its bytes are the same, and its x bit is another"
     at = next((at for at, (a, b) in enumerate(zip(one, other)) if a != b), min(len(one), len(other)))
