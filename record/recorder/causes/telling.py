@@ -107,8 +107,10 @@ class Teller:
         return {
             Verdict.SAME: "left the same bytes in both builds",
             Verdict.ABSORBED: f"left the same bytes in both builds, and met others: {met}",
-            Verdict.FIRST: f"left other bytes, and all that it met was the same{self._assuming(it)}: it is a first cause",
-            Verdict.SURROUNDINGS: f"left other bytes, and all that it met was the same, but it ran in {self._others()}",
+            Verdict.FIRST: "left other bytes, and all that it met was the same"
+                           f"{self._assuming(it)}: it is a first cause",
+            Verdict.SURROUNDINGS: "left other bytes, and all that it met was the same, but it ran in "
+                                  f"{self._others()}",
             Verdict.COMMAND: "left other bytes, and its command line is another one",
             Verdict.UNCERTAIN: f"may have left other bytes: {_DOUBTS[it.doubt]}" if it.doubt else "",
             Verdict.PROPAGATED: f"left other bytes, since it met others: {met}",
@@ -127,8 +129,8 @@ class Teller:
             yield f"  {self._path(place)} changed while {'A' if recording is judge.one else 'B'} was built, and no " \
                   "command changed it"
         for place, commands in sorted(judge.beside.aside.items(), key=lambda it: self._paths[it[0]]):
-            yield f"  assumed: {self._path(place)} makes no difference: it differs, and {_count(commands)} met it and " \
-                  "left the same bytes"
+            yield f"  assumed: {self._path(place)} makes no difference: it differs, and {_count(commands)} met it " \
+                  "and left the same bytes"
 
     def _moved(self) -> Iterator[tuple[Recording, int]]:
         """The places that changed while a build ran, and that none of its commands changed."""
@@ -210,7 +212,8 @@ class Teller:
         for it in self._causes.tree():
             indent = "  " * (it.depth + 1)
             if it.number is None:
-                line = f"{self._path(it.source)}, which no command left otherwise before" if it.source is not None else ""
+                source = "" if it.source is None else self._path(it.source)
+                line = f"{source}, which no command left otherwise before"
             else:
                 count += self._outcomes[it.number].verdict is Verdict.PROPAGATED
                 line = self._met(it.number) if it.depth else _place(self._outcomes[it.number].edge)
