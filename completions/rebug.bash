@@ -4,11 +4,11 @@ _rebug() {
   if [ "$first" = --try ]; then first=${COMP_WORDS[2]} place=2; fi
   COMPREPLY=()
   if [ "$COMP_CWORD" -le "$place" ]; then
-    COMPREPLY=($(compgen -W "record provoke mend shuffle rerun actions reuse summary flakes explore help races certify replay ask picture timeline compare schedule --try --manifest --trace --script --workers --migrate --help --version" -- "$word"))
+    COMPREPLY=($(compgen -W "record provoke mend shuffle rerun actions reuse causes summary flakes explore help races certify replay ask picture timeline compare schedule --try --manifest --trace --script --workers --migrate --help --version" -- "$word"))
     return
   fi
   if [ "$first" = help ]; then
-    COMPREPLY=($(compgen -W "record provoke shuffle mend explore rerun actions reuse summary flakes races certify replay ask picture timeline compare schedule" -- "$word"))
+    COMPREPLY=($(compgen -W "record provoke shuffle mend explore rerun actions reuse causes summary flakes races certify replay ask picture timeline compare schedule" -- "$word"))
     return
   fi
   case $word in -*) ;; *) return ;; esac
@@ -28,6 +28,7 @@ _rebug() {
     rerun) COMPREPLY=($(compgen -W "--help --stamps --date --folder --user -f -j --limit --json" -- "$word")) ;;
     actions) COMPREPLY=($(compgen -W "--help --json" -- "$word")) ;;
     reuse) COMPREPLY=($(compgen -W "--help --without --any-environment --json" -- "$word")) ;;
+    causes) COMPREPLY=($(compgen -W "--help --why --files --without --any-environment --all --json" -- "$word")) ;;
     summary) COMPREPLY=($(compgen -W "--help --label --without-findings" -- "$word")) ;;
     flakes) COMPREPLY=($(compgen -W "--help --anchor --partial --json" -- "$word")) ;;
     -*) COMPREPLY=($(compgen -W "--try --manifest --trace --script --workers --migrate --help --version" -- "$word")) ;;

@@ -42,7 +42,8 @@ def placed(top: Path) -> list[Placed]:
              Placed("record/observer/observer.c", f"{LIBEXEC}/record/observer/observer.c")]
     found += [Placed(f"record/{name}", f"{LIBEXEC}/record/{name}")
               for name in ("rebug-record", "rebug-provoke", "rebug-shuffle", "rebug-mend", "rebug-explore",
-                           "rebug-rerun", "rebug-actions", "rebug-reuse", "rebug-summary", "rebug-flakes")]
+                           "rebug-rerun", "rebug-actions", "rebug-reuse", "rebug-causes", "rebug-summary",
+                           "rebug-flakes")]
     found += [Placed(it, f"{LIBEXEC}/{it}") for it in below(top, "record/recorder")
               if it.endswith((".py", ".js", ".css", ".html"))]
     found += [Placed(f"completions/{name}", target) for name, target in COMPLETIONS.items()]

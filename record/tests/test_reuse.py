@@ -16,7 +16,8 @@ import contents_planted
 from observing import refusal
 from recorder.actions.files import Files
 from recorder.reuse import judging, recording
-from recorder.reuse.judging import Judge, Without
+from recorder.reuse.beside import Without
+from recorder.reuse.judging import Judge
 from recorder.reuse.recording import Recording
 from recorder.reuse.shared import THERE
 from rerun_builds import environment

@@ -21,7 +21,8 @@ from actions_builds import Written
 from recorder.actions.files import Files
 from recorder.rerun.lines import BadRecording
 from recorder.reuse import recording
-from recorder.reuse.judging import Judge, Without
+from recorder.reuse.beside import Without
+from recorder.reuse.judging import Judge
 from recorder.reuse.recording import Recording
 from rerun_builds import body
 from reuse_builds import REUSE, Later, Reuse, answered

@@ -45,7 +45,8 @@ class Entries:
     """The entries of both files by their numbers, and the contents by theirs, each with the number of its entry.
 
     `paths` are absolute, and no link is on the way. `names` are paths as `observed` has them, else absolute ones.
-    `folders` are entries in which others are.
+    `folders` are entries in which others are. `moved` are those that changed while commands ran, and that no command
+    changed.
     """
 
     def __init__(self, observed: Lines, contents: Lines) -> None:
@@ -53,6 +54,7 @@ class Entries:
         self.paths: list[bytes] = []
         self.names: list[bytes] = []
         self.folders: set[int] = set()
+        self.moved: list[int] = []
         self.versions: list[tuple[int, Content]] = []
         self.build, self.sources, self.key = b"", list[bytes](), b""
         self.environment: dict[bytes, bytes] = {}
@@ -104,6 +106,8 @@ class Entries:
                 self._read_names(at, words)
             elif word in (b"version", b"link", b"names"):
                 self.versions.append(self._version(at, word, words))
+            elif word == b"changed":
+                self.moved = lines.numbers(at, words, len(self.paths))
         return len(lines.lines)
 
     def _one(self, word: bytes) -> bytes:

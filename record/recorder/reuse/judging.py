@@ -4,20 +4,19 @@ from __future__ import annotations
 
 import enum
 from collections import Counter
-from collections.abc import Callable, Sequence
+from collections.abc import Sequence
 from dataclasses import dataclass, field
 
 from ..fields import canonical
 from ..manifest import Edge
 from .agreeing import Difference, Pair, compared
+from .beside import Beside, Candidates, Without, beside, key_of, text_of
 from .recording import Recording, Run
-from .shared import Folders, Shared, is_below
+from .shared import Folders, Shared
 from .standing import Standing
 
 ASIDE_FROM = 5
 """From so many commands on that met other bytes at a place of the system and left the same, the place is set aside."""
-OWN_VARIABLES = frozenset((b"_", b"SHLVL", b"PWD", b"OLDPWD"))
-"""What a shell sets by itself."""
 
 
 class Verdict(enum.Enum):
@@ -48,19 +47,6 @@ _DOUBTS = (Reason.FLAG, Reason.UNSURE, Reason.KEY, Reason.NO_CONTENTS, Reason.UN
 
 
 @dataclass
-class Earlier:
-    """A recording from which commands may be served. `others` are variables of the environment that have other values
-    than those of the commands to be judged, None where that cannot be compared; `aside` are the places that are set
-    aside, each with the number of commands that speak for it."""
-
-    recording: Recording
-    folders: Folders
-    edges: dict[bytes, Edge]
-    others: list[bytes] | None
-    aside: dict[int, int] = field(default_factory=dict)
-
-
-@dataclass
 class Outcome:
     """How a command and its run in one earlier recording compare: `pair` where their looks were compared."""
 
@@ -88,24 +74,15 @@ class Case:
     outcomes: list[Outcome] = field(default_factory=list)
 
 
-@dataclass(frozen=True)
-class Without:
-    """What the user takes for the same: variables of the environment by their names, or all."""
-
-    names: frozenset[bytes] = frozenset()
-    is_all: bool = False
-
-
 class Judge:
     """Judges the commands of a recording by earlier ones, which stand in the order of time."""
 
     def __init__(self, new: Recording, olds: Sequence[Recording], without: Without) -> None:
         """Raises BadRecording."""
-        self.new, self.shared, self._without = new, Shared(), without
+        self.new, self.shared = new, Shared()
         new.share(self.shared, Folders([], []))
-        self.earlier = [self._earlier(it) for it in sorted(olds, key=lambda it: it.history.ended)]
+        self.earlier = [beside(new, it, self.shared, without) for it in sorted(olds, key=lambda it: it.history.ended)]
         self.standing = Standing(it.recording for it in self.earlier if it.recording.has_contents)
-        self._tops = set(new.folders)
 
     def cases(self) -> list[Case]:
         """The commands that ran, in the order of their starts. Raises BadRecording."""
@@ -117,31 +94,6 @@ class Judge:
                 self._judge(case)
         return cases
 
-    def _earlier(self, old: Recording) -> Earlier:
-        if not old.has_contents:
-            return Earlier(old, Folders([], []), self._edges(old, Folders([], [])), [])
-        own, other = old.folders, self.new.folders
-        folders = Folders(own, other) if len(own) == len(other) else Folders(own[:1], other[:1])
-        old.share(self.shared, folders)
-        return Earlier(old, folders, self._edges(old, folders), self._other_variables(old))
-
-    def _edges(self, old: Recording, folders: Folders) -> dict[bytes, Edge]:
-        """The edges whose commands ran there, by their first outputs as the new recording has them."""
-        edges = (old.manifest.edges[number] for number in old.history.started)
-        return {self._key(folders.path(canonical(it.name))): it for it in edges}
-
-    def _key(self, name: bytes) -> bytes:
-        return name.removeprefix(self.new.entries.build + b"/")
-
-    def _other_variables(self, old: Recording) -> list[bytes] | None:
-        if self._without.is_all:
-            return []
-        if self.new.entries.key != old.entries.key:
-            return None
-        one, other = self.new.entries.environment, old.entries.environment
-        left_out = self._without.names | OWN_VARIABLES
-        return sorted(it for it in one.keys() | other.keys() if one.get(it) != other.get(it) and it not in left_out)
-
     def _compared(self, edge: Edge) -> Case:
         """A command beside its earlier runs. What becomes of it is not judged yet where the verdict is RUN."""
         case, run = Case(edge, Verdict.RUN), self.new.run_of(edge)
@@ -151,15 +103,15 @@ class Judge:
             return Case(edge, Verdict.UNKNOWN, Reason.UNOBSERVED)
         case.is_same = self.standing.is_same(run)
         for number, it in enumerate(self.earlier):
-            old = it.edges.get(self._key(canonical(edge.name)))
+            old = it.edges.get(key_of(self.new, canonical(edge.name)))
             if old is not None and old.number not in it.recording.history.failed:
                 case.outcomes.append(self._outcome(number, it, edge, run, old))
         return case
 
-    def _outcome(self, number: int, earlier: Earlier, edge: Edge, run: Run, old: Edge) -> Outcome:
+    def _outcome(self, number: int, earlier: Beside, edge: Edge, run: Run, old: Edge) -> Outcome:
         if not earlier.recording.has_contents:
             return Outcome(number, Reason.NO_CONTENTS)
-        if self._text(edge) != earlier.folders.text(_text(earlier.recording, old)):
+        if text_of(self.new, edge) != earlier.folders.text(text_of(earlier.recording, old)):
             return Outcome(number, Reason.COMMAND)
         if earlier.others is None:
             return Outcome(number, Reason.KEY)
@@ -170,33 +122,17 @@ class Judge:
             return Outcome(number, Reason.UNOBSERVED)
         return Outcome(number, None, compared(self.shared, run, before))
 
-    def _text(self, edge: Edge) -> bytes:
-        return _text(self.new, edge)
-
     def _set_aside(self, cases: Sequence[Case]) -> None:
         """Finds places of the system that differ, that no command leaves, and at which at least so many commands met
         other answers and left the same bytes all the same."""
         support = [Counter[int]() for _ in self.earlier]
-        is_candidate = self._candidates()
+        is_candidate = Candidates([self.new, *(it.recording for it in self.earlier)], self.shared)
         for case in cases:
             for it in case.outcomes:
                 if it.pair is not None and it.pair.left_same and all(is_candidate(one.place) for one in it.pair.others):
                     support[it.earlier].update(one.place for one in it.pair.others)
         for earlier, counts in zip(self.earlier, support):
             earlier.aside = {place: count for place, count in counts.items() if count >= ASIDE_FROM}
-
-    def _candidates(self) -> Callable[[int], bool]:
-        """Says of a place whether it may be set aside: it is of the system, no command leaves it, and it is no
-        program."""
-        left = self.new.left.union(*(it.recording.left for it in self.earlier if it.recording.has_contents))
-        known: dict[int, bool] = {}
-
-        def is_candidate(place: int) -> bool:
-            if place not in known:
-                path = self.shared.paths[place]
-                known[place] = not (place in left or place in self.shared.programs or is_below(path, self._tops))
-            return known[place]
-        return is_candidate
 
     def _judge(self, case: Case) -> None:
         """Says what becomes of a command: what serves it counts first, then what cannot be known."""
@@ -239,10 +175,3 @@ class Judge:
         if any(it.place not in aside for it in pair.others) or pair.is_certain:
             return Reason.LOOKS
         return Reason.FLAG if pair.flags else Reason.UNSURE
-
-
-def _text(recording: Recording, edge: Edge) -> bytes:
-    """What a command does: its text, and that of its response file. Raises BadRecording."""
-    value = recording.manifest.value
-    return value(edge, b"command") + b"\0" + value(edge, b"rspfile_content")
-

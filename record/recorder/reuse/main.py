@@ -12,8 +12,9 @@ from ..fields import printable
 from ..provoke.copies import SHIELD, Ended
 from ..rerun.lines import BadRecording
 from ..signals import NUMBERS, write_all
+from .beside import Without
 from .cutting import Cutter
-from .judging import Judge, Without
+from .judging import Judge
 from .recording import Recording
 from .telling import Teller
 from .words import NAME, BadWords, HelpWanted, Options, read_words

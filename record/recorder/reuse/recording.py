@@ -96,6 +96,11 @@ class Recording:
         """The places at which commands left something."""
         return {self._places[it] for it in self._left_entries}
 
+    @property
+    def moved(self) -> list[int]:
+        """The places that changed while commands ran, and that no command changed."""
+        return [it for it in map(self._places.__getitem__, self.entries.moved) if it != _HIDDEN]
+
     def run_of(self, edge: Edge) -> Run | None:
         """What the command of an edge met and left; None where it was not observed. Raises BadRecording."""
         block = self._blocks.get(edge.number)
