@@ -168,7 +168,7 @@ class Processes(Written):
         found = called(self.room, "one", "two")
         self.assertEqual((found.status, found.said, found.of("first cause")), (4, "", {"number"}))
         found = called(self.room, "one", "nowhere")
-        self.assertEqual((found.status, found.said), (2, "rebug causes: there is no recording at nowhere\n"))
+        self.assertEqual((found.status, found.said), (2, "rebug causes: nowhere: there is no recording at nowhere\n"))
         with open("/dev/full", "wb") as full:
             done = subprocess.run([sys.executable, str(CAUSES), "one", "two"], stdin=subprocess.DEVNULL, stdout=full,
                                   stderr=subprocess.PIPE, text=True, check=False)
