@@ -95,7 +95,8 @@ class Progress(unittest.TestCase):
             "rebug shuffle: order 2 again: 3 of 9 commands, 1 run left"])
 
     def test_no_line_where_nobody_looks(self) -> None:
-        with unittest.mock.patch.object(main, "write_all") as write, unittest.mock.patch("os.isatty", return_value=False):
+        with (unittest.mock.patch.object(main, "write_all") as write,
+              unittest.mock.patch("os.isatty", return_value=False)):
             main.Voice().progress(1, 2, 3)
         write.assert_not_called()
 
@@ -106,7 +107,8 @@ class SideBySide(unittest.TestCase):
         return Bench(place, most, megabytes=megabytes, used=used * MEGABYTE, runs=runs)
 
     def test_as_many_as_memory_allows(self) -> None:
-        """Of 1,250 MB that are free four fifths are 1,000: a copy of 136 MB with 64 to spare stands there five times."""
+        """Of 1,250 MB that are free four fifths are 1,000: a copy of 136 MB with 64 to spare stands there five
+        times."""
         with unittest.mock.patch.object(side_by_side, "memory_free", lambda: 1250 * MEGABYTE):
             for bench, due in ((self.bench(9, 136), 5), (self.bench(3, 136), 3), (self.bench(9, 2000), 1),
                                (self.bench(9, 136, runs=0), 1), (self.bench(9, 136, megabytes=400), 2)):

@@ -11,8 +11,8 @@ from typing import NoReturn
 NAME = "rebug causes"
 _USAGE = """%(prog)s RECORDING OTHER [--why OUT] [--files FOLDER OTHER] [--without NAME].. [--any-environment] [--all]
     [--json]"""
-_ABOUT = """Prints which commands that ran in two recorded builds left other bytes from the same bytes (first causes, which
-are not deterministic), then which left other bytes from other bytes, below what they follow from, and which left the
+_ABOUT = """Prints which commands that ran in two recorded builds left other bytes from the same bytes (first causes,
+which are not deterministic), then which left other bytes from other bytes, below what they follow from, and which left the
 same bytes from other bytes. The recordings were made with --contents. Nothing is run, and no file outside of the
 recordings and of the folders of --files is opened."""
 _MORE = """exit status:
