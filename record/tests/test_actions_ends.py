@@ -4,6 +4,7 @@ linear in what it says."""
 from __future__ import annotations
 
 import functools
+import gc
 import os
 import pathlib
 import random
@@ -183,6 +184,14 @@ class BadInput(Case):
         with unittest.mock.patch.object(recording, "_MOST_LOOKS", 5):
             with self.assertRaisesRegex(BadRecording, "the recording says of more than 5 looks and names in all"):
                 list(Judge(recording.Recording(Files(str(it.out)))).actions(None))
+
+    def test_a_folder_is_closed_once_nobody_reads_it(self):
+        before = len(os.listdir("/proc/self/fd"))
+        files = Files(str(sound().out))
+        self.assertEqual(len(os.listdir("/proc/self/fd")), before + 1)
+        del files
+        gc.collect()
+        self.assertEqual(len(os.listdir("/proc/self/fd")), before)
 
     def test_lines_by_chance(self):
         """Each answer to a recording in which lines are others is an answer or a sentence."""

@@ -5,6 +5,7 @@ from __future__ import annotations
 import errno
 import os
 import stat
+import weakref
 
 from ..fields import canonical, shown
 from ..held import HeldFolder
@@ -17,7 +18,7 @@ class Unreadable(Exception):
 
 
 class Files:
-    """The files in a recording's folder, which the user named."""
+    """The files in a recording's folder, which the user named. The folder is open as long as the object is used."""
 
     def __init__(self, folder: str) -> None:
         """Raises BadRecording where there is no folder."""
@@ -28,6 +29,7 @@ class Files:
             raise BadRecording(f"there is no recording at {folder}") from why
         except OSError as why:
             raise Unreadable(f"cannot read {folder}: {why.strerror}") from why
+        weakref.finalize(self, self._held.close)
 
     def read(self, name: bytes) -> bytes | None:
         """The bytes of a file; None where it is not there. Raises BadRecording and Unreadable."""
