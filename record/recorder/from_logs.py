@@ -13,14 +13,16 @@ from nothing, unless `restat` left it alone. What earlier builds made, and the l
 
 from __future__ import annotations
 
+import functools
 import os
 import shlex
 import statistics
 from dataclasses import dataclass, field, replace
 from typing import Iterable, Iterator, Optional
 
+from .depslog import Listing
 from .dyndep.build import Dyndeps
-from .disk import Snapshot, take_snapshot
+from .disk import Snapshot, deps_records, take_snapshot
 from .fields import canonical, line, shown
 from .files import WRITTEN, names_of_files, write_recording
 from .generator.recorded import TARGETS, write_targets
@@ -185,17 +187,32 @@ class _Again:
 
 
 class _Used:
-    """Which commands have to run again where some ran: those that have an output of these as an input, also by way of
-    phony edges. Where one did not, the lines are of another build, or Ninja wrote the log anew and their order is lost,
-    as it does where CMake has written the manifest anew."""
+    """Which commands have to run again where some ran: those that have an output of these as an input, by the manifest or
+    by what they listed, also by way of phony edges. Where one did not, the lines are of another build, or Ninja wrote the
+    log anew and their order is lost, as it does where CMake has written the manifest anew."""
 
-    def __init__(self, manifest: Manifest, runs: list[LoggedRun]) -> None:
-        self.manifest = manifest
+    def __init__(self, manifest: Manifest, runs: list[LoggedRun], after: Optional[Snapshot]) -> None:
+        self.manifest, self.after = manifest, after
         self.logged = {_edge(manifest, it).number for run in runs for it in run.entries}
-        self.ran, self.users = set[int](), dict[int, list[Edge]]()
-        for edge in manifest.edges:
-            for maker in {it.number for it in map(manifest.producer.get, edge.explicit + edge.implicit) if it}:
-                self.users.setdefault(maker, []).append(edge)
+        self.ran = set[int]()
+
+    @functools.cached_property
+    def users(self) -> dict[int, list[Edge]]:
+        """The edges that have an output of an edge as an input, by the number of that edge."""
+        found: dict[int, list[Edge]] = {}
+        records = deps_records(self.manifest, self.after) if self.after else {}
+        for edge in self.manifest.edges:
+            inputs = [*edge.explicit, *edge.implicit]
+            if edge.name in records:
+                listed = records[edge.name][1]
+                inputs += listed.paths() if isinstance(listed, Listing) else listed
+            for maker in {it.number for it in map(self.manifest.producer.get, inputs) if it}:
+                found.setdefault(maker, []).append(edge)
+        return found
+
+    def end_with(self, run: LoggedRun) -> None:
+        """Takes the last run."""
+        self.ran.update(_edge(self.manifest, it).number for it in run.entries)
 
     def add(self, run: LoggedRun) -> bool:
         """Takes a run before those that were added. Whether no command of earlier lines had to run again."""
@@ -212,11 +229,11 @@ class _Used:
         return True
 
 
-def last_build(runs: list[LoggedRun], manifest: Manifest) -> LoggedBuild:
-    """The last run, with those before it that belong to the same build."""
-    chosen, again, used = runs[-1:], _Again(manifest), _Used(manifest, runs)
+def last_build(runs: list[LoggedRun], manifest: Manifest, after: Optional[Snapshot] = None) -> LoggedBuild:
+    """The last run, with those before it that belong to the same build. A snapshot has what commands listed."""
+    chosen, again, used = runs[-1:], _Again(manifest), _Used(manifest, runs, after)
     again.add(chosen[0])
-    used.add(chosen[0])
+    used.end_with(chosen[0])
     for run in reversed(runs[:-1]):
         if not run.is_followed_by(chosen[0]) or again.has_one_of(run) or not used.add(run):
             break
@@ -278,8 +295,9 @@ class FromLogs(OneBuild):
         entries = _without_makers_of_manifest(ninja.as_read(log).entries, manifest)
         if not entries:
             raise Failure(f"{where} has no command of this manifest: there is no build to record")
-        logged = last_build(runs_of(entries, manifest, ninja), manifest)
-        before, after, begin = _snapshots(self.build, manifest, ninja, logged)
+        after = take_snapshot(self.build, manifest, ninja)
+        logged = last_build(runs_of(entries, manifest, ninja), manifest, after)
+        before, begin = _snapshots(manifest, ninja, logged, after)
         self.words.targets = self.words.targets or _targets(manifest, logged.ran)
         is_as_run = self.options.jobs_as_run or self.options.lanes
         jobs = self.words.jobs or _side_by_side(logged.ran) if is_as_run else None
@@ -310,12 +328,11 @@ def _without_makers_of_manifest(entries: Iterable[LogEntry], manifest: Manifest)
     return found
 
 
-def _snapshots(build: bytes, manifest: Manifest, ninja: Ninja, logged: LoggedBuild) -> tuple[Snapshot, Snapshot, int]:
-    """What is taken to have been there before the build, what is there after it, and when the build began.
+def _snapshots(manifest: Manifest, ninja: Ninja, logged: LoggedBuild, after: Snapshot) -> tuple[Snapshot, int]:
+    """What is taken to have been there before the build, and when the build began, by what is there after it.
 
-    A file that is gone has the stamp that the log tells of it; a source that is gone has 1, since the build had it.
+    A file that is gone gets the stamp that the log tells of it; a source that is gone gets 1, since the build had it.
     """
-    after = take_snapshot(build, manifest, ninja)
     edges = {edge.name: edge for edge in (_edge(manifest, it) for it in logged.ran)}
     begin = logged.begin
     if begin is None:
@@ -339,7 +356,7 @@ def _snapshots(build: bytes, manifest: Manifest, ninja: Ninja, logged: LoggedBui
     before = Snapshot(stamps, BuildLog(ninja.log_version, logged.earlier),
                       {name: it for name, it in after.deps.items() if name not in edges},
                       {name: it for name, it in after.without_deps_log.items() if name not in edges}, taken=after.taken)
-    return before, after, begin
+    return before, begin
 
 
 def _reached(manifest: Manifest, paths: Iterable[bytes]) -> dict[int, Edge]:

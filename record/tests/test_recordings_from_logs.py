@@ -168,13 +168,15 @@ class FromLogs(unittest.TestCase):
         self.assertNotIn("rules differ", said)
 
     def test_a_log_that_was_written_anew_between_two_builds(self):
-        """As CMake has Ninja do where it writes the manifest anew: the lines then stand in no order."""
+        """As CMake has Ninja do where it writes the manifest anew: the lines then stand in no order. `a.o` listed `h.h`
+        and did not run behind it. `r.h` stands behind `||` alone, so no line says of which build it is."""
         self.ninja("app", "test")
         self.ninja("-t", "recompact")
         self.write("b.c", "other\n")
         self.ninja("app")
         said, trace = self.record()
-        self.assertEqual(self.words(trace, "start", "finish"), ["start b.o", "finish b.o", "start app", "finish app"])
+        found = [it for it in self.words(trace, "start", "finish") if not it.endswith(" r.h")]
+        self.assertEqual(found, ["start b.o", "finish b.o", "start app", "finish app"])
         self.assertNotIn("rules differ", said)
 
     def test_builds_one_after_the_other_are_one(self):
