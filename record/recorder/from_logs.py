@@ -187,9 +187,9 @@ class _Again:
 
 
 class _Used:
-    """Which commands have to run again where some ran: those that have an output of these as an input, by the manifest or
-    by what they listed, also by way of phony edges. Where one did not, the lines are of another build, or Ninja wrote the
-    log anew and their order is lost, as it does where CMake has written the manifest anew."""
+    """Which commands have to run again where some ran: those that have an output of these as an input, by the manifest
+    or by what they listed, also by way of phony edges. Where one did not, the lines are of another build, or Ninja wrote
+    the log anew and their order is lost, as it does where CMake has written the manifest anew."""
 
     def __init__(self, manifest: Manifest, runs: list[LoggedRun], after: Optional[Snapshot]) -> None:
         self.manifest, self.after = manifest, after
